@@ -1,0 +1,3 @@
+//! Which ids and which extended attribute names cross between a guest and its host.
+#![tactic(auto)]
+

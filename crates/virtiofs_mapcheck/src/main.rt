@@ -1,0 +1,4 @@
+//! Shows what an id or extended attribute mapping does.
+#![tactic(auto)]
+
+fn main() {}
