@@ -1,4 +1,110 @@
 //! Shows what an id or extended attribute mapping does.
 #![tactic(auto)]
 
-fn main() {}
+ghost use Rattle.std.specs.Prelude.{◌≡◌, ◌↔◌, IsErrOf};
+
+mod answer;
+mod attributes;
+mod emit;
+mod ids;
+mod namespace;
+mod outcome;
+mod tally;
+#[cfg(test)]
+mod testing;
+mod words;
+mod written;
+
+use crate::answer::answer;
+use crate::outcome::{AnswerFault, Answered};
+use crate::tally::Tally;
+use std::alloc::Allocator;
+use std::io::Write;
+use std::process::ExitCode;
+use std::{env, io};
+
+const USAGE: &str = "usage: virtiofs_mapcheck ids SPEC.. ask QUERY..
+       virtiofs_mapcheck ns TEXT
+       virtiofs_mapcheck client RULES NAME
+       virtiofs_mapcheck server RULES NAME..
+README.md, at the top of the repository, says what each form answers.
+";
+
+/// Answers the program's arguments on standard output.
+///
+/// It ends with status 0 where the words were answered, 1 where a configuration was refused, 2
+/// where the words have no form, 3 where memory ran out, and 4 where a write or a flush failed.
+/// Wrong words also get a usage on standard error.
+fn main(rt: HostRuntime) -> ExitCode {
+    let ended = run(&rt);
+    if matches!(ended, Ok(Answered::WrongWords)) {
+        let _ = eprint!(rt; "{USAGE}");
+    }
+    ExitCode::from(status(ended))
+}
+
+fn run(rt: &HostRuntime) -> Result<Answered, AnswerFault> {
+    let arguments = arguments(rt)?;
+    print_answer(rt.alloc(), arguments.as_slice(), rt.stdout())
+}
+
+// The arguments after the program's name. Where one is not UTF-8 there are none, so that they are
+// answered as wrong words.
+fn arguments(rt: &HostRuntime) -> Result<Vec<String>, AnswerFault> {
+    match env::args(rt) {
+        Ok(all) => Ok(all.skip(1).collect(rt.alloc())?),
+        Err(error) if error.kind() == io::ErrorKind::OutOfMemory => Err(AnswerFault::OutOfMemory),
+        Err(_) => Ok(Vec::new(rt.alloc())),
+    }
+}
+
+// Writes what the words come to, and flushes, so that a writer that holds back what it takes
+// cannot hide a failed write.
+fn print_answer<A: Allocator + Copy, W: Write + Drop>(
+    alloc: A,
+    arguments: &[String<A>],
+    writer: W,
+) -> Result<Answered, AnswerFault> {
+    let words: Vec<&str, A> = arguments.iter().map(|word| word.as_str()).collect(alloc)?;
+    let mut out = Tally::new(writer);
+    let answered = answer(alloc, words.as_slice(), &mut out)?;
+    match out.into_inner().flush() {
+        Ok(()) => Ok(answered),
+        Err(_) => Err(AnswerFault::Write),
+    }
+}
+
+fn status(ended: Result<Answered, AnswerFault>) -> u8
+    ensures given { (result ≡ 0) ↔ (ended ≡ Ok Answered.Given) }
+    ensures refused { (result ≡ 1) ↔ (ended ≡ Ok Answered.Refused) }
+    ensures wrong_words { (result ≡ 2) ↔ (ended ≡ Ok Answered.WrongWords) }
+    ensures out_of_memory { (result ≡ 3) ↔ IsErrOf ended AnswerFault.OutOfMemory }
+    ensures write { (result ≡ 4) ↔ IsErrOf ended AnswerFault.Write }
+{
+    match ended {
+        Ok(Answered::Given) => 0,
+        Ok(Answered::Refused) => 1,
+        Ok(Answered::WrongWords) => 2,
+        Err(AnswerFault::OutOfMemory) => 3,
+        Err(AnswerFault::Write) => 4,
+    }
+}
+
+#[cfg(test)]
+mod tests {
+    use crate::outcome::{AnswerFault, Answered};
+    use crate::print_answer;
+    use crate::testing::Grudging;
+    use std::io::BufWriter;
+    use std::test::Fail;
+
+    #[test]
+    fn a_failed_flush_is_a_failed_write(rt: HostRuntime) -> Result<(), Fail> {
+        for (most, wanted) in [(16, Ok(Answered::WrongWords)), (0, Err(AnswerFault::Write))] {
+            let held_back = BufWriter::new(rt.alloc(), Grudging::new(most, None))?;
+            let ended = print_answer(rt.alloc(), &[], held_back);
+            assert_eq!(rt; ended, wanted, "{most} bytes a call");
+        }
+        Ok(())
+    }
+}

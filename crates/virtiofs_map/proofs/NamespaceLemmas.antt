@@ -1,0 +1,299 @@
+-- The delimiters and fields of a namespace's range, and what is wrong with them.
+use Rattle.std.proofs.Common.{◌≡◌, ◌≢◌, inl, inr, ◌==◌, ℕ, ◌<◌, Bool, true, false, not, List, [], ◌∷◌, ◌++◌, length, take, All, Contains, slice_get, Option, Some, None, nat_eq, refl, sym, ap, ◌∙◌, subst, eq-eqb, append_assoc, arith}
+use Rattle.std.specs.Char.{IsScalar, encode_utf8}
+use Rattle.std.specs.Option.{option_eq}
+use Rattle.std.specs.Str.{chars, IsUtf8}
+use Rattle.std.proofs.Math.Seq.{take-append_seam}
+use Rattle.std.proofs.lemmas.Bool.{eqb-true}
+use Rattle.std.proofs.lemmas.Bool.Decides.{eqb_tells}
+use Rattle.std.proofs.lemmas.List.{length-append}
+use Rattle.std.proofs.lemmas.List.Splits.{length-slice_split}
+use Rattle.std.proofs.lemmas.List.Elements.{All-weaker, All-nil, All-cons, All-contains}
+use Rattle.std.proofs.lemmas.Str.{chars-nil, chars_past_char, IsUtf8-encode, IsUtf8-take, IsCharBoundary-at_seam}
+use Rattle.virtiofs_map.specs.Alphanumeric.{is_alphanumeric}
+use Rattle.virtiofs_map.specs.Numeral.{IsNumeral}
+use Rattle.virtiofs_map.specs.SpecificationText.{fields_of}
+use Rattle.virtiofs_map.specs.NamespaceParts.{IsThreeFields}
+use Rattle.virtiofs_map.specs.NamespaceText.{SaysNamespace, IsEnclosed, HasNoDelimiter, HasOtherField, IsNamespaceFault, IsSameFault}
+use Rattle.virtiofs_map.specs.declared.idmap.IdMapError.{IdMapError}
+use Rattle.virtiofs_map.specs.declared.idmap.IdMapError.TheVariants.{InvalidDelimiter, IncompleteMap, InvalidValue}
+use Rattle.virtiofs_map.proofs.NumeralLemmas.{IsNumeral-unique}
+use Rattle.virtiofs_map.proofs.PrefixLemmas.{chars-push}
+use Rattle.virtiofs_map.proofs.SpecificationLemmas.{fields_of-cut, fields_of-last}
+
+-- a character that is told apart from another is another
+other_from_test : (d c : ℕ) → (c == d) ≡ false → c ≢ d
+other_from_test d c differs same =
+    let passes : (c == d) ≡ true = eq-eqb c d same in
+    cc
+
+test_from_other : (d c : ℕ) → c ≢ d → (c == d) ≡ false
+test_from_other d c other = elim (eqb_tells c d) [ inl same ↦ absurd (other same.1) | inr differs ↦ differs.0 ]
+
+-- a text without the delimiter, by the code's test
+pub free_from_test : (d : ℕ) (cs : List ℕ) → All (λ c. (c == d) ≡ false) cs → All (λ c. c ≢ d) cs
+free_from_test d cs tested = All-weaker (λ c. (c == d) ≡ false) (λ c. c ≢ d) (other_from_test d) cs tested
+
+test_from_free : (d : ℕ) (cs : List ℕ) → All (λ c. c ≢ d) cs → All (λ c. (c == d) ≡ false) cs
+test_from_free d cs free = All-weaker (λ c. c ≢ d) (λ c. (c == d) ≡ false) (test_from_other d) cs free
+
+-- the three fields are those that the delimiter separates
+fields_of-three : (d : ℕ) (inner x y z : List ℕ) → IsThreeFields d inner x y z → fields_of d inner ≡ x ∷ y ∷ z ∷ []
+fields_of-three d inner x y z three =
+    let one : fields_of d inner ≡ x ∷ fields_of d (y ++ d ∷ z) = fields_of-cut d inner x (y ++ d ∷ z) three.whole (test_from_free d x three.first_free) in
+    let two : fields_of d (y ++ d ∷ z) ≡ y ∷ fields_of d z = fields_of-cut d (y ++ d ∷ z) y z refl (test_from_free d y three.second_free) in
+    let last : fields_of d z ≡ z ∷ [] = fields_of-last d z (test_from_free d z three.third_free) in
+    cc
+
+-- two lists with one more element at the end
+snoc_same : (xs ys : List ℕ) (x y : ℕ) → xs ++ x ∷ [] ≡ ys ++ y ∷ [] → (xs ≡ ys) × (x ≡ y)
+snoc_same [] [] x y e = (refl, cc)
+snoc_same [] (b ∷ ys) x y e = absurd (omega (arith, ap length e, length-append ys (y ∷ [])))
+snoc_same (a ∷ xs) [] x y e = absurd (omega (arith, ap length e, length-append xs (x ∷ [])))
+snoc_same (a ∷ xs) (b ∷ ys) x y e =
+    let tail : xs ++ x ∷ [] ≡ ys ++ y ∷ [] = cc in
+    let head : a ≡ b = cc in
+    let (front, last) = snoc_same xs ys x y tail in
+    (cc, last)
+
+-- the delimiter of a text, and what it encloses, are determined
+enclosed_same : (text : List ℕ) (d e : ℕ) (inner other : List ℕ) → IsEnclosed text d inner → IsEnclosed text e other → (d ≡ e) × (inner ≡ other)
+enclosed_same text d e inner other one two =
+    let (front, last) = snoc_same (d ∷ inner) (e ∷ other) d e (sym one.whole ∙ two.whole) in
+    (last, cc)
+
+-- the fields of a text that says a range, between its delimiters
+record IsRangeInside (text : List ℕ) (inside outside count : ℕ) : Type 0 where
+  delimiter : ℕ
+  inner : List ℕ
+  first : List ℕ
+  second : List ℕ
+  third : List ℕ
+  enclosed : IsEnclosed text delimiter inner
+  fields : fields_of delimiter inner ≡ first ∷ second ∷ third ∷ []
+  first_says : IsNumeral first inside
+  second_says : IsNumeral second outside
+  third_says : IsNumeral third count
+
+range_inside : (text : List ℕ) (a b c : ℕ) → SaysNamespace text a b c → IsRangeInside text a b c
+range_inside text a b c says =
+    let d = says.delimiter in
+    let inner : List ℕ = says.first ++ d ∷ (says.second ++ d ∷ says.third) in
+    record {
+      delimiter = d;
+      inner = inner;
+      first = says.first;
+      second = says.second;
+      third = says.third;
+      enclosed = record { whole = says.whole ∙ simp append_assoc; delimits = says.delimits };
+      fields = fields_of-three d inner says.first says.second says.third (record {
+        whole = refl;
+        first_free = says.first_says.free;
+        second_free = says.second_says.free;
+        third_free = says.third_says.free;
+      });
+      first_says = says.first_says.numeral;
+      second_says = says.second_says.numeral;
+      third_says = says.third_says.numeral;
+    }
+
+-- three numerals between delimiters say a range
+pub SaysNamespace-parts : (text : List ℕ) (d : ℕ) (inner x y z : List ℕ) (a b c : ℕ) → IsEnclosed text d inner → IsThreeFields d inner x y z → IsNumeral x a → IsNumeral y b → IsNumeral z c → SaysNamespace text a b c
+SaysNamespace-parts text d inner x y z a b c enclosed three one two last =
+    let opened : text ≡ d ∷ (x ++ d ∷ (y ++ d ∷ z)) ++ d ∷ [] = enclosed.whole ∙ ap (λ (cs : List ℕ). d ∷ cs ++ d ∷ []) three.whole in
+    record {
+      delimiter = d;
+      first = x;
+      second = y;
+      third = z;
+      whole = opened ∙ simp append_assoc;
+      delimits = enclosed.delimits;
+      first_says = record { free = three.first_free; numeral = one };
+      second_says = record { free = three.second_free; numeral = two };
+      third_says = record { free = three.third_free; numeral = last };
+    }
+
+-- one of the three fields is no numeral
+pub HasOtherField-parts : (text : List ℕ) (d : ℕ) (inner x y z field : List ℕ) → IsEnclosed text d inner → IsThreeFields d inner x y z → Contains (x ∷ y ∷ z ∷ []) field → ((value : ℕ) → ¬ IsNumeral field value) → HasOtherField text
+HasOtherField-parts text d inner x y z field enclosed three here unread =
+    let fields : fields_of d inner ≡ x ∷ y ∷ z ∷ [] = fields_of-three d inner x y z three in
+    record {
+      delimiter = d;
+      inner = inner;
+      field = field;
+      enclosed = enclosed;
+      three = ap length fields;
+      here = subst (λ (fs : List (List ℕ)). Contains fs field) (sym fields) here;
+      unread = unread;
+    }
+
+-- a text says one range at most
+pub SaysNamespace-unique : (text : List ℕ) (a b c x y z : ℕ) → SaysNamespace text a b c → SaysNamespace text x y z → (a ≡ x) × (b ≡ y) × (c ≡ z)
+SaysNamespace-unique text a b c x y z one two =
+    let p = range_inside text a b c one in
+    let q = range_inside text x y z two in
+    let (delimiter, inner) = enclosed_same text p.delimiter q.delimiter p.inner q.inner p.enclosed q.enclosed in
+    let same : fields_of p.delimiter p.inner ≡ fields_of q.delimiter q.inner = rw (delimiter, inner) refl in
+    let fields : p.first ∷ p.second ∷ p.third ∷ [] ≡ q.first ∷ q.second ∷ q.third ∷ [] = sym p.fields ∙ same ∙ q.fields in
+    let first : p.first ≡ q.first = cc in
+    let second : p.second ≡ q.second = cc in
+    let third : p.third ≡ q.third = cc in (
+      IsNumeral-unique q.first a x (subst (λ (cs : List ℕ). IsNumeral cs a) first p.first_says) q.first_says,
+      IsNumeral-unique q.second b y (subst (λ (cs : List ℕ). IsNumeral cs b) second p.second_says) q.second_says,
+      IsNumeral-unique q.third c z (subst (λ (cs : List ℕ). IsNumeral cs c) third p.third_says) q.third_says,
+    )
+
+-- a text between delimiters has one
+delimiter_of_enclosed : (text : List ℕ) (d : ℕ) (inner : List ℕ) → IsEnclosed text d inner → ¬ HasNoDelimiter text
+delimiter_of_enclosed text d inner enclosed none =
+    let (front, last) = snoc_same none.front (d ∷ inner) none.last d (sym none.ends ∙ enclosed.whole) in
+    elim none.wrong [
+      | inl letter ↦
+          let same : is_alphanumeric none.last ≡ is_alphanumeric d = ap is_alphanumeric last in
+          let delimits : is_alphanumeric d ≡ false = enclosed.delimits in
+          cc
+      | inr other ↦ other inner (rw last enclosed.whole)
+    ]
+
+-- and is not empty
+some_of_enclosed : (text : List ℕ) (d : ℕ) (inner : List ℕ) → IsEnclosed text d inner → text ≢ []
+some_of_enclosed text d inner enclosed empty =
+    let whole : [] ≡ d ∷ inner ++ d ∷ [] = sym empty ∙ enclosed.whole in
+    cc
+
+-- the count of its fields is determined
+count_of_enclosed : (text : List ℕ) (d e : ℕ) (inner other : List ℕ) → IsEnclosed text d inner → IsEnclosed text e other → length (fields_of d inner) ≡ length (fields_of e other)
+count_of_enclosed text d e inner other one two =
+    let (delimiter, inside) = enclosed_same text d e inner other one two in
+    rw (delimiter, inside) refl
+
+-- where the fields of a range are numerals, none is no numeral
+fields_of_range : (text : List ℕ) (a b c : ℕ) → (p : IsRangeInside text a b c) → All (λ field. (value : ℕ) × IsNumeral field value) (fields_of p.delimiter p.inner)
+fields_of_range text a b c p =
+    let Read : List ℕ → Type 0 = λ field. (value : ℕ) × IsNumeral field value in
+    rw p.fields
+    (All-cons Read p.first (p.second ∷ p.third ∷ []) (a, p.first_says)
+    (All-cons Read p.second (p.third ∷ []) (b, p.second_says)
+    (All-cons Read p.third [] (c, p.third_says) (All-nil Read))))
+
+-- a text that says a range has no fault
+pub SaysNamespace-no_fault : (text : List ℕ) (a b c : ℕ) (e : IdMapError) → SaysNamespace text a b c → ¬ IsNamespaceFault text e
+SaysNamespace-no_fault text a b c InvalidDelimiter says fault =
+    let p = range_inside text a b c says in
+    delimiter_of_enclosed text p.delimiter p.inner p.enclosed fault
+SaysNamespace-no_fault text a b c IncompleteMap says fault =
+    let p = range_inside text a b c says in
+    elim fault [
+      | inl empty ↦ some_of_enclosed text p.delimiter p.inner p.enclosed empty
+      | inr count ↦ count.other (count_of_enclosed text count.delimiter p.delimiter count.inner p.inner count.enclosed p.enclosed ∙ ap length p.fields)
+    ]
+SaysNamespace-no_fault text a b c (InvalidValue error) says fault =
+    let p = range_inside text a b c says in
+    let (delimiter, inner) = enclosed_same text fault.delimiter p.delimiter fault.inner p.inner fault.enclosed p.enclosed in
+    let here : Contains (fields_of p.delimiter p.inner) fault.field = subst (λ (fs : List (List ℕ)). Contains fs fault.field) (rw (delimiter, inner) refl) fault.here in
+    let read : (value : ℕ) × IsNumeral fault.field value = All-contains (λ field. (value : ℕ) × IsNumeral field value) (fields_of p.delimiter p.inner) fault.field (fields_of_range text a b c p) here in
+    fault.unread read.0 read.1
+
+-- an empty text or another count of fields is no other fault
+apart_from_incomplete : (text : List ℕ) (d : ℕ) (inner : List ℕ) → IsEnclosed text d inner → length (fields_of d inner) ≡ 3 → ¬ IsNamespaceFault text IncompleteMap
+apart_from_incomplete text d inner enclosed three fault =
+    elim fault [
+      | inl empty ↦ some_of_enclosed text d inner enclosed empty
+      | inr count ↦ count.other (count_of_enclosed text count.delimiter d count.inner inner count.enclosed enclosed ∙ three)
+    ]
+
+apart_from_delimiter : (text : List ℕ) → HasNoDelimiter text → ¬ IsNamespaceFault text IncompleteMap
+apart_from_delimiter text none fault =
+    elim fault [
+      | inl empty ↦ absurd (omega (arith, ap length (sym empty ∙ none.ends), length-append none.front (none.last ∷ [])))
+      | inr count ↦ delimiter_of_enclosed text count.delimiter count.inner count.enclosed none
+    ]
+
+-- a text has one fault at most
+pub IsNamespaceFault-unique : (text : List ℕ) (e f : IdMapError) → IsNamespaceFault text e → IsNamespaceFault text f → IsSameFault e f
+IsNamespaceFault-unique text InvalidDelimiter InvalidDelimiter one two = tt
+IsNamespaceFault-unique text InvalidDelimiter IncompleteMap one two = apart_from_delimiter text one two
+IsNamespaceFault-unique text InvalidDelimiter (InvalidValue other) one two = delimiter_of_enclosed text two.delimiter two.inner two.enclosed one
+IsNamespaceFault-unique text IncompleteMap InvalidDelimiter one two = apart_from_delimiter text two one
+IsNamespaceFault-unique text IncompleteMap IncompleteMap one two = tt
+IsNamespaceFault-unique text IncompleteMap (InvalidValue other) one two = apart_from_incomplete text two.delimiter two.inner two.enclosed two.three one
+IsNamespaceFault-unique text (InvalidValue error) InvalidDelimiter one two = delimiter_of_enclosed text one.delimiter one.inner one.enclosed two
+IsNamespaceFault-unique text (InvalidValue error) IncompleteMap one two = apart_from_incomplete text one.delimiter one.inner one.enclosed one.three two
+IsNamespaceFault-unique text (InvalidValue error) (InvalidValue other) one two = tt
+
+-- a text before its last character
+pub record IsBeforeLast (bs rest : List ℕ) (c : ℕ) : Type 0 where
+  pub is_text : IsUtf8 rest
+  pub whole : chars bs ≡ chars rest ++ c ∷ []
+
+pub IsBeforeLast-here : (bs rest : List ℕ) (c : ℕ) → IsUtf8 bs → IsScalar c → bs ≡ rest ++ encode_utf8 c → IsBeforeLast bs rest c
+IsBeforeLast-here bs rest c text scalar ends =
+    let front : take (length rest) bs ≡ rest = rw ends (take-append_seam rest (encode_utf8 c)) in
+    let is_front : IsUtf8 rest = subst (λ (xs : List ℕ). IsUtf8 xs) front (IsUtf8-take bs (length rest) text (IsCharBoundary-at_seam bs rest (encode_utf8 c) ends (IsUtf8-encode c scalar))) in
+    record { is_text = is_front; whole = ap chars ends ∙ chars-push rest c is_front scalar }
+
+-- no byte, no character
+pub chars-empty : (bs : List ℕ) → length bs ≡ 0 → chars bs ≡ []
+chars-empty [] empty = chars-nil
+chars-empty (b ∷ bs) empty = absurd (omega arith)
+
+-- the last character is alphanumeric
+pub HasNoDelimiter-letter : (bs rest : List ℕ) (c : ℕ) → IsBeforeLast bs rest c → is_alphanumeric c ≡ true → HasNoDelimiter (chars bs)
+HasNoDelimiter-letter bs rest c before letter = record { front = chars rest; last = c; ends = before.whole; wrong = inl letter }
+
+-- the first of what stands before the last character is not that character
+pub HasNoDelimiter-first : (bs rest : List ℕ) (c : ℕ) → IsBeforeLast bs rest c → slice_get (chars rest) 0 ≢ Some c → HasNoDelimiter (chars bs)
+HasNoDelimiter-first bs rest c before other = record {
+  front = chars rest;
+  last = c;
+  ends = before.whole;
+  wrong = inr (λ inner whole. other (ap (λ (cs : List ℕ). slice_get cs 0) (snoc_same (chars rest) (c ∷ inner) c c (sym before.whole ∙ whole)).0));
+}
+
+-- it is that character
+pub IsEnclosed-here : (bs rest inner : List ℕ) (c : ℕ) → IsBeforeLast bs rest c → is_alphanumeric c ≡ false → rest ≡ encode_utf8 c ++ inner → IsEnclosed (chars bs) c (chars inner)
+IsEnclosed-here bs rest inner c before delimits begins =
+    let opened : chars rest ≡ c ∷ chars inner = chars_past_char rest inner c before.is_text begins in
+    record { whole = before.whole ∙ ap (λ (cs : List ℕ). cs ++ c ∷ []) opened; delimits = delimits }
+
+-- what `!=` answers of the character
+pub same_option : (r : Option ℕ) (c : ℕ) → not (option_eq nat_eq r (Some c)) ≡ false → r ≡ Some c
+same_option None c same = cc
+same_option (Some d) c same = ap Some (eqb-true d c (true_from_not (nat_eq d c) same)) where
+  true_from_not : (b : Bool) → not b ≡ false → b ≡ true
+  true_from_not true h = refl
+  true_from_not false h = sym h
+
+pub other_option : (r : Option ℕ) (c : ℕ) → not (option_eq nat_eq r (Some c)) ≡ true → r ≢ Some c
+other_option r c differs same =
+    let passes : nat_eq c c ≡ true = eq-eqb c c refl in
+    let differs : not (nat_eq c c) ≡ true = rw same at differs in
+    let fails : not (nat_eq c c) ≡ false = rw passes refl in
+    cc
+
+-- where the delimiter is not in the text, the text is one field
+pub one_field : (d : ℕ) (inner : List ℕ) → All (λ c. (c == d) ≡ false) inner → length (fields_of d inner) ≢ 3
+one_field d inner none = rw (fields_of-last d inner none) (omega arith)
+
+-- where it is in it once, it is two
+pub two_fields : (d : ℕ) (inner x rest : List ℕ) → inner ≡ x ++ d ∷ rest → All (λ c. (c == d) ≡ false) x → All (λ c. (c == d) ≡ false) rest → length (fields_of d inner) ≢ 3
+two_fields d inner x rest whole first none = rw (fields_of-cut d inner x rest whole first, fields_of-last d rest none) (omega arith)
+
+-- where it is in it twice, it is three
+pub IsThreeFields-here : (d : ℕ) (inner x rest y z : List ℕ) → inner ≡ x ++ d ∷ rest → All (λ c. (c == d) ≡ false) x → rest ≡ y ++ d ∷ z → All (λ c. (c == d) ≡ false) y → All (λ c. (c == d) ≡ false) z → IsThreeFields d inner x y z
+IsThreeFields-here d inner x rest y z whole first cut second third = record {
+  whole = whole ∙ ap (λ (cs : List ℕ). x ++ d ∷ cs) cut;
+  first_free = free_from_test d x first;
+  second_free = free_from_test d y second;
+  third_free = free_from_test d z third;
+}
+
+-- there is always a field
+length-fields_of : (d : ℕ) (cs : List ℕ) → 0 < length (fields_of d cs)
+length-fields_of d cs = omega (arith, length-slice_split (λ c. c == d) cs)
+
+-- where it is in it more often, there are more
+pub more_fields : (d : ℕ) (inner x rest y z front back : List ℕ) → inner ≡ x ++ d ∷ rest → All (λ c. (c == d) ≡ false) x → rest ≡ y ++ d ∷ z → All (λ c. (c == d) ≡ false) y → z ≡ front ++ d ∷ back → All (λ c. (c == d) ≡ false) front → length (fields_of d inner) ≢ 3
+more_fields d inner x rest y z front back whole first cut second more third =
+    rw (fields_of-cut d inner x rest whole first, fields_of-cut d rest y z cut second, fields_of-cut d z front back more third)
+    (omega (arith, length-fields_of d back))

@@ -1,0 +1,55 @@
+-- What a range of a namespace is printed as is a text that says it.
+use Rattle.std.proofs.Common.{◌≡◌, ◌≢◌, ℕ, ◌^◌, ◌<◌, false, List, [], ◌++◌, refl, ◌∙◌, append_assoc, arith, codes}
+use Rattle.std.specs.Char.{IsAsciiDigit}
+use Rattle.std.specs.Fmt.{decimal}
+use Rattle.std.specs.Str.{chars, IsAscii}
+use Rattle.std.proofs.lemmas.Fmt.{IsAscii-decimal}
+use Rattle.std.proofs.lemmas.List.Elements.{All-weaker}
+use Rattle.std.proofs.lemmas.Str.{chars-IsAscii, IsAscii-append}
+use Rattle.std.proofs.lemmas.Str.Ascii.{IsAscii-nil, IsAscii-cons}
+use Rattle.unicode.proofs.CategoryComputing.{ucd_category}
+use Rattle.unicode.proofs.DerivedComputing.{ucd_derived}
+use Rattle.virtiofs_map.specs.Alphanumeric.{is_alphanumeric}
+use Rattle.virtiofs_map.specs.NamespaceText.{IsField, SaysNamespace}
+use Rattle.virtiofs_map.specs.Numeral.{IsNumeral}
+use Rattle.virtiofs_map.specs.Printed.{namespace_text}
+use Rattle.virtiofs_map.proofs.NumeralLemmas.{All-decimal, IsNumeral-decimal}
+
+-- a colon is no letter and no number
+pub colon_delimits : is_alphanumeric 58 ≡ false
+unfolding is_alphanumeric ucd_derived ucd_category
+colon_delimits = refl
+
+-- a number in decimal, between colons
+field_decimal : (n : ℕ) → n < 2 ^ 32 → IsField 58 (decimal n) n
+field_decimal n small =
+    let numeral : IsNumeral (decimal n) n = IsNumeral-decimal n small in
+    record { free = All-weaker IsAsciiDigit (λ c. c ≢ 58) (λ c digit. omega arith) (decimal n) (All-decimal n small); numeral = numeral }
+
+IsAscii-colon : IsAscii (codes ":")
+IsAscii-colon = IsAscii-cons 58 [] (omega arith) IsAscii-nil
+
+-- one more field, and a colon behind it
+IsAscii-field : (front : List ℕ) (n : ℕ) → IsAscii front → n < 2 ^ 32 → IsAscii (front ++ decimal n ++ codes ":")
+IsAscii-field front n ascii small =
+    IsAscii-append (front ++ decimal n) (codes ":") (IsAscii-append front (decimal n) ascii (IsAscii-decimal n (omega arith))) IsAscii-colon
+
+IsAscii-namespace_text : (a b c : ℕ) → a < 2 ^ 32 → b < 2 ^ 32 → c < 2 ^ 32 → IsAscii (namespace_text a b c)
+IsAscii-namespace_text a b c small_a small_b small_c =
+    let one : IsAscii (codes ":" ++ decimal a ++ codes ":") = IsAscii-field (codes ":") a IsAscii-colon small_a in
+    let two : IsAscii (codes ":" ++ decimal a ++ codes ":" ++ decimal b ++ codes ":") = IsAscii-field (codes ":" ++ decimal a ++ codes ":") b one small_b in
+    IsAscii-field (codes ":" ++ decimal a ++ codes ":" ++ decimal b ++ codes ":") c two small_c
+
+-- what a range is printed as says the range
+pub SaysNamespace-printed : (a b c : ℕ) → a < 2 ^ 32 → b < 2 ^ 32 → c < 2 ^ 32 → SaysNamespace (chars (namespace_text a b c)) a b c
+SaysNamespace-printed a b c small_a small_b small_c = record {
+  delimiter = 58;
+  first = decimal a;
+  second = decimal b;
+  third = decimal c;
+  whole = chars-IsAscii (namespace_text a b c) (IsAscii-namespace_text a b c small_a small_b small_c) ∙ simp append_assoc;
+  delimits = colon_delimits;
+  first_says = field_decimal a small_a;
+  second_says = field_decimal b small_b;
+  third_says = field_decimal c small_c;
+}

@@ -1,0 +1,112 @@
+-- What `parse` reads as a number is a numeral, over characters, and nothing else is.
+use Rattle.std.proofs.Common.{◌≡◌, ◌≢◌, ◌⊎◌, ℕ, zero, suc, ◌+◌, ◌^◌, ◌<◌, ◌≤◌, List, [], ◌∷◌, length, take, drop, get_or, All, Result, Ok, Err, MatchResult, refl, sym, ap, ◌∙◌, subst, inl, inr, arith}
+use Rattle.std.specs.Char.{IsAsciiDigit}
+use Rattle.std.specs.Fmt.{decimal}
+use Rattle.std.specs.Int.{IsInRange}
+use Rattle.std.specs.Str.{chars, IsUtf8, IsAscii}
+use Rattle.std.specs.Str.Parse.{AllDigits, digits_value, without_leading_plus, IsNumeral as IsDigits, ParsesUnsigned}
+use Rattle.std.proofs.lemmas.Str.{chars-IsAscii, encodes-chars, encodes-IsAscii}
+use Rattle.std.proofs.lemmas.Str.Parse.{digit_at, IsNumeralModel, numerals_by_value, tells_by_index, without_leading_plus_none, without_leading_plus_plus}
+use Rattle.std.proofs.lemmas.Bool.Decides.{eqb_tells}
+use Rattle.std.proofs.lemmas.Fmt.{decimal_is_IsNumeral}
+use Rattle.std.proofs.lemmas.List.Elements.{All-get_or, All-from_get_or, All-head, All-tail}
+use Rattle.virtiofs_map.specs.Numeral.{IsNumeral}
+
+-- std's digits, by index
+by_index : IsNumeralModel (λ ds. (i : ℕ) → i < length ds → IsInRange 48 57 (get_or ds i 0)) (digits_value 10)
+by_index = numerals_by_value (λ ds. (i : ℕ) → i < length ds → IsInRange 48 57 (get_or ds i 0)) tells_by_index
+
+AllDigits-All : (ds : List ℕ) → All IsAsciiDigit ds → AllDigits 10 ds
+AllDigits-All ds decimal = by_index.to ds (λ i below. All-get_or IsAsciiDigit ds i 0 below decimal)
+
+All-AllDigits : (ds : List ℕ) → AllDigits 10 ds → All IsAsciiDigit ds
+All-AllDigits ds digits = All-from_get_or IsAsciiDigit ds 0 (by_index.from ds digits)
+
+IsAscii-cons : (c : ℕ) (cs : List ℕ) → c < 128 → IsAscii cs → IsAscii (c ∷ cs)
+IsAscii-cons c cs small ascii zero = small
+IsAscii-cons c cs small ascii (suc i) = ascii i
+
+IsAscii-digits : (ds : List ℕ) → All IsAsciiDigit ds → IsAscii ds
+IsAscii-digits [] decimal = λ i. omega arith
+IsAscii-digits (d ∷ ds) decimal =
+    let digit : IsAsciiDigit d = All-head IsAsciiDigit d ds decimal in
+    IsAscii-cons d ds (omega arith) (IsAscii-digits ds (All-tail IsAsciiDigit d ds decimal))
+
+-- the characters of a numeral are ASCII
+IsAscii-numeral : (text : List ℕ) (value : ℕ) → IsNumeral text value → IsAscii text
+IsAscii-numeral text value numeral =
+    elim numeral.written [
+      | inl bare ↦ subst (λ (xs : List ℕ). IsAscii xs) (sym bare) (IsAscii-digits numeral.digits numeral.decimal)
+      | inr signed ↦ subst (λ (xs : List ℕ). IsAscii xs) (sym signed) (IsAscii-cons 43 numeral.digits (omega arith) (IsAscii-digits numeral.digits numeral.decimal))
+    ]
+
+-- so they are its bytes
+bytes-numeral : (bs : List ℕ) (value : ℕ) → IsUtf8 bs → IsNumeral (chars bs) value → chars bs ≡ bs
+bytes-numeral bs value text numeral =
+    sym (encodes-IsAscii (chars bs) (IsAscii-numeral (chars bs) value numeral)) ∙ encodes-chars bs text
+
+-- the digits of a text, and the text again
+written_from_plus : (bs : List ℕ) → 0 < length (without_leading_plus bs) → (bs ≡ without_leading_plus bs) ⊎ (bs ≡ 43 ∷ without_leading_plus bs)
+written_from_plus [] some = absurd (omega arith)
+written_from_plus (b ∷ bs) some =
+    elim (eqb_tells b 43) [
+      | inl plus ↦ inr (rw (without_leading_plus_plus (b ∷ bs) plus.1, plus.1) refl)
+      | inr other ↦ inl (sym (without_leading_plus_none (b ∷ bs) other.1))
+    ]
+
+-- a text that `parse` reads is a numeral
+numeral_from_digits : (bs : List ℕ) → IsDigits 10 (without_leading_plus bs) → digits_value 10 (without_leading_plus bs) < 2 ^ 32 → IsNumeral bs (digits_value 10 (without_leading_plus bs))
+numeral_from_digits bs digits small = record {
+  digits = without_leading_plus bs;
+  written = written_from_plus bs digits.0;
+  some = digits.0;
+  decimal = All-AllDigits _ digits.1;
+  worth = refl;
+  fits = omega arith;
+}
+
+-- the digits of a numeral are what follows its plus
+digits_of_numeral : (bs : List ℕ) (value : ℕ) (n : IsNumeral bs value) → without_leading_plus bs ≡ n.digits
+digits_of_numeral bs value n =
+    elim n.written [
+      | inl bare ↦
+          let first : IsInRange 48 57 (get_or n.digits 0 0) = All-get_or IsAsciiDigit n.digits 0 0 n.some n.decimal in
+          let no_plus : get_or bs 0 0 ≢ 43 = rw bare (omega arith) in
+          without_leading_plus_none bs no_plus ∙ bare
+      | inr signed ↦
+          let plus : get_or bs 0 0 ≡ 43 = rw signed refl in
+          without_leading_plus_plus bs plus ∙ rw signed refl
+    ]
+
+-- a text has one value
+pub IsNumeral-unique : (text : List ℕ) (v w : ℕ) → IsNumeral text v → IsNumeral text w → v ≡ w
+IsNumeral-unique text v w a b =
+    let same : a.digits ≡ b.digits = sym (digits_of_numeral text v a) ∙ digits_of_numeral text w b in
+    sym a.worth ∙ ap (digits_value 10) same ∙ b.worth
+
+pub numeral_from_parse : {E : Type 0} (bs : List ℕ) (r : Result ℕ E) → IsUtf8 bs → ParsesUnsigned 32 10 bs r → MatchResult r (λ value. IsNumeral (chars bs) value) (λ _. (value : ℕ) → IsNumeral (chars bs) value → ⊥)
+numeral_from_parse bs (Ok value) text (parsed, is) =
+    let numeral : IsNumeral bs value = subst (λ (n : ℕ). IsNumeral bs n) (sym is) (numeral_from_digits bs parsed.0 parsed.1) in
+    subst (λ (xs : List ℕ). IsNumeral xs value) (sym (chars-IsAscii bs (IsAscii-numeral bs value numeral))) numeral
+numeral_from_parse bs (Err e) text refused =
+    λ value numeral.
+    let numeral : IsNumeral bs value = subst (λ (xs : List ℕ). IsNumeral xs value) (bytes-numeral bs value text numeral) numeral in
+    let same : without_leading_plus bs ≡ numeral.digits = digits_of_numeral bs value numeral in
+    refused (rw same ((numeral.some, AllDigits-All numeral.digits numeral.decimal), rw numeral.worth (omega (arith, numeral.fits))))
+
+-- a number in decimal is digits alone
+pub All-decimal : (n : ℕ) → n < 2 ^ 32 → All IsAsciiDigit (decimal n)
+All-decimal n small = All-AllDigits (decimal n) (decimal_is_IsNumeral n (omega arith)).0.1
+
+-- and a numeral of the number
+pub IsNumeral-decimal : (n : ℕ) → n < 2 ^ 32 → IsNumeral (decimal n) n
+IsNumeral-decimal n small =
+    let (digits, worth) = decimal_is_IsNumeral n (omega arith) in
+    record {
+      digits = decimal n;
+      written = inl refl;
+      some = digits.0;
+      decimal = All-decimal n small;
+      worth = worth;
+      fits = omega arith;
+    }

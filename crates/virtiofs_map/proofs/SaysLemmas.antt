@@ -1,0 +1,262 @@
+-- A text says one specification alone, or has one fault alone.
+use Rattle.std.proofs.Common.{◌≡◌, ◌⊎◌, inl, inr, ◌==◌, ℕ, Bool, true, false, cond, List, [], ◌∷◌, ◌++◌, length, All, String, string_bytes, Result, Ok, Err, IfOk, IfErr, MatchResult, refl, sym, ap, ◌∙◌, subst, arith}
+use Rattle.std.specs.Char.{IsAsciiDigit}
+use Rattle.std.specs.Str.{chars, encode_utf8_all}
+use Rattle.std.specs.Str.Parse.{digits_value}
+use Rattle.std.specs.List.{AllZip, AllPass}
+use Rattle.std.proofs.lemmas.Str.{encodes-chars, IsUtf8-string_bytes}
+use Rattle.std.proofs.lemmas.Bool.{false≢true}
+use Rattle.std.proofs.lemmas.List.Elements.{All-head, All-tail}
+use Rattle.virtiofs_map.specs.Numeral.{IsNumeral}
+use Rattle.virtiofs_map.specs.SpecificationText.{fields_of, IsFirstUnread, HasUnread, HasUnknownPrefix, HasMiscount, HasNoField, word_of, numbers_of, is_word_character, IsCut, IsCounted, Says, IsFaultOf, lowered}
+use Rattle.virtiofs_map.specs.SpecificationLaws.{IsSameFault}
+use Rattle.virtiofs_map.specs.declared.cmdline.IdMap.{IdMap}
+use Rattle.virtiofs_map.specs.declared.cmdline.IdMap.TheVariants.{Guest, Host, SquashGuest, SquashHost, Bidirectional, ForbidGuest}
+use Rattle.virtiofs_map.specs.declared.cmdline.IdMapError.{IdMapError}
+use Rattle.virtiofs_map.specs.declared.cmdline.IdMapError.TheVariants.{InvalidPrefix, InvalidLength, InvalidValue, OutOfMemory}
+
+-- one character that fails a test stands behind the longest front that passes it
+record SameCut (front other : List ℕ) (c d : ℕ) (back rest : List ℕ) : Type 0 where
+  same_front : front ≡ other
+  same_character : c ≡ d
+  same_back : back ≡ rest
+
+failing : (p : ℕ → Bool) (c d : ℕ) → c ≡ d → p c ≡ true → p d ≡ false → ⊥
+failing p c d same passes fails = false≢true (sym fails ∙ ap p (sym same) ∙ passes)
+
+one_cut : (p : ℕ → Bool) (front other : List ℕ) (c d : ℕ) (back rest : List ℕ) → front ++ c ∷ back ≡ other ++ d ∷ rest → AllPass p front → AllPass p other → p c ≡ false → p d ≡ false → SameCut front other c d back rest
+one_cut p [] [] c d back rest same first second c_fails d_fails = record { same_front = refl; same_character = cc; same_back = cc }
+one_cut p [] (y ∷ other) c d back rest same first second c_fails d_fails =
+    let passes : p y ≡ true = All-head (λ (x : ℕ). p x ≡ true) y other second in
+    let is : y ≡ c = cc in
+    absurd (failing p y c is passes c_fails)
+one_cut p (x ∷ front) [] c d back rest same first second c_fails d_fails =
+    let passes : p x ≡ true = All-head (λ (z : ℕ). p z ≡ true) x front first in
+    let is : x ≡ d = cc in
+    absurd (failing p x d is passes d_fails)
+one_cut p (x ∷ front) (y ∷ other) c d back rest same first second c_fails d_fails =
+    let is : x ≡ y = cc in
+    let tails : front ++ c ∷ back ≡ other ++ d ∷ rest = cc in
+    let r = one_cut p front other c d back rest tails (All-tail (λ (z : ℕ). p z ≡ true) x front first) (All-tail (λ (z : ℕ). p z ≡ true) y other second) c_fails d_fails in
+    record { same_front = cons_same x y front other is r.same_front; same_character = r.same_character; same_back = r.same_back } where
+      cons_same : (a b : ℕ) (xs ys : List ℕ) → a ≡ b → xs ≡ ys → a ∷ xs ≡ b ∷ ys
+      cons_same a b xs ys first rest = cc
+
+IsCut-one : (text prefix other : List ℕ) (c d : ℕ) (rest back : List ℕ) → IsCut text prefix c rest → IsCut text other d back → SameCut prefix other c d rest back
+IsCut-one text prefix other c d rest back first second =
+    one_cut is_word_character prefix other c d rest back (sym first.whole ∙ second.whole) first.word second.word first.ends second.ends
+
+-- a text of word characters alone is not cut
+cut_apart : (p : ℕ → Bool) (front : List ℕ) (c : ℕ) (back : List ℕ) → AllPass p (front ++ c ∷ back) → p c ≡ false → ⊥
+cut_apart p [] c back all fails = failing p c c refl (All-head (λ (x : ℕ). p x ≡ true) c back all) fails
+cut_apart p (x ∷ front) c back all fails = cut_apart p front c back (All-tail (λ (z : ℕ). p z ≡ true) x (front ++ c ∷ back) all) fails
+
+HasNoField-uncut : (text prefix : List ℕ) (c : ℕ) (rest : List ℕ) → HasNoField text → IsCut text prefix c rest → ⊥
+HasNoField-uncut text prefix c rest none cut =
+    cut_apart is_word_character prefix c rest (subst (λ (t : List ℕ). AllPass is_word_character t) cut.whole none) cut.ends
+
+-- a numeral has one value
+unsigned : (digits other : List ℕ) → digits ≡ 43 ∷ other → All IsAsciiDigit digits → ⊥
+unsigned [] other same decimal = cc
+unsigned (d ∷ digits) other same decimal =
+    let first : IsAsciiDigit d = All-head IsAsciiDigit d digits decimal in
+    let is : d ≡ 43 = cc in
+    plus_sign d is first where
+      plus_sign : (c : ℕ) → c ≡ 43 → IsAsciiDigit c → ⊥
+      plus_sign c is (low, high) = omega arith
+
+one_digits : (text digits other : List ℕ) → (text ≡ digits) ⊎ (text ≡ 43 ∷ digits) → (text ≡ other) ⊎ (text ≡ 43 ∷ other) → All IsAsciiDigit digits → All IsAsciiDigit other → digits ≡ other
+one_digits text digits other (inl a) (inl b) first second = sym a ∙ b
+one_digits text digits other (inl a) (inr b) first second = absurd (unsigned digits other (sym a ∙ b) first)
+one_digits text digits other (inr a) (inl b) first second = absurd (unsigned other digits (sym b ∙ a) second)
+one_digits text digits other (inr a) (inr b) first second = cc
+
+IsNumeral-one : (text : List ℕ) (value other : ℕ) → IsNumeral text value → IsNumeral text other → value ≡ other
+IsNumeral-one text value other first second =
+    let same : first.digits ≡ second.digits = one_digits text first.digits second.digits first.written second.written first.decimal second.decimal in
+    sym first.worth ∙ ap (digits_value 10) same ∙ second.worth
+
+IsNumeral-all : (fields : List (List ℕ)) (values others : List ℕ) → AllZip IsNumeral fields values → AllZip IsNumeral fields others → values ≡ others
+IsNumeral-all [] [] [] first second = refl
+IsNumeral-all [] (v ∷ values) others first second = absurd first
+IsNumeral-all [] [] (w ∷ others) first second = absurd second
+IsNumeral-all (f ∷ fields) [] others first second = absurd first
+IsNumeral-all (f ∷ fields) (v ∷ values) [] first second = absurd second
+IsNumeral-all (f ∷ fields) (v ∷ values) (w ∷ others) first second =
+    let here : v ≡ w = IsNumeral-one f v w first.0 second.0 in
+    let there : values ≡ others = IsNumeral-all fields values others first.1 second.1 in cc
+
+-- a word and its numbers are those of one specification
+spec_of : ℕ → List ℕ → IdMap
+spec_of n (a ∷ b ∷ c ∷ []) = cond (n == 5) (Guest a b c) (cond (n == 4) (Host a b c) (cond (n == 12) (SquashGuest a b c) (cond (n == 11) (SquashHost a b c) (Bidirectional a b c))))
+spec_of n (a ∷ b ∷ []) = ForbidGuest a b
+spec_of n _ = ForbidGuest 0 0
+
+spec_is : (spec : IdMap) → spec_of (length (word_of spec)) (numbers_of spec) ≡ spec
+unfolding spec_of
+spec_is (Guest a b n) = refl
+spec_is (Host a b n) = refl
+spec_is (SquashGuest a b n) = refl
+spec_is (SquashHost a b n) = refl
+spec_is (Bidirectional a b n) = refl
+spec_is (ForbidGuest a n) = refl
+
+one_spec : (spec other : IdMap) → word_of spec ≡ word_of other → numbers_of spec ≡ numbers_of other → spec ≡ other
+one_spec spec other word numbers =
+    sym (spec_is spec) ∙ ap (λ (w : List ℕ). spec_of (length w) (numbers_of spec)) word ∙ ap (spec_of (length (word_of other))) numbers ∙ spec_is other
+
+pub Says-one : (text : List ℕ) (spec other : IdMap) → Says text spec → Says text other → spec ≡ other
+Says-one text spec other first second =
+    let cut = IsCut-one text first.prefix second.prefix first.separator second.separator first.rest second.rest first.cut second.cut in
+    let word : word_of spec ≡ word_of other = sym first.word ∙ ap lowered cut.same_front ∙ second.word in
+    let fields : fields_of first.separator first.rest ≡ fields_of second.separator second.rest = rw (cut.same_character, cut.same_back) refl in
+    let numbers : numbers_of spec ≡ numbers_of other = IsNumeral-all (fields_of second.separator second.rest) (numbers_of spec) (numbers_of other) (subst (λ (fs : List (List ℕ)). AllZip IsNumeral fs (numbers_of spec)) fields first.numbers) second.numbers in
+    one_spec spec other word numbers
+
+-- the first field that is no numeral is one field alone
+unread_after : (fields before : List (List ℕ)) (values : List ℕ) (field : List ℕ) (after : List (List ℕ)) → AllZip IsNumeral fields values → fields ≡ before ++ field ∷ after → ((value : ℕ) → ¬ IsNumeral field value) → ⊥
+unread_after fields [] [] field after read same unread = absurd (subst (λ (fs : List (List ℕ)). AllZip IsNumeral fs []) same read)
+unread_after fields [] (v ∷ values) field after read same unread =
+    let here : AllZip IsNumeral (field ∷ after) (v ∷ values) = subst (λ (fs : List (List ℕ)). AllZip IsNumeral fs (v ∷ values)) same read in
+    unread v here.0
+unread_after fields (f ∷ before) [] field after read same unread = absurd (subst (λ (fs : List (List ℕ)). AllZip IsNumeral fs []) same read)
+unread_after fields (f ∷ before) (v ∷ values) field after read same unread =
+    let here : AllZip IsNumeral (f ∷ (before ++ field ∷ after)) (v ∷ values) = subst (λ (fs : List (List ℕ)). AllZip IsNumeral fs (v ∷ values)) same read in
+    unread_after (before ++ field ∷ after) before values field after here.1 refl unread
+
+one_unread : (before others : List (List ℕ)) (values numbers : List ℕ) (field other : List ℕ) (after rest : List (List ℕ)) → before ++ field ∷ after ≡ others ++ other ∷ rest → AllZip IsNumeral before values → AllZip IsNumeral others numbers → ((value : ℕ) → ¬ IsNumeral field value) → ((value : ℕ) → ¬ IsNumeral other value) → field ≡ other
+one_unread [] [] values numbers field other after rest same read told unread none = cc
+one_unread [] (f ∷ others) values [] field other after rest same read told unread none = absurd told
+one_unread [] (f ∷ others) values (n ∷ numbers) field other after rest same read told unread none =
+    let is : f ≡ field = cc in
+    absurd (unread n (subst (λ (t : List ℕ). IsNumeral t n) is told.0))
+one_unread (f ∷ before) [] [] numbers field other after rest same read told unread none = absurd read
+one_unread (f ∷ before) [] (v ∷ values) numbers field other after rest same read told unread none =
+    let is : f ≡ other = cc in
+    absurd (none v (subst (λ (t : List ℕ). IsNumeral t v) is read.0))
+one_unread (f ∷ before) (g ∷ others) [] numbers field other after rest same read told unread none = absurd read
+one_unread (f ∷ before) (g ∷ others) (v ∷ values) [] field other after rest same read told unread none = absurd told
+one_unread (f ∷ before) (g ∷ others) (v ∷ values) (n ∷ numbers) field other after rest same read told unread none =
+    let tails : before ++ field ∷ after ≡ others ++ other ∷ rest = cc in
+    one_unread before others values numbers field other after rest tails read.1 told.1 unread none
+
+IsFirstUnread-one : (fields : List (List ℕ)) (field other : List ℕ) → IsFirstUnread fields field → IsFirstUnread fields other → field ≡ other
+IsFirstUnread-one fields field other first second =
+    one_unread first.before second.before first.values second.values field other first.after second.after (sym first.here ∙ second.here) first.read second.read first.unread second.unread
+
+-- the fields of a cut text, whichever way it is cut
+fields_same : (text prefix other : List ℕ) (c d : ℕ) (rest back : List ℕ) → IsCut text prefix c rest → IsCut text other d back → fields_of c rest ≡ fields_of d back
+fields_same text prefix other c d rest back first second =
+    let cut = IsCut-one text prefix other c d rest back first second in
+    rw (cut.same_character, cut.same_back) refl
+
+prefix_same : (text prefix other : List ℕ) (c d : ℕ) (rest back : List ℕ) → IsCut text prefix c rest → IsCut text other d back → prefix ≡ other
+prefix_same text prefix other c d rest back first second = (IsCut-one text prefix other c d rest back first second).same_front
+
+-- a text with a field that is no numeral is not counted
+HasUnread-uncounted : (text prefix field : List ℕ) (seen : ℕ) → HasUnread text field → IsCounted text prefix seen → ⊥
+HasUnread-uncounted text prefix field seen unread counted =
+    let same = fields_same text unread.prefix prefix unread.separator counted.separator unread.rest counted.rest unread.cut counted.cut in
+    unread_after (fields_of counted.separator counted.rest) unread.first.before counted.values field unread.first.after counted.numbers (sym same ∙ unread.first.here) unread.first.unread
+
+IsCounted-uncut : (text prefix : List ℕ) (seen : ℕ) → HasNoField text → IsCounted text prefix seen → ⊥
+IsCounted-uncut text prefix seen none counted = HasNoField-uncut text prefix counted.separator counted.rest none counted.cut
+
+-- a text is counted in one way
+IsCounted-prefix : (text prefix other : List ℕ) (seen got : ℕ) → IsCounted text prefix seen → IsCounted text other got → prefix ≡ other
+IsCounted-prefix text prefix other seen got first second = prefix_same text prefix other first.separator second.separator first.rest second.rest first.cut second.cut
+
+IsCounted-one : (text prefix other : List ℕ) (seen got : ℕ) → IsCounted text prefix seen → IsCounted text other got → seen ≡ got
+IsCounted-one text prefix other seen got first second =
+    let same = fields_same text prefix other first.separator second.separator first.rest second.rest first.cut second.cut in
+    let values : first.values ≡ second.values = IsNumeral-all (fields_of second.separator second.rest) first.values second.values (subst (λ (fs : List (List ℕ)). AllZip IsNumeral fs first.values) same first.numbers) second.numbers in
+    sym first.count ∙ ap (λ (ns : List ℕ). length ns) values ∙ second.count
+
+-- how many numbers a word takes
+takes_of : List ℕ → ℕ
+takes_of [] = 0
+takes_of (c ∷ word) = cond (c == 102) 2 3
+
+takes_is : (spec : IdMap) → takes_of (word_of spec) ≡ length (numbers_of spec)
+unfolding takes_of
+takes_is (Guest a b n) = refl
+takes_is (Host a b n) = refl
+takes_is (SquashGuest a b n) = refl
+takes_is (SquashHost a b n) = refl
+takes_is (Bidirectional a b n) = refl
+takes_is (ForbidGuest a n) = refl
+
+one_count : (spec other : IdMap) → word_of spec ≡ word_of other → length (numbers_of spec) ≡ length (numbers_of other)
+one_count spec other word = sym (takes_is spec) ∙ ap takes_of word ∙ takes_is other
+
+-- a text that says a specification is counted
+Says-counted : (text : List ℕ) (spec : IdMap) (said : Says text spec) → IsCounted text said.prefix (length (numbers_of spec))
+Says-counted text spec said = record {
+  separator = said.separator;
+  rest = said.rest;
+  values = numbers_of spec;
+  cut = said.cut;
+  numbers = said.numbers;
+  count = refl;
+}
+
+Says-miscounted : (text : List ℕ) (spec : IdMap) (expected seen : ℕ) → Says text spec → HasMiscount text expected seen → ⊥
+Says-miscounted text spec expected seen said fault =
+    let prefix = IsCounted-prefix text said.prefix fault.prefix (length (numbers_of spec)) seen (Says-counted text spec said) fault.counted in
+    let count = IsCounted-one text said.prefix fault.prefix (length (numbers_of spec)) seen (Says-counted text spec said) fault.counted in
+    fault.other (sym count ∙ one_count spec fault.spec (sym said.word ∙ ap lowered prefix ∙ fault.word) ∙ fault.takes)
+
+pub Says-faultless : {A : Type 0} (text : List ℕ) (spec : IdMap) (e : IdMapError A) → Says text spec → IsFaultOf text e → ⊥
+Says-faultless text spec (InvalidPrefix word) said fault =
+    let prefix = IsCounted-prefix text said.prefix fault.prefix (length (numbers_of spec)) fault.seen (Says-counted text spec said) fault.counted in
+    fault.unknown spec (ap lowered (sym prefix) ∙ said.word)
+Says-faultless text spec (InvalidLength expected seen) said (inl (none, _, _)) = HasNoField-uncut text said.prefix said.separator said.rest none said.cut
+Says-faultless text spec (InvalidLength expected seen) said (inr fault) = Says-miscounted text spec expected seen said fault
+Says-faultless text spec (InvalidValue value error) said fault = HasUnread-uncounted text said.prefix (chars (string_bytes value)) (length (numbers_of spec)) fault (Says-counted text spec said)
+Says-faultless text spec OutOfMemory said fault = fault
+
+-- what the reader answers to a text that says a specification
+pub Says-answered : {A : Type 0} (text : List ℕ) (r : Result IdMap (IdMapError A)) → IfOk r (Says text) → IfErr r (λ e. (e ≡ OutOfMemory) ⊎ IsFaultOf text e) → (spec : IdMap) → Says text spec → MatchResult r (λ s. s ≡ spec) (λ e. e ≡ OutOfMemory)
+Says-answered text (Ok other) read fault spec said = Says-one text other spec read said
+Says-answered text (Err e) read (inl want) spec said = want
+Says-answered text (Err e) read (inr fault) spec said = absurd (Says-faultless text spec e said fault)
+
+-- strings of the same characters have the same bytes
+same_bytes : {A : Type 0} (s t : String A) → chars (string_bytes s) ≡ chars (string_bytes t) → string_bytes s ≡ string_bytes t
+same_bytes s t same =
+    sym (encodes-chars (string_bytes s) (IsUtf8-string_bytes s)) ∙ ap encode_utf8_all same ∙ encodes-chars (string_bytes t) (IsUtf8-string_bytes t)
+
+unknown_miscounted : (text word : List ℕ) (expected seen : ℕ) → HasUnknownPrefix text word → HasMiscount text expected seen → ⊥
+unknown_miscounted text word expected seen first second =
+    let prefix = IsCounted-prefix text first.prefix second.prefix first.seen seen first.counted second.counted in
+    first.unknown second.spec (ap lowered prefix ∙ second.word)
+
+one_miscount : (text : List ℕ) (expected seen want got : ℕ) → HasMiscount text expected seen → HasMiscount text want got → (expected ≡ want) × (seen ≡ got)
+one_miscount text expected seen want got first second =
+    let prefix = IsCounted-prefix text first.prefix second.prefix seen got first.counted second.counted in
+    (sym first.takes ∙ one_count first.spec second.spec (sym first.word ∙ ap lowered prefix ∙ second.word) ∙ second.takes, IsCounted-one text first.prefix second.prefix seen got first.counted second.counted)
+
+pub IsFaultOf-one : {A : Type 0} (text : List ℕ) (e f : IdMapError A) → IsFaultOf text e → IsFaultOf text f → IsSameFault e f
+IsFaultOf-one text (InvalidPrefix p) (InvalidPrefix q) first second =
+    same_bytes p q (first.is ∙ ap lowered (IsCounted-prefix text first.prefix second.prefix first.seen second.seen first.counted second.counted) ∙ sym second.is)
+IsFaultOf-one text (InvalidPrefix p) (InvalidLength x s) first (inl (none, _, _)) = absurd (IsCounted-uncut text first.prefix first.seen none first.counted)
+IsFaultOf-one text (InvalidPrefix p) (InvalidLength x s) first (inr second) = absurd (unknown_miscounted text (chars (string_bytes p)) x s first second)
+IsFaultOf-one text (InvalidPrefix p) (InvalidValue v c) first second = absurd (HasUnread-uncounted text first.prefix (chars (string_bytes v)) first.seen second first.counted)
+IsFaultOf-one text (InvalidPrefix p) OutOfMemory first second = absurd second
+IsFaultOf-one text (InvalidLength x s) (InvalidPrefix q) (inl (none, _, _)) second = absurd (IsCounted-uncut text second.prefix second.seen none second.counted)
+IsFaultOf-one text (InvalidLength x s) (InvalidPrefix q) (inr first) second = absurd (unknown_miscounted text (chars (string_bytes q)) x s second first)
+IsFaultOf-one text (InvalidLength x s) (InvalidLength y t) (inl (_, one, zero)) (inl (_, uno, nil)) = (one ∙ sym uno, zero ∙ sym nil)
+IsFaultOf-one text (InvalidLength x s) (InvalidLength y t) (inl (none, _, _)) (inr second) = absurd (IsCounted-uncut text second.prefix t none second.counted)
+IsFaultOf-one text (InvalidLength x s) (InvalidLength y t) (inr first) (inl (none, _, _)) = absurd (IsCounted-uncut text first.prefix s none first.counted)
+IsFaultOf-one text (InvalidLength x s) (InvalidLength y t) (inr first) (inr second) = one_miscount text x s y t first second
+IsFaultOf-one text (InvalidLength x s) (InvalidValue v c) (inl (none, _, _)) second = absurd (HasNoField-uncut text second.prefix second.separator second.rest none second.cut)
+IsFaultOf-one text (InvalidLength x s) (InvalidValue v c) (inr first) second = absurd (HasUnread-uncounted text first.prefix (chars (string_bytes v)) s second first.counted)
+IsFaultOf-one text (InvalidLength x s) OutOfMemory first second = absurd second
+IsFaultOf-one text (InvalidValue v c) (InvalidPrefix q) first second = absurd (HasUnread-uncounted text second.prefix (chars (string_bytes v)) second.seen first second.counted)
+IsFaultOf-one text (InvalidValue v c) (InvalidLength y t) first (inl (none, _, _)) = absurd (HasNoField-uncut text first.prefix first.separator first.rest none first.cut)
+IsFaultOf-one text (InvalidValue v c) (InvalidLength y t) first (inr second) = absurd (HasUnread-uncounted text second.prefix (chars (string_bytes v)) t first second.counted)
+IsFaultOf-one text (InvalidValue v c) (InvalidValue w d) first second =
+    let fields = fields_same text first.prefix second.prefix first.separator second.separator first.rest second.rest first.cut second.cut in
+    same_bytes v w (IsFirstUnread-one (fields_of second.separator second.rest) (chars (string_bytes v)) (chars (string_bytes w)) (subst (λ (fs : List (List ℕ)). IsFirstUnread fs (chars (string_bytes v))) fields first.first) second.first)
+IsFaultOf-one text (InvalidValue v c) OutOfMemory first second = absurd second
+IsFaultOf-one text OutOfMemory f first second = absurd first

@@ -1,0 +1,43 @@
+use Rattle.std.proofs.Common.{◌≡◌, ◌++◌, ◌∷◌, [], List, ℕ, ap, sym, ◌∙◌, refl, rules, append_assoc}
+use Rattle.std.specs.Str.{chars}
+use Rattle.std.proofs.lemmas.Result.{err_from_is_err_and}
+use Rattle.virtiofs_map.specs.Numeral.{IsNumeral}
+use Rattle.virtiofs_map.specs.SpecificationText.{fields_of}
+use Rattle.virtiofs_map.proofs.SpecificationLemmas.{fields_of-cut, fields_of-last, AllZip-push, IsFieldsFault-here}
+use Rattle.virtiofs_map.proofs.cmdline.reader.read_fields.Goals as goal
+
+pub returns-in_err-read_field-clause-fault : goal.returns-in_err-read_field-clause-fault
+returns-in_err-read_field-clause-fault g c =
+    let p = err_from_is_err_and c.from_residual.result c.from_residual.ensures.1 in
+    let (done, so_far, read) = c.loop-field.invariant.1 in
+    let s = c.in-Some.ensures in
+    let next = fields_of-cut c.args.separator _ _ _ s.whole s.first in
+    rw (p.1, p.2) (IsFieldsFault-here _ done _ _ _ _ (so_far ∙ ap (λ (xs : List (List ℕ)). done ++ xs) next) read c.in_err-read_field.ensures)
+
+pub loop-field-preserved : goal.loop-field-preserved
+loop-field-preserved g c =
+    let (done, so_far, read) = c.loop-field.invariant.1 in
+    let s = c.in-Some.ensures in
+    let next = fields_of-cut c.args.separator _ _ _ s.whole s.first in
+    let field = chars c.in-Some.field.now in (
+      search rules,
+      (
+        done ++ field ∷ [],
+        so_far ∙ ap (λ (xs : List (List ℕ)). done ++ xs) next ∙ sym (append_assoc done (field ∷ []) _),
+        rw c.in_ok-push.ensures.items (AllZip-push IsNumeral done _ field _ read c.in_ok-read_field.ensures),
+      ),
+    )
+
+pub returns-in_err-read_field-2-clause-fault : goal.returns-in_err-read_field-2-clause-fault
+returns-in_err-read_field-2-clause-fault g c =
+    let p = err_from_is_err_and c.from_residual-in_err-read_field-2.result c.from_residual-in_err-read_field-2.ensures.1 in
+    let (done, so_far, read) = c.loop-field.invariant.1 in
+    let last = fields_of-last c.args.separator _ c.in_default.ensures.absent in
+    rw (p.1, p.2) (IsFieldsFault-here _ done _ _ _ _ (so_far ∙ ap (λ (xs : List (List ℕ)). done ++ xs) last) read c.in_err-read_field-2.ensures)
+
+pub returns-clause-read : goal.returns-clause-read
+returns-clause-read g c =
+    let (done, so_far, read) = c.loop-field.invariant.1 in
+    let last = fields_of-last c.args.separator _ c.in_default.ensures.absent in
+    let whole = so_far ∙ ap (λ (xs : List (List ℕ)). done ++ xs) last in
+    rw (whole, c.in_ok-push-2.ensures.items) (AllZip-push IsNumeral done _ _ _ read c.in_ok-read_field-2.ensures)

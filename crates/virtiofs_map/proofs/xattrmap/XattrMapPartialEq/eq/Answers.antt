@@ -1,0 +1,9 @@
+use Rattle.std.proofs.Common.{◌≡◌}
+use Rattle.virtiofs_map.specs.SameRule.{same_rules}
+use Rattle.virtiofs_map.proofs.SameRules.{same_rules-Decides}
+use Rattle.virtiofs_map.proofs.xattrmap.XattrMapPartialEq.eq.Goals as goal
+
+pub returns-clause-equal : goal.returns-clause-equal
+returns-clause-equal g c =
+    let test : c.eq.result ≡ same_rules c.args.self.now c.args.other.now = cc (c.eq.ensures, c.self.view_is, c.other.view_is) in
+    same_rules-Decides c.args.self.now c.args.other.now c.eq.result test

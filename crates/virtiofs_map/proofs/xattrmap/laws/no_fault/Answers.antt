@@ -1,0 +1,5 @@
+use Rattle.virtiofs_map.proofs.OneMeaning.{no_fault}
+use Rattle.virtiofs_map.proofs.xattrmap.laws.no_fault.Goals as goal
+
+pub returns : goal.returns
+returns c = no_fault

@@ -1,0 +1,81 @@
+-- What a map makes of the names of attributes. A name is a list of bytes, none of them zero.
+use Rattle.std.specs.Prelude.{◌≡◌, ℕ, Bool, ◌&&◌, not, if◌then◌else◌, ◌==◌, nat_eq, List, [], ◌∷◌, ◌++◌, length, drop, filter, position, Option, Some, None, is_some, option_and_then}
+use Rattle.std.specs.List.{starts_with, slice_get, slice_split, list_all, filter_map, flat_map}
+use Rattle.std.specs.Option.{option_map_or}
+use Rattle.virtiofs_map.specs.Rule.{MappingRule}
+use Rattle.virtiofs_map.specs.declared.xattrmap.rules.RuleKind.{RuleKind}
+use Rattle.virtiofs_map.specs.declared.xattrmap.rules.RuleKind.TheVariants.{Prefix, Okay, Bad, Unsupported}
+use Rattle.virtiofs_map.specs.declared.xattrmap.scopes.Side.{Side}
+use Rattle.virtiofs_map.specs.declared.xattrmap.scopes.Side.TheVariants.{Client, Server}
+
+-- the name is front, followed by some bytes or none
+abbrev pub begins : List ℕ → List ℕ → Bool
+begins front name = starts_with nat_eq name front
+
+-- the rule acts on that side, and what it compares names with there begins the name
+abbrev pub fits : Side → List ℕ → MappingRule → Bool
+fits Client name rule = rule.client && begins rule.key name
+fits Server name rule = rule.server && begins rule.prepend name
+
+-- the place of the first rule that fits a name of that side
+abbrev pub first : Side → List MappingRule → List ℕ → Option ℕ
+first side rules name = position (fits side name) rules
+
+-- the first rule that fits a name of that side
+abbrev pub deciding : Side → List MappingRule → List ℕ → Option MappingRule
+deciding side rules name = option_and_then (slice_get rules) (first side rules name)
+
+-- ---- a name from the guest
+
+-- what becomes of a name that the guest asks for
+pub data ClientAnswer : Type 0 where
+  Passes : List ℕ → ClientAnswer
+  IsDenied : ClientAnswer
+  IsUnsupported : ClientAnswer
+  IsUnterminated : ClientAnswer
+
+-- what a rule of that kind and prepend answers
+abbrev pub answer_by : RuleKind → List ℕ → List ℕ → ClientAnswer
+answer_by Okay prepend name = Passes name
+answer_by Prefix prepend name = Passes (prepend ++ name)
+answer_by Bad prepend name = IsDenied
+answer_by Unsupported prepend name = IsUnsupported
+
+-- what the first rule that fits answers
+abbrev pub client_answer : List MappingRule → List ℕ → ClientAnswer
+client_answer rules name = option_map_or (λ rule. answer_by rule.kind rule.prepend name) (deciding Client rules name) IsUnterminated
+
+-- ---- a list of names from the host
+
+-- the names of a list: what stands between zeros, where that is not empty
+abbrev pub names : List ℕ → List (List ℕ)
+names list = filter (λ name. not (length name == 0)) (slice_split (λ byte. byte == 0) list)
+
+-- what a rule of that kind and prepend leaves of a name: none where it hides it
+abbrev pub kept_by : RuleKind → List ℕ → List ℕ → Option (List ℕ)
+kept_by Okay prepend name = Some name
+kept_by Prefix prepend name = Some (drop (length prepend) name)
+kept_by Bad prepend name = None
+kept_by Unsupported prepend name = None
+
+-- what the first rule that fits leaves of a name
+abbrev pub kept : List MappingRule → List ℕ → Option (List ℕ)
+kept rules name = option_and_then (λ rule. kept_by rule.kind rule.prepend name) (deciding Server rules name)
+
+-- the names as a list, each followed by a zero; one zero where there are none
+abbrev pub as_list : List (List ℕ) → List ℕ
+as_list [] = 0 ∷ []
+as_list (name ∷ names) = flat_map (λ each. each ++ 0 ∷ []) (name ∷ names)
+
+-- the list that the guest gets: none where no rule fits one of the names
+abbrev pub server_answer : List MappingRule → List ℕ → Option (List ℕ)
+server_answer rules list =
+    if list_all (λ name. is_some (deciding Server rules name)) (names list) then Some (as_list (filter_map (kept rules) (names list))) else None
+
+-- ---- both ways
+
+-- the guest's name passes, and the host lists what it became as that name
+pub record ListsBack (rules : List MappingRule) (name : List ℕ) : Type 0 where
+  pub becomes : List ℕ
+  pub passes : client_answer rules name ≡ Passes becomes
+  pub lists : server_answer rules (becomes ++ 0 ∷ []) ≡ Some (name ++ 0 ∷ [])

@@ -1,0 +1,78 @@
+-- The texts that say a range of a namespace, as `:0:100000:65536:`, and what is wrong with the others.
+use Rattle.std.specs.Prelude.{◌≡◌, ◌≢◌, ◌⊎◌, ℕ, true, false, List, [], ◌∷◌, ◌++◌, length, All, Contains, ⊤}
+use Rattle.virtiofs_map.specs.Alphanumeric.{is_alphanumeric}
+use Rattle.virtiofs_map.specs.Numeral.{IsNumeral}
+use Rattle.virtiofs_map.specs.SpecificationText.{fields_of}
+use Rattle.virtiofs_map.specs.declared.idmap.IdMapError.{IdMapError}
+use Rattle.virtiofs_map.specs.declared.idmap.IdMapError.TheVariants.{InvalidDelimiter, IncompleteMap, InvalidValue}
+
+-- the field is a numeral of the value, and the delimiter is not in it
+pub record IsField (delimiter : ℕ) (field : List ℕ) (value : ℕ) : Type 0 where
+  pub free : All (λ c. c ≢ delimiter) field
+  pub numeral : IsNumeral field value
+
+-- the text is three fields, with a delimiter that is not alphanumeric before, between and behind them
+pub record SaysNamespace (text : List ℕ) (inside outside count : ℕ) : Type 0 where
+  pub delimiter : ℕ
+  pub first : List ℕ
+  pub second : List ℕ
+  pub third : List ℕ
+  pub whole : text ≡ delimiter ∷ first ++ delimiter ∷ second ++ delimiter ∷ third ++ delimiter ∷ []
+  pub delimits : is_alphanumeric delimiter ≡ false
+  pub first_says : IsField delimiter first inside
+  pub second_says : IsField delimiter second outside
+  pub third_says : IsField delimiter third count
+
+-- the text begins and ends with the same character, which is not alphanumeric
+pub record IsEnclosed (text : List ℕ) (delimiter : ℕ) (inner : List ℕ) : Type 0 where
+  pub whole : text ≡ delimiter ∷ inner ++ delimiter ∷ []
+  pub delimits : is_alphanumeric delimiter ≡ false
+
+-- the last character is alphanumeric, or the text does not begin with it too
+pub record HasNoDelimiter (text : List ℕ) : Type 0 where
+  pub front : List ℕ
+  pub last : ℕ
+  pub ends : text ≡ front ++ last ∷ []
+  pub wrong : (is_alphanumeric last ≡ true) ⊎ ((inner : List ℕ) → text ≢ last ∷ inner ++ last ∷ [])
+
+-- what the delimiters enclose is not three fields
+pub record HasOtherCount (text : List ℕ) : Type 0 where
+  pub delimiter : ℕ
+  pub inner : List ℕ
+  pub enclosed : IsEnclosed text delimiter inner
+  pub other : length (fields_of delimiter inner) ≢ 3
+
+-- it is three fields, and one of them is no numeral
+pub record HasOtherField (text : List ℕ) : Type 0 where
+  pub delimiter : ℕ
+  pub inner : List ℕ
+  pub field : List ℕ
+  pub enclosed : IsEnclosed text delimiter inner
+  pub three : length (fields_of delimiter inner) ≡ 3
+  pub here : Contains (fields_of delimiter inner) field
+  pub unread : (value : ℕ) → ¬ IsNumeral field value
+
+-- what is wrong with a text that says no range
+abbrev pub IsNamespaceFault : List ℕ → IdMapError → Type 0
+IsNamespaceFault text InvalidDelimiter = HasNoDelimiter text
+IsNamespaceFault text IncompleteMap = (text ≡ []) ⊎ HasOtherCount text
+IsNamespaceFault text (InvalidValue error) = HasOtherField text
+
+-- the two faults differ in no more than what is wrong with a number
+abbrev pub IsSameFault : IdMapError → IdMapError → Type 0
+IsSameFault InvalidDelimiter InvalidDelimiter = ⊤
+IsSameFault IncompleteMap IncompleteMap = ⊤
+IsSameFault (InvalidValue error) (InvalidValue other) = ⊤
+IsSameFault _ _ = ⊥
+
+-- a text says one range at most
+abbrev pub HasOneRange : Type 0
+HasOneRange = (text : List ℕ) (inside outside count a b c : ℕ) → SaysNamespace text inside outside count → SaysNamespace text a b c → (inside ≡ a) × (outside ≡ b) × (count ≡ c)
+
+-- a text that says a range has no fault
+abbrev pub HasNoFault : Type 0
+HasNoFault = (text : List ℕ) (inside outside count : ℕ) (error : IdMapError) → SaysNamespace text inside outside count → ¬ IsNamespaceFault text error
+
+-- a text has one fault at most
+abbrev pub HasOneFault : Type 0
+HasOneFault = (text : List ℕ) (error other : IdMapError) → IsNamespaceFault text error → IsNamespaceFault text other → IsSameFault error other

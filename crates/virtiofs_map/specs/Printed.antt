@@ -1,0 +1,60 @@
+-- The exact texts of values and of faults, as bytes.
+use Rattle.std.specs.Prelude.{ℕ, ◌+◌, List, [], ◌++◌, flat_map, codes, Option, Some, None}
+use Rattle.std.specs.Fmt.{decimal}
+use Rattle.virtiofs_map.specs.Mapping.{entry_of}
+use Rattle.virtiofs_map.specs.SpecificationText.{word_of, numbers_of}
+use Rattle.virtiofs_map.specs.declared.cmdline.IdMap.{IdMap}
+use Rattle.virtiofs_map.specs.declared.soft_idmap.entry.Direction.{Direction}
+use Rattle.virtiofs_map.specs.declared.soft_idmap.entry.Direction.TheVariants.{GuestToHost, HostToGuest}
+use Rattle.virtiofs_map.specs.declared.soft_idmap.entry.Entry.{Entry}
+use Rattle.virtiofs_map.specs.declared.soft_idmap.entry.Entry.TheVariants.{Map, Squash, Fail}
+use Rattle.virtiofs_map.specs.declared.soft_idmap.errors.MapError.{MapError}
+use Rattle.virtiofs_map.specs.declared.soft_idmap.errors.MapError.TheVariants.{ExplicitFailMapping}
+use Rattle.virtiofs_map.specs.declared.soft_idmap.errors.IdMapBuildError.{IdMapBuildError}
+use Rattle.virtiofs_map.specs.declared.soft_idmap.errors.IdMapBuildError.TheVariants.{RangeOverflow, Intersects, OutOfMemory}
+
+-- Specifications, and the faults of ids and of maps.
+
+-- a specification: its word, and each of its numbers in decimal behind a colon, as `map:0:1000:10`
+abbrev pub specification_text : IdMap → List ℕ
+specification_text spec = word_of spec ++ flat_map (λ n. codes ":" ++ decimal n) (numbers_of spec)
+
+-- the count numbers from first on, by their first and by the end past their last, as `[5, 15)`
+abbrev pub range_text : ℕ → ℕ → List ℕ
+range_text first count = codes "[" ++ decimal first ++ codes ", " ++ decimal (first + count) ++ codes ")"
+
+-- what a specification sets up in one direction
+abbrev pub entry_text : Entry → List ℕ
+entry_text (Map first to count) = codes "map " ++ range_text first count ++ codes " to " ++ range_text to count
+entry_text (Squash first to count) = codes "squash " ++ range_text first count ++ codes " to " ++ decimal to
+entry_text (Fail first count) = codes "fail " ++ range_text first count
+
+-- nothing where the specification does not act on the direction
+abbrev pub set_up_text : Option Entry → List ℕ
+set_up_text (Some entry) = entry_text entry
+set_up_text None = []
+
+-- a direction at the beginning of a sentence
+abbrev pub direction_text : Direction → List ℕ
+direction_text GuestToHost = codes "Guest-to-host"
+direction_text HostToGuest = codes "Host-to-guest"
+
+-- why the id of that number is not mapped
+abbrev pub forbidden_text : ℕ → List ℕ
+forbidden_text number = codes "Use of ID " ++ decimal number ++ codes " has been configured to fail"
+
+-- why an id is not mapped, by its number in decimal
+abbrev pub map_error_text : {Source Difference Inner Offset : Type 0} → (Source → ℕ) → MapError Source Difference Inner Offset → List ℕ
+map_error_text number (ExplicitFailMapping id) = forbidden_text (number id)
+
+-- why no map is made; the entry is that of the specification at fault
+abbrev pub build_error_text : IdMapBuildError → List ℕ
+build_error_text (RangeOverflow spec index direction range_end) = codes "Parameter " ++ specification_text spec ++ codes ": Range overflow"
+build_error_text (Intersects spec index direction) = direction_text direction ++ codes " mapping '" ++ set_up_text (entry_of spec direction) ++ codes "' intersects previously added entry"
+build_error_text OutOfMemory = codes "Out of memory"
+
+-- Ranges of a namespace.
+
+-- `:inside:outside:count:`, in decimal
+abbrev pub namespace_text : ℕ → ℕ → ℕ → List ℕ
+namespace_text inside outside count = codes ":" ++ decimal inside ++ codes ":" ++ decimal outside ++ codes ":" ++ decimal count ++ codes ":"

@@ -1,0 +1,110 @@
+-- The texts that say a specification, as `map:0:1000:10`, and what is wrong with the others.
+use Rattle.std.specs.Prelude.{◌≡◌, ◌≢◌, ◌⊎◌, ℕ, Bool, true, false, ◌||◌, ◌==◌, List, [], ◌∷◌, ◌++◌, length, map, codes, string_bytes}
+use Rattle.std.specs.List.{AllPass, AllZip, slice_split}
+use Rattle.std.specs.Char.{to_ascii_lowercase}
+use Rattle.std.specs.Str.{chars}
+use Rattle.virtiofs_map.specs.Alphanumeric.{is_alphanumeric}
+use Rattle.virtiofs_map.specs.Numeral.{IsNumeral}
+use Rattle.virtiofs_map.specs.declared.cmdline.IdMap.{IdMap}
+use Rattle.virtiofs_map.specs.declared.cmdline.IdMap.TheVariants.{Guest, Host, SquashGuest, SquashHost, Bidirectional, ForbidGuest}
+use Rattle.virtiofs_map.specs.declared.cmdline.IdMapError.{IdMapError}
+use Rattle.virtiofs_map.specs.declared.cmdline.IdMapError.TheVariants.{InvalidPrefix, InvalidLength, InvalidValue, OutOfMemory}
+
+-- a character of a prefix: alphanumeric, `-` or `_`
+abbrev pub is_word_character : ℕ → Bool
+is_word_character c = is_alphanumeric c || (c == 45) || (c == 95)
+
+-- the text is a prefix of word characters, then a separator that is none, and then the rest
+pub record IsCut (text prefix : List ℕ) (separator : ℕ) (rest : List ℕ) : Type 0 where
+  pub whole : text ≡ prefix ++ separator ∷ rest
+  pub word : AllPass is_word_character prefix
+  pub ends : is_word_character separator ≡ false
+
+-- what stands between the separators
+abbrev pub fields_of : ℕ → List ℕ → List (List ℕ)
+fields_of separator rest = slice_split (λ c. c == separator) rest
+
+-- the text with its ASCII letters lowered
+abbrev pub lowered : List ℕ → List ℕ
+lowered text = map to_ascii_lowercase text
+
+-- the word that a specification is written with
+abbrev pub word_of : IdMap → List ℕ
+word_of (Guest from_guest to_host count) = codes "guest"
+word_of (Host from_host to_guest count) = codes "host"
+word_of (SquashGuest from_guest to_host count) = codes "squash-guest"
+word_of (SquashHost from_host to_guest count) = codes "squash-host"
+word_of (Bidirectional guest host count) = codes "map"
+word_of (ForbidGuest from_guest count) = codes "forbid-guest"
+
+-- its numbers, in the order in which they are written
+abbrev pub numbers_of : IdMap → List ℕ
+numbers_of (Guest from_guest to_host count) = from_guest ∷ to_host ∷ count ∷ []
+numbers_of (Host from_host to_guest count) = from_host ∷ to_guest ∷ count ∷ []
+numbers_of (SquashGuest from_guest to_host count) = from_guest ∷ to_host ∷ count ∷ []
+numbers_of (SquashHost from_host to_guest count) = from_host ∷ to_guest ∷ count ∷ []
+numbers_of (Bidirectional guest host count) = guest ∷ host ∷ count ∷ []
+numbers_of (ForbidGuest from_guest count) = from_guest ∷ count ∷ []
+
+-- the text says the specification: its word, in letters of either case, and its numbers between separators
+pub record Says (text : List ℕ) (spec : IdMap) : Type 0 where
+  pub prefix : List ℕ
+  pub separator : ℕ
+  pub rest : List ℕ
+  pub cut : IsCut text prefix separator rest
+  pub word : lowered prefix ≡ word_of spec
+  pub numbers : AllZip IsNumeral (fields_of separator rest) (numbers_of spec)
+
+-- the field is no numeral, and each one before it is one
+pub record IsFirstUnread (fields : List (List ℕ)) (field : List ℕ) : Type 0 where
+  pub before : List (List ℕ)
+  pub after : List (List ℕ)
+  pub values : List ℕ
+  pub here : fields ≡ before ++ field ∷ after
+  pub read : AllZip IsNumeral before values
+  pub unread : (value : ℕ) → IsNumeral field value → ⊥
+
+-- the text is cut, and each of its fields is a numeral
+pub record IsCounted (text prefix : List ℕ) (seen : ℕ) : Type 0 where
+  pub separator : ℕ
+  pub rest : List ℕ
+  pub values : List ℕ
+  pub cut : IsCut text prefix separator rest
+  pub numbers : AllZip IsNumeral (fields_of separator rest) values
+  pub count : length values ≡ seen
+
+-- no separator ends the prefix
+abbrev pub HasNoField : List ℕ → Type 0
+HasNoField text = AllPass is_word_character text
+
+-- the first field that is no numeral
+pub record HasUnread (text field : List ℕ) : Type 0 where
+  pub prefix : List ℕ
+  pub separator : ℕ
+  pub rest : List ℕ
+  pub cut : IsCut text prefix separator rest
+  pub first : IsFirstUnread (fields_of separator rest) field
+
+-- each field is a numeral, and the prefix is no word
+pub record HasUnknownPrefix (text word : List ℕ) : Type 0 where
+  pub prefix : List ℕ
+  pub seen : ℕ
+  pub counted : IsCounted text prefix seen
+  pub is : word ≡ lowered prefix
+  pub unknown : (spec : IdMap) → lowered prefix ≢ word_of spec
+
+-- each field is a numeral, and there are not as many as the word takes
+pub record HasMiscount (text : List ℕ) (expected seen : ℕ) : Type 0 where
+  pub prefix : List ℕ
+  pub spec : IdMap
+  pub counted : IsCounted text prefix seen
+  pub word : lowered prefix ≡ word_of spec
+  pub takes : length (numbers_of spec) ≡ expected
+  pub other : seen ≢ expected
+
+-- what is wrong with a text that says no specification
+abbrev pub IsFaultOf : {A : Type 0} → List ℕ → IdMapError A → Type 0
+IsFaultOf text (InvalidLength expected seen) = (HasNoField text × (expected ≡ 1) × (seen ≡ 0)) ⊎ HasMiscount text expected seen
+IsFaultOf text (InvalidValue value error) = HasUnread text (chars (string_bytes value))
+IsFaultOf text (InvalidPrefix prefix) = HasUnknownPrefix text (chars (string_bytes prefix))
+IsFaultOf text OutOfMemory = ⊥

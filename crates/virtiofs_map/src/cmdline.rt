@@ -1,0 +1,135 @@
+//! Specifications of an id mapping, as a command line gives them.
+//!
+//! A specification is a word, a separator and decimal numbers with that separator between them, as
+//! `map:0:1000:10`. The separator is any character that is not alphanumeric, `-` or `_`.
+ghost use Rattle.std.specs.Prelude.{◌≡◌, ◌≢◌, ◌⊎◌, ℕ, List, ◌||◌, ◌==◌, length, map, MatchResult, IfOk, IfErr, IfSome, IfNone, OnErr, string_bytes, encode_utf8_all};
+ghost use Rattle.std.specs.List.{AllZip};
+ghost use Rattle.std.specs.Str.{chars};
+ghost use Rattle.virtiofs_map.specs.Alphanumeric.{is_alphanumeric};
+ghost use Rattle.virtiofs_map.specs.Numeral.{IsNumeral};
+
+use std::alloc::{AllocError, AllocFailed, Allocator, Global};
+use std::num::ParseIntError;
+use thiserror::Error;
+
+/// One specification of a mapping between guest ids and host ids.
+#[derive(Clone, Copy, Debug, PartialEq, Eq)]
+pub enum IdMap {
+    /// `guest:FROM:TO:COUNT`: each of `count` guest ids from `from_guest` on stands for the host id
+    /// as far above `to_host`.
+    Guest {
+        /// The first guest id.
+        from_guest: u32,
+        /// The host id that it becomes.
+        to_host: u32,
+        /// How many guest ids are mapped; 0 maps none.
+        count: u32,
+    },
+
+    /// `host:FROM:TO:COUNT`: the same from host ids to guest ids.
+    Host {
+        /// The first host id.
+        from_host: u32,
+        /// The guest id that it becomes.
+        to_guest: u32,
+        /// How many host ids are mapped; 0 maps none.
+        count: u32,
+    },
+
+    /// `squash-guest:FROM:TO:COUNT`: each of `count` guest ids from `from_guest` on becomes the one
+    /// host id `to_host`.
+    SquashGuest {
+        /// The first guest id.
+        from_guest: u32,
+        /// The host id that each becomes.
+        to_host: u32,
+        /// How many guest ids are mapped; 0 maps none.
+        count: u32,
+    },
+
+    /// `squash-host:FROM:TO:COUNT`: the same from host ids to one guest id.
+    SquashHost {
+        /// The first host id.
+        from_host: u32,
+        /// The guest id that each becomes.
+        to_guest: u32,
+        /// How many host ids are mapped; 0 maps none.
+        count: u32,
+    },
+
+    /// `map:GUEST:HOST:COUNT`: what `guest:GUEST:HOST:COUNT` and `host:HOST:GUEST:COUNT` say
+    /// together.
+    Bidirectional {
+        /// The first guest id.
+        guest: u32,
+        /// The first host id.
+        host: u32,
+        /// How many ids are mapped either way; 0 maps none.
+        count: u32,
+    },
+
+    /// `forbid-guest:FROM:COUNT`: the use of each of `count` guest ids from `from_guest` on fails.
+    ForbidGuest {
+        /// The first guest id.
+        from_guest: u32,
+        /// How many guest ids are forbidden; 0 forbids none.
+        count: u32,
+    },
+}
+
+/// Why a text says no specification.
+#[derive(Debug, Drop, Error)]
+pub enum IdMapError<A: Allocator = Global> {
+    /// The word before the separator, its ASCII letters lowered, is none of the six.
+    #[error("Invalid ID map prefix {0}")]
+    InvalidPrefix(String<A>),
+
+    /// The word wants another count of numbers. Where no separator follows the word, `expected` is
+    /// 1 and `seen` is 0.
+    #[error("Invalid ID map length (expected {expected} elements, got {seen} elements)")]
+    InvalidLength {
+        /// How many numbers the word takes.
+        expected: usize,
+        /// How many there are.
+        seen: usize,
+    },
+
+    /// A field is no number from 0 to 4294967295.
+    #[error("Invalid value {value} in ID map: {error}")]
+    InvalidValue {
+        /// The first such field.
+        value: String<A>,
+        /// What is wrong with it.
+        error: ParseIntError,
+    },
+
+    /// A request for memory was refused.
+    #[error("Out of memory")]
+    OutOfMemory,
+}
+
+impl<A: Allocator> From<AllocError> for IdMapError<A> {
+    ghost use Rattle.std.specs.Prelude.{◌≡◌};
+    ghost use Rattle.virtiofs_map.specs.declared.cmdline.IdMapError.TheVariants.{OutOfMemory};
+
+    ghost from_gives = { λ _ r. r ≡ OutOfMemory };
+
+    fn from(_error: AllocError) -> IdMapError<A> {
+        IdMapError::OutOfMemory
+    }
+}
+
+impl<T: Drop, A: Allocator> From<AllocFailed<T>> for IdMapError<A> {
+    ghost use Rattle.std.specs.Prelude.{◌≡◌};
+    ghost use Rattle.virtiofs_map.specs.declared.cmdline.IdMapError.TheVariants.{OutOfMemory};
+
+    ghost from_gives = { λ _ r. r ≡ OutOfMemory };
+
+    fn from(_error: AllocFailed<T>) -> IdMapError<A> {
+        IdMapError::OutOfMemory
+    }
+}
+
+pub mod laws;
+mod printed;
+mod reader;

@@ -1,0 +1,54 @@
+//! The printed form of a specification.
+ghost use Rattle.std.specs.Prelude.{ℕ, ◌^◌, ◌<◌, All, Some};
+ghost use Rattle.std.specs.Str.{chars};
+ghost use Rattle.virtiofs_map.specs.Printed.{specification_text};
+ghost use Rattle.virtiofs_map.specs.SpecificationText.{Says, numbers_of};
+
+use crate::cmdline::IdMap;
+use std::fmt;
+
+#[cfg(test)]
+mod tests;
+
+/// A specification is printed with its word in lower case, `:` for its separator, and its numbers
+/// in plain decimal.
+impl fmt::Display for IdMap {
+    ghost output = { λ spec. Some (specification_text spec) };
+
+    fn fmt<W: fmt::Write>(&self, f: &mut fmt::Formatter<W>) -> fmt::Result {
+        match *self {
+            IdMap::Guest {
+                from_guest,
+                to_host,
+                count,
+            } => write!(f, "guest:{from_guest}:{to_host}:{count}"),
+            IdMap::Host {
+                from_host,
+                to_guest,
+                count,
+            } => write!(f, "host:{from_host}:{to_guest}:{count}"),
+            IdMap::SquashGuest {
+                from_guest,
+                to_host,
+                count,
+            } => write!(f, "squash-guest:{from_guest}:{to_host}:{count}"),
+            IdMap::SquashHost {
+                from_host,
+                to_guest,
+                count,
+            } => write!(f, "squash-host:{from_host}:{to_guest}:{count}"),
+            IdMap::Bidirectional { guest, host, count } => write!(f, "map:{guest}:{host}:{count}"),
+            IdMap::ForbidGuest { from_guest, count } => {
+                write!(f, "forbid-guest:{from_guest}:{count}")
+            }
+        }
+    }
+}
+
+impl IdMap {
+    /// Law: the printed form of each specification whose numbers are below 2^32, as those of every
+    /// `IdMap` are, is a text that says that specification, as [`IdMap::from_str`] reads it.
+    pub fn printed_says_it()
+        ensures { (spec : IdMap) → All (λ n. n < 2 ^ 32) (numbers_of spec) → Says (chars (specification_text spec)) spec }
+    {}
+}

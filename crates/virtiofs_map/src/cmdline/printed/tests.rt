@@ -1,0 +1,108 @@
+//! Printed forms, and the texts of faults.
+ghost use Rattle.std.specs.Prelude.{IfOk, string_bytes};
+ghost use Rattle.std.specs.Str.{chars};
+ghost use Rattle.virtiofs_map.specs.SpecificationText.{Says};
+ghost use Rattle.virtiofs_map.specs.declared.cmdline.IdMap.TheVariants.{ForbidGuest};
+
+use crate::cmdline::{IdMap, IdMapError};
+use std::alloc::{AllocError, Global};
+use std::test::Fail;
+
+/// Each text, and the printed form of the specification that it says.
+const PRINTED: [(&str, &str); 8] = [
+    ("FORBID-GUEST/7/3", "forbid-guest:7:3"),
+    ("map+00+1000+10", "map:0:1000:10"),
+    ("Guest:1:2:3", "guest:1:2:3"),
+    ("host,0007,0,0", "host:7:0:0"),
+    (
+        "squash-guest:0:65534:4294967295",
+        "squash-guest:0:65534:4294967295",
+    ),
+    ("squash-HOST:10:20:30", "squash-host:10:20:30"),
+    (
+        "map:4294967295:4294967295:4294967295",
+        "map:4294967295:4294967295:4294967295",
+    ),
+    ("forbid-guest:0:1", "forbid-guest:0:1"),
+];
+
+/// Each text that says no specification, and the text of its fault.
+const REFUSED: [(&str, &str); 6] = [
+    ("FOO:1", "Invalid ID map prefix foo"),
+    (":0:1:2", "Invalid ID map prefix "),
+    (
+        "map:1:2",
+        "Invalid ID map length (expected 3 elements, got 2 elements)",
+    ),
+    (
+        "forbid-guest:1:2:3",
+        "Invalid ID map length (expected 2 elements, got 3 elements)",
+    ),
+    (
+        "foo",
+        "Invalid ID map length (expected 1 elements, got 0 elements)",
+    ),
+    (
+        "",
+        "Invalid ID map length (expected 1 elements, got 0 elements)",
+    ),
+];
+
+/// A text that forbids guest ids, proved from the law.
+fn forbidding(alloc: Global, from_guest: u32, count: u32) -> Result<String, AllocError>
+    ensures { IfOk result (λ text. Says (chars (string_bytes text)) (ForbidGuest from_guest count)) }
+{
+    let spec = IdMap::ForbidGuest { from_guest, count };
+    IdMap::printed_says_it();
+    spec.to_string(alloc)
+}
+
+#[test]
+fn prints_to_say_it(rt: HostRuntime) -> Result<(), Fail> {
+    let text = forbidding(rt.alloc(), 7, 3)?;
+    assert_eq!(rt; text.as_str(), "forbid-guest:7:3");
+    Ok(())
+}
+
+#[test]
+fn prints_specifications(rt: HostRuntime) -> Result<(), Fail> {
+    for (text, printed) in PRINTED {
+        let spec = IdMap::from_str(rt.alloc(), text)?;
+        assert_eq!(rt; spec.to_string(rt.alloc())?.as_str(), printed);
+
+        let again = IdMap::from_str(rt.alloc(), printed)?;
+        assert!(rt; again == spec);
+    }
+    Ok(())
+}
+
+#[test]
+fn prints_faults(rt: HostRuntime) -> Result<(), Fail> {
+    for (text, printed) in REFUSED {
+        let fault = IdMap::from_str(rt.alloc(), text).err().ok_or("read")?;
+        assert_eq!(rt; fault.to_string(rt.alloc())?.as_str(), printed);
+    }
+    Ok(())
+}
+
+#[test]
+fn prints_unread_field(rt: HostRuntime) -> Result<(), Fail> {
+    let fault = IdMap::from_str(rt.alloc(), "map:-0:1:2")
+        .err()
+        .ok_or("read")?;
+    let IdMapError::InvalidValue { error, .. } = &fault else {
+        return Err("another fault")?;
+    };
+    assert_eq!(rt;
+        fault.to_string(rt.alloc())?.as_str(),
+        format!(in rt.alloc(); "Invalid value -0 in ID map: {error}")?.as_str()
+    );
+    Ok(())
+}
+
+#[test]
+fn prints_want_of_memory(rt: HostRuntime) -> Result<(), Fail> {
+    let fault: IdMapError = IdMapError::OutOfMemory;
+    assert_eq!(rt; fault.to_string(rt.alloc())?.as_str(), "Out of memory");
+    Ok(())
+}

@@ -1,0 +1,188 @@
+//! How the text of a specification is read.
+ghost use Rattle.std.specs.Prelude.{◌≡◌, ◌≢◌, ◌⊎◌, ℕ, List, [], ◌∷◌, ◌||◌, ◌==◌, length, map, MatchResult, IfOk, IfErr, IfSome, IfNone, OnErr, string_bytes, encode_utf8_all};
+ghost use Rattle.std.specs.List.{AllZip, AllPass};
+ghost use Rattle.std.specs.Str.{chars};
+ghost use Rattle.virtiofs_map.specs.Numeral.{IsNumeral};
+ghost use Rattle.virtiofs_map.specs.SpecificationParts.{IsLoweredCut, IsFieldFault, IsFieldsFault, IsCountFault, IsWordFault};
+ghost use Rattle.virtiofs_map.specs.declared.cmdline.IdMap.{IdMap as Specification};
+ghost use Rattle.virtiofs_map.specs.declared.cmdline.IdMapError.TheVariants.{OutOfMemory};
+ghost use Rattle.virtiofs_map.specs.SpecificationText.{is_word_character, IsCut, fields_of, lowered, word_of, numbers_of, HasNoField, Says, IsFirstUnread, IsFaultOf};
+
+use super::{IdMap, IdMapError};
+use crate::text::{cut_at, is_alphanumeric, number};
+use std::alloc::{AllocError, Allocator};
+
+/// A text after its prefix was taken off.
+#[derive(Drop)]
+struct Cut<'a, A: Allocator> {
+    /// The prefix, its ASCII letters lowered.
+    word: String<A>,
+    separator: char,
+    rest: &'a str,
+}
+
+/// Whether a character belongs to a prefix.
+fn is_word_character(c: char) -> bool
+    ensures { result ≡ is_word_character c }
+{
+    is_alphanumeric(c) || c == '-' || c == '_'
+}
+
+/// Takes off the longest front of word characters, and the separator behind it.
+fn cut_prefix<A: Allocator>(alloc: A, text: &str) -> Result<Option<Cut<'_, A>>, AllocError>
+    ensures none { IfOk result (λ o. IfNone o (HasNoField (chars text.now))) }
+    ensures cut { IfOk result (λ o. IfSome o (λ cut.
+        IsLoweredCut (chars text.now) (chars (string_bytes cut.word)) cut.separator (chars cut.rest.now))) }
+{
+    let mut chars = text.chars();
+    let mut word = String::new(alloc);
+    while let Some(c) = chars.next() {
+        if !is_word_character(c) {
+            let rest = chars.as_str();
+            return Ok(Some(Cut {
+                word,
+                separator: c,
+                rest,
+            }));
+        }
+        word.push(c.to_ascii_lowercase())?;
+    }
+    Ok(None)
+}
+
+/// Reads one field.
+fn read_field<A: Allocator>(alloc: A, field: &str) -> Result<u32, IdMapError<A>>
+    ensures { MatchResult result (λ value. IsNumeral (chars field.now) value) (IsFieldFault (chars field.now)) }
+{
+    match number(field) {
+        Ok(value) => Ok(value),
+        Err(error) => {
+            let value = String::from_str(alloc, field)?;
+            Err(IdMapError::InvalidValue { value, error })
+        }
+    }
+}
+
+/// Reads the numbers between the separators.
+fn read_fields<A: Allocator + Copy>(
+    alloc: A,
+    separator: char,
+    fields: &str,
+) -> Result<Vec<u32, A>, IdMapError<A>>
+    ensures read { IfOk result (λ v. AllZip IsNumeral (fields_of separator (chars fields.now)) v.items) }
+    ensures fault { IfErr result (IsFieldsFault (fields_of separator (chars fields.now))) }
+{
+    let mut numbers = Vec::new(alloc);
+    let mut rest = fields;
+    while let Some((field, after)) = cut_at(rest, separator) {
+        numbers.push(read_field(alloc, field)?)?;
+        rest = after;
+    }
+    numbers.push(read_field(alloc, rest)?)?;
+    Ok(numbers)
+}
+
+/// The numbers of a word that takes three.
+fn three<A: Allocator>(numbers: &[u32]) -> Result<(u32, u32, u32), IdMapError<A>>
+    ensures { MatchResult result (λ n. numbers.now ≡ n.0 ∷ n.1 ∷ n.2 ∷ []) (IsCountFault 3 numbers.now) }
+{
+    match numbers {
+        [first, second, third] => Ok((*first, *second, *third)),
+        _ => Err(IdMapError::InvalidLength {
+            expected: 3,
+            seen: numbers.len(),
+        }),
+    }
+}
+
+/// The numbers of a word that takes two.
+fn two<A: Allocator>(numbers: &[u32]) -> Result<(u32, u32), IdMapError<A>>
+    ensures { MatchResult result (λ n. numbers.now ≡ n.0 ∷ n.1 ∷ []) (IsCountFault 2 numbers.now) }
+{
+    match numbers {
+        [first, second] => Ok((*first, *second)),
+        _ => Err(IdMapError::InvalidLength {
+            expected: 2,
+            seen: numbers.len(),
+        }),
+    }
+}
+
+/// The specification that a word and its numbers say.
+fn specification<A: Allocator>(word: String<A>, numbers: &[u32]) -> Result<IdMap, IdMapError<A>>
+    ensures word { IfOk result (λ spec. string_bytes word ≡ word_of spec) }
+    ensures numbers { IfOk result (λ spec. numbers.now ≡ numbers_of spec) }
+    ensures fault { IfErr result (IsWordFault (string_bytes word) numbers.now) }
+{
+    match word.as_str() {
+        "guest" => {
+            let (from_guest, to_host, count) = three(numbers)?;
+            Ok(IdMap::Guest {
+                from_guest,
+                to_host,
+                count,
+            })
+        }
+        "host" => {
+            let (from_host, to_guest, count) = three(numbers)?;
+            Ok(IdMap::Host {
+                from_host,
+                to_guest,
+                count,
+            })
+        }
+        "squash-guest" => {
+            let (from_guest, to_host, count) = three(numbers)?;
+            Ok(IdMap::SquashGuest {
+                from_guest,
+                to_host,
+                count,
+            })
+        }
+        "squash-host" => {
+            let (from_host, to_guest, count) = three(numbers)?;
+            Ok(IdMap::SquashHost {
+                from_host,
+                to_guest,
+                count,
+            })
+        }
+        "map" => {
+            let (guest, host, count) = three(numbers)?;
+            Ok(IdMap::Bidirectional { guest, host, count })
+        }
+        "forbid-guest" => {
+            let (from_guest, count) = two(numbers)?;
+            Ok(IdMap::ForbidGuest { from_guest, count })
+        }
+        _ => Err(IdMapError::InvalidPrefix(word)),
+    }
+}
+
+/// Reads a text: its prefix, then its numbers, and then what the two say.
+fn read<A: Allocator + Copy>(alloc: A, text: &str) -> Result<IdMap, IdMapError<A>>
+    ensures read { IfOk result (λ spec. Says (chars text.now) spec) }
+    ensures fault { IfErr result (λ e. (e ≡ OutOfMemory) ⊎ IsFaultOf (chars text.now) e) }
+{
+    let Some(cut) = cut_prefix(alloc, text)? else {
+        return Err(IdMapError::InvalidLength {
+            expected: 1,
+            seen: 0,
+        });
+    };
+    let numbers = read_fields(alloc, cut.separator, cut.rest)?;
+    specification(cut.word, &numbers)
+}
+
+impl IdMap {
+    /// Reads a specification.
+    ///
+    /// A text that says one is answered with that one, wherever there is memory.
+    pub fn from_str<A: Allocator + Copy>(alloc: A, text: &str) -> Result<IdMap, IdMapError<A>>
+        ensures read { IfOk result (λ spec. Says (chars text.now) spec) }
+        ensures fault { IfErr result (λ e. (e ≡ OutOfMemory) ⊎ IsFaultOf (chars text.now) e) }
+        ensures said { (spec : Specification) → Says (chars text.now) spec → MatchResult result (λ r. r ≡ spec) (λ e. e ≡ OutOfMemory) }
+    {
+        read(alloc, text)
+    }
+}

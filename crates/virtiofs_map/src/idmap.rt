@@ -1,0 +1,145 @@
+//! Ranges of ids of a user namespace, as a command line gives them.
+//!
+//! A range says which ids inside the namespace stand for which ids outside it, as
+//! `:0:100000:65536:`: the first id inside, the first one outside, and how many there are. The
+//! character at the end of the text, any one that is not alphanumeric, also stands at its beginning
+//! and between the numbers, so `,0,100000,65536,` says the same.
+
+use range::Range;
+use std::fmt;
+use std::num::ParseIntError;
+use thiserror::Error;
+
+mod laws;
+mod range;
+#[cfg(test)]
+mod tests;
+
+pub use laws::{namespace_texts_have_one_meaning, printed_namespaces_read_back};
+
+/// A range of user ids. It is printed as `:inside_uid:outside_uid:count:`, in decimal.
+#[derive(Clone, Debug, PartialEq, Eq, Drop)]
+pub struct UidMap {
+    /// The first id inside the namespace.
+    pub inside_uid: u32,
+    /// The first id outside it.
+    pub outside_uid: u32,
+    /// How many ids there are.
+    pub count: u32,
+}
+
+/// A range of group ids. It is printed as `:inside_gid:outside_gid:count:`, in decimal.
+#[derive(Clone, Debug, PartialEq, Eq, Drop)]
+pub struct GidMap {
+    /// The first id inside the namespace.
+    pub inside_gid: u32,
+    /// The first id outside it.
+    pub outside_gid: u32,
+    /// How many ids there are.
+    pub count: u32,
+}
+
+/// Why a text says no range.
+#[derive(Debug, PartialEq, Eq, Drop, Error)]
+pub enum IdMapError {
+    /// The last character is alphanumeric, or the text does not begin with it as well.
+    #[error("A delimiter has been found that does not match the delimiter the map started with")]
+    InvalidDelimiter,
+
+    /// The text is empty, or what stands between its delimiters is not three fields.
+    #[error("The map is empty or incorrect number of values are provided")]
+    IncompleteMap,
+
+    /// A field is no number from 0 to 4294967295; what is wrong with the first such field.
+    #[error("{0}")]
+    InvalidValue(ParseIntError),
+}
+
+impl From<ParseIntError> for IdMapError {
+    ghost use Rattle.std.specs.Prelude.{◌≡◌};
+    ghost use Rattle.virtiofs_map.specs.declared.idmap.IdMapError.TheVariants.{InvalidValue};
+
+    ghost from_gives = { λ error r. r ≡ InvalidValue error };
+
+    fn from(error: ParseIntError) -> IdMapError {
+        IdMapError::InvalidValue(error)
+    }
+}
+
+impl UidMap {
+    ghost use Rattle.std.specs.Prelude.{IfOk, IfErr};
+    ghost use Rattle.std.specs.Str.{chars};
+    ghost use Rattle.virtiofs_map.specs.NamespaceText.{SaysNamespace, IsNamespaceFault};
+
+    /// Reads a range of user ids. It takes no memory.
+    ///
+    /// An empty text is [`IdMapError::IncompleteMap`]. Else the last character is the delimiter:
+    /// where it is alphanumeric, or the text does not begin with it as well, the text is
+    /// [`IdMapError::InvalidDelimiter`]. Where the delimiters between these two do not make three
+    /// fields, it is [`IdMapError::IncompleteMap`], and where a field is no number from 0 to
+    /// 4294967295, [`IdMapError::InvalidValue`]. A number is decimal digits, with any zeros before
+    /// them, and may have a `+` in front.
+    pub fn from_str(text: &str) -> Result<UidMap, IdMapError>
+        ensures read { IfOk result (λ map. SaysNamespace (chars text.now) map.inside_uid map.outside_uid map.count) }
+        ensures fault { IfErr result (IsNamespaceFault (chars text.now)) }
+    {
+        let range = Range::from_str(text)?;
+        Ok(UidMap {
+            inside_uid: range.inside,
+            outside_uid: range.outside,
+            count: range.count,
+        })
+    }
+}
+
+impl GidMap {
+    ghost use Rattle.std.specs.Prelude.{IfOk, IfErr};
+    ghost use Rattle.std.specs.Str.{chars};
+    ghost use Rattle.virtiofs_map.specs.NamespaceText.{SaysNamespace, IsNamespaceFault};
+
+    /// Reads a range of group ids, from the same texts and with the same errors as
+    /// [`UidMap::from_str`]. It takes no memory.
+    pub fn from_str(text: &str) -> Result<GidMap, IdMapError>
+        ensures read { IfOk result (λ map. SaysNamespace (chars text.now) map.inside_gid map.outside_gid map.count) }
+        ensures fault { IfErr result (IsNamespaceFault (chars text.now)) }
+    {
+        let range = Range::from_str(text)?;
+        Ok(GidMap {
+            inside_gid: range.inside,
+            outside_gid: range.outside,
+            count: range.count,
+        })
+    }
+}
+
+impl fmt::Display for UidMap {
+    ghost use Rattle.std.specs.Prelude.{Some};
+    ghost use Rattle.virtiofs_map.specs.Printed.{namespace_text};
+
+    ghost output = { λ map. Some (namespace_text map.inside_uid map.outside_uid map.count) };
+
+    fn fmt<W: fmt::Write>(&self, f: &mut fmt::Formatter<W>) -> fmt::Result {
+        let range = Range {
+            inside: self.inside_uid,
+            outside: self.outside_uid,
+            count: self.count,
+        };
+        range.fmt(f)
+    }
+}
+
+impl fmt::Display for GidMap {
+    ghost use Rattle.std.specs.Prelude.{Some};
+    ghost use Rattle.virtiofs_map.specs.Printed.{namespace_text};
+
+    ghost output = { λ map. Some (namespace_text map.inside_gid map.outside_gid map.count) };
+
+    fn fmt<W: fmt::Write>(&self, f: &mut fmt::Formatter<W>) -> fmt::Result {
+        let range = Range {
+            inside: self.inside_gid,
+            outside: self.outside_gid,
+            count: self.count,
+        };
+        range.fmt(f)
+    }
+}

@@ -1,0 +1,149 @@
+//! Texts of ranges: which are read and as what, and what is wrong with the others.
+ghost use Rattle.std.specs.Prelude.{IfOk, string_bytes};
+ghost use Rattle.std.specs.Str.{chars};
+ghost use Rattle.virtiofs_map.specs.NamespaceText.{SaysNamespace};
+
+use super::{GidMap, IdMapError, UidMap, printed_namespaces_read_back};
+use std::alloc::{AllocError, Global};
+use std::test::Fail;
+
+/// A text, the three numbers that it says, and what these are printed as.
+const READ: [(&str, (u32, u32, u32), &str); 9] = [
+    (":0:100000:65536:", (0, 100000, 65536), ":0:100000:65536:"),
+    ("+1+2+3+", (1, 2, 3), ":1:2:3:"),
+    ("-1-2-3-", (1, 2, 3), ":1:2:3:"),
+    ("_1_2_3_", (1, 2, 3), ":1:2:3:"),
+    ("§1§2§3§", (1, 2, 3), ":1:2:3:"),
+    (",1,2,3,", (1, 2, 3), ":1:2:3:"),
+    (
+        ":4294967295:4294967295:4294967295:",
+        (4294967295, 4294967295, 4294967295),
+        ":4294967295:4294967295:4294967295:",
+    ),
+    (":+1:002:+03:", (1, 2, 3), ":1:2:3:"),
+    (" 0 0 0 ", (0, 0, 0), ":0:0:0:"),
+];
+
+/// A text that says no range, and the name of its fault.
+const REFUSED: [(&str, &str); 18] = [
+    ("", "IncompleteMap"),
+    (":", "InvalidDelimiter"),
+    ("::", "IncompleteMap"),
+    (":x:", "IncompleteMap"),
+    (":0:1:2::", "IncompleteMap"),
+    ("5", "InvalidDelimiter"),
+    ("::::", "InvalidValue"),
+    (":1:2:3", "InvalidDelimiter"),
+    (":0:1:2: ", "InvalidDelimiter"),
+    ("é1é2é3é", "InvalidDelimiter"),
+    ("½1½2½3½", "InvalidDelimiter"),
+    (":4294967296:0:1:", "InvalidValue"),
+    (":0:4294967296:1:", "InvalidValue"),
+    (":0:1:4294967296:", "InvalidValue"),
+    (":-0:1:2:", "InvalidValue"),
+    (":+:1:2:", "InvalidValue"),
+    (":0: 1:2:", "InvalidValue"),
+    ("1:2:3:", "InvalidDelimiter"),
+];
+
+/// The name of a fault.
+fn name_of(fault: &IdMapError) -> &'static str {
+    match fault {
+        IdMapError::InvalidDelimiter => "InvalidDelimiter",
+        IdMapError::IncompleteMap => "IncompleteMap",
+        IdMapError::InvalidValue(_) => "InvalidValue",
+    }
+}
+
+/// The printed form of a range of user ids, proved from the law.
+fn printed(alloc: Global, map: &UidMap) -> Result<String, AllocError>
+    ensures { IfOk result (λ text.
+        SaysNamespace (chars (string_bytes text)) map.now.inside_uid map.now.outside_uid map.now.count) }
+{
+    let UidMap {
+        inside_uid: _inside,
+        outside_uid: _outside,
+        count: _count,
+    } = *map;
+    printed_namespaces_read_back();
+    map.to_string(alloc)
+}
+
+#[test]
+fn reads_user_ids(rt: HostRuntime) -> Result<(), Fail> {
+    for (text, (inside_uid, outside_uid, count), form) in READ {
+        let map = UidMap {
+            inside_uid,
+            outside_uid,
+            count,
+        };
+        let read = UidMap::from_str(text)?;
+        assert!(rt; read == map, "of {text}");
+        assert_eq!(rt; printed(rt.alloc(), &read)?.as_str(), form);
+        assert!(rt; UidMap::from_str(form)? == map, "of {text}");
+        assert!(rt; read.clone()? == map, "of {text}");
+    }
+    Ok(())
+}
+
+#[test]
+fn reads_group_ids(rt: HostRuntime) -> Result<(), Fail> {
+    for (text, (inside_gid, outside_gid, count), form) in READ {
+        let map = GidMap {
+            inside_gid,
+            outside_gid,
+            count,
+        };
+        let read = GidMap::from_str(text)?;
+        assert!(rt; read == map, "of {text}");
+        assert_eq!(rt; read.to_string(rt.alloc())?.as_str(), form);
+        assert!(rt; GidMap::from_str(form)? == map, "of {text}");
+        assert!(rt; read.clone()? == map, "of {text}");
+    }
+    Ok(())
+}
+
+#[test]
+fn refuses_other_texts(rt: HostRuntime) -> Result<(), Fail> {
+    for (text, name) in REFUSED {
+        let fault = UidMap::from_str(text).err().ok_or("read")?;
+        assert_eq!(rt; name_of(&fault), name);
+        let same = GidMap::from_str(text).err().ok_or("read")?;
+        assert!(rt; fault == same, "of {text}");
+    }
+    Ok(())
+}
+
+#[test]
+fn tells_maps_apart(rt: HostRuntime) -> Result<(), Fail> {
+    let map = UidMap::from_str(":1:2:3:")?;
+    for other in [":0:2:3:", ":1:0:3:", ":1:2:0:", ":2:1:3:"] {
+        assert!(rt; map != UidMap::from_str(other)?, "of {other}");
+    }
+    let map = GidMap::from_str(":1:2:3:")?;
+    for other in [":0:2:3:", ":1:0:3:", ":1:2:0:", ":2:1:3:"] {
+        assert!(rt; map != GidMap::from_str(other)?, "of {other}");
+    }
+    Ok(())
+}
+
+#[test]
+fn says_what_is_wrong(rt: HostRuntime) -> Result<(), Fail> {
+    let fault = IdMapError::InvalidDelimiter.to_string(rt.alloc())?;
+    assert_eq!(rt;
+        fault.as_str(),
+        "A delimiter has been found that does not match the delimiter the map started with"
+    );
+    let fault = IdMapError::IncompleteMap.to_string(rt.alloc())?;
+    assert_eq!(rt;
+        fault.as_str(),
+        "The map is empty or incorrect number of values are provided"
+    );
+    for text in ["", "-1", "4294967296"] {
+        let error = text.parse::<u32>().err().ok_or("a number")?;
+        let number_fault = error.to_string(rt.alloc())?;
+        let fault = IdMapError::from(error).to_string(rt.alloc())?;
+        assert_eq!(rt; fault.as_str(), number_fault.as_str());
+    }
+    Ok(())
+}

@@ -1,0 +1,81 @@
+//! Whether a map can be made of a list of specifications.
+ghost use Rattle.std.specs.Prelude.{◌≡◌, ◌↔◌, ℕ, ◌≤◌, List, Contains, IsTrue, IsOk, MatchResult, OnOk, IfErr, IfSome};
+ghost use Rattle.virtiofs_map.specs.Mapping.{entry_of, EntryCovers, Covers};
+ghost use Rattle.virtiofs_map.specs.Build.{HasSource, HasTarget, Accepted, Meet, MeetsEarlier, Fits, IsFirstFault};
+ghost use Rattle.virtiofs_map.specs.BuildParts.{EntryMeets, EntryMeetsEarlier, IsFaultHere};
+
+use super::entry::{Entry, entry_of};
+use super::{Direction, IdMapBuildError, RangeEnd};
+use crate::cmdline::IdMap;
+
+/// Whether an entry covers a number that a specification covers in that direction.
+fn meets(entry: Entry, other: IdMap, direction: Direction) -> bool
+    ensures { IsTrue result ↔ EntryMeets entry other direction }
+{
+    match entry_of(other, direction) {
+        Some(other) => entry.meets(other),
+        None => false,
+    }
+}
+
+/// Whether it does so for one of the earlier specifications.
+fn meets_earlier(entry: Entry, earlier: &[IdMap], direction: Direction) -> bool
+    ensures { IsTrue result ↔ EntryMeetsEarlier entry earlier.now direction }
+{
+    for other in earlier {
+        if meets(entry, *other, direction) {
+            return true;
+        }
+    }
+    false
+}
+
+/// Tests a specification in one direction, behind the earlier ones.
+fn check_direction(
+    earlier: &[IdMap],
+    spec: IdMap,
+    index: usize,
+    direction: Direction,
+) -> Result<(), IdMapBuildError>
+    ensures { MatchResult result (λ _. Fits earlier.now spec direction) (IsFaultHere earlier.now spec index direction) }
+{
+    let Some(entry) = entry_of(spec, direction) else {
+        return Ok(());
+    };
+    if !entry.has_source() {
+        return Err(IdMapBuildError::RangeOverflow {
+            spec,
+            index,
+            direction,
+            range_end: RangeEnd::Source,
+        });
+    }
+    if meets_earlier(entry, earlier, direction) {
+        return Err(IdMapBuildError::Intersects {
+            spec,
+            index,
+            direction,
+        });
+    }
+    if !entry.has_target() {
+        return Err(IdMapBuildError::RangeOverflow {
+            spec,
+            index,
+            direction,
+            range_end: RangeEnd::Target,
+        });
+    }
+    Ok(())
+}
+
+/// Finds the first fault of a list of specifications.
+pub(crate) fn check(specs: &[IdMap]) -> Result<(), IdMapBuildError>
+    ensures { MatchResult result (λ _. Accepted specs.now) (IsFirstFault specs.now) }
+{
+    for (index, spec) in specs.iter().enumerate() {
+        let earlier = &specs[..index];
+        check_direction(earlier, *spec, index, Direction::GuestToHost)?;
+        check_direction(earlier, *spec, index, Direction::HostToGuest)?;
+    }
+    Ok(())
+}

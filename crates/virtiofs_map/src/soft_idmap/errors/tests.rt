@@ -1,0 +1,152 @@
+//! The texts and the kinds of faults.
+ghost use Rattle.std.specs.Prelude.{◌≡◌, IfOk, string_bytes};
+ghost use Rattle.virtiofs_map.specs.Printed.{map_error_text};
+
+use crate::cmdline;
+use crate::id_types::projects::{GuestProject, ProjectNumber};
+use crate::id_types::{GuestId, GuestUid, HostId, HostUid, Id};
+use crate::soft_idmap::{FaultKind, IdMap, IdMapBuildError, MapError};
+use std::alloc::{AllocError, Global};
+use std::process::Abort;
+use std::test::Fail;
+
+/// Two specifications of which the second meets the first, and the text of the fault.
+const MEETING: [(&str, &str, &str); 7] = [
+    (
+        "guest:0:100:10",
+        "guest:5:200:1",
+        "Guest-to-host mapping 'map [5, 6) to [200, 201)' intersects previously added entry",
+    ),
+    (
+        "guest:5:200:1",
+        "guest:0:100:10",
+        "Guest-to-host mapping 'map [0, 10) to [100, 110)' intersects previously added entry",
+    ),
+    (
+        "map:0:1000:10",
+        "host:1005:0:1",
+        "Host-to-guest mapping 'map [1005, 1006) to [0, 1)' intersects previously added entry",
+    ),
+    (
+        "forbid-guest:7:3",
+        "squash-guest:9:65534:2",
+        "Guest-to-host mapping 'squash [9, 11) to 65534' intersects previously added entry",
+    ),
+    (
+        "guest:0:100:10",
+        "guest:0:4294967290:10",
+        "Guest-to-host mapping 'map [0, 10) to [4294967290, 4294967300)' intersects previously added entry",
+    ),
+    (
+        "guest:0:1:1",
+        "guest:0:4294967295:4294967295",
+        "Guest-to-host mapping 'map [0, 4294967295) to [4294967295, 8589934590)' intersects previously added entry",
+    ),
+    (
+        "squash-guest:4294967290:1:5",
+        "forbid-guest:4294967293:2",
+        "Guest-to-host mapping 'fail [4294967293, 4294967295)' intersects previously added entry",
+    ),
+];
+
+/// A specification with a range that goes too far, and the text of the fault.
+const OVERFLOWING: [(&str, &str); 4] = [
+    (
+        "guest:4294967295:0:1",
+        "Parameter guest:4294967295:0:1: Range overflow",
+    ),
+    (
+        "forbid-guest:4294967295:1",
+        "Parameter forbid-guest:4294967295:1: Range overflow",
+    ),
+    (
+        "guest:0:4294967290:10",
+        "Parameter guest:0:4294967290:10: Range overflow",
+    ),
+    (
+        "map:0:4294967290:6",
+        "Parameter map:0:4294967290:6: Range overflow",
+    ),
+];
+
+/// The map of these texts.
+fn built<Guest, Host>(
+    alloc: Global,
+    texts: &[&str],
+) -> Result<Result<IdMap<Guest, Host>, IdMapBuildError>, Fail>
+where
+    Guest: GuestId<HostType = Host>,
+    Host: HostId<GuestType = Guest>,
+{
+    let mut specs = Vec::new(alloc);
+    for text in texts {
+        specs.push(cmdline::IdMap::from_str(alloc, text)?)?;
+    }
+    Ok(IdMap::try_from(alloc, specs))
+}
+
+/// The fault of these texts.
+fn fault_of(alloc: Global, texts: &[&str]) -> Result<IdMapBuildError, Fail> {
+    Ok(
+        built::<GuestUid, HostUid>(alloc, texts)?
+            .err()
+            .ok_or("accepted")?,
+    )
+}
+
+#[test]
+fn prints_meeting_ranges(rt: HostRuntime) -> Result<(), Fail> {
+    for (first, second, text) in MEETING {
+        let fault = fault_of(rt.alloc(), &[first, second])?;
+        assert_eq!(rt; fault.to_string(rt.alloc())?.as_str(), text);
+        assert_eq!(rt; fault.kind(), FaultKind::Other);
+    }
+    Ok(())
+}
+
+#[test]
+fn prints_overflowing_ranges(rt: HostRuntime) -> Result<(), Fail> {
+    for (spec, text) in OVERFLOWING {
+        let fault = fault_of(rt.alloc(), &[spec])?;
+        assert_eq!(rt; fault.to_string(rt.alloc())?.as_str(), text);
+        assert_eq!(rt; fault.kind(), FaultKind::InvalidInput);
+    }
+    Ok(())
+}
+
+#[test]
+fn prints_want_of_memory(rt: HostRuntime) -> Result<(), Fail> {
+    let fault = IdMapBuildError::OutOfMemory;
+    assert_eq!(rt; fault.to_string(rt.alloc())?.as_str(), "Out of memory");
+    assert_eq!(rt; fault.kind(), FaultKind::OutOfMemory);
+    Ok(())
+}
+
+/// The text of a fault, as its contract has it for every type of id.
+fn text_of<Source: Id>(alloc: Global, fault: &MapError<Source>) -> Result<String, AllocError>
+    ensures { IfOk result (λ text. string_bytes text ≡ map_error_text Source.number fault.now) }
+{
+    fault.to_string(alloc)
+}
+
+/// Guest id 8 is forbidden, and its fault says its number, whatever its printed form.
+fn check_forbidden<Guest, Host>(rt: &impl Abort, alloc: Global, id: Guest) -> Result<(), Fail>
+where
+    Guest: GuestId<HostType = Host>,
+    Host: HostId<GuestType = Guest>,
+{
+    let map: IdMap<Guest, Host> = built(alloc, &["FORBID-GUEST:7:3"])?.map_err(|_| "refused")?;
+    let fault = map.map_guest(id).err().ok_or("mapped")?;
+    assert_eq!(rt;
+        text_of(alloc, &fault)?.as_str(),
+        "Use of ID 8 has been configured to fail"
+    );
+    assert_eq!(rt; FaultKind::from(fault), FaultKind::PermissionDenied);
+    Ok(())
+}
+
+#[test]
+fn prints_forbidden_ids(rt: HostRuntime) -> Result<(), Fail> {
+    check_forbidden(&rt, rt.alloc(), GuestUid::from(8))?;
+    check_forbidden(&rt, rt.alloc(), GuestProject::from(ProjectNumber(8)))
+}

@@ -1,0 +1,38 @@
+//! How a daemon calls the maps, as the README shows it.
+ghost use Rattle.std.specs.Prelude.{None, Some, IfOk, MatchOption};
+ghost use Rattle.virtiofs_map.specs.Mapping.{Becomes};
+ghost use Rattle.virtiofs_map.specs.Specifications.{AllSay};
+ghost use Rattle.virtiofs_map.specs.declared.soft_idmap.entry.Direction.TheVariants.{GuestToHost};
+
+use crate::id_types::{GuestUid, HostUid};
+use crate::soft_idmap::{IdMap, SpecsError};
+use std::alloc::Global;
+use std::test::Fail;
+
+/// The map that a daemon's settings ask for.
+fn users(alloc: Global, texts: &[&str]) -> Result<IdMap<GuestUid, HostUid>, SpecsError>
+    ensures { IfOk result (AllSay texts.now) }
+{
+    IdMap::from_specs(alloc, texts)
+}
+
+/// Who owns a file on the host that the guest gave to this user; `None` where that is forbidden.
+fn owner(map: &IdMap<GuestUid, HostUid>, user: GuestUid) -> Option<HostUid>
+    ensures { MatchOption result
+        (Becomes map.now GuestToHost user None)
+        (λ owner. Becomes map.now GuestToHost user (Some owner)) }
+{
+    match map.map_guest(user) {
+        Ok(owner) => Some(owner),
+        Err(_) => None,
+    }
+}
+
+#[test]
+fn a_forbidden_user_owns_nothing(rt: HostRuntime) -> Result<(), Fail> {
+    let map = users(rt.alloc(), &["map:0:1000:10", "forbid-guest:10:1"])?;
+    assert_eq!(rt; owner(&map, GuestUid::from(5)), Some(HostUid::from(1005)));
+    assert_eq!(rt; owner(&map, GuestUid::from(10)), None);
+    assert_eq!(rt; owner(&map, GuestUid::from(11)), Some(HostUid::from(11)));
+    Ok(())
+}

@@ -1,0 +1,301 @@
+//! Maps of known lists of specifications, built, refused and asked.
+
+use crate::cmdline;
+use crate::cmdline::IdMapError;
+use crate::id_types::projects::{GuestProject, HostProject, ProjectNumber};
+use crate::id_types::{GuestGid, GuestUid, HostGid, HostUid, Id};
+use crate::soft_idmap::{Direction, IdMap, IdMapBuildError, MapError, RangeEnd, SpecsError};
+use std::alloc::Global;
+use std::process::Abort;
+use std::test::Fail;
+
+/// The specifications that the texts say.
+fn specs_of(alloc: Global, texts: &[&str]) -> Result<Vec<cmdline::IdMap>, Fail> {
+    let mut specs = Vec::new(alloc);
+    for text in texts {
+        let spec = cmdline::IdMap::from_str(alloc, text)?;
+        specs.push(spec)?;
+    }
+    Ok(specs)
+}
+
+/// Asks a map of users; `None` stands where the use of an id fails.
+fn check_map(
+    rt: &impl Abort,
+    map: &IdMap<GuestUid, HostUid>,
+    guests: &[(u32, Option<u32>)],
+    hosts: &[(u32, Option<u32>)],
+) {
+    for (n, want) in guests {
+        let got = match map.map_guest(GuestUid::from(*n)) {
+            Ok(host) => Some(host.into_inner()),
+            Err(MapError::ExplicitFailMapping { id }) => {
+                assert_eq!(rt; id.into_inner(), *n);
+                None
+            }
+        };
+        assert_eq!(rt; got, *want, "guest {n}");
+    }
+    for (n, want) in hosts {
+        let got = match map.map_host(HostUid::from(*n)) {
+            Ok(guest) => Some(guest.into_inner()),
+            Err(MapError::ExplicitFailMapping { id }) => {
+                assert_eq!(rt; id.into_inner(), *n);
+                None
+            }
+        };
+        assert_eq!(rt; got, *want, "host {n}");
+    }
+}
+
+/// Asks the maps that either call makes of the texts.
+fn check_texts(
+    rt: &impl Abort,
+    alloc: Global,
+    texts: &[&str],
+    guests: &[(u32, Option<u32>)],
+    hosts: &[(u32, Option<u32>)],
+) -> Result<(), Fail> {
+    let specs = specs_of(alloc, texts)?;
+    let built: IdMap<GuestUid, HostUid> = IdMap::try_from(alloc, specs)?;
+    check_map(rt, &built, guests, hosts);
+    let read: IdMap<GuestUid, HostUid> = IdMap::from_specs(alloc, texts)?;
+    check_map(rt, &read, guests, hosts);
+    Ok(())
+}
+
+/// Why no map is made of the specifications; `None` where one is made.
+fn refusal(alloc: Global, texts: &[&str]) -> Result<Option<IdMapBuildError>, Fail> {
+    let specs = specs_of(alloc, texts)?;
+    let made: Result<IdMap<GuestUid, HostUid>, IdMapBuildError> = IdMap::try_from(alloc, specs);
+    match made {
+        Ok(_map) => Ok(None),
+        Err(error) => Ok(Some(error)),
+    }
+}
+
+#[test]
+fn maps_known_ids(rt: HostRuntime) -> Result<(), Fail> {
+    let alloc = rt.alloc();
+    let guests = [(5, Some(1005)), (10, Some(10)), (1005, Some(1005))];
+    let hosts = [(1005, Some(5))];
+    check_texts(&rt, alloc, &["map:0:1000:10"], &guests, &hosts)?;
+    check_texts(
+        &rt,
+        alloc,
+        &["host:1000:0:10", "guest:0:1000:10"],
+        &guests,
+        &hosts,
+    )?;
+    check_texts(
+        &rt,
+        alloc,
+        &["guest:0:1000:10", "host:1000:0:10"],
+        &guests,
+        &hosts,
+    )?;
+
+    let forbidden = [(8, None), (10, Some(10))];
+    check_texts(&rt, alloc, &["FORBID-GUEST:7:3"], &forbidden, &[])?;
+
+    let squashed = [
+        (0, Some(1001)),
+        (4294967294, Some(1001)),
+        (4294967295, Some(4294967295)),
+    ];
+    let back = [(1001, Some(1000)), (1000, Some(1000))];
+    let texts = ["squash-guest:0:1001:4294967295", "host:1001:1000:1"];
+    check_texts(&rt, alloc, &texts, &squashed, &back)?;
+
+    let ends = [(5, Some(4294967295))];
+    check_texts(&rt, alloc, &["guest:0:4294967290:6"], &ends, &[])
+}
+
+#[test]
+fn keeps_ids_that_nothing_covers(rt: HostRuntime) -> Result<(), Fail> {
+    let alloc = rt.alloc();
+    let same = [
+        (0, Some(0)),
+        (65534, Some(65534)),
+        (4294967295, Some(4294967295)),
+    ];
+    check_map(&rt, &IdMap::empty(alloc), &same, &same);
+    check_texts(&rt, alloc, &[], &same, &same)?;
+    check_texts(&rt, alloc, &["guest:4294967295:0:0"], &same, &same)
+}
+
+#[test]
+fn a_count_of_none_meets_nothing(rt: HostRuntime) -> Result<(), Fail> {
+    let texts = ["guest:0:100:10", "guest:5:200:0"];
+    check_texts(&rt, rt.alloc(), &texts, &[(5, Some(105))], &[])
+}
+
+#[test]
+fn means_the_same_in_every_order(rt: HostRuntime) -> Result<(), Fail> {
+    let alloc = rt.alloc();
+    let squash = "squash-guest:20:7:5";
+    let map = "map:0:1000:10";
+    let host = "host:5000:1:2";
+    let guests = [(22, Some(7)), (9, Some(1009))];
+    let hosts = [(1009, Some(9)), (5001, Some(2)), (5002, Some(5002))];
+    check_texts(&rt, alloc, &[squash, map, host], &guests, &hosts)?;
+    check_texts(&rt, alloc, &[squash, host, map], &guests, &hosts)?;
+    check_texts(&rt, alloc, &[map, squash, host], &guests, &hosts)?;
+    check_texts(&rt, alloc, &[map, host, squash], &guests, &hosts)?;
+    check_texts(&rt, alloc, &[host, squash, map], &guests, &hosts)?;
+    check_texts(&rt, alloc, &[host, map, squash], &guests, &hosts)
+}
+
+/// Sees that the second of two texts meets the first one in that direction.
+fn check_meeting(
+    rt: &impl Abort,
+    alloc: Global,
+    first: &str,
+    second: &str,
+    direction: Direction,
+) -> Result<(), Fail> {
+    let spec = cmdline::IdMap::from_str(alloc, second)?;
+    let want = IdMapBuildError::Intersects {
+        spec,
+        index: 1,
+        direction,
+    };
+    assert_eq!(rt;
+        refusal(alloc, &[first, second])?,
+        Some(want),
+        "{first} {second}"
+    );
+    Ok(())
+}
+
+#[test]
+fn refuses_ranges_that_meet(rt: HostRuntime) -> Result<(), Fail> {
+    let alloc = rt.alloc();
+    let to_host = Direction::GuestToHost;
+    let to_guest = Direction::HostToGuest;
+    check_meeting(&rt, alloc, "guest:0:100:10", "guest:5:200:1", to_host)?;
+    check_meeting(&rt, alloc, "guest:5:200:1", "guest:0:100:10", to_host)?;
+    check_meeting(&rt, alloc, "map:0:1000:10", "host:1005:0:1", to_guest)?;
+    check_meeting(
+        &rt,
+        alloc,
+        "forbid-guest:7:3",
+        "squash-guest:9:65534:2",
+        to_host,
+    )?;
+    check_meeting(
+        &rt,
+        alloc,
+        "guest:0:100:10",
+        "guest:0:4294967290:10",
+        to_host,
+    )?;
+    check_meeting(
+        &rt,
+        alloc,
+        "guest:0:1:1",
+        "guest:0:4294967295:4294967295",
+        to_host,
+    )
+}
+
+/// Sees that a text is refused alone, since a range of its goes past the greatest number.
+fn check_overflow(
+    rt: &impl Abort,
+    alloc: Global,
+    text: &str,
+    direction: Direction,
+    range_end: RangeEnd,
+) -> Result<(), Fail> {
+    let spec = cmdline::IdMap::from_str(alloc, text)?;
+    let want = IdMapBuildError::RangeOverflow {
+        spec,
+        index: 0,
+        direction,
+        range_end,
+    };
+    assert_eq!(rt; refusal(alloc, &[text])?, Some(want), "{text}");
+    Ok(())
+}
+
+#[test]
+fn refuses_ranges_that_end_too_late(rt: HostRuntime) -> Result<(), Fail> {
+    let alloc = rt.alloc();
+    let to_host = Direction::GuestToHost;
+    let to_guest = Direction::HostToGuest;
+    check_overflow(
+        &rt,
+        alloc,
+        "guest:4294967295:0:1",
+        to_host,
+        RangeEnd::Source,
+    )?;
+    check_overflow(
+        &rt,
+        alloc,
+        "forbid-guest:4294967295:1",
+        to_host,
+        RangeEnd::Source,
+    )?;
+    check_overflow(
+        &rt,
+        alloc,
+        "guest:0:4294967290:10",
+        to_host,
+        RangeEnd::Target,
+    )?;
+    check_overflow(&rt, alloc, "map:0:4294967290:10", to_host, RangeEnd::Target)?;
+    check_overflow(&rt, alloc, "map:0:4294967290:6", to_guest, RangeEnd::Source)?;
+    assert_eq!(rt; refusal(alloc, &["guest:4294967295:0:0"])?, None);
+    assert_eq!(rt; refusal(alloc, &["guest:0:4294967290:6"])?, None);
+    Ok(())
+}
+
+#[test]
+fn reads_every_text_before_it_builds(rt: HostRuntime) -> Result<(), Fail> {
+    let alloc = rt.alloc();
+    let texts = ["guest:0:100:10", "guest:5:200:1", "map:1:2"];
+    let made: Result<IdMap<GuestUid, HostUid>, SpecsError> = IdMap::from_specs(alloc, &texts);
+    let told = match made {
+        Err(
+            SpecsError::Spec {
+                index,
+                cause: IdMapError::InvalidLength { expected, seen },
+            },
+        ) => Some((index, expected, seen)),
+        _ => None,
+    };
+    assert_eq!(rt; told, Some((2, 3, 2)));
+
+    let made: Result<IdMap<GuestUid, HostUid>, SpecsError> = IdMap::from_specs(alloc, &texts[..2]);
+    let told = match made {
+        Err(SpecsError::Build(IdMapBuildError::Intersects { index, .. })) => Some(index),
+        _ => None,
+    };
+    assert_eq!(rt; told, Some(1));
+    Ok(())
+}
+
+#[test]
+fn maps_ids_of_other_kinds(rt: HostRuntime) -> Result<(), Fail> {
+    let alloc = rt.alloc();
+    let map: IdMap<GuestProject, HostProject> = IdMap::from_specs(alloc, &["map:0:1000:10"])?;
+    let guest = GuestProject::from(ProjectNumber(5));
+    let host = HostProject::from(ProjectNumber(1005));
+    assert_eq!(rt; map.map_guest(guest)?, host);
+    assert_eq!(rt; map.map_host(host)?, guest);
+
+    let map: IdMap<GuestProject, HostProject> = IdMap::from_specs(alloc, &["forbid-guest:7:3"])?;
+    let forbidden = GuestProject::from(ProjectNumber(8));
+    let told = match map.map_guest(forbidden) {
+        Err(MapError::ExplicitFailMapping { id }) => Some(id),
+        Ok(_host) => None,
+    };
+    assert_eq!(rt; told, Some(forbidden));
+
+    let texts = ["squash-guest:0:100:4294967295", "host:100:1000:1"];
+    let map: IdMap<GuestGid, HostGid> = IdMap::from_specs(alloc, &texts)?;
+    assert_eq!(rt; map.map_guest(GuestGid::from(0))?, HostGid::from(100));
+    assert_eq!(rt; map.map_host(HostGid::from(100))?, GuestGid::from(1000));
+    Ok(())
+}

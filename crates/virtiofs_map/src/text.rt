@@ -1,0 +1,40 @@
+//! How the readers of this crate take a text apart.
+ghost use Rattle.std.specs.Prelude.{◌≡◌, ◌==◌, ◌<◌, ℕ, false, ◌∷◌, ◌++◌, length, IfNone, IfSome, All, MatchResult};
+ghost use Rattle.std.specs.Str.{chars};
+ghost use Rattle.virtiofs_map.specs.Alphanumeric.{is_alphanumeric};
+ghost use Rattle.virtiofs_map.specs.Numeral.{IsNumeral};
+
+use std::num::ParseIntError;
+use unicode::properties::{GeneralCategory, is_alphabetic};
+
+/// Whether a character is a letter or a number, as Unicode has it: the property Alphabetic, or one
+/// of the general categories Nd, Nl and No.
+#[tactic(auto, unfolding(crate::specs::Alphanumeric::is_alphanumeric))]
+pub(crate) fn is_alphanumeric(c: char) -> bool
+    ensures { result ≡ is_alphanumeric c }
+{
+    let category = GeneralCategory::for_char(c) as u32;
+    is_alphabetic(c)
+        || category == GeneralCategory::DecimalNumber as u32
+        || category == GeneralCategory::LetterNumber as u32
+        || category == GeneralCategory::OtherNumber as u32
+}
+
+/// Cuts a text at the first place where the character `at` stands, which is in neither part.
+pub(crate) fn cut_at(text: &str, at: char) -> Option<(&str, &str)>
+    ensures absent { IfNone result (All (λ c. (c == at) ≡ false) (chars text.now)) }
+    ensures whole { IfSome result (λ p. chars text.now ≡ chars p.0.now ++ at ∷ chars p.1.now) }
+    ensures first { IfSome result (λ p. All (λ c. (c == at) ≡ false) (chars p.0.now)) }
+    ensures shorter { IfSome result (λ p. length p.1.now < length text.now) }
+{
+    text.split_once(at)
+}
+
+/// Reads a number of 32 bits: an optional `+`, and then one or more decimal digits.
+pub(crate) fn number(text: &str) -> Result<u32, ParseIntError>
+    ensures { MatchResult result
+        (λ value. IsNumeral (chars text.now) value)
+        (λ _. (value : ℕ) → IsNumeral (chars text.now) value → ⊥) }
+{
+    text.parse()
+}

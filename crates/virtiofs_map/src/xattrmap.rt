@@ -1,0 +1,142 @@
+//! Extended attribute names between a guest and its host.
+//!
+//! A shared folder's files carry extended attributes, and host and guest do not always mean the
+//! same by a name. A map is a list of rules that says what becomes of each name: a name that the
+//! guest asks for is let through, given a prefix, or turned away, and the list of names that the
+//! host answers with is cut down to what the guest may see. The first rule that fits a name
+//! decides it.
+//!
+//! # Rules as text
+//!
+//! A map is read from a text of rules, as `:prefix:all:trusted.:user.virtiofs.:`. The first
+//! character of a rule is its delimiter: any character that is not a space, a tab, a line feed, a
+//! form feed or a carriage return. It closes each field, and no field holds it. Rules may stand
+//! apart by any number of those five blanks, or none, and each may have a delimiter of its own.
+//! White space at both ends of the text does not count.
+//!
+//! - `:TYPE:SCOPE:KEY:PREPEND:` is a rule. A name from the guest is compared with the key, and a
+//!   name from the host with the prepend.
+//! - `:map:KEY:PREPEND:` stands for two or three rules that keep a guest's names apart from the
+//!   host's. It may only stand last.
+//!
+//! | Type | A guest's name that begins with the key | A host's name that begins with the prepend |
+//! |---|---|---|
+//! | `prefix` | goes to the host with the prepend before the whole name | is listed without the prepend |
+//! | `ok` | goes to the host as it is | is listed as it is |
+//! | `bad` | is denied | is hidden |
+//! | `unsupported` | is refused as unsupported | is hidden |
+//!
+//! The scope says on which side a rule acts: `client` for names from the guest, `server` for names
+//! from the host, `all` for both.
+
+ghost use Rattle.std.specs.Prelude.{◌≡◌, ◌⊎◌, ℕ, List, Option, IfOk, IfErr, MatchResult};
+ghost use Rattle.std.specs.Str.{chars};
+ghost use Rattle.virtiofs_map.specs.MapRule.{ReadsMapRule};
+ghost use Rattle.virtiofs_map.specs.RuleText.{RuleText, RuleFault, Written, Cause, IsWantOfMemory, cause_of, expanded};
+
+mod client;
+mod errors;
+mod fields;
+pub mod laws;
+mod lookup;
+mod names;
+mod reading;
+mod rules;
+mod scopes;
+mod server;
+#[cfg(test)]
+mod tests;
+mod written;
+
+pub use client::{AppliedRule, PassedName};
+pub use errors::{Error, ErrorKind, PatternField};
+pub use names::{XattrName, XattrNameBuf};
+use reading::read_rules;
+use rules::{Rule, copied_rules};
+pub use scopes::Side;
+use std::alloc::{AllocError, Allocator, Global};
+use std::marker::Model;
+
+/// The rules by which names cross, in order. A contract sees it as the list of its rules, where
+/// each `map` rule stands as the two or three rules that it means.
+#[derive(Drop)]
+#[derive_where(Debug)]
+pub struct XattrMap<A: Allocator = Global> {
+    rules: Vec<Rule<A>, A>,
+}
+
+impl<A: Allocator> Model for XattrMap<A> {
+    ghost use Rattle.std.specs.Prelude.{List, All};
+    ghost use Rattle.virtiofs_map.specs.Rule.{MappingRule, HasNoZero};
+
+    ghost Value = { List MappingRule };
+
+    ghost view = { λ map. map.rules.items };
+
+    ghost invariant = { λ map. All HasNoZero map.rules.items };
+}
+
+impl<A: Allocator> PartialEq for XattrMap<A> {
+    ghost use Rattle.std.specs.Prelude.{◌≡◌, ◌↔◌, IsTrue};
+    ghost use Rattle.virtiofs_map.specs.SameRule.{same_rules};
+    ghost use Rattle.std.proofs.Common.{rules};
+    ghost use Rattle.std.specs.Cmp.Rules.{comparing};
+
+    ghost eq = { same_rules };
+
+    ghost laws = { Prim.search (comparing, rules) depth 14 };
+
+    fn eq(&self, other: &XattrMap<A>) -> bool
+        ensures value { result ≡ same_rules self.now other.now }
+        // Maps are equal where their rules are, each map rule standing for those that it means.
+        ensures equal { IsTrue result ↔ (self.now ≡ other.now) }
+    {
+        self.rules == other.rules
+    }
+}
+
+impl<A: Allocator> Eq for XattrMap<A> {
+    ghost use Rattle.std.proofs.Common.{rules};
+    ghost use Rattle.std.specs.Cmp.Rules.{comparing};
+
+    ghost laws = { Prim.search (comparing, rules) depth 14 };
+}
+
+impl<A: Allocator + Copy> XattrMap<A> {
+    /// Reads a map from a text of rules, as the module's page describes them.
+    ///
+    /// The first fault of a text that is none is answered with the number of its rule, counted
+    /// from 1. Of the faults in one rule the first to be read counts:
+    ///
+    /// - a field that the delimiter does not close: `IncompleteRule`;
+    /// - a type or a scope that there is not: `InvalidType`, `InvalidScope`;
+    /// - U+0000 in the key or in the prepend: `NulInPattern`;
+    /// - anything at all after a `map` rule: `MapRuleViolation`.
+    ///
+    /// A text of white space alone is answered with `NoRulesProvided`. Where a request for memory
+    /// is refused the answer may be `OutOfMemory` instead, which has no rule.
+    pub fn try_from(alloc: A, text: &str) -> Result<XattrMap<A>, Error<A>>
+        // What is read is what the rules of the text stand for.
+        ensures read { IfOk result (λ map. (rules : List Written) × RuleText (chars text.now) rules × (map ≡ expanded rules)) }
+        // A text of rules is refused for want of memory alone.
+        ensures accepted { (rules : List Written) → RuleText (chars text.now) rules → MatchResult result (λ map. map ≡ expanded rules) IsWantOfMemory }
+        // A text that is refused has the fault that is answered.
+        ensures refused { IfErr result (λ error. IsWantOfMemory error ⊎ RuleFault (chars text.now) error.rule (cause_of error.cause)) }
+        // A text that has a fault is refused for that, or for want of memory.
+        ensures faulty { (rule : Option ℕ) (cause : Cause) → RuleFault (chars text.now) rule cause
+            → MatchResult result (λ _. ⊥) (λ error. IsWantOfMemory error ⊎ ((error.rule ≡ rule) × (cause_of error.cause ≡ cause))) }
+        // Where the text is one map rule, the map means what that rule means.
+        ensures map_rule { IfOk result (λ map. ReadsMapRule (chars text.now) map) }
+    {
+        let rules = read_rules(alloc, text)?;
+        Ok(XattrMap { rules })
+    }
+
+    /// The same map, in memory of its own.
+    pub fn clone(&self, alloc: A) -> Result<XattrMap<A>, AllocError>
+        ensures { IfOk result (λ map. map ≡ self.now) }
+    {
+        let rules = copied_rules(alloc, self.rules.as_slice())?;
+        Ok(XattrMap { rules })
+    }
+}

@@ -1,0 +1,121 @@
+//! What becomes of a name that the guest asks for.
+
+ghost use Rattle.std.specs.Prelude.{◌≡◌};
+
+use crate::xattrmap::XattrMap;
+use crate::xattrmap::errors::{Error, ErrorKind};
+use crate::xattrmap::names::{XattrName, XattrNameBuf};
+use crate::xattrmap::rules::RuleKind;
+use crate::xattrmap::scopes::Side;
+use std::alloc::{Allocator, Global};
+
+/// A name as it goes to the host. Two are equal where their bytes are, borrowed or owned.
+#[derive(Drop)]
+#[derive_where(Debug)]
+pub enum PassedName<'a, A: Allocator = Global> {
+    /// The name that was asked for, as it is.
+    Borrowed(XattrName<'a>),
+    /// The name that was asked for, with something before it.
+    Owned(XattrNameBuf<A>),
+}
+
+/// What a rule makes of a name that the guest asks for.
+#[derive(Drop)]
+#[derive_where(PartialEq, Eq, Debug)]
+pub enum AppliedRule<'a, A: Allocator = Global> {
+    /// The name goes to the host as this one.
+    Pass(PassedName<'a, A>),
+    /// The guest may not use the name.
+    Deny,
+    /// The name is refused as one that is not supported.
+    Unsupported,
+}
+
+impl<A: Allocator> PassedName<'_, A> {
+    ghost use Rattle.virtiofs_map.specs.Passed.{passed_bytes};
+
+    /// The bytes of the name, with no zero after them.
+    pub fn as_bytes(&self) -> &[u8]
+        ensures { result.now ≡ passed_bytes self.now }
+    {
+        match self {
+            PassedName::Borrowed(name) => name.as_bytes(),
+            PassedName::Owned(name) => name.as_name().as_bytes(),
+        }
+    }
+}
+
+impl<A: Allocator> PartialEq for PassedName<'_, A> {
+    ghost use Rattle.std.specs.Prelude.{nat_eq};
+    ghost use Rattle.std.specs.Cmp.Lexicographic.{pointwise, nat_list_eq_equiv};
+    ghost use Rattle.std.specs.Cmp.{on_per, partial_equiv_from_equiv};
+    ghost use Rattle.virtiofs_map.specs.Passed.{passed_bytes};
+
+    ghost eq = { λ one other. pointwise nat_eq (passed_bytes one) (passed_bytes other) };
+
+    ghost laws = { on_per passed_bytes (partial_equiv_from_equiv nat_list_eq_equiv) };
+
+    fn eq(&self, other: &Self) -> bool {
+        self.as_bytes() == other.as_bytes()
+    }
+}
+
+impl<A: Allocator> Eq for PassedName<'_, A> {
+    ghost use Rattle.std.specs.Cmp.Lexicographic.{nat_list_eq_equiv};
+    ghost use Rattle.std.specs.Cmp.{on_equiv};
+    ghost use Rattle.virtiofs_map.specs.Passed.{passed_bytes};
+
+    ghost laws = { on_equiv passed_bytes nat_list_eq_equiv };
+}
+
+impl<A: Allocator + Copy> XattrMap<A> {
+    ghost use Rattle.std.specs.Prelude.{◌↔◌, ◌⊎◌, IfOk, IfErr};
+    ghost use Rattle.virtiofs_map.specs.Names.{client_answer, IsUnterminated};
+    ghost use Rattle.virtiofs_map.specs.Passed.{meaning, of_no_rule, IsDecidedBy, IsOwned};
+
+    /// What becomes of a name that the guest asks for. The first rule that acts on the client's
+    /// side and whose key begins the name decides: the name passes as it is, passes with the
+    /// rule's prepend before it, is denied, or is refused as unsupported. A name that no rule
+    /// decides is `UnterminatedMapping`.
+    ///
+    /// Only a name that passes with a prepend takes memory, from `alloc`, and only there the
+    /// answer can be `OutOfMemory`. A name that passes as it is lives as long as the name handed
+    /// in, and not as long as the map.
+    pub fn map_client_xattr<'a>(
+        &self,
+        alloc: A,
+        name: XattrName<'a>,
+    ) -> Result<AppliedRule<'a, A>, Error<A>>
+        ensures answer { IfOk result (λ rule. meaning rule ≡ client_answer self.now name.entry.bytes.now) }
+        ensures unterminated { (result ≡ Err (of_no_rule ErrorKind.UnterminatedMapping))
+            ↔ (client_answer self.now name.entry.bytes.now ≡ IsUnterminated) }
+
+        // A name that passes as it is is the very name handed in.
+        ensures okay { IsDecidedBy RuleKind.Okay self.now name.entry.bytes.now
+            → result ≡ Ok (AppliedRule.Pass (PassedName.Borrowed name.entry)) }
+        ensures prefix { IsDecidedBy RuleKind.Prefix self.now name.entry.bytes.now → IfOk result IsOwned }
+
+        // Memory is wanted only where a name passes with something before it.
+        ensures faults { IfErr result (λ error. (error ≡ of_no_rule ErrorKind.UnterminatedMapping)
+            ⊎ ((error ≡ of_no_rule ErrorKind.OutOfMemory) × IsDecidedBy RuleKind.Prefix self.now name.entry.bytes.now)) }
+    {
+        let Some(rule) = self.deciding(Side::Client, name.bytes) else {
+            return Err(Error::from(ErrorKind::UnterminatedMapping));
+        };
+        match rule.kind {
+            RuleKind::Okay => Ok(AppliedRule::Pass(PassedName::Borrowed(name))),
+            RuleKind::Prefix => {
+                let prepend = XattrName {
+                    bytes: rule.prepend.as_slice(),
+                };
+                let name = name.behind(alloc, prepend)?;
+                Ok(AppliedRule::Pass(PassedName::Owned(name)))
+            }
+            RuleKind::Bad => Ok(AppliedRule::Deny),
+            RuleKind::Unsupported => Ok(AppliedRule::Unsupported),
+        }
+    }
+}
+
+#[cfg(test)]
+mod tests;

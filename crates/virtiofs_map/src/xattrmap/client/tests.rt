@@ -1,0 +1,187 @@
+//! Names that the guest asks for, with what becomes of them.
+
+use crate::xattrmap::{AppliedRule, Error, ErrorKind, PassedName, XattrMap, XattrName};
+use std::alloc::Global;
+use std::process::Abort;
+use std::test::Fail;
+
+/// What is to become of a name.
+#[derive(Clone, Copy, PartialEq, Eq, Debug)]
+enum Wanted<'n> {
+    Borrowed(&'n [u8]),
+    Owned(&'n [u8]),
+    Denied,
+    Unsupported,
+    Unterminated,
+    AnotherFault,
+}
+
+fn given<'n>(answer: &'n Result<AppliedRule<'n>, Error>) -> Wanted<'n> {
+    match answer {
+        Ok(AppliedRule::Pass(PassedName::Borrowed(name))) => Wanted::Borrowed(name.as_bytes()),
+        Ok(AppliedRule::Pass(PassedName::Owned(name))) => Wanted::Owned(name.as_name().as_bytes()),
+        Ok(AppliedRule::Deny) => Wanted::Denied,
+        Ok(AppliedRule::Unsupported) => Wanted::Unsupported,
+        Err(
+            Error {
+                cause: ErrorKind::UnterminatedMapping,
+                rule: None,
+            },
+        ) => Wanted::Unterminated,
+        Err(_) => Wanted::AnotherFault,
+    }
+}
+
+fn assert_client(
+    rt: &impl Abort,
+    alloc: Global,
+    text: &str,
+    cases: &[(&[u8], Wanted<'_>)],
+) -> Result<(), Fail> {
+    let map = XattrMap::try_from(alloc, text)?;
+    for (bytes, wanted) in cases {
+        let name = XattrName::new(bytes).ok_or("a name holds a zero")?;
+        let answer = map.map_client_xattr(alloc, name);
+        assert_eq!(rt; given(&answer), *wanted, "{bytes:?} under {text:?}");
+    }
+    Ok(())
+}
+
+#[test]
+fn makes_names_of_bytes(rt: HostRuntime) {
+    assert_eq!(rt;
+        XattrName::new(b"").map(XattrName::as_bytes),
+        Some(b"".as_slice())
+    );
+    assert_eq!(rt;
+        XattrName::new(b"a\xff").map(XattrName::as_bytes),
+        Some(b"a\xff".as_slice())
+    );
+    assert!(rt; XattrName::new(b"a\0").is_none());
+    assert!(rt; XattrName::new(b"\0a").is_none());
+}
+
+#[test]
+fn answers_by_the_first_rule(rt: HostRuntime) -> Result<(), Fail> {
+    let alloc = rt.alloc();
+    assert_client(
+        &rt,
+        alloc,
+        ":bad:all:a:a: :ok:all:ab:ab: :ok:all:::",
+        &[(b"abc", Wanted::Denied), (b"b", Wanted::Borrowed(b"b"))],
+    )?;
+    assert_client(
+        &rt,
+        alloc,
+        ":ok:server::a:",
+        &[(b"a1", Wanted::Unterminated)],
+    )?;
+    assert_client(
+        &rt,
+        alloc,
+        ":ok:all:é:é: :bad:all:::",
+        &[
+            (b"\xc3\xa9a", Wanted::Borrowed(b"\xc3\xa9a")),
+            (b"\xe9", Wanted::Denied),
+        ],
+    )?;
+    assert_client(
+        &rt,
+        alloc,
+        ":unsupported:client:a:: :ok:all:::",
+        &[(b"ab", Wanted::Unsupported), (b"b", Wanted::Borrowed(b"b"))],
+    )?;
+    assert_client(
+        &rt,
+        alloc,
+        ":ok:client:a::",
+        &[(b"b", Wanted::Unterminated)],
+    )?;
+    assert_client(
+        &rt,
+        alloc,
+        ":prefix:all:é:ü.:",
+        &[(b"\xc3\xa9", Wanted::Owned(b"\xc3\xbc.\xc3\xa9"))],
+    )
+}
+
+#[test]
+fn answers_by_each_type(rt: HostRuntime) -> Result<(), Fail> {
+    let alloc = rt.alloc();
+    let potato = b"user.virtiofs.potato";
+    let secret = b"trusted.secret_thing";
+    let cases = [
+        (":ok:all:::", potato.as_slice(), Wanted::Borrowed(potato)),
+        (":bad:client:::", b"virtiofs.", Wanted::Denied),
+        (":unsupported:client:::", b"virtiofs.", Wanted::Unsupported),
+        (
+            ":prefix:all:trusted.:virtiofs.user.:",
+            secret,
+            Wanted::Owned(b"virtiofs.user.trusted.secret_thing"),
+        ),
+        (
+            ":ok:all:allow.:allow.:",
+            b"allow.y",
+            Wanted::Borrowed(b"allow.y"),
+        ),
+        (":prefix:client::allow.:", b"y", Wanted::Owned(b"allow.y")),
+    ];
+    for (text, bytes, wanted) in cases {
+        assert_client(&rt, alloc, text, &[(bytes, wanted)])?;
+    }
+    Ok(())
+}
+
+#[test]
+fn answers_by_a_map_rule(rt: HostRuntime) -> Result<(), Fail> {
+    let alloc = rt.alloc();
+    assert_client(
+        &rt,
+        alloc,
+        ":map:trusted.:user.virtiofs.:",
+        &[
+            (b"user.virtiofs.a", Wanted::Denied),
+            (b"trusted.a", Wanted::Owned(b"user.virtiofs.trusted.a")),
+        ],
+    )?;
+    let cases: [(&str, &[u8], Wanted<'_>); 9] = [
+        (
+            ":map::user.virtiofs.:",
+            b"",
+            Wanted::Owned(b"user.virtiofs."),
+        ),
+        (":map:a:ab:", b"abx", Wanted::Owned(b"ababx")),
+        (":map:ab:a:", b"abx", Wanted::Owned(b"aabx")),
+        (":map:ab:a:", b"ax", Wanted::Denied),
+        (":map:a::", b"ax", Wanted::Owned(b"ax")),
+        (":map:a::", b"b", Wanted::Denied),
+        (":map:::", b"x", Wanted::Owned(b"x")),
+        (":map:a:b:", b"", Wanted::Borrowed(b"")),
+        (":map:a:b:", b"c", Wanted::Borrowed(b"c")),
+    ];
+    for (text, bytes, wanted) in cases {
+        assert_client(&rt, alloc, text, &[(bytes, wanted)])?;
+    }
+    Ok(())
+}
+
+fn passed<'n>(alloc: Global, text: &str, name: XattrName<'n>) -> Result<PassedName<'n>, Fail> {
+    let map = XattrMap::try_from(alloc, text)?;
+    match map.map_client_xattr(alloc, name)? {
+        AppliedRule::Pass(name) => Ok(name),
+        _ => Err(Fail::from("the name does not pass")),
+    }
+}
+
+#[test]
+fn passed_names_outlive_the_map(rt: HostRuntime) -> Result<(), Fail> {
+    let alloc = rt.alloc();
+    let name = XattrName::new(b"allow.y").ok_or("a name holds a zero")?;
+    let borrowed = passed(alloc, ":ok:all:allow.:allow.:", name)?;
+    let rest = XattrName::new(b"y").ok_or("a name holds a zero")?;
+    let owned = passed(alloc, ":prefix:client::allow.:", rest)?;
+    assert_eq!(rt; borrowed.as_bytes(), b"allow.y".as_slice());
+    assert_eq!(rt; owned.as_bytes(), b"allow.y".as_slice());
+    assert!(rt; borrowed == owned);
+    Ok(())
+}

@@ -1,0 +1,143 @@
+//! Why a text is no map, and why a map gives a name no answer.
+
+ghost use Rattle.std.specs.Prelude.{◌≡◌, ◌≢◌, Some, None};
+ghost use Rattle.virtiofs_map.specs.declared.xattrmap.errors.ErrorKind.TheVariants.{OutOfMemory};
+
+use std::alloc::{AllocError, AllocFailed, Allocator, Global};
+use std::{error, fmt};
+
+/// The part of a rule that names are compared with.
+#[derive(Clone, Copy, PartialEq, Eq, Debug)]
+pub enum PatternField {
+    /// What a name from the guest is compared with.
+    Key,
+    /// What a name from the host is compared with.
+    Prepend,
+}
+
+/// What is wrong.
+#[derive(Drop, thiserror::Error)]
+#[derive_where(PartialEq, Eq, Debug)]
+pub enum ErrorKind<A: Allocator = Global> {
+    /// The scope of a rule is none of the three.
+    #[error("invalid scope '{got}', expected one of: {expected}")]
+    InvalidScope {
+        /// The field that stands in the scope's place.
+        got: String<A>,
+        /// The scopes that there are.
+        expected: &'static str,
+    },
+    /// The type of a rule is none of those that there are.
+    #[error("invalid type '{got}', expected one of: {expected}")]
+    InvalidType {
+        /// The field that stands in the type's place.
+        got: String<A>,
+        /// The usual types.
+        expected: &'static str,
+    },
+    /// A delimiter differs from the one that its rule began with. Never answered, since any other
+    /// character is part of the field.
+    #[error("the delimiter is not the rule's first")]
+    InvalidDelimiter,
+    /// A field of a rule is not closed by the rule's delimiter.
+    #[error("the rule is incomplete")]
+    IncompleteRule,
+    /// Something follows a `map` rule.
+    #[error("a map rule has to stand last")]
+    MapRuleViolation,
+    /// The text holds no rule.
+    #[error("there are no rules")]
+    NoRulesProvided,
+    /// No rule decides a name.
+    #[error("no rule fits the name")]
+    UnterminatedMapping,
+    /// A key or a prepend holds U+0000, which no name has.
+    #[error("{pattern:?} holds NUL")]
+    NulInPattern {
+        /// Which of the two.
+        pattern: PatternField,
+    },
+    /// A request for memory was refused.
+    #[error("out of memory")]
+    OutOfMemory,
+}
+
+/// What is wrong, and in which rule.
+#[derive(Drop)]
+#[derive_where(PartialEq, Eq, Debug)]
+pub struct Error<A: Allocator = Global> {
+    /// What is wrong.
+    pub cause: ErrorKind<A>,
+    /// The number of the rule as it is written, from 1. `None` where no one rule is at fault.
+    pub rule: Option<usize>,
+}
+
+impl<A: Allocator> ErrorKind<A> {
+    /// The same as an error of that rule. Want of memory is no rule's fault.
+    pub(crate) fn in_rule(self, number: usize) -> Error<A>
+        ensures cause { result.cause ≡ self }
+        ensures rule { self ≢ ErrorKind.OutOfMemory → result.rule ≡ Some number }
+        ensures memory { self ≡ ErrorKind.OutOfMemory → result.rule ≡ None }
+    {
+        let rule = match &self {
+            ErrorKind::OutOfMemory => None,
+            _ => Some(number),
+        };
+        Error { cause: self, rule }
+    }
+}
+
+impl<A: Allocator> fmt::Display for Error<A> {
+    fn fmt<W: fmt::Write>(&self, f: &mut fmt::Formatter<W>) -> fmt::Result {
+        match self.rule {
+            Some(number) => {
+                let cause = &self.cause;
+                write!(f, "rule {number}: {cause}")
+            }
+            None => {
+                let cause = &self.cause;
+                write!(f, "{cause}")
+            }
+        }
+    }
+}
+
+impl<A: Allocator> error::Error for Error<A> {}
+
+impl<A: Allocator> From<ErrorKind<A>> for Error<A> {
+    ghost from_gives = { λ cause error. error ≡ record { cause = cause; rule = None } };
+
+    fn from(cause: ErrorKind<A>) -> Error<A> {
+        Error { cause, rule: None }
+    }
+}
+
+impl<A: Allocator> From<AllocError> for ErrorKind<A> {
+    ghost from_gives = { λ _ cause. cause ≡ OutOfMemory };
+
+    fn from(_refused: AllocError) -> ErrorKind<A> {
+        ErrorKind::OutOfMemory
+    }
+}
+
+impl<A: Allocator> From<AllocError> for Error<A> {
+    ghost from_gives = { λ _ error. error ≡ record { cause = OutOfMemory; rule = None } };
+
+    fn from(_refused: AllocError) -> Error<A> {
+        Error {
+            cause: ErrorKind::OutOfMemory,
+            rule: None,
+        }
+    }
+}
+
+impl<A: Allocator, T: Drop> From<AllocFailed<T>> for Error<A> {
+    ghost from_gives = { λ _ error. error ≡ record { cause = OutOfMemory; rule = None } };
+
+    fn from(_refused: AllocFailed<T>) -> Error<A> {
+        Error {
+            cause: ErrorKind::OutOfMemory,
+            rule: None,
+        }
+    }
+}

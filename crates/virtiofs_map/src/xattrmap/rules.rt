@@ -1,0 +1,144 @@
+//! A rule of a map.
+
+ghost use Rattle.std.specs.Prelude.{◌≡◌, ◌++◌, IfOk, OnOk};
+ghost use Rattle.std.specs.Str.{chars, IsUtf8};
+ghost use Rattle.virtiofs_map.specs.RuleText.{rule_of, rules_of};
+
+use crate::xattrmap::scopes::{Scope, Side};
+use crate::xattrmap::written::{Head, ScopeWord, WrittenRule};
+use std::alloc::{AllocError, Allocator, Global};
+use std::marker::Model;
+
+/// What a rule does with the names that it decides.
+#[derive(Clone, Copy, PartialEq, Eq, Debug)]
+pub(crate) enum RuleKind {
+    Prefix,
+    Okay,
+    Bad,
+    Unsupported,
+}
+
+/// A rule as lookups use it: a `map` rule stands as the rules that it means.
+#[derive(Drop)]
+#[derive_where(Debug)]
+pub(crate) struct Rule<A: Allocator = Global> {
+    pub(crate) kind: RuleKind,
+    pub(crate) scope: Scope,
+    pub(crate) key: Vec<u8, A>,
+    pub(crate) prepend: Vec<u8, A>,
+}
+
+impl<A: Allocator> Model for Rule<A> {
+    ghost use Rattle.virtiofs_map.specs.Rule.{MappingRule};
+    ghost use Rattle.virtiofs_map.specs.Scope.{holds};
+    ghost use Rattle.virtiofs_map.specs.declared.xattrmap.scopes.Side.TheVariants.{Client, Server};
+
+    ghost Value = { MappingRule };
+
+    ghost view = { λ rule. record {
+      kind = rule.kind;
+      client = holds Client rule.scope.0;
+      server = holds Server rule.scope.0;
+      key = rule.key.items;
+      prepend = rule.prepend.items;
+    } };
+}
+
+impl<A: Allocator> PartialEq for Rule<A> {
+    ghost use Rattle.std.proofs.Common.{rules};
+    ghost use Rattle.std.specs.Cmp.Rules.{comparing};
+    ghost use Rattle.virtiofs_map.specs.SameRule.{same_rule};
+
+    ghost eq = { same_rule };
+
+    ghost laws = { Prim.search (comparing, rules) depth 12 };
+
+    fn eq(&self, other: &Rule<A>) -> bool {
+        self.kind == other.kind
+            && self.scope.has(Side::Client) == other.scope.has(Side::Client)
+            && self.scope.has(Side::Server) == other.scope.has(Side::Server)
+            && self.key == other.key
+            && self.prepend == other.prepend
+    }
+}
+
+impl<A: Allocator> Eq for Rule<A> {
+    ghost use Rattle.std.proofs.Common.{rules};
+    ghost use Rattle.std.specs.Cmp.Rules.{comparing};
+
+    ghost laws = { Prim.search (comparing, rules) depth 12 };
+}
+
+/// A rule of that kind for these sides.
+fn make_rule<A: Allocator + Copy>(
+    alloc: A,
+    kind: RuleKind,
+    scope: ScopeWord,
+    key: &str,
+    prepend: &str,
+) -> Result<Rule<A>, AllocError>
+    ensures { IfOk result (λ rule. rule ≡ rule_of kind scope (chars key.now) (chars prepend.now)) }
+{
+    Ok(Rule {
+        kind,
+        scope: Scope::from(scope),
+        key: Vec::from_slice(alloc, key.as_bytes())?,
+        prepend: Vec::from_slice(alloc, prepend.as_bytes())?,
+    })
+}
+
+/// Puts the rules that a written one stands for at the end.
+pub(crate) fn push_rules<A: Allocator + Copy>(
+    alloc: A,
+    rules: &mut Vec<Rule<A>, A>,
+    written: WrittenRule<'_>,
+) -> Result<(), AllocError>
+    requires { IsUtf8 written.key.now × IsUtf8 written.prepend.now }
+    ensures { OnOk result (rules.new.items ≡ rules.old.items ++ rules_of written.entry.head (chars written.entry.key.now) (chars written.entry.prepend.now)) }
+{
+    let WrittenRule { head, key, prepend } = written;
+    let all = ScopeWord::All;
+    match head {
+        Head::Typed(kind, scope) => {
+            rules.push(make_rule(alloc, kind, scope, key, prepend)?)?;
+        }
+        Head::Map if key.is_empty() => {
+            rules.push(make_rule(alloc, RuleKind::Prefix, all, key, prepend)?)?;
+            rules.push(make_rule(alloc, RuleKind::Bad, all, "", "")?)?;
+        }
+        Head::Map => {
+            rules.push(make_rule(alloc, RuleKind::Prefix, all, key, prepend)?)?;
+            rules.push(make_rule(alloc, RuleKind::Bad, all, prepend, key)?)?;
+            rules.push(make_rule(alloc, RuleKind::Okay, all, "", "")?)?;
+        }
+    }
+    Ok(())
+}
+
+impl<A: Allocator + Copy> Rule<A> {
+    /// The same rule, in memory of its own.
+    fn copied(&self, alloc: A) -> Result<Rule<A>, AllocError>
+        ensures { IfOk result (λ rule. rule ≡ self.now) }
+    {
+        Ok(Rule {
+            kind: self.kind,
+            scope: self.scope,
+            key: Vec::from_slice(alloc, self.key.as_slice())?,
+            prepend: Vec::from_slice(alloc, self.prepend.as_slice())?,
+        })
+    }
+}
+
+/// The same rules, in memory of their own.
+pub(crate) fn copied_rules<A: Allocator + Copy>(
+    alloc: A,
+    rules: &[Rule<A>],
+) -> Result<Vec<Rule<A>, A>, AllocError>
+    ensures { IfOk result (λ copies. copies.items ≡ rules.now) }
+{
+    let mut copies = Vec::with_capacity(alloc, rules.len())?;
+    for rule in rules {
+        copies.push(rule.copied(alloc)?)?;
+    }
+    Ok(copies)
+}

@@ -1,0 +1,4 @@
+pub mod AnswerLemmas
+pub mod AttributeLemmas
+pub mod LineLemmas
+pub mod WordsLemmas

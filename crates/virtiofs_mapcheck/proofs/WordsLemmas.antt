@@ -1,0 +1,123 @@
+-- The words of the program and their forms.
+use Rattle.std.proofs.Common.{◌≡◌, ◌≢◌, ℕ, ◌+◌, ◌-◌, ◌<◌, ◌≤◌, zero, suc, List, [], ◌∷◌, ◌++◌, length, take, drop, get_or, codes, All, Option, Some, None, MatchOption, Result, Ok, Err, IfOk, refl, sym, ap, ◌∙◌, subst, arith, length-drop, add-one}
+use Rattle.std.specs.Borrow.{Bor}
+use Rattle.std.specs.List.{AllZip}
+use Rattle.std.specs.Str.{chars}
+use Rattle.std.proofs.lemmas.List.{take_all, take_more, take-append-drop}
+use Rattle.std.proofs.lemmas.List.Elements.{All-head, All-tail}
+use Rattle.std.proofs.Math.Seq.{drop-cons}
+use Rattle.virtiofs_map.specs.Numeral.{IsNumeral}
+use Rattle.virtiofs_map.specs.declared.soft_idmap.entry.Direction.{Direction}
+use Rattle.virtiofs_map.specs.declared.soft_idmap.entry.Direction.TheVariants.{GuestToHost, HostToGuest}
+use Rattle.virtiofs_map.proofs.SpecificationLemmas.{AllZip-push}
+use Rattle.virtiofs_mapcheck.specs.Words.{words_of, ask, query_front, Asks, Form, Ids, Namespace, Client, Server, name_of, IsIds, HasBody, HasForm}
+use Rattle.virtiofs_mapcheck.specs.WordsParts.{IsCutAtAsk, form_of, ReadsBehind}
+use Rattle.virtiofs_mapcheck.specs.declared.words.Query.{Query}
+use Rattle.virtiofs_mapcheck.specs.declared.words.Words.{Words}
+
+-- `g` is not `h`
+differs : ◌≡◌ {A = ℕ} 103 104 → ⊥
+differs same = absurd (omega arith)
+
+-- a word of either direction has one numeral
+unread : (numeral other : List ℕ) (direction whither : Direction) (n : ℕ) → query_front direction ++ numeral ≡ query_front whither ++ other → ((number : ℕ) → IsNumeral (chars numeral) number → ⊥) → IsNumeral (chars other) n → ⊥
+unread numeral other GuestToHost GuestToHost n same none read =
+    let equal : numeral ≡ other = cc in
+    none n (subst (λ (xs : List ℕ). IsNumeral (chars xs) n) (sym equal) read)
+unread numeral other HostToGuest HostToGuest n same none read =
+    let equal : numeral ≡ other = cc in
+    none n (subst (λ (xs : List ℕ). IsNumeral (chars xs) n) (sym equal) read)
+unread numeral other GuestToHost HostToGuest n same none read =
+    differs (ap (λ (xs : List ℕ). get_or xs 0 0) same)
+unread numeral other HostToGuest GuestToHost n same none read =
+    differs (sym (ap (λ (xs : List ℕ). get_or xs 0 0) same))
+
+pub Asks-unread : (word numeral : List ℕ) (direction : Direction) (query : Query) → word ≡ query_front direction ++ numeral → ((number : ℕ) → IsNumeral (chars numeral) number → ⊥) → Asks word query → ⊥
+Asks-unread word numeral direction query front none asks =
+    unread numeral asks.numeral direction query.direction query.number (sym front ∙ asks.whole) none asks.number
+
+words_of-append : (xs ys : List (Bor (List ℕ))) → words_of (xs ++ ys) ≡ words_of xs ++ words_of ys
+words_of-append [] ys = refl
+words_of-append (x ∷ xs) ys = ap (λ (zs : List (List ℕ)). x.now ∷ zs) (words_of-append xs ys)
+
+-- the words are cut where `ask` stands
+pub IsCutAtAsk-here : (words : List (Bor (List ℕ))) (i : ℕ) (d : Bor (List ℕ)) → i < length words → (get_or words i d).now ≡ ask → All (λ word. word ≢ ask) (words_of (take i words)) → IsCutAtAsk (words_of words) (words_of (take i words)) (words_of (take (length words - (i + 1)) (drop (i + 1) words)))
+IsCutAtAsk-here words i d below here first =
+    let rest : take (length words - (i + 1)) (drop (i + 1) words) ≡ drop (i + 1) words = take_all _ _ (omega (arith, length-drop (i + 1) words)) in
+    let cell : drop i words ≡ get_or words i d ∷ drop (i + 1) words = rw add-one (drop-cons words i d below) in
+    let whole : words ≡ take i words ++ get_or words i d ∷ drop (i + 1) words = sym (take-append-drop i words) ∙ ap (λ (xs : List (Bor (List ℕ))). take i words ++ xs) cell in
+    rw rest (record {
+      whole = ap words_of whole ∙ words_of-append (take i words) (get_or words i d ∷ drop (i + 1) words) ∙ ap (λ (w : List ℕ). words_of (take i words) ++ w ∷ words_of (drop (i + 1) words)) here;
+      first = first;
+    })
+
+-- words that are none of them `ask`
+pub All-words : (words : List (Bor (List ℕ))) (i : ℕ) → length words ≤ i → All (λ word. word ≢ ask) (words_of (take i words)) → All (λ word. word ≢ ask) (words_of words)
+All-words words i past all = subst (λ (xs : List (Bor (List ℕ))). All (λ word. word ≢ ask) (words_of xs)) (take_all i words past) all
+
+-- the words so far and one more
+pub AllZip-more : (words : List (Bor (List ℕ))) (i : ℕ) (d : Bor (List ℕ)) (queries : List Query) (query : Query) → i < length words → AllZip Asks (words_of (take i words)) queries → Asks (get_or words i d).now query → AllZip Asks (words_of (take (i + 1) words)) (queries ++ query ∷ [])
+AllZip-more words i d queries query below so_far asks =
+    rw (take_more words i d below, words_of-append (take i words) (get_or words i d ∷ []))
+    (AllZip-push Asks (words_of (take i words)) queries (get_or words i d).now query so_far asks)
+
+-- a word that is no query, among words that each are one
+pub AllZip-unread : (words : List (Bor (List ℕ))) (i : ℕ) (d : Bor (List ℕ)) (queries : List Query) → i < length words → ((query : Query) → Asks (get_or words i d).now query → ⊥) → AllZip Asks (words_of words) queries → ⊥
+AllZip-unread [] i d queries below none all = absurd (omega arith)
+AllZip-unread (w ∷ words) i d [] below none all = all
+AllZip-unread (w ∷ words) zero d (q ∷ queries) below none all = none q all.0
+AllZip-unread (w ∷ words) (suc i) d (q ∷ queries) below none all = AllZip-unread words i d queries (omega arith) none all.1
+
+-- the first `ask` is one place
+same_cut : (front back front' back' : List (List ℕ)) → front ++ ask ∷ back ≡ front' ++ ask ∷ back' → All (λ word. word ≢ ask) front → All (λ word. word ≢ ask) front' → back ≡ back'
+same_cut [] back [] back' same first first' = cc
+same_cut [] back (w ∷ front') back' same first first' =
+    let is : w ≡ ask = cc in
+    absurd (All-head (λ word. word ≢ ask) w front' first' is)
+same_cut (w ∷ front) back [] back' same first first' =
+    let is : w ≡ ask = cc in
+    absurd (All-head (λ word. word ≢ ask) w front first is)
+same_cut (w ∷ front) back (v ∷ front') back' same first first' =
+    let tail : front ++ ask ∷ back ≡ front' ++ ask ∷ back' = cc in
+    same_cut front back front' back' tail (All-tail (λ word. word ≢ ask) w front first) (All-tail (λ word. word ≢ ask) v front' first')
+
+-- words in which `ask` stands
+has_ask : (front back : List (List ℕ)) → All (λ word. word ≢ ask) (front ++ ask ∷ back) → ⊥
+has_ask [] back all = All-head (λ word. word ≢ ask) ask back all refl
+has_ask (w ∷ front) back all = has_ask front back (All-tail (λ word. word ≢ ask) w (front ++ ask ∷ back) all)
+
+-- words behind `ids` that hold no `ask`
+pub unasked : (others specs : List (List ℕ)) (queries : List Query) → All (λ word. word ≢ ask) others → IsIds others specs queries → ⊥
+unasked others specs queries none form = has_ask specs form.asked (subst (λ (xs : List (List ℕ)). All (λ word. word ≢ ask) xs) form.whole none)
+
+-- words behind `ids`, where those behind the first `ask` are not queries
+pub no_queries : (others front back specs : List (List ℕ)) (queries : List Query) → IsCutAtAsk others front back → (0 < length back → AllZip Asks back queries → ⊥) → IsIds others specs queries → ⊥
+no_queries others front back specs queries cut none form =
+    let equal : back ≡ form.asked = same_cut front back specs form.asked (sym cut.whole ∙ form.whole) cut.first form.first in
+    none (rw equal form.some) (subst (λ (xs : List (List ℕ)). AllZip Asks xs queries) (sym equal) form.read)
+
+-- what was read of the words behind a name is the form of all the words
+pub forms_behind : {A : Type 0} (words others : List (List ℕ)) (name : List ℕ) (o : Option (Words A)) → words ≡ name ∷ others → ReadsBehind name others o → MatchOption o ((form : Form) → HasForm words form → ⊥) (λ read. HasForm words (form_of read))
+forms_behind words others name None whole reads = λ form has.
+    let cells : name_of form ∷ has.0 ≡ name ∷ others = sym has.1 ∙ whole in
+    let same_name : name_of form ≡ name = cc in
+    let same_others : has.0 ≡ others = cc in
+    reads form same_name (subst (λ (xs : List (List ℕ)). HasBody xs form) same_others has.2)
+forms_behind words others name (Some read) whole reads = (others, whole ∙ ap (λ (n : List ℕ). n ∷ others) (sym reads.0), reads.1)
+
+pub forms_behind_ok : {A E : Type 0} (words others : List (List ℕ)) (name : List ℕ) (r : Result (Option (Words A)) E) → words ≡ name ∷ others → IfOk r (ReadsBehind name others) → IfOk r (λ o. MatchOption o ((form : Form) → HasForm words form → ⊥) (λ read. HasForm words (form_of read)))
+forms_behind_ok words others name (Ok o) whole reads = forms_behind words others name o whole reads
+forms_behind_ok words others name (Err e) whole reads = tt
+
+-- no form begins with `ids` where the words behind it are no body of that form
+pub no_ids : (others : List (List ℕ)) → ((specs : List (List ℕ)) (queries : List Query) → IsIds others specs queries → ⊥) → (form : Form) → name_of form ≡ codes "ids" → HasBody others form → ⊥
+no_ids others none (Ids specs queries) same body = none specs queries body
+no_ids others none (Namespace text) same body = longer (ap length same) where
+  longer : ◌≡◌ {A = ℕ} 2 3 → ⊥
+  longer e = absurd (omega (arith, e))
+no_ids others none (Client rules name) same body = longer (ap length same) where
+  longer : ◌≡◌ {A = ℕ} 6 3 → ⊥
+  longer e = absurd (omega (arith, e))
+no_ids others none (Server rules names) same body = longer (ap length same) where
+  longer : ◌≡◌ {A = ℕ} 6 3 → ⊥
+  longer e = absurd (omega (arith, e))

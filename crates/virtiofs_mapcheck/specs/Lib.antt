@@ -1,0 +1,6 @@
+pub mod Answer
+pub mod AnswerParts
+pub mod Output
+pub mod Words
+pub mod WordsParts
+pub mod Written

@@ -1,0 +1,13 @@
+-- How the program writes bytes.
+use Rattle.std.specs.Prelude.{ℕ, ◌/◌, ◌%◌, List, [], ◌∷◌, ◌++◌, codes, flat_map, if◌then◌else◌, ◌==◌, nat_le, ◌&&◌}
+use Rattle.std.specs.Char.{digit_char}
+
+-- a backslash twice, any other printing byte of ASCII as itself, and the rest as `\x` and two hexadecimal digits
+abbrev pub written_byte : ℕ → List ℕ
+written_byte byte =
+    if byte == 92 then codes "\\\\"
+    else (if nat_le 32 byte && nat_le byte 126 then byte ∷ []
+    else codes "\\x" ++ digit_char (byte / 16) ∷ digit_char (byte % 16) ∷ [])
+
+abbrev pub written : List ℕ → List ℕ
+written bytes = flat_map written_byte bytes

@@ -1,0 +1,56 @@
+//! What the program answers to its words.
+ghost use Rattle.std.specs.Prelude.{◌≡◌, ◌↔◌, ℕ, List, IsTrue, IsFalse, IsErrOf, IfOk, string_bytes};
+ghost use Rattle.virtiofs_mapcheck.specs.Answer.{Answers};
+ghost use Rattle.virtiofs_mapcheck.specs.Output.{Writes, WritesFrontOf};
+ghost use Rattle.virtiofs_mapcheck.specs.Words.{words_of};
+
+use crate::attributes::{answer_client, answer_server};
+use crate::emit::deliver;
+use crate::ids::answer_ids;
+use crate::namespace::answer_namespace;
+use crate::outcome::{AnswerFault, Answered};
+use crate::tally::Tally;
+use crate::words::{Words, read_words};
+use std::alloc::{AllocError, Allocator};
+use std::io::Write;
+
+/// The outcome of words, and the whole text.
+fn text_of<A: Allocator + Copy>(
+    alloc: A,
+    words: &[&str],
+) -> Result<(Answered, String<A>), AllocError>
+    ensures { IfOk result (λ p. Answers (words_of words.now) p.0 (string_bytes p.1)) }
+{
+    match read_words(alloc, words)? {
+        None => Ok((
+            Answered::WrongWords,
+            String::from_str(alloc, "wrong words\n")?,
+        )),
+        Some(Words::Ids { specs, queries }) => answer_ids(alloc, specs, &queries),
+        Some(Words::Namespace { text }) => answer_namespace(alloc, text),
+        Some(Words::Client { rules, name }) => answer_client(alloc, rules, name),
+        Some(Words::Server { rules, names }) => answer_server(alloc, rules, names),
+    }
+}
+
+/// Answers the program's words: makes the whole text, and then writes it.
+///
+/// The words are those behind the program's name. Where memory ran out, `out` is as it was. `Write`
+/// is the answer just where a write to `out` failed; a front of the text was written before.
+pub fn answer<A: Allocator + Copy, W: Write>(
+    alloc: A,
+    words: &[&str],
+    out: &mut Tally<W>,
+) -> Result<Answered, AnswerFault>
+    requires { IsFalse out.old.failed }
+    ensures answered { IfOk result (λ answered. (text : List ℕ) × Answers (words_of words.now) answered text × Writes out.old out.new text) }
+    ensures out_of_memory { IsErrOf result AnswerFault.OutOfMemory → out.new ≡ out.old }
+    ensures front { IsErrOf result AnswerFault.Write → (answered : _) × (text : List ℕ) × Answers (words_of words.now) answered text × WritesFrontOf out.old out.new text }
+    ensures failed { IsErrOf result AnswerFault.Write ↔ IsTrue out.new.failed }
+{
+    let (answered, text) = text_of(alloc, words)?;
+    deliver(answered, text.as_bytes(), out)
+}
+
+#[cfg(test)]
+mod tests;

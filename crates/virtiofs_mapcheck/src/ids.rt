@@ -1,0 +1,129 @@
+//! What ids become under specifications.
+ghost use Rattle.std.specs.Prelude.{◌≡◌, ◌≢◌, ℕ, List, ◌++◌, codes, OnOk, IfOk, string_bytes};
+ghost use Rattle.std.specs.List.{AllZip, concat};
+ghost use Rattle.virtiofs_map.specs.Printed.{build_error_text};
+ghost use Rattle.virtiofs_mapcheck.specs.Answer.{IsLine, refused_line, index_of, AnswersForm};
+ghost use Rattle.virtiofs_mapcheck.specs.AnswerParts.{IsCauseText};
+ghost use Rattle.virtiofs_mapcheck.specs.Words.{words_of, Ids};
+
+use crate::outcome::Answered;
+use crate::words::Query;
+use crate::written::push_quoted;
+use std::alloc::{AllocError, Allocator};
+use virtiofs_map::cmdline;
+use virtiofs_map::id_types::{GuestUid, HostUid};
+use virtiofs_map::soft_idmap::{Direction, IdMap, IdMapBuildError, SpecsError};
+
+/// Writes the line of a query at the end of a text.
+fn push_line<A: Allocator>(
+    text: &mut String<A>,
+    map: &IdMap<GuestUid, HostUid, A>,
+    query: Query,
+) -> Result<(), AllocError>
+    ensures { OnOk result ((line : List ℕ) × IsLine map.now query line × (string_bytes text.new ≡ string_bytes text.old ++ line)) }
+{
+    match query.direction {
+        Direction::GuestToHost => match map.map_guest(GuestUid::from(query.number)) {
+            Ok(id) => writeln!(text, "{id}"),
+            Err(error) => writeln!(text, "{error}"),
+        },
+        Direction::HostToGuest => match map.map_host(HostUid::from(query.number)) {
+            Ok(id) => writeln!(text, "{id}"),
+            Err(error) => writeln!(text, "{error}"),
+        },
+    }
+}
+
+/// The lines of queries.
+pub(crate) fn lines_of<A: Allocator>(
+    alloc: A,
+    map: &IdMap<GuestUid, HostUid, A>,
+    queries: &[Query],
+) -> Result<String<A>, AllocError>
+    ensures { IfOk result (λ text. (lines : List _) × AllZip (IsLine map.now) queries.now lines × (string_bytes text ≡ concat lines)) }
+{
+    let mut text = String::new(alloc);
+    for query in queries {
+        push_line(&mut text, map, *query)?;
+    }
+    Ok(text)
+}
+
+/// Writes why a text is not read at the end of a text.
+fn push_cause<A: Allocator>(
+    text: &mut String<A>,
+    cause: &cmdline::IdMapError<A>,
+) -> Result<(), AllocError>
+    ensures { OnOk result ((why : List ℕ) × IsCauseText cause.now why × (string_bytes text.new ≡ string_bytes text.old ++ why)) }
+{
+    match cause {
+        cmdline::IdMapError::InvalidPrefix(prefix) => {
+            text.push_str("InvalidPrefix ")?;
+            push_quoted(text, prefix.as_bytes())
+        }
+        cmdline::IdMapError::InvalidLength { expected, seen } => {
+            write!(text, "InvalidLength expected {expected} seen {seen}")
+        }
+        cmdline::IdMapError::InvalidValue { value, .. } => {
+            text.push_str("InvalidValue ")?;
+            push_quoted(text, value.as_bytes())
+        }
+        cmdline::IdMapError::OutOfMemory => Err(AllocError),
+    }
+}
+
+/// The line of a text that is not read.
+fn text_refusal<A: Allocator>(
+    alloc: A,
+    index: usize,
+    cause: &cmdline::IdMapError<A>,
+) -> Result<String<A>, AllocError>
+    ensures { IfOk result (λ text. (why : List ℕ) × IsCauseText cause.now why × (string_bytes text ≡ refused_line index why)) }
+{
+    let mut text = format!(in alloc; "refused: specification {index}: ")?;
+    push_cause(&mut text, cause)?;
+    text.push('\n')?;
+    Ok(text)
+}
+
+/// The line of a fault of the specification at that index.
+fn fault_line<A: Allocator>(
+    alloc: A,
+    index: usize,
+    fault: &IdMapBuildError,
+) -> Result<String<A>, AllocError>
+    ensures { IfOk result (λ text. string_bytes text ≡ refused_line index (build_error_text fault.now)) }
+{
+    let mut text = format!(in alloc; "refused: specification {index}: ")?;
+    writeln!(text, "{fault}")?;
+    Ok(text)
+}
+
+/// The line of specifications of which no map is made.
+fn build_refusal<A: Allocator>(alloc: A, fault: &IdMapBuildError) -> Result<String<A>, AllocError>
+    ensures known { OnOk result (fault.now ≢ IdMapBuildError.OutOfMemory) }
+    ensures line { IfOk result (λ text. string_bytes text ≡ refused_line (index_of fault.now) (build_error_text fault.now)) }
+{
+    match fault {
+        IdMapBuildError::RangeOverflow { index, .. } => fault_line(alloc, *index, fault),
+        IdMapBuildError::Intersects { index, .. } => fault_line(alloc, *index, fault),
+        IdMapBuildError::OutOfMemory => Err(AllocError),
+    }
+}
+
+/// What ids become under the specifications of texts, or why no map is made of these.
+pub(crate) fn answer_ids<A: Allocator + Copy>(
+    alloc: A,
+    texts: &[&str],
+    queries: &[Query],
+) -> Result<(Answered, String<A>), AllocError>
+    ensures { IfOk result (λ p. AnswersForm (Ids (words_of texts.now) queries.now) p.0 (string_bytes p.1)) }
+{
+    match IdMap::<GuestUid, HostUid, A>::from_specs(alloc, texts) {
+        Ok(map) => Ok((Answered::Given, lines_of(alloc, &map, queries)?)),
+        Err(SpecsError::Spec { index, cause }) => {
+            Ok((Answered::Refused, text_refusal(alloc, index, &cause)?))
+        }
+        Err(SpecsError::Build(fault)) => Ok((Answered::Refused, build_refusal(alloc, &fault)?)),
+    }
+}

@@ -1,0 +1,38 @@
+//! What a text says of a range of a namespace.
+ghost use Rattle.std.specs.Prelude.{IfOk, string_bytes};
+ghost use Rattle.virtiofs_mapcheck.specs.Answer.{AnswersForm};
+ghost use Rattle.virtiofs_mapcheck.specs.Words.{Namespace};
+
+use crate::outcome::Answered;
+use std::alloc::{AllocError, Allocator};
+use virtiofs_map::idmap::{IdMapError, UidMap};
+
+/// The range that a text says, or why it says none.
+pub(crate) fn answer_namespace<A: Allocator>(
+    alloc: A,
+    text: &str,
+) -> Result<(Answered, String<A>), AllocError>
+    ensures { IfOk result (λ p. AnswersForm (Namespace text.now) p.0 (string_bytes p.1)) }
+{
+    match UidMap::from_str(text) {
+        Ok(map) => Ok((Answered::Given, format!(in alloc; "{map}\n")?)),
+        Err(IdMapError::InvalidDelimiter) => {
+            Ok((
+                Answered::Refused,
+                String::from_str(alloc, "refused: InvalidDelimiter\n")?,
+            ))
+        }
+        Err(IdMapError::IncompleteMap) => {
+            Ok((
+                Answered::Refused,
+                String::from_str(alloc, "refused: IncompleteMap\n")?,
+            ))
+        }
+        Err(IdMapError::InvalidValue(_)) => {
+            Ok((
+                Answered::Refused,
+                String::from_str(alloc, "refused: InvalidValue\n")?,
+            ))
+        }
+    }
+}

@@ -1,0 +1,183 @@
+//! The forms of the program's words.
+ghost use Rattle.std.specs.Prelude.{◌≡◌, ◌≢◌, ℕ, List, [], ◌∷◌, ◌++◌, All, codes, IfOk, IfSome, IfNone, MatchOption, MatchResult};
+ghost use Rattle.std.specs.List.{AllZip};
+ghost use Rattle.std.specs.Str.{chars};
+ghost use Rattle.virtiofs_map.specs.Numeral.{IsNumeral};
+ghost use Rattle.virtiofs_mapcheck.specs.Words.{words_of, ask, query_front, Asks, Form, Ids, Namespace, HasForm};
+ghost use Rattle.virtiofs_mapcheck.specs.WordsParts.{IsCutAtAsk, form_of, ReadsBehind};
+
+use std::alloc::{AllocError, Allocator};
+use virtiofs_map::soft_idmap::Direction;
+use virtiofs_map::xattrmap::XattrName;
+
+/// A number that is asked for in a direction.
+#[derive(Clone, Copy, Debug, PartialEq, Eq)]
+pub(crate) struct Query {
+    /// In which direction it is mapped.
+    pub(crate) direction: Direction,
+    /// The number.
+    pub(crate) number: u32,
+}
+
+/// What the words ask for.
+#[derive(Drop)]
+pub(crate) enum Words<'a, A: Allocator> {
+    /// What ids become under specifications.
+    Ids {
+        specs: &'a [&'a str],
+        queries: Vec<Query, A>,
+    },
+    /// What a namespace text means.
+    Namespace {
+        text: &'a str,
+    },
+    /// What becomes of a guest's name under a text of rules.
+    Client {
+        rules: &'a str,
+        name: XattrName<'a>,
+    },
+    /// What the guest sees of a host's names under a text of rules.
+    Server {
+        rules: &'a str,
+        names: &'a [&'a str],
+    },
+}
+
+/// Reads the number of a query.
+fn read_number(numeral: &str) -> Option<u32>
+    ensures { MatchOption result
+        ((number : ℕ) → IsNumeral (chars numeral.now) number → ⊥)
+        (IsNumeral (chars numeral.now)) }
+{
+    match numeral.parse() {
+        Ok(number) => Some(number),
+        Err(_) => None,
+    }
+}
+
+/// Reads the query of a word.
+fn read_query(word: &str) -> Option<Query>
+    ensures { MatchOption result ((query : _) → Asks word.now query → ⊥) (Asks word.now) }
+{
+    if let Some(numeral) = word.strip_prefix("guest=") {
+        let number = read_number(numeral)?;
+        return Some(Query {
+            direction: Direction::GuestToHost,
+            number,
+        });
+    }
+    let numeral = word.strip_prefix("host=")?;
+    let number = read_number(numeral)?;
+    Some(Query {
+        direction: Direction::HostToGuest,
+        number,
+    })
+}
+
+/// Reads the queries of words, each of which has to be one.
+fn read_queries<A: Allocator>(alloc: A, words: &[&str]) -> Result<Option<Vec<Query, A>>, AllocError>
+    ensures { IfOk result (λ o. MatchOption o
+        ((queries : List _) → AllZip Asks (words_of words.now) queries → ⊥)
+        (λ queries. AllZip Asks (words_of words.now) queries.items)) }
+{
+    let mut queries = Vec::new(alloc);
+    for word in words {
+        let Some(query) = read_query(word) else {
+            return Ok(None);
+        };
+        queries.push(query)?;
+    }
+    Ok(Some(queries))
+}
+
+/// Cuts the words at the first `ask`.
+fn cut_at_ask<'a>(words: &'a [&'a str]) -> Option<(&'a [&'a str], &'a [&'a str])>
+    ensures { MatchOption result
+        (All (λ word. word ≢ ask) (words_of words.now))
+        (λ cut. IsCutAtAsk (words_of words.now) (words_of cut.0.now) (words_of cut.1.now)) }
+{
+    for i in 0..words.len() {
+        if words[i] == "ask" {
+            return Some((&words[..i], &words[i + 1..]));
+        }
+    }
+    None
+}
+
+/// Reads the words behind `ids`.
+fn read_ids<'a, A: Allocator>(
+    alloc: A,
+    words: &'a [&'a str],
+) -> Result<Option<Words<'a, A>>, AllocError>
+    ensures { IfOk result (ReadsBehind (codes "ids") (words_of words.now)) }
+{
+    let Some((specs, asked)) = cut_at_ask(words) else {
+        return Ok(None);
+    };
+    if asked.is_empty() {
+        return Ok(None);
+    }
+    let Some(queries) = read_queries(alloc, asked)? else {
+        return Ok(None);
+    };
+    Ok(Some(Words::Ids { specs, queries }))
+}
+
+/// Reads the words behind `ns`.
+fn read_namespace<'a, A: Allocator>(words: &'a [&'a str]) -> Option<Words<'a, A>>
+    ensures { ReadsBehind (codes "ns") (words_of words.now) result }
+{
+    let (text, others) = words.split_first()?;
+    if !others.is_empty() {
+        return None;
+    }
+    Some(Words::Namespace { text })
+}
+
+/// Reads the words behind `client`.
+fn read_client<'a, A: Allocator>(words: &'a [&'a str]) -> Option<Words<'a, A>>
+    ensures { ReadsBehind (codes "client") (words_of words.now) result }
+{
+    let (rules, others) = words.split_first()?;
+    let (name, others) = others.split_first()?;
+    if !others.is_empty() {
+        return None;
+    }
+    let name = XattrName::new(name.as_bytes())?;
+    Some(Words::Client { rules, name })
+}
+
+/// Reads the words behind `server`.
+fn read_server<'a, A: Allocator>(words: &'a [&'a str]) -> Option<Words<'a, A>>
+    ensures { ReadsBehind (codes "server") (words_of words.now) result }
+{
+    let (rules, names) = words.split_first()?;
+    Some(Words::Server { rules, names })
+}
+
+/// Reads the words' form, where they have one.
+pub(crate) fn read_words<'a, A: Allocator>(
+    alloc: A,
+    words: &'a [&'a str],
+) -> Result<Option<Words<'a, A>>, AllocError>
+    ensures { IfOk result (λ o. MatchOption o
+        ((form : Form) → HasForm (words_of words.now) form → ⊥)
+        (λ read. HasForm (words_of words.now) (form_of read))) }
+{
+    let Some((name, others)) = words.split_first() else {
+        return Ok(None);
+    };
+    if *name == "ids" {
+        return read_ids(alloc, others);
+    }
+    if *name == "ns" {
+        return Ok(read_namespace(others));
+    }
+    if *name == "client" {
+        return Ok(read_client(others));
+    }
+    if *name == "server" {
+        return Ok(read_server(others));
+    }
+    Ok(None)
+}

@@ -1,0 +1,118 @@
+#!/usr/bin/env python3
+"""Runs the built program on tables of words, and compares what it writes and how it ends.
+
+usage: end_to_end.py PROGRAM.. -- TABLE..
+
+Each row of each table is run on each program. A row that differs is printed. The last line is
+'N passed, N failed', and the exit status is 0 where none failed. README.md says what a row holds.
+"""
+import json
+import os
+import subprocess
+import sys
+
+SECONDS = 60
+WRONG_WORDS = 2
+
+
+def written_out(part):
+    """The texts that a part of a row stands for: the text itself, or the copies of a rule."""
+    if isinstance(part, str):
+        return [part]
+    numbers = part.get("numbers", [])
+    copies = [
+        part["text"].format(*(first + copy * step for first, step in numbers))
+        for copy in range(part["copies"])
+    ]
+    return [part["behind"] + "".join(copies)] if "behind" in part else copies
+
+
+def texts_of(parts):
+    return [text for part in parts for text in written_out(part)]
+
+
+def wanted_output(row):
+    output = row["output"]
+    return output if isinstance(output, str) else "".join(texts_of(output))
+
+
+def start(program, words, stdout):
+    """Runs the program. Its standard output is kept, the full device, or closed."""
+    how = {"stdin": subprocess.DEVNULL, "stderr": subprocess.PIPE, "timeout": SECONDS}
+    # (a byte that is no UTF-8 stands in a row as the character that Python gives it)
+    words = [word.encode("utf-8", "surrogateescape") for word in words]
+    if stdout == "full":
+        with open("/dev/full", "wb") as full:
+            return subprocess.run([program, *words], stdout=full, **how)
+    if stdout == "closed":
+        closing = ["sh", "-c", 'exec "$@" >&-', "sh"]
+        return subprocess.run([*closing, program, *words], stdout=subprocess.PIPE, **how)
+    return subprocess.run([program, *words], stdout=subprocess.PIPE, **how)
+
+
+def differences(program, row):
+    """What the program did in another way than the row says."""
+    try:
+        ended = start(program, texts_of(row["words"]), row.get("stdout", "kept"))
+    except subprocess.TimeoutExpired:
+        return [f"had not ended after {SECONDS} seconds"]
+    found = []
+    wanted = wanted_output(row).encode("utf-8")
+    output = ended.stdout or b""
+    if ended.returncode != row["status"]:
+        found.append(f"status {ended.returncode}, and not {row['status']}")
+    if output != wanted:
+        found.append(f"output {shortened(output)}, and not {shortened(wanted)}")
+    if row["status"] == WRONG_WORDS and not ended.stderr:
+        found.append("no usage on standard error")
+    if row["status"] != WRONG_WORDS and ended.stderr:
+        found.append(f"{shortened(ended.stderr)} on standard error")
+    return found
+
+
+def shortened(value):
+    text = repr(value)
+    return text if len(text) <= 400 else f"{text[:300]} .. {text[-80:]}"
+
+
+def rows_of(table):
+    with open(table, encoding="utf-8") as lines:
+        for number, line in enumerate(lines, 1):
+            if line.strip():
+                yield number, json.loads(line)
+
+
+def run_table(table, programs):
+    passed = failed = 0
+    for number, row in rows_of(table):
+        for program in programs:
+            found = differences(program, row)
+            passed, failed = passed + (not found), failed + bool(found)
+            if found:
+                where = f"{os.path.basename(table)}:{number} by {os.path.basename(program)}"
+                print(f"FAILED {where}: {row.get('note', '')} {shortened(row['words'])}: {'; '.join(found)}")
+    print(f"{os.path.basename(table)}: {passed} passed, {failed} failed", flush=True)
+    return passed, failed
+
+
+def main(arguments):
+    if "--" not in arguments:
+        print(__doc__, end="", file=sys.stderr)
+        return 2
+    at = arguments.index("--")
+    programs = [os.path.abspath(program) for program in arguments[:at]]
+    missing = [program for program in programs if not os.access(program, os.X_OK)]
+    for program in missing:
+        print(f"FAILED: there is no program {program}")
+    built = [program for program in programs if program not in missing]
+    counts = [run_table(table, built) for table in arguments[at + 1 :]]
+    passed = sum(count[0] for count in counts)
+    failed = sum(count[1] for count in counts) + len(missing)
+    if not passed and not failed:
+        failed = 1
+    print(f"{passed} passed, {failed} failed")
+    return 1 if failed else 0
+
+
+if __name__ == "__main__":
+    sys.exit(main(sys.argv[1:]))

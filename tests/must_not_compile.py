@@ -1,0 +1,96 @@
+#!/usr/bin/env python3
+"""Sees that programs that mix up ids do not compile.
+
+The folder must_not_compile has one program that compiles, caller.rt.txt, and edits of it, each of one line: 'old: TEXT'
+(standing once in the program), 'new: TEXT', and 'error: NAME', the name of the error that the edited line must get
+first. The program as it is must compile, or the refusals would show nothing.
+
+Each program is a crate of its own in a temporary repository, over a copy of this repository's libraries. `rt try` reads
+all of it from source, and proves nothing. The last line is 'N passed, N failed'.
+"""
+import os
+import re
+import shutil
+import subprocess
+import sys
+import tempfile
+from concurrent.futures import ThreadPoolExecutor
+
+HERE = os.path.dirname(os.path.abspath(__file__))
+TOP = os.path.dirname(HERE)
+CASES = f"{HERE}/must_not_compile"
+LIBRARY = "virtiofs_map"
+PROGRAM = "virtiofs_mapcheck"
+SECONDS = 600
+
+
+def text_of(file):
+    with open(file, encoding="utf-8") as it:
+        return it.read()
+
+
+def write(file, text):
+    os.makedirs(os.path.dirname(file), exist_ok=True)
+    with open(file, "w", encoding="utf-8") as it:
+        it.write(text)
+
+
+def planted(edit, program):
+    """The program with the edit, the number of the edited line, and the name of the error that is wanted."""
+    said = dict(line.split(": ", 1) for line in edit.splitlines() if line)
+    if program.count(said["old"]) != 1:
+        raise ValueError(f"its old text stands in the program {program.count(said['old'])} times, and not once")
+    line = program[: program.index(said["old"])].count("\n") + 1
+    return program.replace(said["old"], said["new"]), line, said["error"]
+
+
+def lay_out(room, programs):
+    """Makes a repository of the libraries and of a crate for each program."""
+    shutil.copy(f"{TOP}/HANDLES", room)
+    lines = [it for it in text_of(f"{TOP}/crates.txt").splitlines() if not it.startswith(f"{PROGRAM}:")]
+    write(f"{room}/crates.txt", "\n".join([*lines, *(f"{name}: {LIBRARY}" for name in programs), ""]))
+    for name in os.listdir(f"{TOP}/crates"):
+        for part in ("src", "specs", "proofs"):
+            if name != PROGRAM and os.path.isdir(f"{TOP}/crates/{name}/{part}"):
+                shutil.copytree(f"{TOP}/crates/{name}/{part}", f"{room}/crates/{name}/{part}")
+    for name, program in programs.items():
+        write(f"{room}/crates/{name}/src/main.rt", program)
+
+
+def first_error(folder):
+    """The line and the name of the first error, or None where the program compiles and runs, and all that was said."""
+    how = {"cwd": folder, "stdin": subprocess.DEVNULL, "stderr": subprocess.STDOUT, "errors": "replace"}
+    ran = subprocess.run(["rt", "try"], stdout=subprocess.PIPE, timeout=SECONDS, **how)
+    found = re.search(r"^(\S+?):(\d+):\d+: error\[([\w-]+)]", ran.stdout, re.M)
+    if found:
+        return (f"{found[1]}:{found[2]}", found[3]), ran.stdout
+    return None if ran.returncode == 0 else ("no error", f"status {ran.returncode}"), ran.stdout
+
+
+def main():
+    program = text_of(f"{CASES}/caller.rt.txt")
+    programs, wanted = {"caller": program}, {"caller": None}
+    for file in sorted(os.listdir(CASES)):
+        name, ending = os.path.splitext(file)
+        if ending == ".edit":
+            programs[name], line, error = planted(text_of(f"{CASES}/{file}"), program)
+            wanted[name] = f"src/main.rt:{line}", error
+    failed = 0
+    with tempfile.TemporaryDirectory(prefix="must-not-compile-") as room:
+        lay_out(room, programs)
+        with ThreadPoolExecutor(2) as pool:
+            answers = pool.map(lambda name: first_error(f"{room}/crates/{name}"), programs)
+            for name, (found, said) in zip(programs, answers):
+                is_well = found == wanted[name]
+                failed += not is_well
+                if is_well:
+                    told = "refused, as it must be: {}: {}".format(*found) if found else "compiles, as it must"
+                    print(f"{name}: {told}", flush=True)
+                else:
+                    print(f"FAILED {name}: first error {found}, and not {wanted[name]}:\n{said[-2000:]}", flush=True)
+    print(f"{len(programs) - failed} passed, {failed} failed")
+    return 1 if failed else 0
+
+
+if __name__ == "__main__":
+    sys.exit(main())
