@@ -50,83 +50,60 @@ impl fmt::Display for Entry {
 pub(crate) fn entry_of(spec: IdMap, direction: Direction) -> Option<Entry>
     ensures { result ≡ entry_of spec direction }
 {
-    match (spec, direction) {
-        (
-            IdMap::Guest {
-                from_guest,
-                to_host,
-                count,
-            },
-            Direction::GuestToHost,
-        ) => {
-            Some(Entry::Map {
-                first: from_guest,
-                to: to_host,
-                count,
-            })
-        }
-        (
-            IdMap::Host {
-                from_host,
-                to_guest,
-                count,
-            },
-            Direction::HostToGuest,
-        ) => {
-            Some(Entry::Map {
-                first: from_host,
-                to: to_guest,
-                count,
-            })
-        }
-        (
-            IdMap::SquashGuest {
-                from_guest,
-                to_host,
-                count,
-            },
-            Direction::GuestToHost,
-        ) => {
-            Some(Entry::Squash {
-                first: from_guest,
-                to: to_host,
-                count,
-            })
-        }
-        (
-            IdMap::SquashHost {
-                from_host,
-                to_guest,
-                count,
-            },
-            Direction::HostToGuest,
-        ) => {
-            Some(Entry::Squash {
-                first: from_host,
-                to: to_guest,
-                count,
-            })
-        }
-        (IdMap::Bidirectional { guest, host, count }, Direction::GuestToHost) => {
-            Some(Entry::Map {
-                first: guest,
-                to: host,
-                count,
-            })
-        }
-        (IdMap::Bidirectional { guest, host, count }, Direction::HostToGuest) => {
-            Some(Entry::Map {
-                first: host,
-                to: guest,
-                count,
-            })
-        }
-        (IdMap::ForbidGuest { from_guest, count }, Direction::GuestToHost) => {
-            Some(Entry::Fail {
-                first: from_guest,
-                count,
-            })
-        }
+    match direction {
+        Direction::GuestToHost => guest_entry(spec),
+        Direction::HostToGuest => host_entry(spec),
+    }
+}
+
+/// What a specification sets up for guest ids, where it acts on them.
+fn guest_entry(spec: IdMap) -> Option<Entry>
+    ensures { result ≡ entry_of spec Direction.GuestToHost }
+{
+    match spec {
+        IdMap::Guest {
+            from_guest: first,
+            to_host: to,
+            count,
+        } => Some(Entry::Map { first, to, count }),
+        IdMap::SquashGuest {
+            from_guest: first,
+            to_host: to,
+            count,
+        } => Some(Entry::Squash { first, to, count }),
+        IdMap::Bidirectional {
+            guest: first,
+            host: to,
+            count,
+        } => Some(Entry::Map { first, to, count }),
+        IdMap::ForbidGuest {
+            from_guest: first,
+            count,
+        } => Some(Entry::Fail { first, count }),
+        _ => None,
+    }
+}
+
+/// What a specification sets up for host ids, where it acts on them.
+fn host_entry(spec: IdMap) -> Option<Entry>
+    ensures { result ≡ entry_of spec Direction.HostToGuest }
+{
+    match spec {
+        IdMap::Host {
+            from_host: first,
+            to_guest: to,
+            count,
+        } => Some(Entry::Map { first, to, count }),
+        IdMap::SquashHost {
+            from_host: first,
+            to_guest: to,
+            count,
+        } => Some(Entry::Squash { first, to, count }),
+        IdMap::Bidirectional {
+            guest: to,
+            host: first,
+            count,
+        } => Some(Entry::Map { first, to, count }),
         _ => None,
     }
 }
