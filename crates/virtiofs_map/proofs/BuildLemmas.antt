@@ -1,10 +1,10 @@
 -- How an accepted list grows by one specification, and how its first fault is found.
-use Rattle.std.proofs.Common.{◌≡◌, ℕ, ◌+◌, ◌<◌, ◌≤◌, zero, suc, List, [], ◌∷◌, ◌++◌, length, take, get_or, All, AllPairs, Contains, slice_get, Option, Some, None, IfSome, refl, sym, ap, ◌∙◌, subst, arith}
+use Rattle.std.proofs.Common.{◌≡◌, ℕ, ◌+◌, ◌<◌, zero, suc, List, [], ◌∷◌, ◌++◌, length, take, get_or, slice_get, Some, IfSome, refl, arith}
 use Rattle.std.proofs.lemmas.List.{take_more}
 use Rattle.std.proofs.lemmas.List.Elements.{All-push, Contains-get_or}
 use Rattle.std.proofs.lemmas.List.Quantifiers.{all_pairs_push}
-use Rattle.virtiofs_map.specs.Mapping.{entry_of, Covers}
-use Rattle.virtiofs_map.specs.Build.{HasSource, HasTarget, Meet, MeetsEarlier, Accepted, Fits, IsReached, IsFirstFault}
+use Rattle.virtiofs_map.specs.Mapping.{entry_of}
+use Rattle.virtiofs_map.specs.Build.{HasSource, HasTarget, Meet, Accepted, Fits, IsReached, IsFirstFault}
 use Rattle.virtiofs_map.specs.BuildParts.{IsFaultHere}
 use Rattle.virtiofs_map.specs.declared.cmdline.IdMap.{IdMap}
 use Rattle.virtiofs_map.specs.declared.soft_idmap.entry.Direction.{Direction}

@@ -7,7 +7,8 @@ use Rattle.std.proofs.lemmas.Str.{IsUtf8-append, IsUtf8-encode, IsUtf8-take, IsU
 use Rattle.std.specs.Char.{IsScalar}
 use Rattle.std.specs.Str.{chars, IsUtf8, NonePass, NoCharPasses}
 use Rattle.std.specs.Str.Pattern.{FindsChar, HasCharAt, HasMatch, SplitsAroundMatch}
-use Rattle.virtiofs_map.specs.RuleText.{Lacks, Fields}
+use Rattle.virtiofs_map.specs.RuleText.{Fields}
+use Rattle.virtiofs_map.specs.Separator.{Lacks}
 
 -- no character is d, as a test and as a fact
 lacks_from_none : (d : ℕ) (cs : List ℕ) → NonePass (λ c. eqb c d) cs → Lacks d cs
@@ -18,12 +19,12 @@ pub lacks_text : (d : ℕ) (s : List ℕ) → IsUtf8 s → NoCharPasses (λ c. e
 lacks_text d s utf8 (cs, spells, none) = subst (Lacks d) (chars_from_encodes cs s utf8 spells) (lacks_from_none d cs none)
 
 -- a text at a place where d stands
-pub record CutAt (d : ℕ) (s before after : List ℕ) : Type 0 where
-  pub spells : chars s ≡ chars before ++ d ∷ chars after
-  pub before_is : IsUtf8 before
-  pub after_is : IsUtf8 after
+record CutAt (d : ℕ) (s before after : List ℕ) : Type 0 where
+  spells : chars s ≡ chars before ++ d ∷ chars after
+  before_is : IsUtf8 before
+  after_is : IsUtf8 after
 
-pub cut_at : (d : ℕ) (s : List ℕ) (i j : ℕ) → IsScalar d → IsUtf8 s → HasCharAt d s i j → i ≤ length s → CutAt d s (take i s) (drop j s)
+cut_at : (d : ℕ) (s : List ℕ) (i j : ℕ) → IsScalar d → IsUtf8 s → HasCharAt d s i j → i ≤ length s → CutAt d s (take i s) (drop j s)
 cut_at d s i j scalar utf8 at fits =
     let after : IsUtf8 (drop j s) = rw (at.ends) (IsUtf8-drop s _ utf8 at.after) in
     let from : IsUtf8 (drop i s) = rw (at.split) (IsUtf8-append _ _ (IsUtf8-encode d scalar) after) in
@@ -34,30 +35,41 @@ cut_at d s i j scalar utf8 at fits =
       after_is = after;
     }
 
--- what `split_once` finds, as a field
-pub field_found : (d : ℕ) (s : List ℕ) → IsScalar d → IsUtf8 s → (r : Option (Bor (List ℕ) × Bor (List ℕ)))
-    → MatchOption r (FindsChar d s None) (λ x. SplitsAroundMatch (FindsChar d) s x.0.now x.1.now)
-    → IfSome r (λ parts. Fields d (chars s) (chars parts.0.now ∷ []) (chars parts.1.now))
-field_found d s scalar utf8 None h = tt
-field_found d s scalar utf8 (Some parts) (i, j, (none, at), before, after, order, front_len, back_len) =
-    let cut = cut_at d s i j scalar utf8 at (omega (arith, ap length before, length-take i s)) in
-    let cut_here : CutAt d s parts.0.now parts.1.now = rw (before, after) cut in
-    let lacks : Lacks d (chars parts.0.now) = rw before (lacks_text d (take i s) cut.before_is none) in
-    (chars parts.1.now, cut_here.spells, lacks, refl)
+-- a text that is cut at the first d
+record FirstCut (d : ℕ) (s before after : List ℕ) : Type 0 where
+  here : CutAt d s before after
+  first : Lacks d (chars before)
 
-pub field_text : (d : ℕ) (s : List ℕ) → IsScalar d → IsUtf8 s → (r : Option (Bor (List ℕ) × Bor (List ℕ)))
-    → MatchOption r (FindsChar d s None) (λ x. SplitsAroundMatch (FindsChar d) s x.0.now x.1.now)
-    → IfSome r (λ parts. IsUtf8 parts.0.now × IsUtf8 parts.1.now)
-field_text d s scalar utf8 None h = tt
-field_text d s scalar utf8 (Some parts) (i, j, (none, at), before, after, order, front_len, back_len) =
-    let cut = cut_at d s i j scalar utf8 at (omega (arith, ap length before, length-take i s)) in
-    (rw before cut.before_is, rw after cut.after_is)
+first_cut : (d : ℕ) (s before after : List ℕ) → IsScalar d → IsUtf8 s → SplitsAroundMatch (FindsChar d) s before after → FirstCut d s before after
+first_cut d s before after scalar utf8 (i, j, (none, at), front, back, order, front_len, back_len) =
+    let here = cut_at d s i j scalar utf8 at (omega (arith, ap length front, length-take i s)) in
+    record { here = rw (front, back) here; first = rw front (lacks_text d (take i s) here.before_is none) }
 
-pub field_missing : (d : ℕ) (s : List ℕ) → IsUtf8 s → (r : Option (Bor (List ℕ) × Bor (List ℕ)))
-    → MatchOption r (FindsChar d s None) (λ x. SplitsAroundMatch (FindsChar d) s x.0.now x.1.now)
-    → IfNone r (Lacks d (chars s))
-field_missing d s utf8 None none = lacks_text d s utf8 none
-field_missing d s utf8 (Some parts) h = tt
+-- what `split_once` ensures at the character d
+abbrev pub SplitsOnce : ℕ → List ℕ → Option (Bor (List ℕ) × Bor (List ℕ)) → Type 0
+SplitsOnce d s r = MatchOption r (FindsChar d s None) (λ p. SplitsAroundMatch (FindsChar d) s p.0.now p.1.now)
+
+pub split_nowhere : (d : ℕ) (s : List ℕ) (r : Option (Bor (List ℕ) × Bor (List ℕ))) → IsUtf8 s → SplitsOnce d s r → IfNone r (Lacks d (chars s))
+split_nowhere d s None utf8 none = lacks_text d s utf8 none
+split_nowhere d s (Some p) utf8 splits = tt
+
+pub split_whole : (d : ℕ) (s : List ℕ) (r : Option (Bor (List ℕ) × Bor (List ℕ))) → IsScalar d → IsUtf8 s → SplitsOnce d s r → IfSome r (λ p. chars s ≡ chars p.0.now ++ d ∷ chars p.1.now)
+split_whole d s None scalar utf8 none = tt
+split_whole d s (Some p) scalar utf8 splits = (first_cut d s p.0.now p.1.now scalar utf8 splits).here.spells
+
+pub split_first : (d : ℕ) (s : List ℕ) (r : Option (Bor (List ℕ) × Bor (List ℕ))) → IsScalar d → IsUtf8 s → SplitsOnce d s r → IfSome r (λ p. Lacks d (chars p.0.now))
+split_first d s None scalar utf8 none = tt
+split_first d s (Some p) scalar utf8 splits = (first_cut d s p.0.now p.1.now scalar utf8 splits).first
+
+pub split_texts : (d : ℕ) (s : List ℕ) (r : Option (Bor (List ℕ) × Bor (List ℕ))) → IsScalar d → IsUtf8 s → SplitsOnce d s r → IfSome r (λ p. IsUtf8 p.0.now × IsUtf8 p.1.now)
+split_texts d s None scalar utf8 none = tt
+split_texts d s (Some p) scalar utf8 splits =
+    let cut = first_cut d s p.0.now p.1.now scalar utf8 splits in
+    (cut.here.before_is, cut.here.after_is)
+
+-- what stands before the first d is a field
+pub field_here : (d : ℕ) (text field rest : List ℕ) → text ≡ field ++ d ∷ rest → Lacks d field → Fields d text (field ∷ []) rest
+field_here d text field rest whole lacks = (rest, whole, lacks, refl)
 
 -- a text with a match of d holds d
 pub contains_match : (d : ℕ) (s : List ℕ) → IsScalar d → IsUtf8 s → HasMatch (FindsChar d) s → Contains (chars s) d

@@ -5,7 +5,8 @@ use Rattle.std.proofs.lemmas.Slice.Eq.{slice_eq-Decides}
 use lib.Pointwise.{pointwise}
 use Rattle.virtiofs_map.proofs.Trimming.{otherwise_false}
 use Rattle.virtiofs_map.proofs.ReadSoFar.{nothing_after}
-use Rattle.virtiofs_map.specs.RuleText.{Written, Lacks, Fields, HasNoNul, RuleThen, RuleFaultIn, Cause, InvalidScope, InvalidType, InvalidDelimiter, IncompleteRule, MapRuleViolation, NoRulesProvided, UnterminatedMapping, NulInPattern, OutOfMemory, fields_of, head_fields, type_word, scope_word}
+use Rattle.virtiofs_map.specs.RuleText.{Written, Fields, HasNoNul, RuleThen, RuleFaultIn, Cause, InvalidScope, InvalidType, InvalidDelimiter, IncompleteRule, MapRuleViolation, NoRulesProvided, UnterminatedMapping, NulInPattern, OutOfMemory, fields_of, head_fields, type_word, scope_word}
+use Rattle.virtiofs_map.specs.Separator.{Lacks}
 use Rattle.virtiofs_map.specs.Reading.{HasFault}
 use Rattle.virtiofs_map.specs.declared.xattrmap.rules.RuleKind.{RuleKind}
 use Rattle.virtiofs_map.specs.declared.xattrmap.rules.RuleKind.TheVariants.{Prefix, Okay, Bad, Unsupported}

@@ -5,7 +5,8 @@ use Rattle.virtiofs_map.specs.declared.xattrmap.rules.RuleKind.{RuleKind}
 use Rattle.virtiofs_map.specs.declared.xattrmap.written.ScopeWord.TheVariants.{All}
 use Rattle.virtiofs_map.specs.declared.xattrmap.written.Head.{Head}
 use Rattle.virtiofs_map.specs.declared.xattrmap.written.Head.TheVariants.{Typed, Map}
-use Rattle.virtiofs_map.specs.RuleText.{Written, Lacks, Fields, IsUnfinished, RuleFaultIn, RuleThen, HasNoNul, Cause, Opens, fields_of, head_fields, type_word}
+use Rattle.virtiofs_map.specs.RuleText.{Written, Fields, IsUnfinished, RuleFaultIn, RuleThen, HasNoNul, Cause, Opens, fields_of, head_fields, type_word}
+use Rattle.virtiofs_map.specs.Separator.{Lacks}
 use Rattle.virtiofs_map.specs.Reading.{PatternFault, IsOpened, HasFault}
 use Rattle.virtiofs_map.specs.declared.xattrmap.errors.PatternField.TheVariants.{Key, Prepend}
 

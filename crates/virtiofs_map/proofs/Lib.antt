@@ -1,4 +1,3 @@
-pub mod TextLemmas
 pub mod BuildLemmas
 pub mod NumeralLemmas
 pub mod PrefixLemmas

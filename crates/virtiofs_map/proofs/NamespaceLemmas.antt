@@ -5,14 +5,13 @@ use Rattle.std.specs.Option.{option_eq}
 use Rattle.std.specs.Str.{chars, IsUtf8}
 use Rattle.std.proofs.Math.Seq.{take-append_seam}
 use Rattle.std.proofs.lemmas.Bool.{eqb-true}
-use Rattle.std.proofs.lemmas.Bool.Decides.{eqb_tells}
 use Rattle.std.proofs.lemmas.List.{length-append}
 use Rattle.std.proofs.lemmas.List.Splits.{length-slice_split}
-use Rattle.std.proofs.lemmas.List.Elements.{All-weaker, All-nil, All-cons, All-contains}
+use Rattle.std.proofs.lemmas.List.Elements.{All-nil, All-cons, All-contains}
 use Rattle.std.proofs.lemmas.Str.{chars-nil, chars_past_char, IsUtf8-encode, IsUtf8-take, IsCharBoundary-at_seam}
 use Rattle.virtiofs_map.specs.Alphanumeric.{is_alphanumeric}
 use Rattle.virtiofs_map.specs.Numeral.{IsNumeral}
-use Rattle.virtiofs_map.specs.SpecificationText.{fields_of}
+use Rattle.virtiofs_map.specs.Separator.{Lacks, fields_of}
 use Rattle.virtiofs_map.specs.NamespaceParts.{IsThreeFields}
 use Rattle.virtiofs_map.specs.NamespaceText.{SaysNamespace, IsEnclosed, HasNoDelimiter, HasOtherField, IsNamespaceFault, IsSameFault}
 use Rattle.virtiofs_map.specs.declared.idmap.IdMapError.{IdMapError}
@@ -21,28 +20,12 @@ use Rattle.virtiofs_map.proofs.NumeralLemmas.{IsNumeral-unique}
 use Rattle.virtiofs_map.proofs.PrefixLemmas.{chars-push}
 use Rattle.virtiofs_map.proofs.SpecificationLemmas.{fields_of-cut, fields_of-last}
 
--- a character that is told apart from another is another
-other_from_test : (d c : ℕ) → (c == d) ≡ false → c ≢ d
-other_from_test d c differs same =
-    let passes : (c == d) ≡ true = eq-eqb c d same in
-    cc
-
-test_from_other : (d c : ℕ) → c ≢ d → (c == d) ≡ false
-test_from_other d c other = elim (eqb_tells c d) [ inl same ↦ absurd (other same.1) | inr differs ↦ differs.0 ]
-
--- a text without the delimiter, by the code's test
-pub free_from_test : (d : ℕ) (cs : List ℕ) → All (λ c. (c == d) ≡ false) cs → All (λ c. c ≢ d) cs
-free_from_test d cs tested = All-weaker (λ c. (c == d) ≡ false) (λ c. c ≢ d) (other_from_test d) cs tested
-
-test_from_free : (d : ℕ) (cs : List ℕ) → All (λ c. c ≢ d) cs → All (λ c. (c == d) ≡ false) cs
-test_from_free d cs free = All-weaker (λ c. c ≢ d) (λ c. (c == d) ≡ false) (test_from_other d) cs free
-
 -- the three fields are those that the delimiter separates
 fields_of-three : (d : ℕ) (inner x y z : List ℕ) → IsThreeFields d inner x y z → fields_of d inner ≡ x ∷ y ∷ z ∷ []
 fields_of-three d inner x y z three =
-    let one : fields_of d inner ≡ x ∷ fields_of d (y ++ d ∷ z) = fields_of-cut d inner x (y ++ d ∷ z) three.whole (test_from_free d x three.first_free) in
-    let two : fields_of d (y ++ d ∷ z) ≡ y ∷ fields_of d z = fields_of-cut d (y ++ d ∷ z) y z refl (test_from_free d y three.second_free) in
-    let last : fields_of d z ≡ z ∷ [] = fields_of-last d z (test_from_free d z three.third_free) in
+    let one : fields_of d inner ≡ x ∷ fields_of d (y ++ d ∷ z) = fields_of-cut d inner x (y ++ d ∷ z) three.whole three.first_free in
+    let two : fields_of d (y ++ d ∷ z) ≡ y ∷ fields_of d z = fields_of-cut d (y ++ d ∷ z) y z refl three.second_free in
+    let last : fields_of d z ≡ z ∷ [] = fields_of-last d z three.third_free in
     cc
 
 -- two lists with one more element at the end
@@ -272,20 +255,20 @@ other_option r c differs same =
     cc
 
 -- where the delimiter is not in the text, the text is one field
-pub one_field : (d : ℕ) (inner : List ℕ) → All (λ c. (c == d) ≡ false) inner → length (fields_of d inner) ≢ 3
+pub one_field : (d : ℕ) (inner : List ℕ) → Lacks d inner → length (fields_of d inner) ≢ 3
 one_field d inner none = rw (fields_of-last d inner none) (omega arith)
 
 -- where it is in it once, it is two
-pub two_fields : (d : ℕ) (inner x rest : List ℕ) → inner ≡ x ++ d ∷ rest → All (λ c. (c == d) ≡ false) x → All (λ c. (c == d) ≡ false) rest → length (fields_of d inner) ≢ 3
+pub two_fields : (d : ℕ) (inner x rest : List ℕ) → inner ≡ x ++ d ∷ rest → Lacks d x → Lacks d rest → length (fields_of d inner) ≢ 3
 two_fields d inner x rest whole first none = rw (fields_of-cut d inner x rest whole first, fields_of-last d rest none) (omega arith)
 
 -- where it is in it twice, it is three
-pub IsThreeFields-here : (d : ℕ) (inner x rest y z : List ℕ) → inner ≡ x ++ d ∷ rest → All (λ c. (c == d) ≡ false) x → rest ≡ y ++ d ∷ z → All (λ c. (c == d) ≡ false) y → All (λ c. (c == d) ≡ false) z → IsThreeFields d inner x y z
+pub IsThreeFields-here : (d : ℕ) (inner x rest y z : List ℕ) → inner ≡ x ++ d ∷ rest → Lacks d x → rest ≡ y ++ d ∷ z → Lacks d y → Lacks d z → IsThreeFields d inner x y z
 IsThreeFields-here d inner x rest y z whole first cut second third = record {
   whole = whole ∙ ap (λ (cs : List ℕ). x ++ d ∷ cs) cut;
-  first_free = free_from_test d x first;
-  second_free = free_from_test d y second;
-  third_free = free_from_test d z third;
+  first_free = first;
+  second_free = second;
+  third_free = third;
 }
 
 -- there is always a field
@@ -293,7 +276,7 @@ length-fields_of : (d : ℕ) (cs : List ℕ) → 0 < length (fields_of d cs)
 length-fields_of d cs = omega (arith, length-slice_split (λ c. c == d) cs)
 
 -- where it is in it more often, there are more
-pub more_fields : (d : ℕ) (inner x rest y z front back : List ℕ) → inner ≡ x ++ d ∷ rest → All (λ c. (c == d) ≡ false) x → rest ≡ y ++ d ∷ z → All (λ c. (c == d) ≡ false) y → z ≡ front ++ d ∷ back → All (λ c. (c == d) ≡ false) front → length (fields_of d inner) ≢ 3
+pub more_fields : (d : ℕ) (inner x rest y z front back : List ℕ) → inner ≡ x ++ d ∷ rest → Lacks d x → rest ≡ y ++ d ∷ z → Lacks d y → z ≡ front ++ d ∷ back → Lacks d front → length (fields_of d inner) ≢ 3
 more_fields d inner x rest y z front back whole first cut second more third =
     rw (fields_of-cut d inner x rest whole first, fields_of-cut d rest y z cut second, fields_of-cut d z front back more third)
     (omega (arith, length-fields_of d back))

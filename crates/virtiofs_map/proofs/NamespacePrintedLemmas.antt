@@ -1,10 +1,8 @@
 -- What a range of a namespace is printed as is a text that says it.
-use Rattle.std.proofs.Common.{◌≡◌, ◌≢◌, ℕ, ◌^◌, ◌<◌, false, List, [], ◌++◌, refl, ◌∙◌, append_assoc, arith, codes}
-use Rattle.std.specs.Char.{IsAsciiDigit}
+use Rattle.std.proofs.Common.{◌≡◌, ℕ, ◌^◌, ◌<◌, false, List, [], ◌++◌, refl, ◌∙◌, append_assoc, arith, codes}
 use Rattle.std.specs.Fmt.{decimal}
 use Rattle.std.specs.Str.{chars, IsAscii}
 use Rattle.std.proofs.lemmas.Fmt.{IsAscii-decimal}
-use Rattle.std.proofs.lemmas.List.Elements.{All-weaker}
 use Rattle.std.proofs.lemmas.Str.{chars-IsAscii, IsAscii-append}
 use Rattle.std.proofs.lemmas.Str.Ascii.{IsAscii-nil, IsAscii-cons}
 use Rattle.unicode.proofs.CategoryComputing.{ucd_category}
@@ -13,7 +11,7 @@ use Rattle.virtiofs_map.specs.Alphanumeric.{is_alphanumeric}
 use Rattle.virtiofs_map.specs.NamespaceText.{IsField, SaysNamespace}
 use Rattle.virtiofs_map.specs.Numeral.{IsNumeral}
 use Rattle.virtiofs_map.specs.Printed.{namespace_text}
-use Rattle.virtiofs_map.proofs.NumeralLemmas.{All-decimal, IsNumeral-decimal}
+use Rattle.virtiofs_map.proofs.NumeralLemmas.{decimal_lacks_colon, IsNumeral-decimal}
 
 -- a colon is no letter and no number
 pub colon_delimits : is_alphanumeric 58 ≡ false
@@ -24,7 +22,7 @@ colon_delimits = refl
 field_decimal : (n : ℕ) → n < 2 ^ 32 → IsField 58 (decimal n) n
 field_decimal n small =
     let numeral : IsNumeral (decimal n) n = IsNumeral-decimal n small in
-    record { free = All-weaker IsAsciiDigit (λ c. c ≢ 58) (λ c digit. omega arith) (decimal n) (All-decimal n small); numeral = numeral }
+    record { free = decimal_lacks_colon n small; numeral = numeral }
 
 IsAscii-colon : IsAscii (codes ":")
 IsAscii-colon = IsAscii-cons 58 [] (omega arith) IsAscii-nil

@@ -6,7 +6,8 @@ use Rattle.std.proofs.lemmas.Bool.{cond_both}
 use Rattle.std.proofs.lemmas.List.Elements.{All-nil, All-append, All-from_recursion}
 use lib.Utf8.{encode}
 use Rattle.virtiofs_map.specs.Rule.{HasNoZero}
-use Rattle.virtiofs_map.specs.RuleText.{Written, Lacks, HasNoNul, RulesThen, RuleText, rule_of, rules_of, expanded}
+use Rattle.virtiofs_map.specs.RuleText.{Written, HasNoNul, RulesThen, RuleText, rule_of, rules_of, expanded}
+use Rattle.virtiofs_map.specs.Separator.{Lacks}
 use Rattle.virtiofs_map.specs.declared.xattrmap.rules.RuleKind.{RuleKind}
 use Rattle.virtiofs_map.specs.declared.xattrmap.rules.RuleKind.TheVariants.{Prefix, Okay, Bad}
 use Rattle.virtiofs_map.specs.declared.xattrmap.written.ScopeWord.{ScopeWord}

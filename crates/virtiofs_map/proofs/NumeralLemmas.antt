@@ -1,16 +1,17 @@
 -- What `parse` reads as a number is a numeral, over characters, and nothing else is.
-use Rattle.std.proofs.Common.{◌≡◌, ◌≢◌, ◌⊎◌, ℕ, zero, suc, ◌+◌, ◌^◌, ◌<◌, ◌≤◌, List, [], ◌∷◌, length, take, drop, get_or, All, Result, Ok, Err, MatchResult, refl, sym, ap, ◌∙◌, subst, inl, inr, arith}
+use Rattle.std.proofs.Common.{◌≡◌, ◌≢◌, ◌⊎◌, ℕ, zero, suc, ◌^◌, ◌<◌, List, [], ◌∷◌, length, get_or, All, Result, Ok, Err, MatchResult, refl, sym, ap, ◌∙◌, subst, inl, inr, arith}
 use Rattle.std.specs.Char.{IsAsciiDigit}
 use Rattle.std.specs.Fmt.{decimal}
 use Rattle.std.specs.Int.{IsInRange}
 use Rattle.std.specs.Str.{chars, IsUtf8, IsAscii}
 use Rattle.std.specs.Str.Parse.{AllDigits, digits_value, without_leading_plus, IsNumeral as IsDigits, ParsesUnsigned}
 use Rattle.std.proofs.lemmas.Str.{chars-IsAscii, encodes-chars, encodes-IsAscii}
-use Rattle.std.proofs.lemmas.Str.Parse.{digit_at, IsNumeralModel, numerals_by_value, tells_by_index, without_leading_plus_none, without_leading_plus_plus}
+use Rattle.std.proofs.lemmas.Str.Parse.{IsNumeralModel, numerals_by_value, tells_by_index, without_leading_plus_none, without_leading_plus_plus}
 use Rattle.std.proofs.lemmas.Bool.Decides.{eqb_tells}
 use Rattle.std.proofs.lemmas.Fmt.{decimal_is_IsNumeral}
-use Rattle.std.proofs.lemmas.List.Elements.{All-get_or, All-from_get_or, All-head, All-tail}
+use Rattle.std.proofs.lemmas.List.Elements.{All-get_or, All-from_get_or, All-head, All-tail, All-weaker, recursion_from_All}
 use Rattle.virtiofs_map.specs.Numeral.{IsNumeral}
+use Rattle.virtiofs_map.specs.Separator.{Lacks}
 
 -- std's digits, by index
 by_index : IsNumeralModel (λ ds. (i : ℕ) → i < length ds → IsInRange 48 57 (get_or ds i 0)) (digits_value 10)
@@ -98,7 +99,11 @@ numeral_from_parse bs (Err e) text refused =
 pub All-decimal : (n : ℕ) → n < 2 ^ 32 → All IsAsciiDigit (decimal n)
 All-decimal n small = All-AllDigits (decimal n) (decimal_is_IsNumeral n (omega arith)).0.1
 
--- and a numeral of the number
+-- so it holds no colon
+pub decimal_lacks_colon : (n : ℕ) → n < 2 ^ 32 → Lacks 58 (decimal n)
+decimal_lacks_colon n small = recursion_from_All (λ c. c ≢ 58) (decimal n) (All-weaker IsAsciiDigit (λ c. c ≢ 58) (λ c digit. omega arith) (decimal n) (All-decimal n small))
+
+-- and is a numeral of the number
 pub IsNumeral-decimal : (n : ℕ) → n < 2 ^ 32 → IsNumeral (decimal n) n
 IsNumeral-decimal n small =
     let (digits, worth) = decimal_is_IsNumeral n (omega arith) in

@@ -1,5 +1,5 @@
 -- The front of a specification's text: how far its prefix has been read.
-use Rattle.std.proofs.Common.{◌≡◌, ◌==◌, ℕ, ◌+◌, ◌<◌, Bool, true, false, ◌&&◌, cond, nat_lt, ◌≤◌, ◌⊎◌, inl, inr, List, [], ◌∷◌, ◌++◌, length, map, refl, sym, ap, ◌∙◌, subst, rules, append_assoc, arith}
+use Rattle.std.proofs.Common.{◌≡◌, ℕ, ◌+◌, ◌<◌, Bool, true, false, ◌&&◌, nat_lt, ◌≤◌, ◌⊎◌, inl, inr, List, [], ◌∷◌, ◌++◌, length, map, refl, sym, ap, ◌∙◌, subst, append_assoc, arith}
 use Rattle.std.specs.Char.{IsScalar, encode_utf8, to_ascii_lowercase}
 use Rattle.std.specs.List.{AllPass}
 use Rattle.std.specs.Str.{chars, IsUtf8}
@@ -8,7 +8,7 @@ use Rattle.std.proofs.lemmas.List.{append-nil}
 use Rattle.std.proofs.lemmas.Bool.{cases_Bool, ltb-true, ltb-false}
 use Rattle.std.proofs.Math.Utf8.{scalar, scalars, low_scalar}
 use Rattle.std.proofs.lemmas.List.Elements.{All-push, All-nil}
-use Rattle.virtiofs_map.specs.SpecificationText.{is_word_character, IsCut, lowered}
+use Rattle.virtiofs_map.specs.SpecificationText.{is_word_character, lowered}
 use Rattle.virtiofs_map.specs.SpecificationParts.{IsLoweredCut}
 
 -- word characters, and then the rest of the text; the word is the former with ASCII letters lowered

@@ -1,14 +1,12 @@
 -- The printed form of a specification is a text that says it.
-use Rattle.std.proofs.Common.{◌≡◌, ◌≢◌, ◌==◌, ℕ, ◌^◌, ◌<◌, ◌≤◌, Bool, true, false, List, [], ◌∷◌, ◌++◌, All, flat_map, codes, refl, sym, ap, ◌∙◌, subst, append_assoc, arith}
-use Rattle.std.specs.Char.{IsAsciiDigit}
+use Rattle.std.proofs.Common.{◌≡◌, ℕ, ◌^◌, ◌<◌, true, false, List, [], ◌∷◌, ◌++◌, All, flat_map, codes, refl, sym, ap, ◌∙◌, subst, arith}
 use Rattle.std.specs.Fmt.{decimal}
-use Rattle.std.specs.List.{AllPass, AllZip, list_all}
+use Rattle.std.specs.List.{AllZip, list_all}
 use Rattle.std.specs.Str.{chars, IsAscii}
 use Rattle.std.proofs.lemmas.Fmt.{IsAscii-decimal}
 use Rattle.std.proofs.lemmas.List.{append-nil}
-use Rattle.std.proofs.lemmas.List.Elements.{All-head, All-tail, All-weaker}
+use Rattle.std.proofs.lemmas.List.Elements.{All-head, All-tail}
 use Rattle.std.proofs.lemmas.List.Sums.{AllPass-from_list_all}
-use Rattle.std.proofs.lemmas.Bool.{ne_eqb}
 use Rattle.std.proofs.lemmas.Str.{chars-IsAscii, IsAscii-append}
 use Rattle.std.proofs.lemmas.Str.Ascii.{IsAscii-nil, IsAscii-cons}
 use Rattle.unicode.proofs.DerivedComputing.{ucd_derived}
@@ -16,10 +14,11 @@ use Rattle.unicode.proofs.CategoryComputing.{ucd_category}
 use Rattle.virtiofs_map.specs.Alphanumeric.{is_alphanumeric}
 use Rattle.virtiofs_map.specs.Numeral.{IsNumeral}
 use Rattle.virtiofs_map.specs.Printed.{specification_text}
-use Rattle.virtiofs_map.specs.SpecificationText.{is_word_character, IsCut, fields_of, lowered, word_of, numbers_of, Says}
+use Rattle.virtiofs_map.specs.SpecificationText.{is_word_character, lowered, word_of, numbers_of, Says}
+use Rattle.virtiofs_map.specs.Separator.{fields_of}
 use Rattle.virtiofs_map.specs.declared.cmdline.IdMap.{IdMap}
 use Rattle.virtiofs_map.specs.declared.cmdline.IdMap.TheVariants.{Guest, Host, SquashGuest, SquashHost, Bidirectional, ForbidGuest}
-use Rattle.virtiofs_map.proofs.NumeralLemmas.{All-decimal, IsNumeral-decimal}
+use Rattle.virtiofs_map.proofs.NumeralLemmas.{decimal_lacks_colon, IsNumeral-decimal}
 use Rattle.virtiofs_map.proofs.SpecificationLemmas.{fields_of-cut, fields_of-last, IsAscii-word_of}
 
 -- a colon ends a word
@@ -46,13 +45,6 @@ lowered-word_of (SquashHost a b n) = refl
 lowered-word_of (Bidirectional a b n) = refl
 lowered-word_of (ForbidGuest a n) = refl
 
--- no digit is a colon
-digit_no_colon : (d : ℕ) → IsAsciiDigit d → (d == 58) ≡ false
-digit_no_colon d digit = ne_eqb d 58 (omega arith)
-
-no_colon : (n : ℕ) → n < 2 ^ 32 → All (λ d. (d == 58) ≡ false) (decimal n)
-no_colon n small = All-weaker IsAsciiDigit (λ d. (d == 58) ≡ false) digit_no_colon (decimal n) (All-decimal n small)
-
 -- numbers in decimal, each behind a colon
 abbrev behind_colons : List ℕ → List ℕ
 behind_colons ns = flat_map (λ n. codes ":" ++ decimal n) ns
@@ -61,12 +53,12 @@ behind_colons ns = flat_map (λ n. codes ":" ++ decimal n) ns
 AllZip-fields : (n : ℕ) (ns : List ℕ) → All (λ m. m < 2 ^ 32) (n ∷ ns) → AllZip IsNumeral (fields_of 58 (decimal n ++ behind_colons ns)) (n ∷ ns)
 AllZip-fields n [] small =
     let below : n < 2 ^ 32 = All-head (λ m. m < 2 ^ 32) n [] small in
-    let one : fields_of 58 (decimal n ++ []) ≡ decimal n ∷ [] = ap (fields_of 58) (append-nil (decimal n)) ∙ fields_of-last 58 (decimal n) (no_colon n below) in
+    let one : fields_of 58 (decimal n ++ []) ≡ decimal n ∷ [] = ap (fields_of 58) (append-nil (decimal n)) ∙ fields_of-last 58 (decimal n) (decimal_lacks_colon n below) in
     subst (λ (fs : List (List ℕ)). AllZip IsNumeral fs (n ∷ [])) (sym one) (IsNumeral-decimal n below, tt)
 AllZip-fields n (m ∷ ns) small =
     let below : n < 2 ^ 32 = All-head (λ m. m < 2 ^ 32) n (m ∷ ns) small in
     let cut : fields_of 58 (decimal n ++ behind_colons (m ∷ ns)) ≡ decimal n ∷ fields_of 58 (decimal m ++ behind_colons ns) =
-    fields_of-cut 58 (decimal n ++ behind_colons (m ∷ ns)) (decimal n) (decimal m ++ behind_colons ns) refl (no_colon n below) in
+    fields_of-cut 58 (decimal n ++ behind_colons (m ∷ ns)) (decimal n) (decimal m ++ behind_colons ns) refl (decimal_lacks_colon n below) in
     subst (λ (fs : List (List ℕ)). AllZip IsNumeral fs (n ∷ m ∷ ns)) (sym cut) (IsNumeral-decimal n below, AllZip-fields m ns (All-tail (λ m. m < 2 ^ 32) n (m ∷ ns) small))
 
 IsAscii-behind_colons : (ns : List ℕ) → All (λ m. m < 2 ^ 32) ns → IsAscii (behind_colons ns)

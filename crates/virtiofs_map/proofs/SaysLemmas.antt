@@ -8,7 +8,8 @@ use Rattle.std.proofs.lemmas.Str.{encodes-chars, IsUtf8-string_bytes}
 use Rattle.std.proofs.lemmas.Bool.{false≢true}
 use Rattle.std.proofs.lemmas.List.Elements.{All-head, All-tail}
 use Rattle.virtiofs_map.specs.Numeral.{IsNumeral}
-use Rattle.virtiofs_map.specs.SpecificationText.{fields_of, IsFirstUnread, HasUnread, HasUnknownPrefix, HasMiscount, HasNoField, word_of, numbers_of, is_word_character, IsCut, IsCounted, Says, IsFaultOf, lowered}
+use Rattle.virtiofs_map.specs.SpecificationText.{IsFirstUnread, HasUnread, HasUnknownPrefix, HasMiscount, HasNoField, word_of, numbers_of, is_word_character, IsCut, IsCounted, Says, IsFaultOf, lowered}
+use Rattle.virtiofs_map.specs.Separator.{fields_of}
 use Rattle.virtiofs_map.specs.SpecificationLaws.{IsSameFault}
 use Rattle.virtiofs_map.specs.declared.cmdline.IdMap.{IdMap}
 use Rattle.virtiofs_map.specs.declared.cmdline.IdMap.TheVariants.{Guest, Host, SquashGuest, SquashHost, Bidirectional, ForbidGuest}

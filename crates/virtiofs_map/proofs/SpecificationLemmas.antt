@@ -1,32 +1,39 @@
 -- The fields of a specification's text, and what is wrong with them.
-use Rattle.std.proofs.Common.{◌≡◌, ◌≢◌, ◌⊎◌, inl, inr, ◌==◌, ℕ, ◌<◌, nat_lt, Bool, true, false, cond, List, [], ◌∷◌, ◌++◌, length, All, string_bytes, Result, Ok, Err, IfOk, IfErr, refl, sym, ap, ◌∙◌, subst, rules, eq-eqb, append_assoc}
-use Rattle.std.specs.Char.{IsScalar}
+use Rattle.std.proofs.Common.{◌≡◌, ◌⊎◌, inl, inr, ◌==◌, ℕ, ◌<◌, nat_lt, true, false, List, [], ◌∷◌, ◌++◌, length, All, Result, Ok, Err, IfOk, IfErr, refl, sym, ap, ◌∙◌, subst, eq-eqb}
 use Rattle.std.specs.Str.{encode_utf8_all}
-use Rattle.std.specs.List.{AllZip, AllPass, slice_split, list_all}
+use Rattle.std.specs.List.{AllZip, list_all}
 use Rattle.std.specs.Str.{chars, IsUtf8, IsAscii}
 use Rattle.std.proofs.lemmas.Str.{chars-IsAscii, encodes-IsAscii, encodes-chars}
 use Rattle.std.proofs.lemmas.Str.Ascii.{IsAscii-from_all}
 use Rattle.std.proofs.lemmas.Bool.{ltb-true}
+use Rattle.std.proofs.lemmas.Bool.Decides.{eqb_tells}
 use Rattle.std.proofs.lemmas.List.Sums.{AllPass-from_list_all}
-use Rattle.std.proofs.lemmas.List.{append-nil}
 use Rattle.std.proofs.lemmas.List.Splits.{slice_split_at, slice_split_none}
-use Rattle.std.proofs.lemmas.List.Elements.{All-weaker}
+use Rattle.std.proofs.lemmas.List.Elements.{All-weaker, All-nil, All-cons}
 use Rattle.virtiofs_map.specs.Numeral.{IsNumeral}
-use Rattle.virtiofs_map.specs.SpecificationText.{fields_of, IsFirstUnread, word_of, numbers_of, is_word_character, IsCut, IsCounted, Says, IsFaultOf, lowered}
-use Rattle.virtiofs_map.specs.SpecificationParts.{IsFieldFault, IsFieldsFault, IsCountFault, IsWordFault, IsMiscounted, IsLoweredCut}
+use Rattle.virtiofs_map.specs.SpecificationText.{word_of, numbers_of, IsCounted, Says, IsFaultOf}
+use Rattle.virtiofs_map.specs.Separator.{Lacks, fields_of}
+use Rattle.virtiofs_map.specs.SpecificationParts.{IsFieldFault, IsFieldsFault, IsCountFault, IsWordFault, IsLoweredCut}
 use Rattle.virtiofs_map.specs.declared.cmdline.IdMap.{IdMap}
 use Rattle.virtiofs_map.specs.declared.cmdline.IdMap.TheVariants.{Guest, Host, SquashGuest, SquashHost, Bidirectional, ForbidGuest}
 use Rattle.virtiofs_map.specs.declared.cmdline.IdMapError.{IdMapError}
 use Rattle.virtiofs_map.specs.declared.cmdline.IdMapError.TheVariants.{InvalidPrefix, InvalidLength, InvalidValue, OutOfMemory}
 
+-- no character is the separator, as a test
+fails_from_lacks : (separator : ℕ) (text : List ℕ) → Lacks separator text → All (λ c. (c == separator) ≡ false) text
+fails_from_lacks separator [] lacks = All-nil _
+fails_from_lacks separator (c ∷ cs) (other, lacks) =
+    let here : (c == separator) ≡ false = elim (eqb_tells c separator) [ inl same ↦ absurd (other same.1) | inr differs ↦ differs.0 ] in
+    All-cons (λ x. (x == separator) ≡ false) c cs here (fails_from_lacks separator cs lacks)
+
 -- the field before the first separator, and those after it
-pub fields_of-cut : (separator : ℕ) (rest front back : List ℕ) → rest ≡ front ++ separator ∷ back → All (λ c. (c == separator) ≡ false) front → fields_of separator rest ≡ front ∷ fields_of separator back
+pub fields_of-cut : (separator : ℕ) (rest front back : List ℕ) → rest ≡ front ++ separator ∷ back → Lacks separator front → fields_of separator rest ≡ front ∷ fields_of separator back
 fields_of-cut separator rest front back whole first =
-    ap (fields_of separator) whole ∙ slice_split_at (λ c. c == separator) front separator back first (eq-eqb separator separator refl)
+    ap (fields_of separator) whole ∙ slice_split_at (λ c. c == separator) front separator back (fails_from_lacks separator front first) (eq-eqb separator separator refl)
 
 -- where no separator is left, the rest is one field
-pub fields_of-last : (separator : ℕ) (rest : List ℕ) → All (λ c. (c == separator) ≡ false) rest → fields_of separator rest ≡ rest ∷ []
-fields_of-last separator rest none = slice_split_none (λ c. c == separator) rest none
+pub fields_of-last : (separator : ℕ) (rest : List ℕ) → Lacks separator rest → fields_of separator rest ≡ rest ∷ []
+fields_of-last separator rest none = slice_split_none (λ c. c == separator) rest (fails_from_lacks separator rest none)
 
 pub AllZip-push : {X Y : Type 0} (R : X → Y → Type 0) (xs : List X) (ys : List Y) (x : X) (y : Y) → AllZip R xs ys → R x y → AllZip R (xs ++ x ∷ []) (ys ++ y ∷ [])
 AllZip-push R [] [] x y all one = (one, tt)

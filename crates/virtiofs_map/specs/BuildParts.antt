@@ -1,5 +1,5 @@
 -- What the parts of the test of a list answer. Only private functions cite these words.
-use Rattle.std.specs.Prelude.{◌≡◌, ◌≢◌, ℕ, List, Contains, IsSomeAnd, IfSome}
+use Rattle.std.specs.Prelude.{◌≡◌, ℕ, List, Contains, IsSomeAnd, IfSome}
 use Rattle.virtiofs_map.specs.Mapping.{entry_of, EntryCovers, Covers}
 use Rattle.virtiofs_map.specs.Build.{HasSource, HasTarget, MeetsEarlier}
 use Rattle.virtiofs_map.specs.declared.cmdline.IdMap.{IdMap}

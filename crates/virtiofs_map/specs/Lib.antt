@@ -16,6 +16,7 @@ pub mod Rule
 pub mod RuleText
 pub mod SameRule
 pub mod Scope
+pub mod Separator
 pub mod SpecificationLaws
 pub mod SpecificationParts
 pub mod SpecificationText

@@ -1,14 +1,14 @@
 -- The texts that say a range of a namespace, as `:0:100000:65536:`, and what is wrong with the others.
-use Rattle.std.specs.Prelude.{◌≡◌, ◌≢◌, ◌⊎◌, ℕ, true, false, List, [], ◌∷◌, ◌++◌, length, All, Contains, ⊤}
+use Rattle.std.specs.Prelude.{◌≡◌, ◌≢◌, ◌⊎◌, ℕ, true, false, List, [], ◌∷◌, ◌++◌, length, Contains, ⊤}
 use Rattle.virtiofs_map.specs.Alphanumeric.{is_alphanumeric}
 use Rattle.virtiofs_map.specs.Numeral.{IsNumeral}
-use Rattle.virtiofs_map.specs.SpecificationText.{fields_of}
+use Rattle.virtiofs_map.specs.Separator.{Lacks, fields_of}
 use Rattle.virtiofs_map.specs.declared.idmap.IdMapError.{IdMapError}
 use Rattle.virtiofs_map.specs.declared.idmap.IdMapError.TheVariants.{InvalidDelimiter, IncompleteMap, InvalidValue}
 
 -- the field is a numeral of the value, and the delimiter is not in it
 pub record IsField (delimiter : ℕ) (field : List ℕ) (value : ℕ) : Type 0 where
-  pub free : All (λ c. c ≢ delimiter) field
+  pub free : Lacks delimiter field
   pub numeral : IsNumeral field value
 
 -- the text is three fields, with a delimiter that is not alphanumeric before, between and behind them

@@ -1,7 +1,8 @@
 -- What the private functions of the reader of rules say.
 use Rattle.std.specs.Prelude.{◌≡◌, ◌⊎◌, ℕ, List, [], ◌∷◌, Contains}
 use Rattle.std.specs.Str.{chars}
-use Rattle.virtiofs_map.specs.RuleText.{Written, Opens, Lacks, Fields, RuleFaultIn, Cause, IncompleteRule, NulInPattern}
+use Rattle.virtiofs_map.specs.RuleText.{Written, Opens, Fields, RuleFaultIn, Cause, IncompleteRule, NulInPattern}
+use Rattle.virtiofs_map.specs.Separator.{Lacks}
 use Rattle.virtiofs_map.specs.declared.xattrmap.errors.PatternField.{PatternField}
 use Rattle.virtiofs_map.specs.declared.xattrmap.written.WrittenRule.{WrittenRule}
 

@@ -5,6 +5,7 @@ use Rattle.std.specs.List.{AllByRecursion, flat_map}
 use Rattle.std.specs.Str.{chars, skip_leading_whitespace, drop_trailing_whitespace}
 use Rattle.std.specs.String.{string_bytes}
 use Rattle.virtiofs_map.specs.Rule.{MappingRule}
+use Rattle.virtiofs_map.specs.Separator.{Lacks}
 use Rattle.virtiofs_map.specs.declared.xattrmap.rules.RuleKind.{RuleKind}
 use Rattle.virtiofs_map.specs.declared.xattrmap.rules.RuleKind.TheVariants.{Prefix, Okay, Bad, Unsupported}
 use Rattle.virtiofs_map.specs.declared.xattrmap.written.ScopeWord.{ScopeWord}
@@ -24,10 +25,6 @@ trimmed text = drop_trailing_whitespace (skip_leading_whitespace text)
 -- a blank: space, tab, line feed, form feed or carriage return
 abbrev pub IsBlank : ℕ → Type 0
 IsBlank c = is_ascii_whitespace c ≡ true
-
--- no character of the text is c
-abbrev pub Lacks : ℕ → List ℕ → Type 0
-Lacks c text = AllByRecursion (λ x. x ≢ c) text
 
 -- a rule as it is written: its type and scope or the word map, its key and its prepend
 pub record Written : Type 0 where

@@ -1,10 +1,11 @@
 -- The texts that say a specification, as `map:0:1000:10`, and what is wrong with the others.
-use Rattle.std.specs.Prelude.{◌≡◌, ◌≢◌, ◌⊎◌, ℕ, Bool, true, false, ◌||◌, ◌==◌, List, [], ◌∷◌, ◌++◌, length, map, codes, string_bytes}
-use Rattle.std.specs.List.{AllPass, AllZip, slice_split}
+use Rattle.std.specs.Prelude.{◌≡◌, ◌≢◌, ◌⊎◌, ℕ, Bool, false, ◌||◌, ◌==◌, List, [], ◌∷◌, ◌++◌, length, map, codes, string_bytes}
+use Rattle.std.specs.List.{AllPass, AllZip}
 use Rattle.std.specs.Char.{to_ascii_lowercase}
 use Rattle.std.specs.Str.{chars}
 use Rattle.virtiofs_map.specs.Alphanumeric.{is_alphanumeric}
 use Rattle.virtiofs_map.specs.Numeral.{IsNumeral}
+use Rattle.virtiofs_map.specs.Separator.{fields_of}
 use Rattle.virtiofs_map.specs.declared.cmdline.IdMap.{IdMap}
 use Rattle.virtiofs_map.specs.declared.cmdline.IdMap.TheVariants.{Guest, Host, SquashGuest, SquashHost, Bidirectional, ForbidGuest}
 use Rattle.virtiofs_map.specs.declared.cmdline.IdMapError.{IdMapError}
@@ -19,10 +20,6 @@ pub record IsCut (text prefix : List ℕ) (separator : ℕ) (rest : List ℕ) : 
   pub whole : text ≡ prefix ++ separator ∷ rest
   pub word : AllPass is_word_character prefix
   pub ends : is_word_character separator ≡ false
-
--- what stands between the separators
-abbrev pub fields_of : ℕ → List ℕ → List (List ℕ)
-fields_of separator rest = slice_split (λ c. c == separator) rest
 
 -- the text with its ASCII letters lowered
 abbrev pub lowered : List ℕ → List ℕ

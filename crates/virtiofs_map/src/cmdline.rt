@@ -2,11 +2,6 @@
 //!
 //! A specification is a word, a separator and decimal numbers with that separator between them, as
 //! `map:0:1000:10`. The separator is any character that is not alphanumeric, `-` or `_`.
-ghost use Rattle.std.specs.Prelude.{◌≡◌, ◌≢◌, ◌⊎◌, ℕ, List, ◌||◌, ◌==◌, length, map, MatchResult, IfOk, IfErr, IfSome, IfNone, OnErr, string_bytes, encode_utf8_all};
-ghost use Rattle.std.specs.List.{AllZip};
-ghost use Rattle.std.specs.Str.{chars};
-ghost use Rattle.virtiofs_map.specs.Alphanumeric.{is_alphanumeric};
-ghost use Rattle.virtiofs_map.specs.Numeral.{IsNumeral};
 
 use std::alloc::{AllocError, AllocFailed, Allocator, Global};
 use std::num::ParseIntError;

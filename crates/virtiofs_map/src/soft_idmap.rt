@@ -6,7 +6,7 @@
 ghost use Rattle.std.specs.Prelude.{◌≡◌, ◌⊎◌, List, [], Some, None, IsOk, IfOk, IfErr, OnOk, MatchResult};
 ghost use Rattle.virtiofs_map.specs.Mapping.{Becomes};
 ghost use Rattle.virtiofs_map.specs.Build.{Accepted, IsFirstFault};
-ghost use Rattle.virtiofs_map.specs.Laws.{HasOneValue, HasNoOrder, KeepsGreatest, IsMappedBothWays, LeadsBack};
+ghost use Rattle.virtiofs_map.specs.Laws.{HasNoOrder, KeepsGreatest, IsMappedBothWays, LeadsBack};
 ghost use Rattle.virtiofs_map.specs.Specifications.{AllSay, IsSpecsFault, IsWantOfMemory};
 ghost use Rattle.virtiofs_map.specs.declared.cmdline.IdMap.{IdMap as Specification};
 ghost use Rattle.virtiofs_map.specs.declared.soft_idmap.entry.Direction.TheVariants.{GuestToHost, HostToGuest};

@@ -1,8 +1,9 @@
 //! How the readers of this crate take a text apart.
-ghost use Rattle.std.specs.Prelude.{◌≡◌, ◌==◌, ◌<◌, ℕ, false, ◌∷◌, ◌++◌, length, IfNone, IfSome, All, MatchResult};
-ghost use Rattle.std.specs.Str.{chars};
+ghost use Rattle.std.specs.Prelude.{◌≡◌, ◌<◌, ℕ, ◌∷◌, ◌++◌, length, IfNone, IfSome, MatchResult};
+ghost use Rattle.std.specs.Str.{chars, IsUtf8};
 ghost use Rattle.virtiofs_map.specs.Alphanumeric.{is_alphanumeric};
 ghost use Rattle.virtiofs_map.specs.Numeral.{IsNumeral};
+ghost use Rattle.virtiofs_map.specs.Separator.{Lacks};
 
 use std::num::ParseIntError;
 use unicode::properties::{GeneralCategory, is_alphabetic};
@@ -22,9 +23,10 @@ pub(crate) fn is_alphanumeric(c: char) -> bool
 
 /// Cuts a text at the first place where the character `at` stands, which is in neither part.
 pub(crate) fn cut_at(text: &str, at: char) -> Option<(&str, &str)>
-    ensures absent { IfNone result (All (λ c. (c == at) ≡ false) (chars text.now)) }
+    ensures absent { IfNone result (Lacks at (chars text.now)) }
     ensures whole { IfSome result (λ p. chars text.now ≡ chars p.0.now ++ at ∷ chars p.1.now) }
-    ensures first { IfSome result (λ p. All (λ c. (c == at) ≡ false) (chars p.0.now)) }
+    ensures first { IfSome result (λ p. Lacks at (chars p.0.now)) }
+    ensures text { IfSome result (λ p. IsUtf8 p.0.now × IsUtf8 p.1.now) }
     ensures shorter { IfSome result (λ p. length p.1.now < length text.now) }
 {
     text.split_once(at)

@@ -1,5 +1,5 @@
 //! What ids become under specifications.
-ghost use Rattle.std.specs.Prelude.{◌≡◌, ◌≢◌, ℕ, List, ◌++◌, codes, OnOk, IfOk, string_bytes};
+ghost use Rattle.std.specs.Prelude.{◌≡◌, ◌≢◌, ℕ, List, ◌++◌, OnOk, IfOk, string_bytes};
 ghost use Rattle.std.specs.List.{AllZip, concat};
 ghost use Rattle.virtiofs_map.specs.Printed.{build_error_text};
 ghost use Rattle.virtiofs_mapcheck.specs.Answer.{IsLine, refused_line, index_of, AnswersForm};

@@ -1,5 +1,5 @@
 //! A writer for the tests, which takes few bytes and fails on demand.
-ghost use Rattle.std.specs.Prelude.{◌≡◌, ◌≤◌, take, Some};
+ghost use Rattle.std.specs.Prelude.{◌≤◌, take, Some};
 
 use std::io;
 use std::io::Write;

@@ -1,9 +1,9 @@
 //! The forms of the program's words.
-ghost use Rattle.std.specs.Prelude.{◌≡◌, ◌≢◌, ℕ, List, [], ◌∷◌, ◌++◌, All, codes, IfOk, IfSome, IfNone, MatchOption, MatchResult};
+ghost use Rattle.std.specs.Prelude.{◌≢◌, ℕ, List, All, codes, IfOk, MatchOption};
 ghost use Rattle.std.specs.List.{AllZip};
 ghost use Rattle.std.specs.Str.{chars};
 ghost use Rattle.virtiofs_map.specs.Numeral.{IsNumeral};
-ghost use Rattle.virtiofs_mapcheck.specs.Words.{words_of, ask, query_front, Asks, Form, Ids, Namespace, HasForm};
+ghost use Rattle.virtiofs_mapcheck.specs.Words.{words_of, ask, Asks, Form, Ids, Namespace, HasForm};
 ghost use Rattle.virtiofs_mapcheck.specs.WordsParts.{IsCutAtAsk, form_of, ReadsBehind};
 
 use std::alloc::{AllocError, Allocator};

@@ -1,5 +1,5 @@
 //! The printed form of a specification.
-ghost use Rattle.std.specs.Prelude.{ℕ, ◌^◌, ◌<◌, All, Some};
+ghost use Rattle.std.specs.Prelude.{◌^◌, ◌<◌, All, Some};
 ghost use Rattle.std.specs.Str.{chars};
 ghost use Rattle.virtiofs_map.specs.Printed.{specification_text};
 ghost use Rattle.virtiofs_map.specs.SpecificationText.{Says, numbers_of};

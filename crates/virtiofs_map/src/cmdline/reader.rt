@@ -1,12 +1,13 @@
 //! How the text of a specification is read.
-ghost use Rattle.std.specs.Prelude.{◌≡◌, ◌≢◌, ◌⊎◌, ℕ, List, [], ◌∷◌, ◌||◌, ◌==◌, length, map, MatchResult, IfOk, IfErr, IfSome, IfNone, OnErr, string_bytes, encode_utf8_all};
-ghost use Rattle.std.specs.List.{AllZip, AllPass};
+ghost use Rattle.std.specs.Prelude.{◌≡◌, ◌⊎◌, [], ◌∷◌, MatchResult, IfOk, IfErr, IfSome, IfNone, string_bytes};
+ghost use Rattle.std.specs.List.{AllZip};
 ghost use Rattle.std.specs.Str.{chars};
 ghost use Rattle.virtiofs_map.specs.Numeral.{IsNumeral};
 ghost use Rattle.virtiofs_map.specs.SpecificationParts.{IsLoweredCut, IsFieldFault, IsFieldsFault, IsCountFault, IsWordFault};
 ghost use Rattle.virtiofs_map.specs.declared.cmdline.IdMap.{IdMap as Specification};
 ghost use Rattle.virtiofs_map.specs.declared.cmdline.IdMapError.TheVariants.{OutOfMemory};
-ghost use Rattle.virtiofs_map.specs.SpecificationText.{is_word_character, IsCut, fields_of, lowered, word_of, numbers_of, HasNoField, Says, IsFirstUnread, IsFaultOf};
+ghost use Rattle.virtiofs_map.specs.SpecificationText.{is_word_character, word_of, numbers_of, HasNoField, Says, IsFaultOf};
+ghost use Rattle.virtiofs_map.specs.Separator.{fields_of};
 
 use super::{IdMap, IdMapError};
 use crate::text::{cut_at, is_alphanumeric, number};

@@ -1,5 +1,5 @@
 //! The plain numbers that ids are made of, and the distances between ids.
-ghost use Rattle.std.specs.Prelude.{◌≡◌, ℕ, ◌≤◌, ◌↔◌, IsTrue, Some};
+ghost use Rattle.std.specs.Prelude.{◌≡◌, ℕ, ◌↔◌, IsTrue, Some};
 ghost use Rattle.std.specs.Ordering.{nat_cmp};
 
 /// A plain number that an id can be made of: one for each `u32`.

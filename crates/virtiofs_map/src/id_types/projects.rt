@@ -2,7 +2,7 @@
 //!
 //! A project id is made of a [`ProjectNumber`] and not of a `u32`, has an offset of its own, and is
 //! printed as `project 7`. So code that works with it rests on the traits alone.
-ghost use Rattle.std.specs.Prelude.{◌≡◌, ℕ, ◌+◌, ◌-◌, ◌≤◌};
+ghost use Rattle.std.specs.Prelude.{◌≡◌, ◌+◌, ◌-◌, ◌≤◌};
 
 use crate::id_types::{GuestId, HostId, Id, IdNumber, IdOffset};
 use std::fmt;

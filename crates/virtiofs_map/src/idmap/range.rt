@@ -4,7 +4,7 @@ ghost use Rattle.std.specs.Str.{chars};
 ghost use Rattle.virtiofs_map.specs.NamespaceParts.{IsThreeFields};
 ghost use Rattle.virtiofs_map.specs.NamespaceText.{SaysNamespace, IsEnclosed, IsNamespaceFault};
 ghost use Rattle.virtiofs_map.specs.Printed.{namespace_text};
-ghost use Rattle.virtiofs_map.specs.SpecificationText.{fields_of};
+ghost use Rattle.virtiofs_map.specs.Separator.{fields_of};
 
 use super::IdMapError;
 use crate::text::{cut_at, is_alphanumeric, number};

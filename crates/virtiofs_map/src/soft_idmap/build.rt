@@ -1,7 +1,7 @@
 //! Whether a map can be made of a list of specifications.
-ghost use Rattle.std.specs.Prelude.{◌≡◌, ◌↔◌, ℕ, ◌≤◌, List, Contains, IsTrue, IsOk, MatchResult, OnOk, IfErr, IfSome};
-ghost use Rattle.virtiofs_map.specs.Mapping.{entry_of, EntryCovers, Covers};
-ghost use Rattle.virtiofs_map.specs.Build.{HasSource, HasTarget, Accepted, Meet, MeetsEarlier, Fits, IsFirstFault};
+ghost use Rattle.std.specs.Prelude.{◌↔◌, IsTrue, MatchResult};
+ghost use Rattle.virtiofs_map.specs.Mapping.{entry_of};
+ghost use Rattle.virtiofs_map.specs.Build.{Accepted, Fits, IsFirstFault};
 ghost use Rattle.virtiofs_map.specs.BuildParts.{EntryMeets, EntryMeetsEarlier, IsFaultHere};
 
 use super::entry::{Entry, entry_of};

@@ -1,6 +1,6 @@
 //! What a specification sets up in one direction.
-ghost use Rattle.std.specs.Prelude.{◌≡◌, ◌⊎◌, ◌↔◌, ℕ, ◌+◌, ◌<◌, ◌≤◌, ◌^◌, List, Contains, IsTrue, IfSome, IsSome};
-ghost use Rattle.virtiofs_map.specs.Mapping.{entry_of, first_of, count_of, EntryCovers, target_of, Becomes, Covers};
+ghost use Rattle.std.specs.Prelude.{◌≡◌, ◌↔◌, ℕ, ◌+◌, ◌<◌, IsTrue};
+ghost use Rattle.virtiofs_map.specs.Mapping.{entry_of, first_of, count_of, EntryCovers, target_of, Becomes};
 ghost use Rattle.virtiofs_map.specs.Build.{HasSource, HasTarget, Accepted};
 
 use crate::cmdline::IdMap;

@@ -1,5 +1,5 @@
 //! The specifications that a list of texts says.
-ghost use Rattle.std.specs.Prelude.{◌≡◌, IfOk, IfErr};
+ghost use Rattle.std.specs.Prelude.{IfOk, IfErr};
 ghost use Rattle.virtiofs_map.specs.TextParts.{IsReadingFault};
 ghost use Rattle.virtiofs_map.specs.Specifications.{AllSay};
 

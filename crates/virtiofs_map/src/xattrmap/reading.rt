@@ -1,12 +1,13 @@
 //! Reads rules from text.
 
-ghost use Rattle.std.specs.Prelude.{◌≡◌, ◌≢◌, ◌⊎◌, ◌∷◌, [], ℕ, List, IfSome, IfNone, IfOk, IfErr, OnOk};
+ghost use Rattle.std.specs.Prelude.{◌≡◌, ◌≢◌, ◌⊎◌, ◌∷◌, [], List, IfSome, IfNone, IfOk, IfErr};
 ghost use Rattle.std.specs.Str.{chars, IsUtf8};
 ghost use Rattle.virtiofs_map.specs.RuleText.{type_word, scope_word, head_fields, fields_of, Fields, HasNoNul, RuleThen, RuleFaultIn, RuleFault, RuleText, Written, cause_of, expanded, IsWantOfMemory};
 ghost use Rattle.virtiofs_map.specs.Reading.{said, IsOpened, HasFault};
 
+use crate::text::cut_at;
 use crate::xattrmap::errors::{Error, ErrorKind, PatternField};
-use crate::xattrmap::fields::{cut, pattern};
+use crate::xattrmap::fields::pattern;
 use crate::xattrmap::rules::{Rule, RuleKind, push_rules};
 use crate::xattrmap::written::{Head, ScopeWord, WrittenRule};
 use std::alloc::Allocator;
@@ -59,7 +60,7 @@ fn head<A: Allocator + Copy>(
     ensures text { IfOk result (λ found. IsUtf8 found.1.now) }
     ensures err { IfErr result (λ cause. (cause ≡ ErrorKind.OutOfMemory) ⊎ RuleFaultIn delimiter (chars text.now) (cause_of cause)) }
 {
-    let Some((word, rest)) = cut(text, delimiter) else {
+    let Some((word, rest)) = cut_at(text, delimiter) else {
         return Err(ErrorKind::IncompleteRule);
     };
     if word == "map" {
@@ -70,7 +71,7 @@ fn head<A: Allocator + Copy>(
         let expected = "prefix, ok, bad, map";
         return Err(ErrorKind::InvalidType { got, expected });
     };
-    let Some((word, rest)) = cut(rest, delimiter) else {
+    let Some((word, rest)) = cut_at(rest, delimiter) else {
         return Err(ErrorKind::IncompleteRule);
     };
     let Some(scope) = scope_of(word) else {

@@ -1,4 +1,4 @@
-use Rattle.std.proofs.Common.{rules, sym, ◌∙◌}
+use Rattle.std.proofs.Common.{sym, ◌∙◌}
 use Rattle.std.proofs.lemmas.Str.{IsUtf8-string_bytes}
 use Rattle.virtiofs_map.proofs.PrefixLemmas.{IsPrefixSoFar-start, IsPrefixSoFar-more, IsLoweredCut-here, AllPass-prefix}
 use Rattle.virtiofs_map.proofs.cmdline.reader.cut_prefix.Goals as goal

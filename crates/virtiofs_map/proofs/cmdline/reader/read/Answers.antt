@@ -1,7 +1,5 @@
-use Rattle.std.proofs.Common.{rules, sym, ◌∙◌, inr, inl, refl}
-use Rattle.std.proofs.lemmas.Result.{err_from_is_err_and}
 use Rattle.std.proofs.lemmas.Str.{IsUtf8-string_bytes}
-use Rattle.virtiofs_map.proofs.SpecificationLemmas.{Says-answer, IsFaultOf-answer, IsFaultOf-fields}
+use Rattle.virtiofs_map.proofs.SpecificationLemmas.{Says-answer, IsFaultOf-answer}
 use Rattle.virtiofs_map.proofs.cmdline.reader.read.Goals as goal
 
 pub returns-clause-read : goal.returns-clause-read

@@ -1,8 +1,7 @@
-use Rattle.std.proofs.Common.{◌≡◌, ◌++◌, ◌∷◌, [], List, ℕ, ap, sym, ◌∙◌, refl, rules, append_assoc}
+use Rattle.std.proofs.Common.{◌++◌, ◌∷◌, [], List, ℕ, ap, sym, ◌∙◌, rules, append_assoc}
 use Rattle.std.specs.Str.{chars}
 use Rattle.std.proofs.lemmas.Result.{err_from_is_err_and}
 use Rattle.virtiofs_map.specs.Numeral.{IsNumeral}
-use Rattle.virtiofs_map.specs.SpecificationText.{fields_of}
 use Rattle.virtiofs_map.proofs.SpecificationLemmas.{fields_of-cut, fields_of-last, AllZip-push, IsFieldsFault-here}
 use Rattle.virtiofs_map.proofs.cmdline.reader.read_fields.Goals as goal
 

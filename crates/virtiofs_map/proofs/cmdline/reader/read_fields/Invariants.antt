@@ -4,7 +4,7 @@ use denote.Shadow.{shadow}
 use Rattle.std.specs.List.{AllZip}
 use Rattle.std.specs.Str.{chars}
 use Rattle.virtiofs_map.specs.Numeral.{IsNumeral}
-use Rattle.virtiofs_map.specs.SpecificationText.{fields_of}
+use Rattle.virtiofs_map.specs.Separator.{fields_of}
 use Rattle.virtiofs_map.proofs.cmdline.reader.read_fields.Given as goal
 
 -- the fields before the rest are those of the numbers so far

@@ -1,4 +1,3 @@
-use Rattle.std.proofs.Common.{rules}
 use Rattle.std.proofs.lemmas.Result.{err_from_is_err_and}
 use Rattle.virtiofs_map.proofs.BuildLemmas.{Accepted-more, IsFirstFault-here}
 use Rattle.virtiofs_map.proofs.soft_idmap.build.check.Goals as goal

@@ -1,0 +1,11 @@
+-- A text and a character that separates its parts.
+use Rattle.std.specs.Prelude.{◌≢◌, ℕ, ◌==◌, List}
+use Rattle.std.specs.List.{AllByRecursion, slice_split}
+
+-- no character of the text is c
+abbrev pub Lacks : ℕ → List ℕ → Type 0
+Lacks c text = AllByRecursion (λ x. x ≢ c) text
+
+-- what stands before, between and behind the separators
+abbrev pub fields_of : ℕ → List ℕ → List (List ℕ)
+fields_of separator text = slice_split (λ c. c == separator) text
