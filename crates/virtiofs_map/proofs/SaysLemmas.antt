@@ -1,5 +1,5 @@
 -- A text says one specification alone, or has one fault alone.
-use Rattle.std.proofs.Common.{◌≡◌, ◌⊎◌, inl, inr, ◌==◌, ℕ, Bool, true, false, cond, List, [], ◌∷◌, ◌++◌, length, All, String, string_bytes, Result, Ok, Err, IfOk, IfErr, MatchResult, refl, sym, ap, ◌∙◌, subst, arith}
+use Rattle.std.proofs.Common.{◌≡◌, ◌⊎◌, inl, inr, ◌==◌, ℕ, Bool, true, false, cond, List, [], ◌∷◌, ◌++◌, length, All, String, string_bytes, Option, Some, None, IsSomeAnd, Result, Ok, Err, IfOk, IfErr, MatchResult, refl, sym, ap, ◌∙◌, subst, arith}
 use Rattle.std.specs.Char.{IsAsciiDigit}
 use Rattle.std.specs.Str.{chars, encode_utf8_all}
 use Rattle.std.specs.Str.Parse.{digits_value}
@@ -8,13 +8,12 @@ use Rattle.std.proofs.lemmas.Str.{encodes-chars, IsUtf8-string_bytes}
 use Rattle.std.proofs.lemmas.Bool.{false≢true}
 use Rattle.std.proofs.lemmas.List.Elements.{All-head, All-tail}
 use Rattle.virtiofs_map.specs.Numeral.{IsNumeral}
-use Rattle.virtiofs_map.specs.SpecificationText.{IsFirstUnread, HasUnread, HasUnknownPrefix, HasMiscount, HasNoField, word_of, numbers_of, is_word_character, IsCut, IsCounted, Says, IsFaultOf, lowered}
+use Rattle.virtiofs_map.specs.SpecificationText.{IsFirstUnread, HasUnread, HasUnknownPrefix, HasMiscount, HasNoField, word_of, numbers_of, is_word_character, IsCut, IsCounted, Says, IsFaultOf, Fault, InvalidPrefix, InvalidLength, InvalidValue, HasFault, fault_of, lowered}
 use Rattle.virtiofs_map.specs.Separator.{fields_of}
-use Rattle.virtiofs_map.specs.SpecificationLaws.{IsSameFault}
 use Rattle.virtiofs_map.specs.declared.cmdline.IdMap.{IdMap}
 use Rattle.virtiofs_map.specs.declared.cmdline.IdMap.TheVariants.{Guest, Host, SquashGuest, SquashHost, Bidirectional, ForbidGuest}
 use Rattle.virtiofs_map.specs.declared.cmdline.IdMapError.{IdMapError}
-use Rattle.virtiofs_map.specs.declared.cmdline.IdMapError.TheVariants.{InvalidPrefix, InvalidLength, InvalidValue, OutOfMemory}
+use Rattle.virtiofs_map.specs.declared.cmdline.IdMapError.TheVariants.{OutOfMemory}
 
 -- one character that fails a test stands behind the longest front that passes it
 record SameCut (front other : List ℕ) (c d : ℕ) (back rest : List ℕ) : Type 0 where
@@ -207,57 +206,66 @@ Says-miscounted text spec expected seen said fault =
     let count = IsCounted-one text said.prefix fault.prefix (length (numbers_of spec)) seen (Says-counted text spec said) fault.counted in
     fault.other (sym count ∙ one_count spec fault.spec (sym said.word ∙ ap lowered prefix ∙ fault.word) ∙ fault.takes)
 
-pub Says-faultless : {A : Type 0} (text : List ℕ) (spec : IdMap) (e : IdMapError A) → Says text spec → IsFaultOf text e → ⊥
+pub Says-faultless : (text : List ℕ) (spec : IdMap) (fault : Fault) → Says text spec → HasFault text fault → ⊥
 Says-faultless text spec (InvalidPrefix word) said fault =
     let prefix = IsCounted-prefix text said.prefix fault.prefix (length (numbers_of spec)) fault.seen (Says-counted text spec said) fault.counted in
     fault.unknown spec (ap lowered (sym prefix) ∙ said.word)
 Says-faultless text spec (InvalidLength expected seen) said (inl (none, _, _)) = HasNoField-uncut text said.prefix said.separator said.rest none said.cut
 Says-faultless text spec (InvalidLength expected seen) said (inr fault) = Says-miscounted text spec expected seen said fault
-Says-faultless text spec (InvalidValue value error) said fault = HasUnread-uncounted text said.prefix (chars (string_bytes value)) (length (numbers_of spec)) fault (Says-counted text spec said)
-Says-faultless text spec OutOfMemory said fault = fault
+Says-faultless text spec (InvalidValue field) said fault = HasUnread-uncounted text said.prefix field (length (numbers_of spec)) fault (Says-counted text spec said)
+
+-- nor does an error tell one
+untold : (text : List ℕ) (spec : IdMap) (told : Option Fault) → Says text spec → IsSomeAnd told (HasFault text) → ⊥
+untold text spec None said fault = fault
+untold text spec (Some is) said fault = Says-faultless text spec is said fault
+
+pub Says-untold : {A : Type 0} (text : List ℕ) (spec : IdMap) (e : IdMapError A) → Says text spec → IsFaultOf text e → ⊥
+Says-untold text spec e said fault = untold text spec (fault_of e) said fault
 
 -- what the reader answers to a text that says a specification
 pub Says-answered : {A : Type 0} (text : List ℕ) (r : Result IdMap (IdMapError A)) → IfOk r (Says text) → IfErr r (λ e. (e ≡ OutOfMemory) ⊎ IsFaultOf text e) → (spec : IdMap) → Says text spec → MatchResult r (λ s. s ≡ spec) (λ e. e ≡ OutOfMemory)
 Says-answered text (Ok other) read fault spec said = Says-one text other spec read said
 Says-answered text (Err e) read (inl want) spec said = want
-Says-answered text (Err e) read (inr fault) spec said = absurd (Says-faultless text spec e said fault)
-
--- strings of the same characters have the same bytes
-same_bytes : {A : Type 0} (s t : String A) → chars (string_bytes s) ≡ chars (string_bytes t) → string_bytes s ≡ string_bytes t
-same_bytes s t same =
-    sym (encodes-chars (string_bytes s) (IsUtf8-string_bytes s)) ∙ ap encode_utf8_all same ∙ encodes-chars (string_bytes t) (IsUtf8-string_bytes t)
+Says-answered text (Err e) read (inr fault) spec said = absurd (Says-untold text spec e said fault)
 
 unknown_miscounted : (text word : List ℕ) (expected seen : ℕ) → HasUnknownPrefix text word → HasMiscount text expected seen → ⊥
 unknown_miscounted text word expected seen first second =
     let prefix = IsCounted-prefix text first.prefix second.prefix first.seen seen first.counted second.counted in
     first.unknown second.spec (ap lowered prefix ∙ second.word)
 
+one_word : (text word other : List ℕ) → HasUnknownPrefix text word → HasUnknownPrefix text other → word ≡ other
+one_word text word other first second =
+    first.is ∙ ap lowered (IsCounted-prefix text first.prefix second.prefix first.seen second.seen first.counted second.counted) ∙ sym second.is
+
 one_miscount : (text : List ℕ) (expected seen want got : ℕ) → HasMiscount text expected seen → HasMiscount text want got → (expected ≡ want) × (seen ≡ got)
 one_miscount text expected seen want got first second =
     let prefix = IsCounted-prefix text first.prefix second.prefix seen got first.counted second.counted in
     (sym first.takes ∙ one_count first.spec second.spec (sym first.word ∙ ap lowered prefix ∙ second.word) ∙ second.takes, IsCounted-one text first.prefix second.prefix seen got first.counted second.counted)
 
-pub IsFaultOf-one : {A : Type 0} (text : List ℕ) (e f : IdMapError A) → IsFaultOf text e → IsFaultOf text f → IsSameFault e f
-IsFaultOf-one text (InvalidPrefix p) (InvalidPrefix q) first second =
-    same_bytes p q (first.is ∙ ap lowered (IsCounted-prefix text first.prefix second.prefix first.seen second.seen first.counted second.counted) ∙ sym second.is)
-IsFaultOf-one text (InvalidPrefix p) (InvalidLength x s) first (inl (none, _, _)) = absurd (IsCounted-uncut text first.prefix first.seen none first.counted)
-IsFaultOf-one text (InvalidPrefix p) (InvalidLength x s) first (inr second) = absurd (unknown_miscounted text (chars (string_bytes p)) x s first second)
-IsFaultOf-one text (InvalidPrefix p) (InvalidValue v c) first second = absurd (HasUnread-uncounted text first.prefix (chars (string_bytes v)) first.seen second first.counted)
-IsFaultOf-one text (InvalidPrefix p) OutOfMemory first second = absurd second
-IsFaultOf-one text (InvalidLength x s) (InvalidPrefix q) (inl (none, _, _)) second = absurd (IsCounted-uncut text second.prefix second.seen none second.counted)
-IsFaultOf-one text (InvalidLength x s) (InvalidPrefix q) (inr first) second = absurd (unknown_miscounted text (chars (string_bytes q)) x s second first)
-IsFaultOf-one text (InvalidLength x s) (InvalidLength y t) (inl (_, one, zero)) (inl (_, uno, nil)) = (one ∙ sym uno, zero ∙ sym nil)
-IsFaultOf-one text (InvalidLength x s) (InvalidLength y t) (inl (none, _, _)) (inr second) = absurd (IsCounted-uncut text second.prefix t none second.counted)
-IsFaultOf-one text (InvalidLength x s) (InvalidLength y t) (inr first) (inl (none, _, _)) = absurd (IsCounted-uncut text first.prefix s none first.counted)
-IsFaultOf-one text (InvalidLength x s) (InvalidLength y t) (inr first) (inr second) = one_miscount text x s y t first second
-IsFaultOf-one text (InvalidLength x s) (InvalidValue v c) (inl (none, _, _)) second = absurd (HasNoField-uncut text second.prefix second.separator second.rest none second.cut)
-IsFaultOf-one text (InvalidLength x s) (InvalidValue v c) (inr first) second = absurd (HasUnread-uncounted text first.prefix (chars (string_bytes v)) s second first.counted)
-IsFaultOf-one text (InvalidLength x s) OutOfMemory first second = absurd second
-IsFaultOf-one text (InvalidValue v c) (InvalidPrefix q) first second = absurd (HasUnread-uncounted text second.prefix (chars (string_bytes v)) second.seen first second.counted)
-IsFaultOf-one text (InvalidValue v c) (InvalidLength y t) first (inl (none, _, _)) = absurd (HasNoField-uncut text first.prefix first.separator first.rest none first.cut)
-IsFaultOf-one text (InvalidValue v c) (InvalidLength y t) first (inr second) = absurd (HasUnread-uncounted text second.prefix (chars (string_bytes v)) t first second.counted)
-IsFaultOf-one text (InvalidValue v c) (InvalidValue w d) first second =
+one_field : (text field other : List ℕ) → HasUnread text field → HasUnread text other → field ≡ other
+one_field text field other first second =
     let fields = fields_same text first.prefix second.prefix first.separator second.separator first.rest second.rest first.cut second.cut in
-    same_bytes v w (IsFirstUnread-one (fields_of second.separator second.rest) (chars (string_bytes v)) (chars (string_bytes w)) (subst (λ (fs : List (List ℕ)). IsFirstUnread fs (chars (string_bytes v))) fields first.first) second.first)
-IsFaultOf-one text (InvalidValue v c) OutOfMemory first second = absurd second
-IsFaultOf-one text OutOfMemory f first second = absurd first
+    IsFirstUnread-one (fields_of second.separator second.rest) field other (subst (λ (fs : List (List ℕ)). IsFirstUnread fs field) fields first.first) second.first
+
+one_length : (expected seen want got : ℕ) → expected ≡ want → seen ≡ got → InvalidLength expected seen ≡ InvalidLength want got
+one_length expected seen want got one other = cc
+
+-- a text has one fault alone
+pub HasFault-one : (text : List ℕ) (fault other : Fault) → HasFault text fault → HasFault text other → fault ≡ other
+HasFault-one text (InvalidPrefix p) (InvalidPrefix q) first second = ap InvalidPrefix (one_word text p q first second)
+HasFault-one text (InvalidPrefix p) (InvalidLength x s) first (inl (none, _, _)) = absurd (IsCounted-uncut text first.prefix first.seen none first.counted)
+HasFault-one text (InvalidPrefix p) (InvalidLength x s) first (inr second) = absurd (unknown_miscounted text p x s first second)
+HasFault-one text (InvalidPrefix p) (InvalidValue v) first second = absurd (HasUnread-uncounted text first.prefix v first.seen second first.counted)
+HasFault-one text (InvalidLength x s) (InvalidPrefix q) (inl (none, _, _)) second = absurd (IsCounted-uncut text second.prefix second.seen none second.counted)
+HasFault-one text (InvalidLength x s) (InvalidPrefix q) (inr first) second = absurd (unknown_miscounted text q x s second first)
+HasFault-one text (InvalidLength x s) (InvalidLength y t) (inl (_, one, zero)) (inl (_, uno, nil)) = one_length x s y t (one ∙ sym uno) (zero ∙ sym nil)
+HasFault-one text (InvalidLength x s) (InvalidLength y t) (inl (none, _, _)) (inr second) = absurd (IsCounted-uncut text second.prefix t none second.counted)
+HasFault-one text (InvalidLength x s) (InvalidLength y t) (inr first) (inl (none, _, _)) = absurd (IsCounted-uncut text first.prefix s none first.counted)
+HasFault-one text (InvalidLength x s) (InvalidLength y t) (inr first) (inr second) =
+    let (expected, seen) = one_miscount text x s y t first second in one_length x s y t expected seen
+HasFault-one text (InvalidLength x s) (InvalidValue v) (inl (none, _, _)) second = absurd (HasNoField-uncut text second.prefix second.separator second.rest none second.cut)
+HasFault-one text (InvalidLength x s) (InvalidValue v) (inr first) second = absurd (HasUnread-uncounted text first.prefix v s second first.counted)
+HasFault-one text (InvalidValue v) (InvalidPrefix q) first second = absurd (HasUnread-uncounted text second.prefix v second.seen first second.counted)
+HasFault-one text (InvalidValue v) (InvalidLength y t) first (inl (none, _, _)) = absurd (HasNoField-uncut text first.prefix first.separator first.rest none first.cut)
+HasFault-one text (InvalidValue v) (InvalidLength y t) first (inr second) = absurd (HasUnread-uncounted text second.prefix v t first second.counted)
+HasFault-one text (InvalidValue v) (InvalidValue w) first second = ap InvalidValue (one_field text v w first second)

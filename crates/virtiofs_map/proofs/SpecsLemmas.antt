@@ -11,7 +11,7 @@ use Rattle.virtiofs_map.specs.declared.cmdline.IdMapError.TheVariants.{OutOfMemo
 use Rattle.virtiofs_map.specs.declared.soft_idmap.specs_error.SpecsError.{SpecsError}
 use Rattle.virtiofs_map.specs.declared.soft_idmap.specs_error.SpecsError.TheVariants.{Spec, Build}
 use Rattle.virtiofs_map.proofs.SpecificationLemmas.{AllZip-push}
-use Rattle.virtiofs_map.proofs.SaysLemmas.{Says-one, Says-faultless}
+use Rattle.virtiofs_map.proofs.SaysLemmas.{Says-one, Says-untold}
 
 pub AllSay-more : (texts : List (Bor (List ℕ))) (specs : List IdMap) (i : ℕ) (d : Bor (List ℕ)) (spec : IdMap) → i < length texts → AllSay (take i texts) specs → Says (chars (get_or texts i d).now) spec → AllSay (take (i + 1) texts) (specs ++ spec ∷ [])
 AllSay-more texts specs i d spec below said here =
@@ -32,7 +32,7 @@ want_at : {A : Type 0} (texts : List (Bor (List ℕ))) (specs : List IdMap) (i :
 want_at [] specs i cause said here = absurd here
 want_at (t ∷ texts) [] i cause said here = absurd said
 want_at (t ∷ texts) (s ∷ specs) zero cause said (inl want) = want
-want_at (t ∷ texts) (s ∷ specs) zero cause said (inr fault) = absurd (Says-faultless (chars t.now) s cause said.0 fault)
+want_at (t ∷ texts) (s ∷ specs) zero cause said (inr fault) = absurd (Says-untold (chars t.now) s cause said.0 fault)
 want_at (t ∷ texts) (s ∷ specs) (suc i) cause said here = want_at texts specs i cause said.1 here
 
 pub IsWantOfMemory-reading : {A : Type 0} (texts : List (Bor (List ℕ))) (specs : List IdMap) (e : SpecsError A) → AllSay texts specs → IsReadingFault texts e → IsWantOfMemory e

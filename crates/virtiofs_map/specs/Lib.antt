@@ -17,7 +17,6 @@ pub mod RuleText
 pub mod SameRule
 pub mod Scope
 pub mod Separator
-pub mod SpecificationLaws
 pub mod SpecificationParts
 pub mod SpecificationText
 pub mod Specifications

@@ -1,5 +1,5 @@
 -- The texts that say a specification, as `map:0:1000:10`, and what is wrong with the others.
-use Rattle.std.specs.Prelude.{◌≡◌, ◌≢◌, ◌⊎◌, ℕ, Bool, false, ◌||◌, ◌==◌, List, [], ◌∷◌, ◌++◌, length, map, codes, string_bytes}
+use Rattle.std.specs.Prelude.{◌≡◌, ◌≢◌, ◌⊎◌, ℕ, Bool, false, ◌||◌, ◌==◌, List, [], ◌∷◌, ◌++◌, length, map, codes, string_bytes, Option, Some, None, IsSomeAnd}
 use Rattle.std.specs.List.{AllPass, AllZip}
 use Rattle.std.specs.Char.{to_ascii_lowercase}
 use Rattle.std.specs.Str.{chars}
@@ -9,7 +9,7 @@ use Rattle.virtiofs_map.specs.Separator.{fields_of}
 use Rattle.virtiofs_map.specs.declared.cmdline.IdMap.{IdMap}
 use Rattle.virtiofs_map.specs.declared.cmdline.IdMap.TheVariants.{Guest, Host, SquashGuest, SquashHost, Bidirectional, ForbidGuest}
 use Rattle.virtiofs_map.specs.declared.cmdline.IdMapError.{IdMapError}
-use Rattle.virtiofs_map.specs.declared.cmdline.IdMapError.TheVariants.{InvalidPrefix, InvalidLength, InvalidValue, OutOfMemory}
+use Rattle.virtiofs_map.specs.declared.cmdline.IdMapError.TheVariants as errors
 
 -- a character of a prefix: alphanumeric, `-` or `_`
 abbrev pub is_word_character : ℕ → Bool
@@ -100,8 +100,24 @@ pub record HasMiscount (text : List ℕ) (expected seen : ℕ) : Type 0 where
   pub other : seen ≢ expected
 
 -- what is wrong with a text that says no specification
+pub data Fault : Type 0 where
+  InvalidPrefix : List ℕ → Fault
+  InvalidLength : ℕ → ℕ → Fault
+  InvalidValue : List ℕ → Fault
+
+-- the text has that fault
+abbrev pub HasFault : List ℕ → Fault → Type 0
+HasFault text (InvalidLength expected seen) = (HasNoField text × (expected ≡ 1) × (seen ≡ 0)) ⊎ HasMiscount text expected seen
+HasFault text (InvalidValue field) = HasUnread text field
+HasFault text (InvalidPrefix word) = HasUnknownPrefix text word
+
+-- the fault that an error tells; none where a request for memory was refused
+abbrev pub fault_of : {A : Type 0} → IdMapError A → Option Fault
+fault_of (errors.InvalidPrefix prefix) = Some (InvalidPrefix (chars (string_bytes prefix)))
+fault_of (errors.InvalidLength expected seen) = Some (InvalidLength expected seen)
+fault_of (errors.InvalidValue value error) = Some (InvalidValue (chars (string_bytes value)))
+fault_of errors.OutOfMemory = None
+
+-- the error tells a fault of the text
 abbrev pub IsFaultOf : {A : Type 0} → List ℕ → IdMapError A → Type 0
-IsFaultOf text (InvalidLength expected seen) = (HasNoField text × (expected ≡ 1) × (seen ≡ 0)) ⊎ HasMiscount text expected seen
-IsFaultOf text (InvalidValue value error) = HasUnread text (chars (string_bytes value))
-IsFaultOf text (InvalidPrefix prefix) = HasUnknownPrefix text (chars (string_bytes prefix))
-IsFaultOf text OutOfMemory = ⊥
+IsFaultOf text error = IsSomeAnd (fault_of error) (HasFault text)
