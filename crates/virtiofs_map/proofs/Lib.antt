@@ -24,3 +24,4 @@ pub mod ReadSoFar
 pub mod SameRules
 pub mod Trimming
 pub mod Words
+pub mod Zips

@@ -13,9 +13,7 @@ use Rattle.virtiofs_map.specs.Alphanumeric.{is_alphanumeric}
 use Rattle.virtiofs_map.specs.Numeral.{IsNumeral}
 use Rattle.virtiofs_map.specs.Separator.{Lacks, fields_of}
 use Rattle.virtiofs_map.specs.NamespaceParts.{IsThreeFields}
-use Rattle.virtiofs_map.specs.NamespaceText.{SaysNamespace, IsEnclosed, HasNoDelimiter, HasOtherField, IsNamespaceFault, IsSameFault}
-use Rattle.virtiofs_map.specs.declared.idmap.IdMapError.{IdMapError}
-use Rattle.virtiofs_map.specs.declared.idmap.IdMapError.TheVariants.{InvalidDelimiter, IncompleteMap, InvalidValue}
+use Rattle.virtiofs_map.specs.NamespaceText.{SaysNamespace, IsEnclosed, HasNoDelimiter, HasOtherField, Fault, InvalidDelimiter, IncompleteMap, InvalidValue, HasFault}
 use Rattle.virtiofs_map.proofs.NumeralLemmas.{IsNumeral-unique}
 use Rattle.virtiofs_map.proofs.PrefixLemmas.{chars-push}
 use Rattle.virtiofs_map.proofs.SpecificationLemmas.{fields_of-cut, fields_of-last}
@@ -160,7 +158,7 @@ fields_of_range text a b c p =
     (All-cons Read p.third [] (c, p.third_says) (All-nil Read))))
 
 -- a text that says a range has no fault
-pub SaysNamespace-no_fault : (text : List ℕ) (a b c : ℕ) (e : IdMapError) → SaysNamespace text a b c → ¬ IsNamespaceFault text e
+pub SaysNamespace-no_fault : (text : List ℕ) (a b c : ℕ) (e : Fault) → SaysNamespace text a b c → ¬ HasFault text e
 SaysNamespace-no_fault text a b c InvalidDelimiter says fault =
     let p = range_inside text a b c says in
     delimiter_of_enclosed text p.delimiter p.inner p.enclosed fault
@@ -170,7 +168,7 @@ SaysNamespace-no_fault text a b c IncompleteMap says fault =
       | inl empty ↦ some_of_enclosed text p.delimiter p.inner p.enclosed empty
       | inr count ↦ count.other (count_of_enclosed text count.delimiter p.delimiter count.inner p.inner count.enclosed p.enclosed ∙ ap length p.fields)
     ]
-SaysNamespace-no_fault text a b c (InvalidValue error) says fault =
+SaysNamespace-no_fault text a b c InvalidValue says fault =
     let p = range_inside text a b c says in
     let (delimiter, inner) = enclosed_same text fault.delimiter p.delimiter fault.inner p.inner fault.enclosed p.enclosed in
     let here : Contains (fields_of p.delimiter p.inner) fault.field = subst (λ (fs : List (List ℕ)). Contains fs fault.field) (rw (delimiter, inner) refl) fault.here in
@@ -178,14 +176,14 @@ SaysNamespace-no_fault text a b c (InvalidValue error) says fault =
     fault.unread read.0 read.1
 
 -- an empty text or another count of fields is no other fault
-apart_from_incomplete : (text : List ℕ) (d : ℕ) (inner : List ℕ) → IsEnclosed text d inner → length (fields_of d inner) ≡ 3 → ¬ IsNamespaceFault text IncompleteMap
+apart_from_incomplete : (text : List ℕ) (d : ℕ) (inner : List ℕ) → IsEnclosed text d inner → length (fields_of d inner) ≡ 3 → ¬ HasFault text IncompleteMap
 apart_from_incomplete text d inner enclosed three fault =
     elim fault [
       | inl empty ↦ some_of_enclosed text d inner enclosed empty
       | inr count ↦ count.other (count_of_enclosed text count.delimiter d count.inner inner count.enclosed enclosed ∙ three)
     ]
 
-apart_from_delimiter : (text : List ℕ) → HasNoDelimiter text → ¬ IsNamespaceFault text IncompleteMap
+apart_from_delimiter : (text : List ℕ) → HasNoDelimiter text → ¬ HasFault text IncompleteMap
 apart_from_delimiter text none fault =
     elim fault [
       | inl empty ↦ absurd (omega (arith, ap length (sym empty ∙ none.ends), length-append none.front (none.last ∷ [])))
@@ -193,16 +191,16 @@ apart_from_delimiter text none fault =
     ]
 
 -- a text has one fault at most
-pub IsNamespaceFault-unique : (text : List ℕ) (e f : IdMapError) → IsNamespaceFault text e → IsNamespaceFault text f → IsSameFault e f
-IsNamespaceFault-unique text InvalidDelimiter InvalidDelimiter one two = tt
-IsNamespaceFault-unique text InvalidDelimiter IncompleteMap one two = apart_from_delimiter text one two
-IsNamespaceFault-unique text InvalidDelimiter (InvalidValue other) one two = delimiter_of_enclosed text two.delimiter two.inner two.enclosed one
-IsNamespaceFault-unique text IncompleteMap InvalidDelimiter one two = apart_from_delimiter text two one
-IsNamespaceFault-unique text IncompleteMap IncompleteMap one two = tt
-IsNamespaceFault-unique text IncompleteMap (InvalidValue other) one two = apart_from_incomplete text two.delimiter two.inner two.enclosed two.three one
-IsNamespaceFault-unique text (InvalidValue error) InvalidDelimiter one two = delimiter_of_enclosed text one.delimiter one.inner one.enclosed two
-IsNamespaceFault-unique text (InvalidValue error) IncompleteMap one two = apart_from_incomplete text one.delimiter one.inner one.enclosed one.three two
-IsNamespaceFault-unique text (InvalidValue error) (InvalidValue other) one two = tt
+pub HasFault-one : (text : List ℕ) (e f : Fault) → HasFault text e → HasFault text f → e ≡ f
+HasFault-one text InvalidDelimiter InvalidDelimiter one two = refl
+HasFault-one text InvalidDelimiter IncompleteMap one two = absurd (apart_from_delimiter text one two)
+HasFault-one text InvalidDelimiter InvalidValue one two = absurd (delimiter_of_enclosed text two.delimiter two.inner two.enclosed one)
+HasFault-one text IncompleteMap InvalidDelimiter one two = absurd (apart_from_delimiter text two one)
+HasFault-one text IncompleteMap IncompleteMap one two = refl
+HasFault-one text IncompleteMap InvalidValue one two = absurd (apart_from_incomplete text two.delimiter two.inner two.enclosed two.three one)
+HasFault-one text InvalidValue InvalidDelimiter one two = absurd (delimiter_of_enclosed text one.delimiter one.inner one.enclosed two)
+HasFault-one text InvalidValue IncompleteMap one two = absurd (apart_from_incomplete text one.delimiter one.inner one.enclosed one.three two)
+HasFault-one text InvalidValue InvalidValue one two = refl
 
 -- a text before its last character
 pub record IsBeforeLast (bs rest : List ℕ) (c : ℕ) : Type 0 where

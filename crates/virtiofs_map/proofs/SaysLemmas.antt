@@ -1,10 +1,6 @@
 -- A text says one specification alone, or has one fault alone.
-use Rattle.std.proofs.Common.{◌≡◌, ◌⊎◌, inl, inr, ◌==◌, ℕ, Bool, true, false, cond, List, [], ◌∷◌, ◌++◌, length, All, String, string_bytes, Option, Some, None, IsSomeAnd, Result, Ok, Err, IfOk, IfErr, MatchResult, refl, sym, ap, ◌∙◌, subst, arith}
-use Rattle.std.specs.Char.{IsAsciiDigit}
-use Rattle.std.specs.Str.{chars, encode_utf8_all}
-use Rattle.std.specs.Str.Parse.{digits_value}
+use Rattle.std.proofs.Common.{◌≡◌, ◌⊎◌, inl, inr, ◌==◌, ℕ, Bool, true, false, cond, List, [], ◌∷◌, ◌++◌, length, Option, Some, None, IsSomeAnd, Result, Ok, Err, IfOk, IfErr, MatchResult, refl, sym, ap, ◌∙◌, subst}
 use Rattle.std.specs.List.{AllZip, AllPass}
-use Rattle.std.proofs.lemmas.Str.{encodes-chars, IsUtf8-string_bytes}
 use Rattle.std.proofs.lemmas.Bool.{false≢true}
 use Rattle.std.proofs.lemmas.List.Elements.{All-head, All-tail}
 use Rattle.virtiofs_map.specs.Numeral.{IsNumeral}
@@ -14,6 +10,8 @@ use Rattle.virtiofs_map.specs.declared.cmdline.IdMap.{IdMap}
 use Rattle.virtiofs_map.specs.declared.cmdline.IdMap.TheVariants.{Guest, Host, SquashGuest, SquashHost, Bidirectional, ForbidGuest}
 use Rattle.virtiofs_map.specs.declared.cmdline.IdMapError.{IdMapError}
 use Rattle.virtiofs_map.specs.declared.cmdline.IdMapError.TheVariants.{OutOfMemory}
+use Rattle.virtiofs_map.proofs.NumeralLemmas.{IsNumeral-unique}
+use Rattle.virtiofs_map.proofs.Zips.{AllZip-one}
 
 -- one character that fails a test stands behind the longest front that passes it
 record SameCut (front other : List ℕ) (c d : ℕ) (back rest : List ℕ) : Type 0 where
@@ -55,37 +53,6 @@ HasNoField-uncut : (text prefix : List ℕ) (c : ℕ) (rest : List ℕ) → HasN
 HasNoField-uncut text prefix c rest none cut =
     cut_apart is_word_character prefix c rest (subst (λ (t : List ℕ). AllPass is_word_character t) cut.whole none) cut.ends
 
--- a numeral has one value
-unsigned : (digits other : List ℕ) → digits ≡ 43 ∷ other → All IsAsciiDigit digits → ⊥
-unsigned [] other same decimal = cc
-unsigned (d ∷ digits) other same decimal =
-    let first : IsAsciiDigit d = All-head IsAsciiDigit d digits decimal in
-    let is : d ≡ 43 = cc in
-    plus_sign d is first where
-      plus_sign : (c : ℕ) → c ≡ 43 → IsAsciiDigit c → ⊥
-      plus_sign c is (low, high) = omega arith
-
-one_digits : (text digits other : List ℕ) → (text ≡ digits) ⊎ (text ≡ 43 ∷ digits) → (text ≡ other) ⊎ (text ≡ 43 ∷ other) → All IsAsciiDigit digits → All IsAsciiDigit other → digits ≡ other
-one_digits text digits other (inl a) (inl b) first second = sym a ∙ b
-one_digits text digits other (inl a) (inr b) first second = absurd (unsigned digits other (sym a ∙ b) first)
-one_digits text digits other (inr a) (inl b) first second = absurd (unsigned other digits (sym b ∙ a) second)
-one_digits text digits other (inr a) (inr b) first second = cc
-
-IsNumeral-one : (text : List ℕ) (value other : ℕ) → IsNumeral text value → IsNumeral text other → value ≡ other
-IsNumeral-one text value other first second =
-    let same : first.digits ≡ second.digits = one_digits text first.digits second.digits first.written second.written first.decimal second.decimal in
-    sym first.worth ∙ ap (digits_value 10) same ∙ second.worth
-
-IsNumeral-all : (fields : List (List ℕ)) (values others : List ℕ) → AllZip IsNumeral fields values → AllZip IsNumeral fields others → values ≡ others
-IsNumeral-all [] [] [] first second = refl
-IsNumeral-all [] (v ∷ values) others first second = absurd first
-IsNumeral-all [] [] (w ∷ others) first second = absurd second
-IsNumeral-all (f ∷ fields) [] others first second = absurd first
-IsNumeral-all (f ∷ fields) (v ∷ values) [] first second = absurd second
-IsNumeral-all (f ∷ fields) (v ∷ values) (w ∷ others) first second =
-    let here : v ≡ w = IsNumeral-one f v w first.0 second.0 in
-    let there : values ≡ others = IsNumeral-all fields values others first.1 second.1 in cc
-
 -- a word and its numbers are those of one specification
 spec_of : ℕ → List ℕ → IdMap
 spec_of n (a ∷ b ∷ c ∷ []) = cond (n == 5) (Guest a b c) (cond (n == 4) (Host a b c) (cond (n == 12) (SquashGuest a b c) (cond (n == 11) (SquashHost a b c) (Bidirectional a b c))))
@@ -110,7 +77,7 @@ Says-one text spec other first second =
     let cut = IsCut-one text first.prefix second.prefix first.separator second.separator first.rest second.rest first.cut second.cut in
     let word : word_of spec ≡ word_of other = sym first.word ∙ ap lowered cut.same_front ∙ second.word in
     let fields : fields_of first.separator first.rest ≡ fields_of second.separator second.rest = rw (cut.same_character, cut.same_back) refl in
-    let numbers : numbers_of spec ≡ numbers_of other = IsNumeral-all (fields_of second.separator second.rest) (numbers_of spec) (numbers_of other) (subst (λ (fs : List (List ℕ)). AllZip IsNumeral fs (numbers_of spec)) fields first.numbers) second.numbers in
+    let numbers : numbers_of spec ≡ numbers_of other = AllZip-one IsNumeral IsNumeral-unique (fields_of second.separator second.rest) (numbers_of spec) (numbers_of other) (subst (λ (fs : List (List ℕ)). AllZip IsNumeral fs (numbers_of spec)) fields first.numbers) second.numbers in
     one_spec spec other word numbers
 
 -- the first field that is no numeral is one field alone
@@ -169,7 +136,7 @@ IsCounted-prefix text prefix other seen got first second = prefix_same text pref
 IsCounted-one : (text prefix other : List ℕ) (seen got : ℕ) → IsCounted text prefix seen → IsCounted text other got → seen ≡ got
 IsCounted-one text prefix other seen got first second =
     let same = fields_same text prefix other first.separator second.separator first.rest second.rest first.cut second.cut in
-    let values : first.values ≡ second.values = IsNumeral-all (fields_of second.separator second.rest) first.values second.values (subst (λ (fs : List (List ℕ)). AllZip IsNumeral fs first.values) same first.numbers) second.numbers in
+    let values : first.values ≡ second.values = AllZip-one IsNumeral IsNumeral-unique (fields_of second.separator second.rest) first.values second.values (subst (λ (fs : List (List ℕ)). AllZip IsNumeral fs first.values) same first.numbers) second.numbers in
     sym first.count ∙ ap (λ (ns : List ℕ). length ns) values ∙ second.count
 
 -- how many numbers a word takes

@@ -35,12 +35,6 @@ fields_of-cut separator rest front back whole first =
 pub fields_of-last : (separator : ℕ) (rest : List ℕ) → Lacks separator rest → fields_of separator rest ≡ rest ∷ []
 fields_of-last separator rest none = slice_split_none (λ c. c == separator) rest (fails_from_lacks separator rest none)
 
-pub AllZip-push : {X Y : Type 0} (R : X → Y → Type 0) (xs : List X) (ys : List Y) (x : X) (y : Y) → AllZip R xs ys → R x y → AllZip R (xs ++ x ∷ []) (ys ++ y ∷ [])
-AllZip-push R [] [] x y all one = (one, tt)
-AllZip-push R [] (b ∷ ys) x y all one = absurd all
-AllZip-push R (a ∷ xs) [] x y all one = absurd all
-AllZip-push R (a ∷ xs) (b ∷ ys) x y all one = (all.0, AllZip-push R xs ys x y all.1 one)
-
 -- the fault of a field is that of the fields, where those before it are numerals
 pub IsFieldsFault-here : {A : Type 0} (fields done after : List (List ℕ)) (numbers field : List ℕ) (e : IdMapError A) → fields ≡ done ++ field ∷ after → AllZip IsNumeral done numbers → IsFieldFault field e → IsFieldsFault fields e
 IsFieldsFault-here fields done after numbers field (InvalidPrefix p) here read fault = fault

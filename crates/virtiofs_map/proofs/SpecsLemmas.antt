@@ -1,5 +1,5 @@
 -- A list of texts says one list of specifications alone, or is not read.
-use Rattle.std.proofs.Common.{◌≡◌, ◌⊎◌, inl, inr, ℕ, ◌+◌, ◌<◌, zero, suc, List, [], ◌∷◌, ◌++◌, length, take, get_or, slice_get, IsSomeAnd, Bor, refl}
+use Rattle.std.proofs.Common.{◌≡◌, ◌⊎◌, inl, inr, ℕ, ◌+◌, ◌<◌, zero, suc, List, [], ◌∷◌, ◌++◌, length, take, get_or, slice_get, IsSomeAnd, Bor}
 use Rattle.std.specs.Str.{chars}
 use Rattle.std.proofs.lemmas.List.{take_more}
 use Rattle.virtiofs_map.specs.SpecificationText.{Says, IsFaultOf}
@@ -10,7 +10,7 @@ use Rattle.virtiofs_map.specs.declared.cmdline.IdMapError.{IdMapError}
 use Rattle.virtiofs_map.specs.declared.cmdline.IdMapError.TheVariants.{OutOfMemory}
 use Rattle.virtiofs_map.specs.declared.soft_idmap.specs_error.SpecsError.{SpecsError}
 use Rattle.virtiofs_map.specs.declared.soft_idmap.specs_error.SpecsError.TheVariants.{Spec, Build}
-use Rattle.virtiofs_map.proofs.SpecificationLemmas.{AllZip-push}
+use Rattle.virtiofs_map.proofs.Zips.{AllZip-push, AllZip-one}
 use Rattle.virtiofs_map.proofs.SaysLemmas.{Says-one, Says-untold}
 
 pub AllSay-more : (texts : List (Bor (List ℕ))) (specs : List IdMap) (i : ℕ) (d : Bor (List ℕ)) (spec : IdMap) → i < length texts → AllSay (take i texts) specs → Says (chars (get_or texts i d).now) spec → AllSay (take (i + 1) texts) (specs ++ spec ∷ [])
@@ -18,14 +18,7 @@ AllSay-more texts specs i d spec below said here =
     rw (take_more texts i d below) (AllZip-push (λ (text : Bor (List ℕ)) (s : IdMap). Says (chars text.now) s) (take i texts) specs (get_or texts i d) spec said here)
 
 pub AllSay-one : (texts : List (Bor (List ℕ))) (specs others : List IdMap) → AllSay texts specs → AllSay texts others → specs ≡ others
-AllSay-one [] [] [] first second = refl
-AllSay-one [] (s ∷ specs) others first second = absurd first
-AllSay-one [] [] (o ∷ others) first second = absurd second
-AllSay-one (t ∷ texts) [] others first second = absurd first
-AllSay-one (t ∷ texts) (s ∷ specs) [] first second = absurd second
-AllSay-one (t ∷ texts) (s ∷ specs) (o ∷ others) first second =
-    let here : s ≡ o = Says-one (chars t.now) s o first.0 second.0 in
-    let there : specs ≡ others = AllSay-one texts specs others first.1 second.1 in cc
+AllSay-one = AllZip-one (λ (text : Bor (List ℕ)) (s : IdMap). Says (chars text.now) s) (λ text. Says-one (chars text.now))
 
 -- a text that says a specification is at fault only for want of memory
 want_at : {A : Type 0} (texts : List (Bor (List ℕ))) (specs : List IdMap) (i : ℕ) (cause : IdMapError A) → AllSay texts specs → IsSomeAnd (slice_get texts i) (λ text. (cause ≡ OutOfMemory) ⊎ IsFaultOf (chars text.now) cause) → cause ≡ OutOfMemory

@@ -1,10 +1,10 @@
 -- The texts that say a range of a namespace, as `:0:100000:65536:`, and what is wrong with the others.
-use Rattle.std.specs.Prelude.{◌≡◌, ◌≢◌, ◌⊎◌, ℕ, true, false, List, [], ◌∷◌, ◌++◌, length, Contains, ⊤}
+use Rattle.std.specs.Prelude.{◌≡◌, ◌≢◌, ◌⊎◌, ℕ, true, false, List, [], ◌∷◌, ◌++◌, length, Contains}
 use Rattle.virtiofs_map.specs.Alphanumeric.{is_alphanumeric}
 use Rattle.virtiofs_map.specs.Numeral.{IsNumeral}
 use Rattle.virtiofs_map.specs.Separator.{Lacks, fields_of}
 use Rattle.virtiofs_map.specs.declared.idmap.IdMapError.{IdMapError}
-use Rattle.virtiofs_map.specs.declared.idmap.IdMapError.TheVariants.{InvalidDelimiter, IncompleteMap, InvalidValue}
+use Rattle.virtiofs_map.specs.declared.idmap.IdMapError.TheVariants as errors
 
 -- the field is a numeral of the value, and the delimiter is not in it
 pub record IsField (delimiter : ℕ) (field : List ℕ) (value : ℕ) : Type 0 where
@@ -53,17 +53,22 @@ pub record HasOtherField (text : List ℕ) : Type 0 where
   pub unread : (value : ℕ) → ¬ IsNumeral field value
 
 -- what is wrong with a text that says no range
-abbrev pub IsNamespaceFault : List ℕ → IdMapError → Type 0
-IsNamespaceFault text InvalidDelimiter = HasNoDelimiter text
-IsNamespaceFault text IncompleteMap = (text ≡ []) ⊎ HasOtherCount text
-IsNamespaceFault text (InvalidValue error) = HasOtherField text
+pub data Fault : Type 0 where
+  InvalidDelimiter : Fault
+  IncompleteMap : Fault
+  InvalidValue : Fault
 
--- the two faults differ in no more than what is wrong with a number
-abbrev pub IsSameFault : IdMapError → IdMapError → Type 0
-IsSameFault InvalidDelimiter InvalidDelimiter = ⊤
-IsSameFault IncompleteMap IncompleteMap = ⊤
-IsSameFault (InvalidValue error) (InvalidValue other) = ⊤
-IsSameFault _ _ = ⊥
+-- the text has that fault
+abbrev pub HasFault : List ℕ → Fault → Type 0
+HasFault text InvalidDelimiter = HasNoDelimiter text
+HasFault text IncompleteMap = (text ≡ []) ⊎ HasOtherCount text
+HasFault text InvalidValue = HasOtherField text
+
+-- the fault that an error tells
+abbrev pub fault_of : IdMapError → Fault
+fault_of errors.InvalidDelimiter = InvalidDelimiter
+fault_of errors.IncompleteMap = IncompleteMap
+fault_of (errors.InvalidValue error) = InvalidValue
 
 -- a text says one range at most
 abbrev pub HasOneRange : Type 0
@@ -71,8 +76,8 @@ HasOneRange = (text : List ℕ) (inside outside count a b c : ℕ) → SaysNames
 
 -- a text that says a range has no fault
 abbrev pub HasNoFault : Type 0
-HasNoFault = (text : List ℕ) (inside outside count : ℕ) (error : IdMapError) → SaysNamespace text inside outside count → ¬ IsNamespaceFault text error
+HasNoFault = (text : List ℕ) (inside outside count : ℕ) (fault : Fault) → SaysNamespace text inside outside count → ¬ HasFault text fault
 
 -- a text has one fault at most
 abbrev pub HasOneFault : Type 0
-HasOneFault = (text : List ℕ) (error other : IdMapError) → IsNamespaceFault text error → IsNamespaceFault text other → IsSameFault error other
+HasOneFault = (text : List ℕ) (fault other : Fault) → HasFault text fault → HasFault text other → fault ≡ other

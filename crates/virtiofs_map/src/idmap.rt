@@ -69,7 +69,7 @@ impl From<ParseIntError> for IdMapError {
 impl UidMap {
     ghost use Rattle.std.specs.Prelude.{IfOk, IfErr};
     ghost use Rattle.std.specs.Str.{chars};
-    ghost use Rattle.virtiofs_map.specs.NamespaceText.{SaysNamespace, IsNamespaceFault};
+    ghost use Rattle.virtiofs_map.specs.NamespaceText.{SaysNamespace, HasFault, fault_of};
 
     /// Reads a range of user ids. It takes no memory.
     ///
@@ -81,7 +81,7 @@ impl UidMap {
     /// them, and may have a `+` in front.
     pub fn from_str(text: &str) -> Result<UidMap, IdMapError>
         ensures read { IfOk result (λ map. SaysNamespace (chars text.now) map.inside_uid map.outside_uid map.count) }
-        ensures fault { IfErr result (IsNamespaceFault (chars text.now)) }
+        ensures fault { IfErr result (λ error. HasFault (chars text.now) (fault_of error)) }
     {
         let range = Range::from_str(text)?;
         Ok(UidMap {
@@ -95,13 +95,13 @@ impl UidMap {
 impl GidMap {
     ghost use Rattle.std.specs.Prelude.{IfOk, IfErr};
     ghost use Rattle.std.specs.Str.{chars};
-    ghost use Rattle.virtiofs_map.specs.NamespaceText.{SaysNamespace, IsNamespaceFault};
+    ghost use Rattle.virtiofs_map.specs.NamespaceText.{SaysNamespace, HasFault, fault_of};
 
     /// Reads a range of group ids, from the same texts and with the same errors as
     /// [`UidMap::from_str`]. It takes no memory.
     pub fn from_str(text: &str) -> Result<GidMap, IdMapError>
         ensures read { IfOk result (λ map. SaysNamespace (chars text.now) map.inside_gid map.outside_gid map.count) }
-        ensures fault { IfErr result (IsNamespaceFault (chars text.now)) }
+        ensures fault { IfErr result (λ error. HasFault (chars text.now) (fault_of error)) }
     {
         let range = Range::from_str(text)?;
         Ok(GidMap {

@@ -1,21 +1,20 @@
 -- From what the library says of texts to what the program answers.
-use Rattle.std.proofs.Common.{◌≡◌, ◌≢◌, ◌⊎◌, sym, ℕ, zero, suc, List, [], ◌∷◌, ◌++◌, length, take, IsSomeAnd, slice_get, String, string_bytes, encode_utf8_all, codes, refl, ap, ◌∙◌, subst, inl, inr, arith}
+use Rattle.std.proofs.Common.{◌≡◌, ◌≢◌, ◌⊎◌, sym, ℕ, zero, suc, List, [], ◌∷◌, ◌++◌, length, take, Option, Some, None, IsSomeAnd, slice_get, Result, Ok, Err, OnOk, append_assoc, codes, refl, ap, ◌∙◌, subst, inl, inr, arith}
 use Rattle.std.specs.Borrow.{Bor}
-use Rattle.std.proofs.lemmas.Str.{encodes-chars, IsUtf8-string_bytes}
+use Rattle.std.specs.Fmt.{decimal}
 use Rattle.std.specs.List.{AllZip, concat}
 use Rattle.std.specs.Str.{chars}
 use Rattle.std.proofs.lemmas.List.{length-map, map-append}
 use Rattle.virtiofs_map.specs.Build.{Accepted}
 use Rattle.virtiofs_map.specs.Printed.{build_error_text}
-use Rattle.virtiofs_map.specs.SpecificationText.{IsFaultOf}
+use Rattle.virtiofs_map.specs.SpecificationText.{Fault, InvalidLength, HasFault, fault_of, IsFaultOf}
 use Rattle.virtiofs_map.specs.Specifications.{AllSay as AllTextsSay, IsFirstUnsaid, IsUnbuilt}
 use Rattle.virtiofs_map.specs.declared.cmdline.IdMap.{IdMap}
 use Rattle.virtiofs_map.specs.declared.cmdline.IdMapError.{IdMapError}
-use Rattle.virtiofs_map.specs.declared.cmdline.IdMapError.TheVariants.{InvalidPrefix, InvalidLength, InvalidValue, OutOfMemory}
+use Rattle.virtiofs_map.specs.declared.cmdline.IdMapError.TheVariants.{OutOfMemory}
 use Rattle.virtiofs_map.specs.declared.soft_idmap.errors.IdMapBuildError.{IdMapBuildError}
 use Rattle.virtiofs_map.specs.declared.soft_idmap.errors.IdMapBuildError.TheVariants.{OutOfMemory as NoMemory}
-use Rattle.virtiofs_mapcheck.specs.Answer.{AllSay, IsLine, GivesIds, IsTextFault, RefusesText, RefusesBuild, refused_line, index_of, quoted}
-use Rattle.virtiofs_mapcheck.specs.AnswerParts.{IsCauseText}
+use Rattle.virtiofs_mapcheck.specs.Answer.{AllSay, IsLine, GivesIds, specification_fault_text, RefusesText, RefusesBuild, refused_line, index_of}
 use Rattle.virtiofs_mapcheck.specs.Words.{words_of}
 use Rattle.virtiofs_mapcheck.specs.declared.words.Query.{Query}
 
@@ -44,37 +43,35 @@ split_at (t ∷ texts) (suc index) P here =
     let (at, after, whole, place, is) = split_at texts index P here in
     (at, after, ap (λ (xs : List (Bor (List ℕ))). t ∷ xs) whole, omega (arith, place), is)
 
--- the bytes of a text, by way of its characters
-quoted_again : {A : Type 0} (s : String A) (front why : List ℕ) → why ≡ front ++ quoted (string_bytes s) → why ≡ front ++ quoted (encode_utf8_all (chars (string_bytes s)))
-quoted_again s front why said = said ∙ ap (λ (bytes : List ℕ). front ++ quoted bytes) (sym (encodes-chars (string_bytes s) (IsUtf8-string_bytes s)))
+-- a text at fault, of which an error tells that fault
+untold : {A : Type 0} (text : List ℕ) (cause : IdMapError A) (fault : Fault) → (cause ≡ OutOfMemory) ⊎ IsFaultOf text cause → fault_of cause ≡ Some fault → HasFault text fault
+untold {A} text cause fault (inl memory) tells = absurd (no_fault (sym (ap (λ (e : IdMapError A). fault_of e) memory) ∙ tells)) where
+  no_fault : ◌≡◌ {A = Option Fault} None (Some fault) → ⊥
+  no_fault same = cc
+untold text cause fault (inr wrong) tells = subst (λ (o : Option Fault). IsSomeAnd o (HasFault text)) tells wrong
 
--- what is said of a text at fault
-IsTextFault-cause : {A : Type 0} (text : List ℕ) (cause : IdMapError A) (why : List ℕ) → IsFaultOf text cause → IsCauseText cause why → IsTextFault text why
-IsTextFault-cause text (InvalidPrefix p) why fault said = inr (inr (inr (chars (string_bytes p), fault, quoted_again p (codes "InvalidPrefix ") why said)))
-IsTextFault-cause text (InvalidLength e s) why fault said =
-    elim fault [
-      | inl none ↦ inl (none.0, rw (said, none.1, none.2) refl)
-      | inr count ↦ inr (inl (e, s, count, said))
-    ]
-IsTextFault-cause text (InvalidValue v e) why fault said = inr (inr (inl (chars (string_bytes v), fault, quoted_again v (codes "InvalidValue ") why said)))
-IsTextFault-cause text OutOfMemory why fault said = absurd said
+-- what was written of an error is said of the fault that it tells
+pub fault_said : {A T E : Type 0} (r : Result T E) (old new : List ℕ) (cause known : IdMapError A) (fault : Fault) → cause ≡ known → fault_of known ≡ Some fault → OnOk r (new ≡ old ++ specification_fault_text fault) → OnOk r ((x : Fault) × (fault_of cause ≡ Some x) × (new ≡ old ++ specification_fault_text x))
+fault_said {A} (Ok x) old new cause known fault is tells wrote = (fault, ap (λ (e : IdMapError A). fault_of e) is ∙ tells, wrote)
+fault_said (Err e) old new cause known fault is tells wrote = tt
 
-pub RefusesText-cause : {A : Type 0} (texts : List (Bor (List ℕ))) (index : ℕ) (cause : IdMapError A) (text : List ℕ) → IsFirstUnsaid texts index cause → ((why : List ℕ) × IsCauseText cause why × (text ≡ refused_line index why)) → RefusesText (words_of texts) text
-RefusesText-cause {A} texts index cause text unsaid (why, said, whole) =
-    let (t, after, all, place, fault) = split_at texts index (λ t. (cause ≡ OutOfMemory) ⊎ IsFaultOf (chars t.now) cause) unsaid.here in
+pub length_said : {T E : Type 0} (r : Result T E) (old new : List ℕ) (expected seen : ℕ) → OnOk r (new ≡ old ++ (codes "InvalidLength expected " ++ (decimal expected ++ (codes " seen " ++ decimal seen)))) → OnOk r (new ≡ old ++ specification_fault_text (InvalidLength expected seen))
+length_said (Ok x) old new expected seen wrote = wrote ∙ ap (λ (xs : List ℕ). old ++ xs) (simp append_assoc)
+length_said (Err e) old new expected seen wrote = tt
+
+pub RefusesText-cause : {A : Type 0} (texts : List (Bor (List ℕ))) (index : ℕ) (cause : IdMapError A) (text : List ℕ) → IsFirstUnsaid texts index cause → ((fault : Fault) × (fault_of cause ≡ Some fault) × (text ≡ refused_line index (specification_fault_text fault))) → RefusesText (words_of texts) text
+RefusesText-cause {A} texts index cause text unsaid (fault, tells, whole) =
+    let (t, after, all, place, wrong) = split_at texts index (λ t. (cause ≡ OutOfMemory) ⊎ IsFaultOf (chars t.now) cause) unsaid.here in
     let before : length (words_of (take index texts)) ≡ index = length-map (take index texts) (λ word. word.now) ∙ place in
     record {
       before = words_of (take index texts);
       at = t.now;
       after = words_of after;
       specs = unsaid.before;
-      why = why;
+      fault = fault;
       here = ap words_of all ∙ map-append (λ word. word.now) (take index texts) (t ∷ after);
       said = AllSay-words (take index texts) unsaid.before unsaid.said;
-      fault = elim fault [
-        | inl memory ↦ absurd (subst (λ (c : IdMapError A). IsCauseText c why) memory said)
-        | inr is ↦ IsTextFault-cause (chars t.now) cause why is said
-      ];
+      wrong = untold (chars t.now) cause fault wrong tells;
       whole = rw before whole;
     }
 

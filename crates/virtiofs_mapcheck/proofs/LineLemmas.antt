@@ -2,7 +2,7 @@
 use Rattle.std.proofs.Common.{◌≡◌, ℕ, ◌+◌, ◌<◌, List, [], ◌∷◌, ◌++◌, length, take, get_or, sym, ap, ◌∙◌, append_assoc, Result, Ok, Err, OnOk}
 use Rattle.std.specs.List.{AllZip, concat}
 use Rattle.std.proofs.lemmas.List.{take_more, append-nil}
-use Rattle.virtiofs_map.proofs.SpecificationLemmas.{AllZip-push}
+use Rattle.virtiofs_map.proofs.Zips.{AllZip-push}
 use Rattle.virtiofs_map.specs.declared.cmdline.IdMap.{IdMap}
 use Rattle.virtiofs_mapcheck.specs.Answer.{IsLine}
 use Rattle.virtiofs_mapcheck.specs.declared.words.Query.{Query}

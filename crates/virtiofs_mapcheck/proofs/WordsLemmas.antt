@@ -9,7 +9,8 @@ use Rattle.std.proofs.Math.Seq.{drop-cons}
 use Rattle.virtiofs_map.specs.Numeral.{IsNumeral}
 use Rattle.virtiofs_map.specs.declared.soft_idmap.entry.Direction.{Direction}
 use Rattle.virtiofs_map.specs.declared.soft_idmap.entry.Direction.TheVariants.{GuestToHost, HostToGuest}
-use Rattle.virtiofs_map.proofs.SpecificationLemmas.{AllZip-push}
+use Rattle.virtiofs_map.proofs.NumeralLemmas.{IsNumeral-unique}
+use Rattle.virtiofs_map.proofs.Zips.{AllZip-push}
 use Rattle.virtiofs_mapcheck.specs.Words.{words_of, ask, query_front, Asks, Form, Ids, Namespace, Client, Server, name_of, IsIds, HasBody, HasForm}
 use Rattle.virtiofs_mapcheck.specs.WordsParts.{IsCutAtAsk, form_of, ReadsBehind}
 use Rattle.virtiofs_mapcheck.specs.declared.words.Query.{Query}
@@ -19,22 +20,27 @@ use Rattle.virtiofs_mapcheck.specs.declared.words.Words.{Words}
 differs : ◌≡◌ {A = ℕ} 103 104 → ⊥
 differs same = absurd (omega arith)
 
--- a word of either direction has one numeral
-unread : (numeral other : List ℕ) (direction whither : Direction) (n : ℕ) → query_front direction ++ numeral ≡ query_front whither ++ other → ((number : ℕ) → IsNumeral (chars numeral) number → ⊥) → IsNumeral (chars other) n → ⊥
-unread numeral other GuestToHost GuestToHost n same none read =
-    let equal : numeral ≡ other = cc in
-    none n (subst (λ (xs : List ℕ). IsNumeral (chars xs) n) (sym equal) read)
-unread numeral other HostToGuest HostToGuest n same none read =
-    let equal : numeral ≡ other = cc in
-    none n (subst (λ (xs : List ℕ). IsNumeral (chars xs) n) (sym equal) read)
-unread numeral other GuestToHost HostToGuest n same none read =
-    differs (ap (λ (xs : List ℕ). get_or xs 0 0) same)
-unread numeral other HostToGuest GuestToHost n same none read =
-    differs (sym (ap (λ (xs : List ℕ). get_or xs 0 0) same))
+-- a query begins with the word of one direction
+query_front-one : (numeral other : List ℕ) (direction whither : Direction) → query_front direction ++ numeral ≡ query_front whither ++ other → (direction ≡ whither) × (numeral ≡ other)
+query_front-one numeral other GuestToHost GuestToHost same = (refl, cc)
+query_front-one numeral other HostToGuest HostToGuest same = (refl, cc)
+query_front-one numeral other GuestToHost HostToGuest same = absurd (differs (ap (λ (xs : List ℕ). get_or xs 0 0) same))
+query_front-one numeral other HostToGuest GuestToHost same = absurd (differs (sym (ap (λ (xs : List ℕ). get_or xs 0 0) same)))
 
 pub Asks-unread : (word numeral : List ℕ) (direction : Direction) (query : Query) → word ≡ query_front direction ++ numeral → ((number : ℕ) → IsNumeral (chars numeral) number → ⊥) → Asks word query → ⊥
 Asks-unread word numeral direction query front none asks =
-    unread numeral asks.numeral direction query.direction query.number (sym front ∙ asks.whole) none asks.number
+    let (whither, same) = query_front-one numeral asks.numeral direction query.direction (sym front ∙ asks.whole) in
+    none query.number (subst (λ (xs : List ℕ). IsNumeral (chars xs) query.number) (sym same) asks.number)
+
+-- a word asks for one number in one direction
+one_query : (direction whither : Direction) (n m : ℕ) → direction ≡ whither → n ≡ m → ◌≡◌ {A = Query} (record { direction = direction; number = n }) (record { direction = whither; number = m })
+one_query direction whither n m same is = cc
+
+pub Asks-one : (word : List ℕ) (query other : Query) → Asks word query → Asks word other → query ≡ other
+Asks-one word query other first second =
+    let (direction, numeral) = query_front-one first.numeral second.numeral query.direction other.direction (sym first.whole ∙ second.whole) in
+    let number = IsNumeral-unique (chars second.numeral) query.number other.number (subst (λ (xs : List ℕ). IsNumeral (chars xs) query.number) numeral first.number) second.number in
+    one_query query.direction other.direction query.number other.number direction number
 
 words_of-append : (xs ys : List (Bor (List ℕ))) → words_of (xs ++ ys) ≡ words_of xs ++ words_of ys
 words_of-append [] ys = refl
@@ -69,17 +75,19 @@ AllZip-unread (w ∷ words) zero d (q ∷ queries) below none all = none q all.0
 AllZip-unread (w ∷ words) (suc i) d (q ∷ queries) below none all = AllZip-unread words i d queries (omega arith) none all.1
 
 -- the first `ask` is one place
-same_cut : (front back front' back' : List (List ℕ)) → front ++ ask ∷ back ≡ front' ++ ask ∷ back' → All (λ word. word ≢ ask) front → All (λ word. word ≢ ask) front' → back ≡ back'
-same_cut [] back [] back' same first first' = cc
-same_cut [] back (w ∷ front') back' same first first' =
+pub same_cut : (front other back behind : List (List ℕ)) → front ++ ask ∷ back ≡ other ++ ask ∷ behind → All (λ word. word ≢ ask) front → All (λ word. word ≢ ask) other → (front ≡ other) × (back ≡ behind)
+same_cut [] [] back behind same first second = (refl, cc)
+same_cut [] (w ∷ other) back behind same first second =
     let is : w ≡ ask = cc in
-    absurd (All-head (λ word. word ≢ ask) w front' first' is)
-same_cut (w ∷ front) back [] back' same first first' =
+    absurd (All-head (λ word. word ≢ ask) w other second is)
+same_cut (w ∷ front) [] back behind same first second =
     let is : w ≡ ask = cc in
     absurd (All-head (λ word. word ≢ ask) w front first is)
-same_cut (w ∷ front) back (v ∷ front') back' same first first' =
-    let tail : front ++ ask ∷ back ≡ front' ++ ask ∷ back' = cc in
-    same_cut front back front' back' tail (All-tail (λ word. word ≢ ask) w front first) (All-tail (λ word. word ≢ ask) v front' first')
+same_cut (w ∷ front) (v ∷ other) back behind same first second =
+    let head : w ≡ v = cc in
+    let tail : front ++ ask ∷ back ≡ other ++ ask ∷ behind = cc in
+    let (fronts, backs) = same_cut front other back behind tail (All-tail (λ word. word ≢ ask) w front first) (All-tail (λ word. word ≢ ask) v other second) in
+    (cc, backs)
 
 -- words in which `ask` stands
 has_ask : (front back : List (List ℕ)) → All (λ word. word ≢ ask) (front ++ ask ∷ back) → ⊥
@@ -93,7 +101,7 @@ unasked others specs queries none form = has_ask specs form.asked (subst (λ (xs
 -- words behind `ids`, where those behind the first `ask` are not queries
 pub no_queries : (others front back specs : List (List ℕ)) (queries : List Query) → IsCutAtAsk others front back → (0 < length back → AllZip Asks back queries → ⊥) → IsIds others specs queries → ⊥
 no_queries others front back specs queries cut none form =
-    let equal : back ≡ form.asked = same_cut front back specs form.asked (sym cut.whole ∙ form.whole) cut.first form.first in
+    let equal : back ≡ form.asked = (same_cut front specs back form.asked (sym cut.whole ∙ form.whole) cut.first form.first).1 in
     none (rw equal form.some) (subst (λ (xs : List (List ℕ)). AllZip Asks xs queries) (sym equal) form.read)
 
 -- what was read of the words behind a name is the form of all the words

@@ -6,11 +6,12 @@ use Rattle.std.specs.Str.{chars}
 use Rattle.virtiofs_map.specs.Build.{Accepted, IsFirstFault}
 use Rattle.virtiofs_map.specs.Mapping.{Becomes}
 use Rattle.virtiofs_map.specs.Names.{ClientAnswer, Passes, IsDenied, IsUnsupported, IsUnterminated, client_answer, server_answer}
-use Rattle.virtiofs_map.specs.NamespaceText.{SaysNamespace, HasNoDelimiter, HasOtherCount, HasOtherField}
+use Rattle.virtiofs_map.specs.NamespaceText.{SaysNamespace, Fault as NamespaceFault, HasFault as HasNamespaceFault}
+use Rattle.virtiofs_map.specs.NamespaceText as ranges
 use Rattle.virtiofs_map.specs.Printed.{forbidden_text, build_error_text, namespace_text}
 use Rattle.virtiofs_map.specs.Rule.{MappingRule}
 use Rattle.virtiofs_map.specs.RuleText.{Written as WrittenRule, RuleText, expanded, RuleFault, Cause, InvalidScope, InvalidType, InvalidDelimiter, IncompleteRule, MapRuleViolation, NoRulesProvided, UnterminatedMapping, NulInPattern, OutOfMemory as NoMemory}
-use Rattle.virtiofs_map.specs.SpecificationText.{Says, HasNoField, HasMiscount, HasUnread, HasUnknownPrefix}
+use Rattle.virtiofs_map.specs.SpecificationText.{Says, Fault as SpecificationFault, InvalidPrefix, InvalidLength, InvalidValue, HasFault as HasSpecificationFault}
 use Rattle.virtiofs_map.specs.declared.cmdline.IdMap.{IdMap}
 use Rattle.virtiofs_map.specs.declared.soft_idmap.errors.IdMapBuildError.{IdMapBuildError}
 use Rattle.virtiofs_map.specs.declared.soft_idmap.errors.IdMapBuildError.TheVariants.{RangeOverflow, Intersects, OutOfMemory}
@@ -55,29 +56,23 @@ pub record GivesIds (texts : List (List ℕ)) (queries : List Query) (text : Lis
 abbrev pub refused_line : ℕ → List ℕ → List ℕ
 refused_line index why = line (codes "refused: specification " ++ decimal index ++ codes ": " ++ why)
 
--- what is said of a count of numbers
-abbrev pub length_text : ℕ → ℕ → List ℕ
-length_text expected seen = codes "InvalidLength expected " ++ decimal expected ++ codes " seen " ++ decimal seen
+-- what is said of a text that says no specification
+abbrev pub specification_fault_text : SpecificationFault → List ℕ
+specification_fault_text (InvalidPrefix word) = codes "InvalidPrefix " ++ quoted (encode_utf8_all word)
+specification_fault_text (InvalidLength expected seen) = codes "InvalidLength expected " ++ decimal expected ++ codes " seen " ++ decimal seen
+specification_fault_text (InvalidValue field) = codes "InvalidValue " ++ quoted (encode_utf8_all field)
 
--- the text says no specification, and that is said of it; both are characters, but what is said quotes bytes in UTF-8
-abbrev pub IsTextFault : List ℕ → List ℕ → Type 0
-IsTextFault text why =
-    (HasNoField text × (why ≡ length_text 1 0))
-    ⊎ ((expected : ℕ) × (seen : ℕ) × HasMiscount text expected seen × (why ≡ length_text expected seen))
-    ⊎ ((field : List ℕ) × HasUnread text field × (why ≡ codes "InvalidValue " ++ quoted (encode_utf8_all field)))
-    ⊎ ((word : List ℕ) × HasUnknownPrefix text word × (why ≡ codes "InvalidPrefix " ++ quoted (encode_utf8_all word)))
-
--- a text is not read, and each before it is; the text is the line that says so
+-- a text says no specification, and each before it says one; the text is the line that names its fault
 pub record RefusesText (texts : List (List ℕ)) (text : List ℕ) : Type 0 where
   pub before : List (List ℕ)
   pub at : List ℕ
   pub after : List (List ℕ)
   pub specs : List IdMap
-  pub why : List ℕ
+  pub fault : SpecificationFault
   pub here : texts ≡ before ++ at ∷ after
   pub said : AllSay before specs
-  pub fault : IsTextFault (chars at) why
-  pub whole : text ≡ refused_line (length before) why
+  pub wrong : HasSpecificationFault (chars at) fault
+  pub whole : text ≡ refused_line (length before) (specification_fault_text fault)
 
 -- the place of a fault in the list
 abbrev pub index_of : IdMapBuildError → ℕ
@@ -107,12 +102,15 @@ pub record GivesNamespace (said text : List ℕ) : Type 0 where
   pub says : SaysNamespace (chars said) inside outside count
   pub whole : text ≡ line (namespace_text inside outside count)
 
--- the text says no range, and the refusal names what is wrong with it
+-- what is said of a text that says no range
+abbrev pub namespace_fault_text : NamespaceFault → List ℕ
+namespace_fault_text ranges.InvalidDelimiter = codes "InvalidDelimiter"
+namespace_fault_text ranges.IncompleteMap = codes "IncompleteMap"
+namespace_fault_text ranges.InvalidValue = codes "InvalidValue"
+
+-- the text says no range, and the refusal names its fault
 abbrev pub RefusesNamespace : List ℕ → List ℕ → Type 0
-RefusesNamespace said text =
-    (HasNoDelimiter (chars said) × (text ≡ refusal (codes "InvalidDelimiter")))
-    ⊎ (((chars said ≡ []) ⊎ HasOtherCount (chars said)) × (text ≡ refusal (codes "IncompleteMap")))
-    ⊎ (HasOtherField (chars said) × (text ≡ refusal (codes "InvalidValue")))
+RefusesNamespace said text = (fault : NamespaceFault) × HasNamespaceFault (chars said) fault × (text ≡ refusal (namespace_fault_text fault))
 
 -- ---- a text of rules
 
@@ -188,23 +186,32 @@ RefusesServer said names text =
 
 -- ---- the program
 
+-- the text answers the words of a form
+abbrev pub Gives : Form → List ℕ → Type 0
+Gives (Ids texts queries) text = GivesIds texts queries text
+Gives (Namespace said) text = GivesNamespace said text
+Gives (Client said name) text = GivesClient said name text
+Gives (Server said names) text = GivesServer said names text
+
+-- the text says why they are refused
+abbrev pub Refuses : Form → List ℕ → Type 0
+Refuses (Ids texts queries) text = RefusesText texts text ⊎ RefusesBuild texts text
+Refuses (Namespace said) text = RefusesNamespace said text
+Refuses (Client said name) text = RefusesClient said name text
+Refuses (Server said names) text = RefusesServer said names text
+
 -- what the words of a form come to, and the text that is written
 abbrev pub AnswersForm : Form → Answered → List ℕ → Type 0
-AnswersForm (Ids texts queries) Given text = GivesIds texts queries text
-AnswersForm (Ids texts queries) Refused text = RefusesText texts text ⊎ RefusesBuild texts text
-AnswersForm (Ids texts queries) WrongWords text = ⊥
-AnswersForm (Namespace said) Given text = GivesNamespace said text
-AnswersForm (Namespace said) Refused text = RefusesNamespace said text
-AnswersForm (Namespace said) WrongWords text = ⊥
-AnswersForm (Client said name) Given text = GivesClient said name text
-AnswersForm (Client said name) Refused text = RefusesClient said name text
-AnswersForm (Client said name) WrongWords text = ⊥
-AnswersForm (Server said names) Given text = GivesServer said names text
-AnswersForm (Server said names) Refused text = RefusesServer said names text
-AnswersForm (Server said names) WrongWords text = ⊥
+AnswersForm form Given text = Gives form text
+AnswersForm form Refused text = Refuses form text
+AnswersForm form WrongWords text = ⊥
 
 -- the words have a form and are answered by it, or they have none and are wrong words
 abbrev pub Answers : List (List ℕ) → Answered → List ℕ → Type 0
 Answers words answered text =
     ((form : Form) × HasForm words form × AnswersForm form answered text)
     ⊎ (((form : Form) → HasForm words form → ⊥) × (answered ≡ WrongWords) × (text ≡ line (codes "wrong words")))
+
+-- the words come to one outcome alone, with one text
+abbrev pub HasOneAnswer : List (List ℕ) → Type 0
+HasOneAnswer words = (answered other : Answered) (text another : List ℕ) → Answers words answered text → Answers words other another → (answered ≡ other) × (text ≡ another)

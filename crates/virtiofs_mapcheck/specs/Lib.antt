@@ -1,5 +1,4 @@
 pub mod Answer
-pub mod AnswerParts
 pub mod Output
 pub mod Words
 pub mod WordsParts

@@ -1,6 +1,6 @@
 //! What the program answers to its words.
 ghost use Rattle.std.specs.Prelude.{◌≡◌, ◌↔◌, ℕ, List, IsTrue, IsFalse, IsErrOf, IfOk, string_bytes};
-ghost use Rattle.virtiofs_mapcheck.specs.Answer.{Answers};
+ghost use Rattle.virtiofs_mapcheck.specs.Answer.{Answers, HasOneAnswer};
 ghost use Rattle.virtiofs_mapcheck.specs.Output.{Writes, WritesFrontOf};
 ghost use Rattle.virtiofs_mapcheck.specs.Words.{words_of};
 
@@ -35,8 +35,9 @@ fn text_of<A: Allocator + Copy>(
 
 /// Answers the program's words: makes the whole text, and then writes it.
 ///
-/// The words are those behind the program's name. Where memory ran out, `out` is as it was. `Write`
-/// is the answer just where a write to `out` failed; a front of the text was written before.
+/// The words are those behind the program's name; they come to one outcome alone, with one text.
+/// Where memory ran out, `out` is as it was. `Write` is the answer just where a write to `out`
+/// failed; a front of the text was written before.
 pub fn answer<A: Allocator + Copy, W: Write>(
     alloc: A,
     words: &[&str],
@@ -44,6 +45,7 @@ pub fn answer<A: Allocator + Copy, W: Write>(
 ) -> Result<Answered, AnswerFault>
     requires { IsFalse out.old.failed }
     ensures answered { IfOk result (λ answered. (text : List ℕ) × Answers (words_of words.now) answered text × Writes out.old out.new text) }
+    ensures one_answer { HasOneAnswer (words_of words.now) }
     ensures out_of_memory { IsErrOf result AnswerFault.OutOfMemory → out.new ≡ out.old }
     ensures front { IsErrOf result AnswerFault.Write → (answered : _) × (text : List ℕ) × Answers (words_of words.now) answered text × WritesFrontOf out.old out.new text }
     ensures failed { IsErrOf result AnswerFault.Write ↔ IsTrue out.new.failed }

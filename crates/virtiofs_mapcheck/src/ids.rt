@@ -1,9 +1,9 @@
 //! What ids become under specifications.
-ghost use Rattle.std.specs.Prelude.{◌≡◌, ◌≢◌, ℕ, List, ◌++◌, OnOk, IfOk, string_bytes};
+ghost use Rattle.std.specs.Prelude.{◌≡◌, ◌≢◌, ℕ, List, ◌++◌, Some, OnOk, IfOk, string_bytes};
 ghost use Rattle.std.specs.List.{AllZip, concat};
 ghost use Rattle.virtiofs_map.specs.Printed.{build_error_text};
-ghost use Rattle.virtiofs_mapcheck.specs.Answer.{IsLine, refused_line, index_of, AnswersForm};
-ghost use Rattle.virtiofs_mapcheck.specs.AnswerParts.{IsCauseText};
+ghost use Rattle.virtiofs_map.specs.SpecificationText.{Fault, fault_of};
+ghost use Rattle.virtiofs_mapcheck.specs.Answer.{IsLine, specification_fault_text, refused_line, index_of, AnswersForm};
 ghost use Rattle.virtiofs_mapcheck.specs.Words.{words_of, Ids};
 
 use crate::outcome::Answered;
@@ -54,7 +54,7 @@ fn push_cause<A: Allocator>(
     text: &mut String<A>,
     cause: &cmdline::IdMapError<A>,
 ) -> Result<(), AllocError>
-    ensures { OnOk result ((why : List ℕ) × IsCauseText cause.now why × (string_bytes text.new ≡ string_bytes text.old ++ why)) }
+    ensures { OnOk result ((fault : Fault) × (fault_of cause.now ≡ Some fault) × (string_bytes text.new ≡ string_bytes text.old ++ specification_fault_text fault)) }
 {
     match cause {
         cmdline::IdMapError::InvalidPrefix(prefix) => {
@@ -78,7 +78,7 @@ fn text_refusal<A: Allocator>(
     index: usize,
     cause: &cmdline::IdMapError<A>,
 ) -> Result<String<A>, AllocError>
-    ensures { IfOk result (λ text. (why : List ℕ) × IsCauseText cause.now why × (string_bytes text ≡ refused_line index why)) }
+    ensures { IfOk result (λ text. (fault : Fault) × (fault_of cause.now ≡ Some fault) × (string_bytes text ≡ refused_line index (specification_fault_text fault))) }
 {
     let mut text = format!(in alloc; "refused: specification {index}: ")?;
     push_cause(&mut text, cause)?;

@@ -5,7 +5,8 @@ use std::io;
 use std::io::Write;
 
 /// Holds what was written, in sixteen bytes. It takes at most `most` bytes a call, and the call
-/// numbered `failing`, from 1, answers an interruption; those after it take bytes again.
+/// numbered `failing`, from 1, answers an interruption; those after it take bytes again. A flush
+/// counts as a call, so that one too many shows.
 #[derive(Drop)]
 pub(crate) struct Grudging {
     bytes: [u8; 16],
@@ -51,6 +52,7 @@ impl Write for Grudging {
     }
 
     fn flush(&mut self) -> io::Result<()> {
+        self.calls = self.calls.saturating_add(1);
         Ok(())
     }
 }

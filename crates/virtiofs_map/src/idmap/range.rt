@@ -2,7 +2,7 @@
 ghost use Rattle.std.specs.Prelude.{◌≢◌, length, Some, IfSome, IfNone, IfOk, IfErr};
 ghost use Rattle.std.specs.Str.{chars};
 ghost use Rattle.virtiofs_map.specs.NamespaceParts.{IsThreeFields};
-ghost use Rattle.virtiofs_map.specs.NamespaceText.{SaysNamespace, IsEnclosed, IsNamespaceFault};
+ghost use Rattle.virtiofs_map.specs.NamespaceText.{SaysNamespace, IsEnclosed, HasFault, fault_of};
 ghost use Rattle.virtiofs_map.specs.Printed.{namespace_text};
 ghost use Rattle.virtiofs_map.specs.Separator.{fields_of};
 
@@ -29,7 +29,7 @@ struct Fields<'a> {
 /// The delimiter of a text, and what stands between its first and its last one.
 fn enclosed(text: &str) -> Result<(char, &str), IdMapError>
     ensures found { IfOk result (λ p. IsEnclosed (chars text.now) p.0 (chars p.1.now)) }
-    ensures fault { IfErr result (IsNamespaceFault (chars text.now)) }
+    ensures fault { IfErr result (λ error. HasFault (chars text.now) (fault_of error)) }
 {
     let mut characters = text.chars();
     let Some(delimiter) = characters.next_back() else {
@@ -66,7 +66,7 @@ impl Range {
     /// Reads a range.
     pub(super) fn from_str(text: &str) -> Result<Range, IdMapError>
         ensures read { IfOk result (λ range. SaysNamespace (chars text.now) range.inside range.outside range.count) }
-        ensures fault { IfErr result (IsNamespaceFault (chars text.now)) }
+        ensures fault { IfErr result (λ error. HasFault (chars text.now) (fault_of error)) }
     {
         let (delimiter, inner) = enclosed(text)?;
         let Some(fields) = three_fields(delimiter, inner) else {

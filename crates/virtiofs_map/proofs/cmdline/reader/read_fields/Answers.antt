@@ -2,7 +2,8 @@ use Rattle.std.proofs.Common.{◌++◌, ◌∷◌, [], List, ℕ, ap, sym, ◌�
 use Rattle.std.specs.Str.{chars}
 use Rattle.std.proofs.lemmas.Result.{err_from_is_err_and}
 use Rattle.virtiofs_map.specs.Numeral.{IsNumeral}
-use Rattle.virtiofs_map.proofs.SpecificationLemmas.{fields_of-cut, fields_of-last, AllZip-push, IsFieldsFault-here}
+use Rattle.virtiofs_map.proofs.SpecificationLemmas.{fields_of-cut, fields_of-last, IsFieldsFault-here}
+use Rattle.virtiofs_map.proofs.Zips.{AllZip-push}
 use Rattle.virtiofs_map.proofs.cmdline.reader.read_fields.Goals as goal
 
 pub returns-in_err-read_field-clause-fault : goal.returns-in_err-read_field-clause-fault

@@ -1,0 +1,9 @@
+use Rattle.virtiofs_mapcheck.specs.Words.{words_of}
+use Rattle.virtiofs_mapcheck.proofs.OneAnswer.{HasOneAnswer-words}
+use Rattle.virtiofs_mapcheck.proofs.answer.answer.Goals as goal
+
+pub returns-in_err-answered-clause-one_answer : goal.returns-in_err-answered-clause-one_answer
+returns-in_err-answered-clause-one_answer g c = HasOneAnswer-words (words_of c.args.words.now)
+
+pub returns-clause-one_answer : goal.returns-clause-one_answer
+returns-clause-one_answer g c = HasOneAnswer-words (words_of c.args.words.now)
