@@ -114,6 +114,31 @@ fn refuses_other_texts(rt: HostRuntime) -> Result<(), Fail> {
     Ok(())
 }
 
+/// A text, and the first of its fields that is no number.
+const UNREAD: [(&str, &str); 5] = [
+    (":x:0:4294967296:", "x"),
+    ("::x:4294967296:", ""),
+    (":4294967296::x:", "4294967296"),
+    (":0::x:", ""),
+    (":0:1:4294967296:", "4294967296"),
+];
+
+#[test]
+fn tells_what_is_wrong_with_the_first_number(rt: HostRuntime) -> Result<(), Fail> {
+    for (text, field) in UNREAD {
+        let wanted = IdMapError::from(field.parse::<u32>().err().ok_or("a number")?);
+        assert!(rt;
+            UidMap::from_str(text).err().ok_or("read")? == wanted,
+            "of {text}"
+        );
+        assert!(rt;
+            GidMap::from_str(text).err().ok_or("read")? == wanted,
+            "of {text}"
+        );
+    }
+    Ok(())
+}
+
 #[test]
 fn tells_maps_apart(rt: HostRuntime) -> Result<(), Fail> {
     let map = UidMap::from_str(":1:2:3:")?;
