@@ -1,0 +1,349 @@
+#!/usr/bin/env python3
+"""Tries every edit crates/NAME/must-fail/*.edit, many in one check: the prover must refuse each.
+
+usage: must_fail.py [--lanes N] [TOP]      (TOP is the top of a repository: this one, where it is left out)
+
+An edit that lies in the body of a function changes no statement, so the proofs of other functions do not see it. Edits
+of different functions are therefore made together in one check. There an edit is refused if a goal of its own function
+is open. That its function calls another refused one counts for nothing. What is not told so goes into a smaller check,
+and at last alone to the kit's own judge, as does every edit that touches more than bodies.
+
+Each crate is first proved from nothing, in this run. Each check starts from a copy of what that proved.
+
+Each edit has a line. The last line is 'N passed, N failed', and the exit status is 0 where none failed.
+"""
+import importlib.machinery
+import importlib.util
+import os
+import re
+import shutil
+import subprocess
+import sys
+import tempfile
+import threading
+import time
+from concurrent.futures import FIRST_COMPLETED, ThreadPoolExecutor, wait
+from typing import NamedTuple
+
+from edited_bodies import bodies_of, edits_in, is_body_of, merged
+from running import cores, made_room, run, say, shown
+
+HERE = os.path.dirname(os.path.abspath(__file__))
+# The most edits of one check. A check that changes nothing costs as much as two edits.
+BATCH = 16
+SECONDS_BETWEEN_LINES = 60
+# The exit status of a call of the kit's judge, which says that it came to an answer.
+REFUSED, NOT_REFUSED = 0, 10
+
+FUNCTION = re.compile(r"fn (\S+): (.*)")
+PLACE = re.compile(r"note: (src/\S+?):(\d+):\d+: it is not proved ")
+PROOF_ERROR = re.compile(r"(?:\./)?proofs/(\S+)/[^/\s]+\.antt:\d+:\d+: error: (.*)")
+TEXT_ERROR = re.compile(r"^(?:\./)?(?:src|specs)/\S+:\d+:\d+: error", re.M)
+# Errors that a proof file has since it cites what another refused function proves, or names what an edit took away.
+CITES_REFUSED = re.compile(r"was not admitted")
+NAMES_WHAT_IS_GONE = re.compile(r"has no field|is not in scope|has no `")
+
+
+class Crate(NamedTuple):
+    name: str
+    edits: tuple
+    misnamed: tuple
+
+
+class Task(NamedTuple):
+    """What a lane does at one time: 'prove' a crate, 'batch' some edits, or try one 'alone' or 'anew' (from nothing).
+    `later` are the crates that are proved after this one."""
+
+    kind: str
+    crate: Crate
+    edits: tuple
+    later: tuple = ()
+
+    def __str__(self):
+        what = f"{len(self.edits)} edits of {self.crate.name} in one check"
+        if self.kind == "prove":
+            what = f"{self.crate.name} from nothing"
+        elif len(self.edits) == 1:
+            what = label(self.crate, self.edits[0]) + (" from nothing" if self.kind == "anew" else "")
+        return what
+
+
+def label(crate, edit):
+    return f"must-fail {crate.name}/{os.path.basename(edit)}"
+
+
+def crates_of(top):
+    """The crates of the repository, each behind those that it uses."""
+    uses = {}
+    with open(f"{top}/crates.txt", encoding="utf-8") as lines:
+        for line in lines:
+            name, _, used = line.partition("#")[0].partition(":")
+            if name.strip():
+                uses[name.split()[0]] = set(used.replace(",", " ").split())
+    ordered = []
+    while len(ordered) < len(uses):
+        left = [it for it in uses if it not in ordered]
+        ordered.append(next(it for it in left if not uses[it] & set(left)))
+    return [Crate(it, *map(tuple, edits_in(f"{top}/crates/{it}/must-fail"))) for it in ordered]
+
+
+def planned(crate, folder):
+    """The first tasks of a crate: batches of edits of different functions, and the edits that go alone."""
+    batches, alone = [], []
+    for edit in crate.edits:
+        own = bodies_of(edit, folder)
+        if not own:
+            alone.append(Task("alone", crate, (edit,)))
+            continue
+        for taken, held in batches:
+            if not own & taken and len(held) < BATCH and merged([*held, edit], folder) is not None:
+                taken |= own
+                held.append(edit)
+                break
+        else:
+            batches.append((set(own), [edit]))
+    return [as_task(crate, held) for _, held in batches] + alone
+
+
+def as_task(crate, edits):
+    return Task("batch" if len(edits) > 1 else "alone", crate, tuple(edits))
+
+
+def open_functions(said):
+    """The functions that are refused for themselves, by what a check said: each with the places of its open goals, and
+    whether it shows more than that a proof names what is gone."""
+    errors, places, found = {}, [], {}
+    for folder, why in PROOF_ERROR.findall(said):
+        if not CITES_REFUSED.search(why):
+            errors[folder] = errors.get(folder, False) or not NAMES_WHAT_IS_GONE.search(why)
+    for line in said.split("\n"):
+        place, function = PLACE.match(line), FUNCTION.match(line)
+        if place:
+            places.append((place[1], int(place[2]) - 1))
+        elif function:
+            name, why = function.groups()
+            folder = "/".join(name.split("::")[1:])
+            answers = f"no proof: expected answers in ./proofs/{folder}/Answers.antt;"
+            if why.startswith(answers) and "did not prove" in why:
+                found[name] = places, True
+            elif why.startswith("not proved") and folder in errors:
+                found[name] = places, errors[folder]
+            places = []
+    return found
+
+
+def told_apart(edits, folder, said):
+    """The edits of a batch that were refused each at a goal of its own function, with that function's name. Nothing is
+    told where a function fails for itself that is not known to be one of the edited ones."""
+    every = set(re.findall(r"^fn (\S+): ", said, re.M))
+    own = {edit: bodies_of(edit, folder) for edit in edits}
+    told = {}
+    for name, (places, shows) in open_functions(said).items():
+        mine = [(edit, body) for edit in edits for body in own[edit] if is_body_of(name, body)]
+        if len(mine) != 1:
+            return {}
+        edit, body = mine[0]
+        namesakes = [it for it in every if is_body_of(it, body) and "::fn::" not in it]
+        if len(namesakes) != 1 or not all(body.holds(*it) for it in places):
+            return {}
+        if shows:
+            told[edit] = name
+    return told
+
+
+class Run:
+    """One run over a repository."""
+
+    def __init__(self, top, room, lanes):
+        self.top, self.room, self.lanes = top, room, lanes
+        self.proved = f"{room}/proved"
+        self.begun, self.at, self.refused = time.time(), {}, {}
+        self.jobs, self.done = lanes, []
+        self.alone_on_the_machine = threading.Lock()
+
+    def tell(self, text):
+        say(f"{shown(time.time() - self.begun)}: {text}")
+
+    def answer(self, crate, edit, is_refused, text):
+        self.refused[edit] = is_refused
+        say(text if text.startswith("must-fail ") else f"{label(crate, edit)}: {text}")
+
+    def lay_out(self):
+        """Copies the sources alone. So all work that is kept in the copy comes from this run."""
+        os.makedirs(self.proved)
+        for name in ("crates.txt", "HANDLES"):
+            if os.path.exists(f"{self.top}/{name}"):
+                shutil.copy(f"{self.top}/{name}", self.proved)
+        unread = shutil.ignore_patterns("out", "must-fail")
+        shutil.copytree(f"{self.top}/crates", f"{self.proved}/crates", ignore=unread)
+
+    def copied(self, crate):
+        """A copy of the proved repository, in which this crate is checked once."""
+
+        def unread(folder, names):
+            above, name = os.path.split(folder)
+            if name != "out":
+                return []
+            name = os.path.basename(above)
+            read = "incremental" if name == crate.name else "rlib" if name in self.done else ""
+            return [it for it in names if it != read]
+
+        def copy(file, to):
+            # (rt only reads a built library, or takes it away whole)
+            (os.link if "/out/rlib/" in file else shutil.copy2)(file, to)
+
+        top = tempfile.mkdtemp(prefix="edited-", dir=self.room)
+        return shutil.copytree(self.proved, f"{top}/copy", ignore=unread, copy_function=copy)
+
+    def go(self):
+        """Proves the crates and tries their edits. A lane that dies is a failure of all that it held."""
+        self.lay_out()
+        first, *later = crates_of(self.top)
+        with ThreadPoolExecutor(self.lanes) as pool:
+            start = lambda task: (pool.submit(self.in_lane, task), task)
+            running = dict([start(Task("prove", first, first.edits, tuple(later)))])
+            while running:
+                ended = wait(running, SECONDS_BETWEEN_LINES, FIRST_COMPLETED).done
+                if not ended:
+                    at = [f"{task} for {shown(time.time() - since)}" for task, since in [*self.at.items()]]
+                    self.tell(f"{len(self.refused)} edits done. At {'; '.join(at)}")
+                for it in ended:
+                    task = running.pop(it)
+                    running.update(map(start, self.left_to_do(task, it)))
+
+    def in_lane(self, task):
+        self.at[task] = time.time()
+        try:
+            return getattr(self, task.kind)(task)
+        finally:
+            del self.at[task]
+
+    def left_to_do(self, task, ended):
+        try:
+            return ended.result()
+        except Exception as error:
+            say(f"FAILED: {task}: {error}")
+            for crate in (task.crate, *task.later):
+                if task.kind == "prove":
+                    self.refused[crate.name] = False
+                for edit in task.edits if crate is task.crate else crate.edits:
+                    self.answer(crate, edit, False, "FAILED: it was not judged, see above")
+            return []
+
+    def prove(self, task):
+        """Proves a crate from nothing. A copy of that, with no edit, must then be proved too: else a refusal shows nothing."""
+        crate, begun = task.crate, time.time()
+        is_program = os.path.isfile(f"{self.proved}/crates/{crate.name}/src/main.rt")
+        # (beside the first crate's proof there is nothing else to do)
+        jobs, self.jobs = self.jobs, 1
+        verb = "check" if is_program else "lib"
+        ended = run(["rt", verb, "--jobs", str(jobs)], f"{self.proved}/crates/{crate.name}")
+        if ended.status:
+            raise RuntimeError(f"{crate.name} was not proved, rt {verb} ended with {ended.status}: {ended.said[-600:]}")
+        self.done.append(crate.name)
+        again = self.checked(crate, [])
+        if again.status:
+            raise RuntimeError(f"a copy of {crate.name} with no edit was not proved: {again.said[-600:]}")
+        self.tell(f"{crate.name} proved from nothing, in {shown(time.time() - begun)}")
+        for it in crate.misnamed:
+            self.answer(crate, it, False, "BAD EDIT: rt takes no file of this name in must-fail/")
+        more = planned(crate, f"{self.top}/crates/{crate.name}")
+        if task.later:
+            following, *later = task.later
+            more.insert(0, Task("prove", following, following.edits, tuple(later)))
+        return more
+
+    def checked(self, crate, edits):
+        """Checks a copy of the crate under these edits."""
+        top = self.copied(crate)
+        try:
+            folder = f"{top}/crates/{crate.name}"
+            for path, text in merged(edits, folder).items():
+                with open(f"{folder}/{path}", "w", encoding="utf-8") as it:
+                    it.write(text)
+            return run(["rt", "check", "--jobs", "1"], folder)
+        finally:
+            shutil.rmtree(os.path.dirname(top), ignore_errors=True)
+
+    def batch(self, task):
+        """Tries edits together, and returns what is left to do for those that were not told apart."""
+        crate, edits, begun = task.crate, task.edits, time.time()
+        ended = self.checked(crate, edits)
+        is_judged = ended.status == 1 and re.search(r"^logic=not-proved", ended.said, re.M)
+        told = {}
+        if is_judged and not TEXT_ERROR.search(ended.said):
+            told = told_apart(edits, f"{self.top}/crates/{crate.name}", ended.said)
+        for edit, function in told.items():
+            self.answer(crate, edit, True, f"refused, as it must be: fn {function}")
+        rest = [it for it in edits if it not in told]
+        how = "" if is_judged else f"; rt check ended with {ended.status}"
+        self.tell(f"{len(told)} of {task} refused, {len(rest)} to be tried again ({shown(time.time() - begun)}{how})")
+        if told:
+            return [as_task(crate, rest)] if rest else []
+        half = len(rest) // 2
+        return [as_task(crate, rest[:half]), as_task(crate, rest[half:])]
+
+    def alone(self, task):
+        """Has the kit judge one edit over kept work. What it does not refuse so is tried once more, from nothing."""
+        status, said = self.judged(task, "out/incremental")
+        if status != REFUSED:
+            return [task._replace(kind="anew")]
+        self.answer(task.crate, task.edits[0], True, said)
+        return []
+
+    def anew(self, task):
+        with self.alone_on_the_machine:
+            status, said = self.judged(task, "")
+        if status not in (REFUSED, NOT_REFUSED):
+            raise RuntimeError(f"the judge ended with {status}: {said[-600:]}")
+        self.answer(task.crate, task.edits[0], status == REFUSED, said)
+        return []
+
+    def judged(self, task, kept):
+        top = self.copied(task.crate)
+        try:
+            words = [sys.executable, os.path.abspath(__file__), "--judge", task.edits[0], kept]
+            ended = run(words, f"{top}/crates/{task.crate.name}")
+            return ended.status, ended.said.strip()
+        finally:
+            shutil.rmtree(os.path.dirname(top), ignore_errors=True)
+
+
+def judge(edit, kept):
+    """Judges one edit of the crate in this folder as rt does, over kept work where it is given. `rt must-fail` itself has
+    no option for kept work, and would prove the whole crate for each edit: so this calls the function that it calls."""
+    told = subprocess.run(["rt", "doc"], stdout=subprocess.PIPE, encoding="utf-8", check=True).stdout.strip()
+    loader = importlib.machinery.SourceFileLoader("rt_of_the_kit", f"{os.path.dirname(told)}/bin/rt")
+    rt = importlib.util.module_from_spec(importlib.util.spec_from_loader("rt_of_the_kit", loader))
+    loader.exec_module(rt)
+    rt.rtlib.guarded()
+    crate = next(it for it in rt.rtlib.crates_below(os.getcwd()) if it.folder == os.getcwd())
+    is_refused, said = rt.must_fail(crate, edit, ["--jobs", "1"], kept and os.path.abspath(kept))
+    say(said)
+    return REFUSED if is_refused else NOT_REFUSED
+
+
+def main(words):
+    if words[:1] == ["--judge"]:
+        return judge(*words[1:])
+    lanes = cores()
+    if words[:1] == ["--lanes"]:
+        lanes, words = int(words[1]), words[2:]
+    top = os.path.abspath(words[0] if words else os.path.dirname(HERE))
+    room = made_room("must-fail")
+    try:
+        started = Run(top, room, lanes)
+        started.go()
+    finally:
+        shutil.rmtree(room, ignore_errors=True)
+    passed = sum(started.refused.values())
+    failed = len(started.refused) - passed
+    never = [it for crate in crates_of(top) for it in crate.edits if it not in started.refused]
+    for it in never:
+        say(f"FAILED: {it} was never tried")
+    say(f"{passed} passed, {failed + len(never)} failed")
+    return 1 if failed or never or not passed else 0
+
+
+if __name__ == "__main__":
+    sys.exit(main(sys.argv[1:]))
