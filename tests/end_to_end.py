@@ -11,20 +11,27 @@ import os
 import subprocess
 import sys
 
+try:
+    import resource
+except ImportError:
+    resource = None
+
 SECONDS = 60
 WRONG_WORDS = 2
 
 
 def written_out(part):
-    """The texts that a part of a row stands for: the text itself, or the copies of a rule."""
+    """The texts that a part of a row stands for: the text itself, the copies that an object asks
+    for, or the one text that the parts of a list make."""
     if isinstance(part, str):
         return [part]
+    if isinstance(part, list):
+        return ["".join(texts_of(part))]
     numbers = part.get("numbers", [])
-    copies = [
+    return [
         part["text"].format(*(first + copy * step for first, step in numbers))
         for copy in range(part["copies"])
     ]
-    return [part["behind"] + "".join(copies)] if "behind" in part else copies
 
 
 def texts_of(parts):
@@ -36,9 +43,17 @@ def wanted_output(row):
     return output if isinstance(output, str) else "".join(texts_of(output))
 
 
-def start(program, words, stdout):
-    """Runs the program. Its standard output is kept, the full device, or closed."""
+def limits_memory():
+    """Whether this platform limits the address space of a process."""
+    return hasattr(resource, "RLIMIT_AS")
+
+
+def start(program, words, stdout, memory):
+    """Runs the program. Its standard output is kept, the full device, or closed. Its address space
+    is limited to `memory` bytes, where that is not None."""
     how = {"stdin": subprocess.DEVNULL, "stderr": subprocess.PIPE, "timeout": SECONDS}
+    if memory is not None:
+        how["preexec_fn"] = lambda: resource.setrlimit(resource.RLIMIT_AS, (memory, memory))
     # (a byte that is no UTF-8 stands in a row as the character that Python gives it)
     words = [word.encode("utf-8", "surrogateescape") for word in words]
     if stdout == "full":
@@ -53,7 +68,8 @@ def start(program, words, stdout):
 def differences(program, row):
     """What the program did in another way than the row says."""
     try:
-        ended = start(program, texts_of(row["words"]), row.get("stdout", "kept"))
+        words = texts_of(row["words"])
+        ended = start(program, words, row.get("stdout", "kept"), row.get("memory"))
     except subprocess.TimeoutExpired:
         return [f"had not ended after {SECONDS} seconds"]
     found = []
@@ -85,6 +101,9 @@ def rows_of(table):
 def run_table(table, programs):
     passed = failed = 0
     for number, row in rows_of(table):
+        if "memory" in row and not limits_memory():
+            print(f"SKIPPED {os.path.basename(table)}:{number}: this platform has no limit on memory")
+            continue
         for program in programs:
             found = differences(program, row)
             passed, failed = passed + (not found), failed + bool(found)
