@@ -42,7 +42,7 @@ count_of (Fail first count) = count
 abbrev pub EntryCovers : Entry → ℕ → Type 0
 EntryCovers entry n = InRange (first_of entry) (count_of entry) n
 
--- what a covered number becomes: the number as far above the target, the target alone, or nothing where its use fails
+-- what a covered number becomes: the number as far above the target, the target itself, or nothing where its use fails
 abbrev pub target_of : Entry → ℕ → Option ℕ
 target_of (Map first to count) n = Some (to + (n - first))
 target_of (Squash first to count) n = Some to
@@ -54,7 +54,8 @@ Covers spec direction n = IsSomeAnd (entry_of spec direction) (λ entry. EntryCo
 
 -- the specification covers the number in that direction, and makes that of it
 abbrev pub Maps : IdMap → Direction → ℕ → Option ℕ → Type 0
-Maps spec direction n value = IsSomeAnd (entry_of spec direction) (λ entry. EntryCovers entry n × (target_of entry n ≡ value))
+Maps spec direction n value =
+    IsSomeAnd (entry_of spec direction) (λ entry. EntryCovers entry n × (target_of entry n ≡ value))
 
 -- a specification of the list covers the number and makes that of it, or none covers it and it stays itself
 abbrev pub Becomes : List IdMap → Direction → ℕ → Option ℕ → Type 0

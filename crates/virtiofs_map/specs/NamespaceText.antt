@@ -2,7 +2,7 @@
 use Rattle.std.specs.Prelude.{◌≡◌, ◌≢◌, ◌⊎◌, ℕ, true, false, List, [], ◌∷◌, ◌++◌, length, Contains}
 use Rattle.virtiofs_map.specs.Alphanumeric.{is_alphanumeric}
 use Rattle.virtiofs_map.specs.Numeral.{IsNumeral}
-use Rattle.virtiofs_map.specs.Separator.{Lacks, fields_of}
+use Rattle.virtiofs_map.specs.Separator.{Lacks, split_at_each}
 use Rattle.virtiofs_map.specs.declared.idmap.IdMapError.{IdMapError}
 use Rattle.virtiofs_map.specs.declared.idmap.IdMapError.TheVariants as errors
 
@@ -11,7 +11,7 @@ pub record IsField (delimiter : ℕ) (field : List ℕ) (value : ℕ) : Type 0 w
   pub free : Lacks delimiter field
   pub numeral : IsNumeral field value
 
--- the text is three fields, with a delimiter that is not alphanumeric before, between and behind them
+-- the text is three fields, with a delimiter that is not alphanumeric before, between and after them
 pub record SaysNamespace (text : List ℕ) (inside outside count : ℕ) : Type 0 where
   pub delimiter : ℕ
   pub first : List ℕ
@@ -28,56 +28,44 @@ pub record IsEnclosed (text : List ℕ) (delimiter : ℕ) (inner : List ℕ) : T
   pub whole : text ≡ delimiter ∷ inner ++ delimiter ∷ []
   pub delimits : is_alphanumeric delimiter ≡ false
 
--- the last character is alphanumeric, or the text does not begin with it too
+-- the last character is alphanumeric, or the text does not begin with that character as well
 pub record HasNoDelimiter (text : List ℕ) : Type 0 where
   pub front : List ℕ
   pub last : ℕ
   pub ends : text ≡ front ++ last ∷ []
   pub wrong : (is_alphanumeric last ≡ true) ⊎ ((inner : List ℕ) → text ≢ last ∷ inner ++ last ∷ [])
 
--- what the delimiters enclose is not three fields
+-- between the first and the last delimiter there are not three fields
 pub record HasOtherCount (text : List ℕ) : Type 0 where
   pub delimiter : ℕ
   pub inner : List ℕ
   pub enclosed : IsEnclosed text delimiter inner
-  pub other : length (fields_of delimiter inner) ≢ 3
+  pub other : length (split_at_each delimiter inner) ≢ 3
 
--- it is three fields, and one of them is no numeral
+-- there are three fields, and one of them is no numeral
 pub record HasOtherField (text : List ℕ) : Type 0 where
   pub delimiter : ℕ
   pub inner : List ℕ
   pub field : List ℕ
   pub enclosed : IsEnclosed text delimiter inner
-  pub three : length (fields_of delimiter inner) ≡ 3
-  pub here : Contains (fields_of delimiter inner) field
+  pub three : length (split_at_each delimiter inner) ≡ 3
+  pub here : Contains (split_at_each delimiter inner) field
   pub unread : (value : ℕ) → ¬ IsNumeral field value
 
 -- what is wrong with a text that says no range
-pub data Fault : Type 0 where
-  InvalidDelimiter : Fault
-  IncompleteMap : Fault
-  InvalidValue : Fault
+pub data NamespaceFault : Type 0 where
+  InvalidDelimiter : NamespaceFault
+  IncompleteMap : NamespaceFault
+  InvalidValue : NamespaceFault
 
 -- the text has that fault
-abbrev pub HasFault : List ℕ → Fault → Type 0
-HasFault text InvalidDelimiter = HasNoDelimiter text
-HasFault text IncompleteMap = (text ≡ []) ⊎ HasOtherCount text
-HasFault text InvalidValue = HasOtherField text
+abbrev pub HasNamespaceFault : List ℕ → NamespaceFault → Type 0
+HasNamespaceFault text InvalidDelimiter = HasNoDelimiter text
+HasNamespaceFault text IncompleteMap = (text ≡ []) ⊎ HasOtherCount text
+HasNamespaceFault text InvalidValue = HasOtherField text
 
 -- the fault that an error tells
-abbrev pub fault_of : IdMapError → Fault
-fault_of errors.InvalidDelimiter = InvalidDelimiter
-fault_of errors.IncompleteMap = IncompleteMap
-fault_of (errors.InvalidValue error) = InvalidValue
-
--- a text says one range at most
-abbrev pub HasOneRange : Type 0
-HasOneRange = (text : List ℕ) (inside outside count a b c : ℕ) → SaysNamespace text inside outside count → SaysNamespace text a b c → (inside ≡ a) × (outside ≡ b) × (count ≡ c)
-
--- a text that says a range has no fault
-abbrev pub HasNoFault : Type 0
-HasNoFault = (text : List ℕ) (inside outside count : ℕ) (fault : Fault) → SaysNamespace text inside outside count → ¬ HasFault text fault
-
--- a text has one fault at most
-abbrev pub HasOneFault : Type 0
-HasOneFault = (text : List ℕ) (fault other : Fault) → HasFault text fault → HasFault text other → fault ≡ other
+abbrev pub namespace_fault_of : IdMapError → NamespaceFault
+namespace_fault_of errors.InvalidDelimiter = InvalidDelimiter
+namespace_fault_of errors.IncompleteMap = IncompleteMap
+namespace_fault_of (errors.InvalidValue error) = InvalidValue

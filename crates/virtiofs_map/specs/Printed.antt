@@ -15,7 +15,7 @@ use Rattle.virtiofs_map.specs.declared.soft_idmap.errors.IdMapBuildError.TheVari
 
 -- Specifications, and the faults of ids and of maps.
 
--- a specification: its word, and each of its numbers in decimal behind a colon, as `map:0:1000:10`
+-- a specification: its word, and each of its numbers in decimal after a colon, as `map:0:1000:10`
 abbrev pub specification_text : IdMap → List ℕ
 specification_text spec = word_of spec ++ flat_map (λ n. codes ":" ++ decimal n) (numbers_of spec)
 
@@ -44,17 +44,21 @@ abbrev pub forbidden_text : ℕ → List ℕ
 forbidden_text number = codes "Use of ID " ++ decimal number ++ codes " has been configured to fail"
 
 -- why an id is not mapped, by its number in decimal
-abbrev pub map_error_text : {Source Difference Inner Offset : Type 0} → (Source → ℕ) → MapError Source Difference Inner Offset → List ℕ
+abbrev pub map_error_text : {Source Difference Inner Offset : Type 0}
+    → (Source → ℕ) → MapError Source Difference Inner Offset → List ℕ
 map_error_text number (ExplicitFailMapping id) = forbidden_text (number id)
 
 -- why no map is made; the entry is that of the specification at fault
 abbrev pub build_error_text : IdMapBuildError → List ℕ
-build_error_text (RangeOverflow spec index direction range_end) = codes "Parameter " ++ specification_text spec ++ codes ": Range overflow"
-build_error_text (Intersects spec index direction) = direction_text direction ++ codes " mapping '" ++ set_up_text (entry_of spec direction) ++ codes "' intersects previously added entry"
+build_error_text (RangeOverflow spec index direction range_end) =
+    codes "Parameter " ++ specification_text spec ++ codes ": Range overflow"
+build_error_text (Intersects spec index direction) =
+    direction_text direction ++ codes " mapping '" ++ set_up_text (entry_of spec direction) ++ codes "' intersects previously added entry"
 build_error_text OutOfMemory = codes "Out of memory"
 
 -- Ranges of a namespace.
 
 -- `:inside:outside:count:`, in decimal
 abbrev pub namespace_text : ℕ → ℕ → ℕ → List ℕ
-namespace_text inside outside count = codes ":" ++ decimal inside ++ codes ":" ++ decimal outside ++ codes ":" ++ decimal count ++ codes ":"
+namespace_text inside outside count =
+    codes ":" ++ decimal inside ++ codes ":" ++ decimal outside ++ codes ":" ++ decimal count ++ codes ":"

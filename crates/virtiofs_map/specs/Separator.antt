@@ -6,6 +6,6 @@ use Rattle.std.specs.List.{AllByRecursion, slice_split}
 abbrev pub Lacks : ℕ → List ℕ → Type 0
 Lacks c text = AllByRecursion (λ x. x ≢ c) text
 
--- what stands before, between and behind the separators
-abbrev pub fields_of : ℕ → List ℕ → List (List ℕ)
-fields_of separator text = slice_split (λ c. c == separator) text
+-- the parts of the text before, between and after its separators
+abbrev pub split_at_each : ℕ → List ℕ → List (List ℕ)
+split_at_each separator text = slice_split (λ c. c == separator) text

@@ -1,11 +1,11 @@
 -- The texts that say a specification, as `map:0:1000:10`, and what is wrong with the others.
-use Rattle.std.specs.Prelude.{◌≡◌, ◌≢◌, ◌⊎◌, ℕ, Bool, false, ◌||◌, ◌==◌, List, [], ◌∷◌, ◌++◌, length, map, codes, string_bytes, Option, Some, None, IsSomeAnd}
+use Rattle.std.specs.Prelude.{◌≡◌, ◌≢◌, ◌⊎◌, ℕ, Bool, false, ◌||◌, ◌==◌, List, [], ◌∷◌, ◌++◌, length, map, codes, string_bytes, Option, Some, None}
 use Rattle.std.specs.List.{AllPass, AllZip}
 use Rattle.std.specs.Char.{to_ascii_lowercase}
 use Rattle.std.specs.Str.{chars}
 use Rattle.virtiofs_map.specs.Alphanumeric.{is_alphanumeric}
 use Rattle.virtiofs_map.specs.Numeral.{IsNumeral}
-use Rattle.virtiofs_map.specs.Separator.{fields_of}
+use Rattle.virtiofs_map.specs.Separator.{split_at_each}
 use Rattle.virtiofs_map.specs.declared.cmdline.IdMap.{IdMap}
 use Rattle.virtiofs_map.specs.declared.cmdline.IdMap.TheVariants.{Guest, Host, SquashGuest, SquashHost, Bidirectional, ForbidGuest}
 use Rattle.virtiofs_map.specs.declared.cmdline.IdMapError.{IdMapError}
@@ -15,17 +15,17 @@ use Rattle.virtiofs_map.specs.declared.cmdline.IdMapError.TheVariants as errors
 abbrev pub is_word_character : ℕ → Bool
 is_word_character c = is_alphanumeric c || (c == 45) || (c == 95)
 
--- the text is a prefix of word characters, then a separator that is none, and then the rest
+-- the text is a prefix of word characters, then a separator that is no word character, and then the rest
 pub record IsCut (text prefix : List ℕ) (separator : ℕ) (rest : List ℕ) : Type 0 where
   pub whole : text ≡ prefix ++ separator ∷ rest
   pub word : AllPass is_word_character prefix
   pub ends : is_word_character separator ≡ false
 
--- the text with its ASCII letters lowered
+-- the text with its ASCII letters in lower case
 abbrev pub lowered : List ℕ → List ℕ
 lowered text = map to_ascii_lowercase text
 
--- the word that a specification is written with
+-- the word of a specification
 abbrev pub word_of : IdMap → List ℕ
 word_of (Guest from_guest to_host count) = codes "guest"
 word_of (Host from_host to_guest count) = codes "host"
@@ -43,81 +43,78 @@ numbers_of (SquashHost from_host to_guest count) = from_host ∷ to_guest ∷ co
 numbers_of (Bidirectional guest host count) = guest ∷ host ∷ count ∷ []
 numbers_of (ForbidGuest from_guest count) = from_guest ∷ count ∷ []
 
--- the text says the specification: its word, in letters of either case, and its numbers between separators
+-- the text says the specification: its word, in upper or lower case, and its numbers between separators
 pub record Says (text : List ℕ) (spec : IdMap) : Type 0 where
   pub prefix : List ℕ
   pub separator : ℕ
   pub rest : List ℕ
   pub cut : IsCut text prefix separator rest
   pub word : lowered prefix ≡ word_of spec
-  pub numbers : AllZip IsNumeral (fields_of separator rest) (numbers_of spec)
+  pub numbers : AllZip IsNumeral (split_at_each separator rest) (numbers_of spec)
 
--- the field is no numeral, and each one before it is one
-pub record IsFirstUnread (fields : List (List ℕ)) (field : List ℕ) : Type 0 where
+-- the field is no numeral, and each field before it is one
+pub record IsFirstNonNumeral (fields : List (List ℕ)) (field : List ℕ) : Type 0 where
   pub before : List (List ℕ)
   pub after : List (List ℕ)
   pub values : List ℕ
   pub here : fields ≡ before ++ field ∷ after
   pub read : AllZip IsNumeral before values
-  pub unread : (value : ℕ) → IsNumeral field value → ⊥
+  pub unread : (value : ℕ) → ¬ IsNumeral field value
 
--- the text is cut, and each of its fields is a numeral
-pub record IsCounted (text prefix : List ℕ) (seen : ℕ) : Type 0 where
+-- after the prefix, the text has that many fields, and each is a numeral
+pub record HasNumerals (text prefix : List ℕ) (seen : ℕ) : Type 0 where
   pub separator : ℕ
   pub rest : List ℕ
   pub values : List ℕ
   pub cut : IsCut text prefix separator rest
-  pub numbers : AllZip IsNumeral (fields_of separator rest) values
+  pub numbers : AllZip IsNumeral (split_at_each separator rest) values
   pub count : length values ≡ seen
 
--- no separator ends the prefix
-abbrev pub HasNoField : List ℕ → Type 0
-HasNoField text = AllPass is_word_character text
+-- no character of the text is a separator
+abbrev pub HasNoSeparator : List ℕ → Type 0
+HasNoSeparator text = AllPass is_word_character text
 
--- the first field that is no numeral
-pub record HasUnread (text field : List ℕ) : Type 0 where
+-- the field is the first one of the text that is no numeral
+pub record HasNonNumeral (text field : List ℕ) : Type 0 where
   pub prefix : List ℕ
   pub separator : ℕ
   pub rest : List ℕ
   pub cut : IsCut text prefix separator rest
-  pub first : IsFirstUnread (fields_of separator rest) field
+  pub first : IsFirstNonNumeral (split_at_each separator rest) field
 
--- each field is a numeral, and the prefix is no word
+-- each field is a numeral, and the prefix in lower case, which is the word, is that of no specification
 pub record HasUnknownPrefix (text word : List ℕ) : Type 0 where
   pub prefix : List ℕ
   pub seen : ℕ
-  pub counted : IsCounted text prefix seen
+  pub numerals : HasNumerals text prefix seen
   pub is : word ≡ lowered prefix
   pub unknown : (spec : IdMap) → lowered prefix ≢ word_of spec
 
--- each field is a numeral, and there are not as many as the word takes
-pub record HasMiscount (text : List ℕ) (expected seen : ℕ) : Type 0 where
+-- each field is a numeral, and the prefix is the word of a specification with another count of numbers
+pub record HasWrongCount (text : List ℕ) (expected seen : ℕ) : Type 0 where
   pub prefix : List ℕ
   pub spec : IdMap
-  pub counted : IsCounted text prefix seen
+  pub numerals : HasNumerals text prefix seen
   pub word : lowered prefix ≡ word_of spec
   pub takes : length (numbers_of spec) ≡ expected
   pub other : seen ≢ expected
 
 -- what is wrong with a text that says no specification
-pub data Fault : Type 0 where
-  InvalidPrefix : List ℕ → Fault
-  InvalidLength : ℕ → ℕ → Fault
-  InvalidValue : List ℕ → Fault
+pub data SpecificationFault : Type 0 where
+  InvalidPrefix : List ℕ → SpecificationFault
+  InvalidLength : ℕ → ℕ → SpecificationFault
+  InvalidValue : List ℕ → SpecificationFault
 
 -- the text has that fault
-abbrev pub HasFault : List ℕ → Fault → Type 0
-HasFault text (InvalidLength expected seen) = (HasNoField text × (expected ≡ 1) × (seen ≡ 0)) ⊎ HasMiscount text expected seen
-HasFault text (InvalidValue field) = HasUnread text field
-HasFault text (InvalidPrefix word) = HasUnknownPrefix text word
+abbrev pub HasSpecificationFault : List ℕ → SpecificationFault → Type 0
+HasSpecificationFault text (InvalidLength expected seen) =
+    (HasNoSeparator text × (expected ≡ 1) × (seen ≡ 0)) ⊎ HasWrongCount text expected seen
+HasSpecificationFault text (InvalidValue field) = HasNonNumeral text field
+HasSpecificationFault text (InvalidPrefix word) = HasUnknownPrefix text word
 
 -- the fault that an error tells; none where a request for memory was refused
-abbrev pub fault_of : {A : Type 0} → IdMapError A → Option Fault
-fault_of (errors.InvalidPrefix prefix) = Some (InvalidPrefix (chars (string_bytes prefix)))
-fault_of (errors.InvalidLength expected seen) = Some (InvalidLength expected seen)
-fault_of (errors.InvalidValue value error) = Some (InvalidValue (chars (string_bytes value)))
-fault_of errors.OutOfMemory = None
-
--- the error tells a fault of the text
-abbrev pub IsFaultOf : {A : Type 0} → List ℕ → IdMapError A → Type 0
-IsFaultOf text error = IsSomeAnd (fault_of error) (HasFault text)
+abbrev pub specification_fault_of : {A : Type 0} → IdMapError A → Option SpecificationFault
+specification_fault_of (errors.InvalidPrefix prefix) = Some (InvalidPrefix (chars (string_bytes prefix)))
+specification_fault_of (errors.InvalidLength expected seen) = Some (InvalidLength expected seen)
+specification_fault_of (errors.InvalidValue value error) = Some (InvalidValue (chars (string_bytes value)))
+specification_fault_of errors.OutOfMemory = None

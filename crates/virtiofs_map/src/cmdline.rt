@@ -10,8 +10,8 @@ use thiserror::Error;
 /// One specification of a mapping between guest ids and host ids.
 #[derive(Clone, Copy, Debug, PartialEq, Eq)]
 pub enum IdMap {
-    /// `guest:FROM:TO:COUNT`: each of `count` guest ids from `from_guest` on stands for the host id
-    /// as far above `to_host`.
+    /// `guest:FROM:TO:COUNT`: each of `count` guest ids, from `from_guest` on, becomes the host id
+    /// that is as far above `to_host`.
     Guest {
         /// The first guest id.
         from_guest: u32,
@@ -31,7 +31,7 @@ pub enum IdMap {
         count: u32,
     },
 
-    /// `squash-guest:FROM:TO:COUNT`: each of `count` guest ids from `from_guest` on becomes the one
+    /// `squash-guest:FROM:TO:COUNT`: each of `count` guest ids, from `from_guest` on, becomes the one
     /// host id `to_host`.
     SquashGuest {
         /// The first guest id.
@@ -63,7 +63,7 @@ pub enum IdMap {
         count: u32,
     },
 
-    /// `forbid-guest:FROM:COUNT`: the use of each of `count` guest ids from `from_guest` on fails.
+    /// `forbid-guest:FROM:COUNT`: each of `count` guest ids, from `from_guest` on, is forbidden.
     ForbidGuest {
         /// The first guest id.
         from_guest: u32,
@@ -75,7 +75,7 @@ pub enum IdMap {
 /// Why a text says no specification.
 #[derive(Debug, Drop, Error)]
 pub enum IdMapError<A: Allocator = Global> {
-    /// The word before the separator, its ASCII letters lowered, is none of the six.
+    /// The prefix is none of the six words; here its ASCII letters are in lower case.
     #[error("Invalid ID map prefix {0}")]
     InvalidPrefix(String<A>),
 

@@ -1,9 +1,9 @@
 //! User and group ids, of the guest and of the host, as types that cannot be mixed up.
 //!
 //! A plain number does not say whether it is a user or a group, nor on which side it is valid. Here
-//! each kind of id has a type of its own, so an id that was not translated where it should have been
-//! is a type error. [`GuestId`] and [`HostId`] pair the types: a caller that is generic over such a
-//! pair is written once for users, for groups and for ids of its own.
+//! each kind of id has a type of its own, so an id that was not translated where it had to be is a
+//! type error. [`GuestId`] and [`HostId`] pair the types: a caller that is generic over such a pair
+//! is written once for users, for groups and for ids of its own.
 //!
 //! # Moving a range
 //!
@@ -19,10 +19,10 @@
 //!
 //! # What a generic caller knows
 //!
-//! Contracts see an id and an offset by its `number`, from 0 to 4294967295. A method of these traits
-//! whose body is empty is a law: it does nothing when it runs, and its contract is a fact about the
-//! values that it is handed, which each implementer proves. A generic caller names the laws that it
-//! needs:
+//! Contracts see an id and an offset by its `number`, from 0 to 4294967295. A method of these
+//! traits whose body is empty is a law: it does nothing when it runs, and its contract is a fact
+//! about the values that it is handed, which each implementer proves. A generic caller names the
+//! laws that it needs:
 //!
 //! ```text
 //! id.subtracts(from);               // `id - from` may be taken if `from` is at most `id`
@@ -39,6 +39,7 @@ ghost use Rattle.std.specs.Ordering.{nat_cmp};
 use std::fmt::{Debug, Display};
 use std::ops::{Add, Sub};
 
+// `uids` and `gids` differ in names alone, as tests/same_but_for_names.py of the repository checks.
 mod gids;
 mod numbers;
 #[cfg(test)]

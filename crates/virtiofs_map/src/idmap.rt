@@ -5,17 +5,15 @@
 //! character at the end of the text, any one that is not alphanumeric, also stands at its beginning
 //! and between the numbers, so `,0,100000,65536,` says the same.
 
-use range::Range;
+use reader::Range;
 use std::fmt;
 use std::num::ParseIntError;
 use thiserror::Error;
 
-mod laws;
-mod range;
+pub mod laws;
+mod reader;
 #[cfg(test)]
 mod tests;
-
-pub use laws::{namespace_texts_have_one_meaning, printed_namespaces_read_back};
 
 /// A range of user ids. It is printed as `:inside_uid:outside_uid:count:`, in decimal.
 #[derive(Clone, Debug, PartialEq, Eq, Drop)]
@@ -67,9 +65,9 @@ impl From<ParseIntError> for IdMapError {
 }
 
 impl UidMap {
-    ghost use Rattle.std.specs.Prelude.{IfOk, IfErr};
+    ghost use Rattle.std.specs.Prelude.{◌≡◌, ℕ, IfOk, IfErr, IsOkAnd, IsErrAnd};
     ghost use Rattle.std.specs.Str.{chars};
-    ghost use Rattle.virtiofs_map.specs.NamespaceText.{SaysNamespace, HasFault, fault_of};
+    ghost use Rattle.virtiofs_map.specs.NamespaceText.{SaysNamespace, NamespaceFault, HasNamespaceFault, namespace_fault_of};
 
     /// Reads a range of user ids. It takes no memory.
     ///
@@ -80,8 +78,16 @@ impl UidMap {
     /// 4294967295, [`IdMapError::InvalidValue`]. A number is decimal digits, with any zeros before
     /// them, and may have a `+` in front.
     pub fn from_str(text: &str) -> Result<UidMap, IdMapError>
-        ensures read { IfOk result (λ map. SaysNamespace (chars text.now) map.inside_uid map.outside_uid map.count) }
-        ensures fault { IfErr result (λ error. HasFault (chars text.now) (fault_of error)) }
+        ensures read { IfOk result (λ map.
+            SaysNamespace (chars text.now) map.inside_uid map.outside_uid map.count) }
+        ensures complete { (inside outside count : ℕ)
+            → SaysNamespace (chars text.now) inside outside count
+            → IsOkAnd result (λ map.
+            (map.inside_uid ≡ inside) × (map.outside_uid ≡ outside) × (map.count ≡ count)) }
+        ensures refused { IfErr result (λ e.
+            HasNamespaceFault (chars text.now) (namespace_fault_of e)) }
+        ensures faulty { (fault : NamespaceFault) → HasNamespaceFault (chars text.now) fault
+            → IsErrAnd result (λ e. namespace_fault_of e ≡ fault) }
     {
         let range = Range::from_str(text)?;
         Ok(UidMap {
@@ -93,15 +99,23 @@ impl UidMap {
 }
 
 impl GidMap {
-    ghost use Rattle.std.specs.Prelude.{IfOk, IfErr};
+    ghost use Rattle.std.specs.Prelude.{◌≡◌, ℕ, IfOk, IfErr, IsOkAnd, IsErrAnd};
     ghost use Rattle.std.specs.Str.{chars};
-    ghost use Rattle.virtiofs_map.specs.NamespaceText.{SaysNamespace, HasFault, fault_of};
+    ghost use Rattle.virtiofs_map.specs.NamespaceText.{SaysNamespace, NamespaceFault, HasNamespaceFault, namespace_fault_of};
 
     /// Reads a range of group ids, from the same texts and with the same errors as
     /// [`UidMap::from_str`]. It takes no memory.
     pub fn from_str(text: &str) -> Result<GidMap, IdMapError>
-        ensures read { IfOk result (λ map. SaysNamespace (chars text.now) map.inside_gid map.outside_gid map.count) }
-        ensures fault { IfErr result (λ error. HasFault (chars text.now) (fault_of error)) }
+        ensures read { IfOk result (λ map.
+            SaysNamespace (chars text.now) map.inside_gid map.outside_gid map.count) }
+        ensures complete { (inside outside count : ℕ)
+            → SaysNamespace (chars text.now) inside outside count
+            → IsOkAnd result (λ map.
+            (map.inside_gid ≡ inside) × (map.outside_gid ≡ outside) × (map.count ≡ count)) }
+        ensures refused { IfErr result (λ e.
+            HasNamespaceFault (chars text.now) (namespace_fault_of e)) }
+        ensures faulty { (fault : NamespaceFault) → HasNamespaceFault (chars text.now) fault
+            → IsErrAnd result (λ e. namespace_fault_of e ≡ fault) }
     {
         let range = Range::from_str(text)?;
         Ok(GidMap {

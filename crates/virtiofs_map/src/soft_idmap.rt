@@ -3,14 +3,14 @@
 //! An [`IdMap`] is made of specifications ([`crate::cmdline`]). In each direction, from guest to
 //! host and from host to guest, at most one of them covers a number, and says what it becomes. A
 //! number that none covers stays itself.
-ghost use Rattle.std.specs.Prelude.{◌≡◌, ◌⊎◌, List, [], Some, None, IsOk, IfOk, IfErr, OnOk, MatchResult};
+ghost use Rattle.std.specs.Prelude.{◌≡◌, ℕ, List, [], Some, None, IsOk, IfOk, IfErr, IsOkAnd, IsErrAnd, OnOk, OnErr, MatchResult};
+ghost use Rattle.virtiofs_map.specs.Build.{Accepted, BuildFault, HasFirstFault, build_fault_of};
 ghost use Rattle.virtiofs_map.specs.Mapping.{Becomes};
-ghost use Rattle.virtiofs_map.specs.Build.{Accepted, IsFirstFault};
-ghost use Rattle.virtiofs_map.specs.Laws.{HasNoOrder, KeepsGreatest, IsMappedBothWays, LeadsBack};
-ghost use Rattle.virtiofs_map.specs.Specifications.{AllSay, IsSpecsFault, IsWantOfMemory};
+ghost use Rattle.virtiofs_map.specs.MappingLaws.{IsOrderFree, KeepsGreatest, IsMappedBothWays, LeadsBack};
+ghost use Rattle.virtiofs_map.specs.Refusal.{IsOutOfMemory, OutOfMemoryOr};
+ghost use Rattle.virtiofs_map.specs.Specifications.{texts_of, AllSay, SpecsFault, HasSpecsFault, specs_fault_of, NamesReached};
 ghost use Rattle.virtiofs_map.specs.declared.cmdline.IdMap.{IdMap as Specification};
 ghost use Rattle.virtiofs_map.specs.declared.soft_idmap.entry.Direction.TheVariants.{GuestToHost, HostToGuest};
-ghost use Rattle.virtiofs_map.specs.declared.soft_idmap.errors.IdMapBuildError.TheVariants.{OutOfMemory};
 
 use crate::cmdline;
 use crate::id_types::{GuestId, HostId, Id, IdNumber};
@@ -23,22 +23,19 @@ mod entry;
 mod errors;
 #[cfg(test)]
 mod example;
-mod fault_kind;
 pub mod laws;
-mod specs_error;
 #[cfg(test)]
 mod tests;
 mod texts;
 
 pub use entry::Direction;
-pub use errors::{IdMapBuildError, MapError, RangeEnd};
-pub use fault_kind::FaultKind;
-pub use specs_error::SpecsError;
+pub use errors::{FaultKind, IdMapBuildError, MapError, RangeEnd, SpecsError};
 
 /// A map of ids between a guest and its host.
 ///
-/// Contracts see it as the list of its specifications, which is accepted: each range ends in time,
-/// and no two cover one number in one direction.
+/// Contracts see it as the list of its specifications, which is accepted: no range that is mapped
+/// goes past 4294967294, none that it becomes goes past 4294967295, and no two specifications cover
+/// one number in one direction.
 #[derive(Drop)]
 pub struct IdMap<
     Guest: GuestId<HostType = Host>,
@@ -83,14 +80,30 @@ impl<Guest: GuestId<HostType = Host>, Host: HostId<GuestType = Guest>, A: Alloca
 
     /// Makes a map of a list of specifications.
     ///
-    /// A refused list is gone with the refusal, and the fault is the first one in the order of the
-    /// list. A specification with a count of 0 covers nothing and is never refused.
+    /// The specifications are tested one after another, each from guest to host and then from host
+    /// to guest. The first test that fails is the error, and the list is dropped:
+    ///
+    /// 1. The range of numbers that are mapped does not go past 4294967294; else
+    ///    [`IdMapBuildError::RangeOverflow`] with [`RangeEnd::Source`].
+    /// 2. No earlier specification covers one of these numbers; else
+    ///    [`IdMapBuildError::Intersects`].
+    /// 3. The range of numbers that they become does not go past 4294967295; else
+    ///    [`IdMapBuildError::RangeOverflow`] with [`RangeEnd::Target`].
+    ///
+    /// A specification with a count of 0 passes each test. Where a request for memory is refused,
+    /// the error is [`IdMapBuildError::OutOfMemory`].
     pub fn try_from(_alloc: A, specs: Vec<cmdline::IdMap, A>) -> Result<Self, IdMapBuildError>
-        ensures seen { IfOk result (λ map. map ≡ specs.items) }
+        ensures read { IfOk result (λ map. map ≡ specs.items) }
         ensures accepted { OnOk result (Accepted specs.items) }
-        ensures fault { IfErr result (λ e. (e ≡ OutOfMemory) ⊎ IsFirstFault specs.items e) }
-        ensures complete { Accepted specs.items → MatchResult result (λ map. map ≡ specs.items) (λ e. e ≡ OutOfMemory) }
-        ensures order { OnOk result (HasNoOrder specs.items) }
+        ensures complete { Accepted specs.items
+            → MatchResult result (λ map. map ≡ specs.items)
+            (λ e. IsOutOfMemory (build_fault_of e)) }
+        ensures refused { IfErr result (λ e.
+            OutOfMemoryOr (build_fault_of e) (HasFirstFault specs.items)) }
+        ensures faulty { (fault : BuildFault) → HasFirstFault specs.items fault
+            → MatchResult result (λ _. ⊥)
+            (λ e. OutOfMemoryOr (build_fault_of e) (λ told. told ≡ fault)) }
+        ensures order { OnOk result (IsOrderFree specs.items) }
         ensures greatest { OnOk result (KeepsGreatest specs.items) }
     {
         build::check(&specs)?;
@@ -101,13 +114,26 @@ impl<Guest: GuestId<HostType = Host>, Host: HostId<GuestType = Guest>, A: Alloca
         })
     }
 
-    /// The host's number for a guest's. It takes no memory.
+    /// The host's id for a guest's. It takes no memory.
+    ///
+    /// A specification that covers the number of the id says what it becomes. An id that none
+    /// covers keeps its number, as 4294967295 always does. Where a specification forbids the id,
+    /// the error is [`MapError::ExplicitFailMapping`] with the id.
     pub fn map_guest(&self, id: Guest) -> Result<Host, MapError<Guest>>
         ensures accepted { Accepted self.now }
-        ensures value { IfOk result (λ host. Becomes self.now GuestToHost (Guest.number id) (Some (Host.number host))) }
-        ensures fails { IfErr result (λ e. (e ≡ MapError.ExplicitFailMapping id) × Becomes self.now GuestToHost (Guest.number id) None) }
-        ensures mapped { IsMappedBothWays self.now GuestToHost (Guest.number id) → IsOk result }
-        ensures leads_back { IsMappedBothWays self.now GuestToHost (Guest.number id) → IfOk result (λ host. LeadsBack self.now GuestToHost (Guest.number id) (Host.number host)) }
+        ensures value { IfOk result (λ host.
+            Becomes self.now GuestToHost (Guest.number id) (Some (Host.number host))) }
+        ensures complete { (n : ℕ) → Becomes self.now GuestToHost (Guest.number id) (Some n)
+            → IsOkAnd result (λ host. Host.number host ≡ n) }
+        ensures fails { OnErr result (Becomes self.now GuestToHost (Guest.number id) None) }
+        ensures forbidden { Becomes self.now GuestToHost (Guest.number id) None
+            → IsErrAnd result (λ e. e ≡ MapError.ExplicitFailMapping id) }
+        ensures names { IfErr result (λ e. e ≡ MapError.ExplicitFailMapping id) }
+        ensures mapped { IsMappedBothWays self.now GuestToHost (Guest.number id)
+            → IsOk result }
+        ensures leads_back { IsMappedBothWays self.now GuestToHost (Guest.number id)
+            → IfOk result (λ host.
+            LeadsBack self.now GuestToHost (Guest.number id) (Host.number host)) }
     {
         let n = id.into_inner().to_u32();
         match lookup(&self.specs, Direction::GuestToHost, n) {
@@ -116,13 +142,27 @@ impl<Guest: GuestId<HostType = Host>, Host: HostId<GuestType = Guest>, A: Alloca
         }
     }
 
-    /// The guest's number for a host's. It takes no memory.
+    /// The guest's id for a host's. It takes no memory.
+    ///
+    /// A specification that covers the number of the id says what it becomes. An id that none
+    /// covers keeps its number, as 4294967295 always does. Where a specification forbids the id,
+    /// the error is [`MapError::ExplicitFailMapping`] with the id; the specifications of today
+    /// forbid guest ids alone.
     pub fn map_host(&self, id: Host) -> Result<Guest, MapError<Host>>
         ensures accepted { Accepted self.now }
-        ensures value { IfOk result (λ guest. Becomes self.now HostToGuest (Host.number id) (Some (Guest.number guest))) }
-        ensures fails { IfErr result (λ e. (e ≡ MapError.ExplicitFailMapping id) × Becomes self.now HostToGuest (Host.number id) None) }
-        ensures mapped { IsMappedBothWays self.now HostToGuest (Host.number id) → IsOk result }
-        ensures leads_back { IsMappedBothWays self.now HostToGuest (Host.number id) → IfOk result (λ guest. LeadsBack self.now HostToGuest (Host.number id) (Guest.number guest)) }
+        ensures value { IfOk result (λ guest.
+            Becomes self.now HostToGuest (Host.number id) (Some (Guest.number guest))) }
+        ensures complete { (n : ℕ) → Becomes self.now HostToGuest (Host.number id) (Some n)
+            → IsOkAnd result (λ guest. Guest.number guest ≡ n) }
+        ensures fails { OnErr result (Becomes self.now HostToGuest (Host.number id) None) }
+        ensures forbidden { Becomes self.now HostToGuest (Host.number id) None
+            → IsErrAnd result (λ e. e ≡ MapError.ExplicitFailMapping id) }
+        ensures names { IfErr result (λ e. e ≡ MapError.ExplicitFailMapping id) }
+        ensures mapped { IsMappedBothWays self.now HostToGuest (Host.number id)
+            → IsOk result }
+        ensures leads_back { IsMappedBothWays self.now HostToGuest (Host.number id)
+            → IfOk result (λ guest.
+            LeadsBack self.now HostToGuest (Host.number id) (Guest.number guest)) }
     {
         let n = id.into_inner().to_u32();
         match lookup(&self.specs, Direction::HostToGuest, n) {
@@ -137,16 +177,28 @@ impl<Guest: GuestId<HostType = Host>, Host: HostId<GuestType = Guest>, A: Alloca
     Host,
     A,
 > {
-    /// Makes a map of a list of texts.
+    /// Makes a map of a list of texts, each of which is read as [`cmdline::IdMap::from_str`] does.
     ///
-    /// A text that cannot be read is answered even where the texts before it could not stand
-    /// together: the building begins behind the last text.
+    /// Every text is read first. The first text that is not read is the error
+    /// [`SpecsError::Spec`], also where no map could be made of the texts before it. Where every
+    /// text is read, the error is the one of [`IdMap::try_from`], in [`SpecsError::Build`].
+    ///
+    /// Where a request for memory is refused, the error is [`cmdline::IdMapError::OutOfMemory`] in
+    /// [`SpecsError::Spec`], with the text that was being read, or else
+    /// [`IdMapBuildError::OutOfMemory`].
     pub fn from_specs(alloc: A, texts: &[&str]) -> Result<Self, SpecsError<A>>
-        ensures said { IfOk result (AllSay texts.now) }
+        ensures read { IfOk result (AllSay (texts_of texts.now)) }
         ensures accepted { IfOk result Accepted }
-        ensures fault { IfErr result (IsSpecsFault texts.now) }
-        ensures complete { (specs : List Specification) → AllSay texts.now specs → Accepted specs → MatchResult result (λ map. map ≡ specs) IsWantOfMemory }
-        ensures order { IfOk result HasNoOrder }
+        ensures complete { (specs : List Specification)
+            → AllSay (texts_of texts.now) specs → Accepted specs
+            → MatchResult result (λ map. map ≡ specs) (λ e. IsOutOfMemory (specs_fault_of e)) }
+        ensures refused { IfErr result (λ e.
+            OutOfMemoryOr (specs_fault_of e) (HasSpecsFault (texts_of texts.now))) }
+        ensures reached { IfErr result (NamesReached (texts_of texts.now)) }
+        ensures faulty { (fault : SpecsFault) → HasSpecsFault (texts_of texts.now) fault
+            → MatchResult result (λ _. ⊥)
+            (λ e. OutOfMemoryOr (specs_fault_of e) (λ told. told ≡ fault)) }
+        ensures order { IfOk result IsOrderFree }
         ensures greatest { IfOk result KeepsGreatest }
     {
         let specs = texts::read_all(alloc, texts)?;

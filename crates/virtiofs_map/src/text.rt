@@ -1,5 +1,5 @@
-//! How the readers of this crate take a text apart.
-ghost use Rattle.std.specs.Prelude.{◌≡◌, ◌<◌, ℕ, ◌∷◌, ◌++◌, length, IfNone, IfSome, MatchResult};
+//! How the readers of this crate take a text apart, and how they read a number.
+ghost use Rattle.std.specs.Prelude.{◌≡◌, ◌<◌, ℕ, ◌∷◌, ◌++◌, length, IfNone, IfSome, IfOk, IfErr, IsErr, IsOkAnd};
 ghost use Rattle.std.specs.Str.{chars, IsUtf8};
 ghost use Rattle.virtiofs_map.specs.Alphanumeric.{is_alphanumeric};
 ghost use Rattle.virtiofs_map.specs.Numeral.{IsNumeral};
@@ -32,11 +32,16 @@ pub(crate) fn cut_at(text: &str, at: char) -> Option<(&str, &str)>
     text.split_once(at)
 }
 
-/// Reads a number of 32 bits: an optional `+`, and then one or more decimal digits.
-pub(crate) fn number(text: &str) -> Result<u32, ParseIntError>
-    ensures { MatchResult result
-        (λ value. IsNumeral (chars text.now) value)
-        (λ _. (value : ℕ) → IsNumeral (chars text.now) value → ⊥) }
+/// Reads a number as every reader of this crate does: an optional `+`, and then one or more decimal
+/// digits, which are at most 4294967295. It takes no memory.
+///
+/// The error is the one that `u32` has for the text.
+pub fn number(text: &str) -> Result<u32, ParseIntError>
+    ensures read { IfOk result (λ value. IsNumeral (chars text.now) value) }
+    ensures complete { (value : ℕ) → IsNumeral (chars text.now) value
+        → IsOkAnd result (λ read. read ≡ value) }
+    ensures refused { IfErr result (λ _. (value : ℕ) → ¬ IsNumeral (chars text.now) value) }
+    ensures faulty { ((value : ℕ) → ¬ IsNumeral (chars text.now) value) → IsErr result }
 {
     text.parse()
 }

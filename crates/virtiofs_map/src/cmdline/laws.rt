@@ -1,19 +1,33 @@
-//! What holds of every text of a specification. These functions do nothing: their contracts are laws.
-ghost use Rattle.std.specs.Prelude.{◌≡◌, ℕ, List};
-ghost use Rattle.virtiofs_map.specs.SpecificationText.{Says, Fault, HasFault};
+//! What holds of every text of a specification.
+//!
+//! These functions do nothing when they run. A caller names one to have its contract as a fact.
+ghost use Rattle.std.specs.Prelude.{◌≡◌, ◌^◌, ◌<◌, ℕ, List, All};
+ghost use Rattle.std.specs.Str.{chars};
+ghost use Rattle.virtiofs_map.specs.Printed.{specification_text};
+ghost use Rattle.virtiofs_map.specs.SpecificationText.{Says, numbers_of, SpecificationFault, HasSpecificationFault};
 ghost use Rattle.virtiofs_map.specs.declared.cmdline.IdMap.{IdMap};
 
-/// A text says one specification alone.
-pub fn a_text_says_one_specification()
-    ensures { (text : List ℕ) (spec other : IdMap) → Says text spec → Says text other → spec ≡ other }
+/// A text says at most one specification.
+pub fn one_value()
+    ensures { (text : List ℕ) (spec other : IdMap)
+        → Says text spec → Says text other → spec ≡ other }
 {}
 
 /// A text that says a specification has no fault.
-pub fn a_text_that_says_one_has_no_fault()
-    ensures { (text : List ℕ) (spec : IdMap) (fault : Fault) → Says text spec → ¬ HasFault text fault }
+pub fn no_fault()
+    ensures { (text : List ℕ) (spec : IdMap) (fault : SpecificationFault)
+        → Says text spec → ¬ HasSpecificationFault text fault }
 {}
 
-/// A text has one fault alone.
-pub fn a_text_has_one_fault()
-    ensures { (text : List ℕ) (fault other : Fault) → HasFault text fault → HasFault text other → fault ≡ other }
+/// A text has at most one fault.
+pub fn one_fault()
+    ensures { (text : List ℕ) (fault other : SpecificationFault)
+        → HasSpecificationFault text fault → HasSpecificationFault text other → fault ≡ other }
+{}
+
+/// The printed form of a specification whose numbers are below 2^32, as those of every
+/// [`IdMap`](super::IdMap) are, is a text that says that specification.
+pub fn reads_back()
+    ensures { (spec : IdMap) → All (λ n. n < 2 ^ 32) (numbers_of spec)
+        → Says (chars (specification_text spec)) spec }
 {}

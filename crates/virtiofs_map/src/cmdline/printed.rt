@@ -1,8 +1,6 @@
 //! The printed form of a specification.
-ghost use Rattle.std.specs.Prelude.{◌^◌, ◌<◌, All, Some};
-ghost use Rattle.std.specs.Str.{chars};
+ghost use Rattle.std.specs.Prelude.{Some};
 ghost use Rattle.virtiofs_map.specs.Printed.{specification_text};
-ghost use Rattle.virtiofs_map.specs.SpecificationText.{Says, numbers_of};
 
 use crate::cmdline::IdMap;
 use std::fmt;
@@ -43,12 +41,4 @@ impl fmt::Display for IdMap {
             }
         }
     }
-}
-
-impl IdMap {
-    /// Law: the printed form of each specification whose numbers are below 2^32, as those of every
-    /// `IdMap` are, is a text that says that specification, as [`IdMap::from_str`] reads it.
-    pub fn printed_says_it()
-        ensures { (spec : IdMap) → All (λ n. n < 2 ^ 32) (numbers_of spec) → Says (chars (specification_text spec)) spec }
-    {}
 }

@@ -1,13 +1,13 @@
 //! How the text of a specification is read.
-ghost use Rattle.std.specs.Prelude.{◌≡◌, ◌⊎◌, [], ◌∷◌, MatchResult, IfOk, IfErr, IfSome, IfNone, string_bytes};
+ghost use Rattle.std.specs.Prelude.{◌≡◌, [], ◌∷◌, MatchResult, IfOk, IfErr, IfSome, IfNone, string_bytes};
 ghost use Rattle.std.specs.List.{AllZip};
 ghost use Rattle.std.specs.Str.{chars};
 ghost use Rattle.virtiofs_map.specs.Numeral.{IsNumeral};
+ghost use Rattle.virtiofs_map.specs.Refusal.{IsOutOfMemory, OutOfMemoryOr};
+ghost use Rattle.virtiofs_map.specs.Separator.{split_at_each};
 ghost use Rattle.virtiofs_map.specs.SpecificationParts.{IsLoweredCut, IsFieldFault, IsFieldsFault, IsCountFault, IsWordFault};
+ghost use Rattle.virtiofs_map.specs.SpecificationText.{is_word_character, word_of, numbers_of, HasNoSeparator, Says, SpecificationFault, HasSpecificationFault, specification_fault_of};
 ghost use Rattle.virtiofs_map.specs.declared.cmdline.IdMap.{IdMap as Specification};
-ghost use Rattle.virtiofs_map.specs.declared.cmdline.IdMapError.TheVariants.{OutOfMemory};
-ghost use Rattle.virtiofs_map.specs.SpecificationText.{is_word_character, word_of, numbers_of, HasNoField, Says, IsFaultOf};
-ghost use Rattle.virtiofs_map.specs.Separator.{fields_of};
 
 use super::{IdMap, IdMapError};
 use crate::text::{cut_at, is_alphanumeric, number};
@@ -29,11 +29,12 @@ fn is_word_character(c: char) -> bool
     is_alphanumeric(c) || c == '-' || c == '_'
 }
 
-/// Takes off the longest front of word characters, and the separator behind it.
+/// Takes off the longest front of word characters, and the separator after it.
 fn cut_prefix<A: Allocator>(alloc: A, text: &str) -> Result<Option<Cut<'_, A>>, AllocError>
-    ensures none { IfOk result (λ o. IfNone o (HasNoField (chars text.now))) }
+    ensures none { IfOk result (λ o. IfNone o (HasNoSeparator (chars text.now))) }
     ensures cut { IfOk result (λ o. IfSome o (λ cut.
-        IsLoweredCut (chars text.now) (chars (string_bytes cut.word)) cut.separator (chars cut.rest.now))) }
+        IsLoweredCut (chars text.now)
+        (chars (string_bytes cut.word)) cut.separator (chars cut.rest.now))) }
 {
     let mut chars = text.chars();
     let mut word = String::new(alloc);
@@ -53,7 +54,9 @@ fn cut_prefix<A: Allocator>(alloc: A, text: &str) -> Result<Option<Cut<'_, A>>, 
 
 /// Reads one field.
 fn read_field<A: Allocator>(alloc: A, field: &str) -> Result<u32, IdMapError<A>>
-    ensures { MatchResult result (λ value. IsNumeral (chars field.now) value) (IsFieldFault (chars field.now)) }
+    ensures { MatchResult result
+        (λ value. IsNumeral (chars field.now) value)
+        (λ e. OutOfMemoryOr (specification_fault_of e) (IsFieldFault (chars field.now))) }
 {
     match number(field) {
         Ok(value) => Ok(value),
@@ -70,8 +73,10 @@ fn read_fields<A: Allocator + Copy>(
     separator: char,
     fields: &str,
 ) -> Result<Vec<u32, A>, IdMapError<A>>
-    ensures read { IfOk result (λ v. AllZip IsNumeral (fields_of separator (chars fields.now)) v.items) }
-    ensures fault { IfErr result (IsFieldsFault (fields_of separator (chars fields.now))) }
+    ensures read { IfOk result (λ v.
+        AllZip IsNumeral (split_at_each separator (chars fields.now)) v.items) }
+    ensures refused { IfErr result (λ e. OutOfMemoryOr (specification_fault_of e)
+        (IsFieldsFault (split_at_each separator (chars fields.now)))) }
 {
     let mut numbers = Vec::new(alloc);
     let mut rest = fields;
@@ -85,7 +90,9 @@ fn read_fields<A: Allocator + Copy>(
 
 /// The numbers of a word that takes three.
 fn three<A: Allocator>(numbers: &[u32]) -> Result<(u32, u32, u32), IdMapError<A>>
-    ensures { MatchResult result (λ n. numbers.now ≡ n.0 ∷ n.1 ∷ n.2 ∷ []) (IsCountFault 3 numbers.now) }
+    ensures { MatchResult result
+        (λ n. numbers.now ≡ n.0 ∷ n.1 ∷ n.2 ∷ [])
+        (λ e. OutOfMemoryOr (specification_fault_of e) (IsCountFault 3 numbers.now)) }
 {
     match numbers {
         [first, second, third] => Ok((*first, *second, *third)),
@@ -98,7 +105,9 @@ fn three<A: Allocator>(numbers: &[u32]) -> Result<(u32, u32, u32), IdMapError<A>
 
 /// The numbers of a word that takes two.
 fn two<A: Allocator>(numbers: &[u32]) -> Result<(u32, u32), IdMapError<A>>
-    ensures { MatchResult result (λ n. numbers.now ≡ n.0 ∷ n.1 ∷ []) (IsCountFault 2 numbers.now) }
+    ensures { MatchResult result
+        (λ n. numbers.now ≡ n.0 ∷ n.1 ∷ [])
+        (λ e. OutOfMemoryOr (specification_fault_of e) (IsCountFault 2 numbers.now)) }
 {
     match numbers {
         [first, second] => Ok((*first, *second)),
@@ -113,7 +122,8 @@ fn two<A: Allocator>(numbers: &[u32]) -> Result<(u32, u32), IdMapError<A>>
 fn specification<A: Allocator>(word: String<A>, numbers: &[u32]) -> Result<IdMap, IdMapError<A>>
     ensures word { IfOk result (λ spec. string_bytes word ≡ word_of spec) }
     ensures numbers { IfOk result (λ spec. numbers.now ≡ numbers_of spec) }
-    ensures fault { IfErr result (IsWordFault (string_bytes word) numbers.now) }
+    ensures refused { IfErr result (λ e. OutOfMemoryOr (specification_fault_of e)
+        (IsWordFault (string_bytes word) numbers.now)) }
 {
     match word.as_str() {
         "guest" => {
@@ -163,7 +173,8 @@ fn specification<A: Allocator>(word: String<A>, numbers: &[u32]) -> Result<IdMap
 /// Reads a text: its prefix, then its numbers, and then what the two say.
 fn read<A: Allocator + Copy>(alloc: A, text: &str) -> Result<IdMap, IdMapError<A>>
     ensures read { IfOk result (λ spec. Says (chars text.now) spec) }
-    ensures fault { IfErr result (λ e. (e ≡ OutOfMemory) ⊎ IsFaultOf (chars text.now) e) }
+    ensures refused { IfErr result (λ e.
+        OutOfMemoryOr (specification_fault_of e) (HasSpecificationFault (chars text.now))) }
 {
     let Some(cut) = cut_prefix(alloc, text)? else {
         return Err(IdMapError::InvalidLength {
@@ -178,11 +189,27 @@ fn read<A: Allocator + Copy>(alloc: A, text: &str) -> Result<IdMap, IdMapError<A
 impl IdMap {
     /// Reads a specification.
     ///
-    /// A text that says one is answered with that one, wherever there is memory.
+    /// The tests come in this order, and the first that fails is the error:
+    ///
+    /// 1. A separator ends the prefix; else [`IdMapError::InvalidLength`] with `expected` 1 and
+    ///    `seen` 0.
+    /// 2. Each field after the prefix is a number: decimal digits, with any zeros before them and
+    ///    at most one `+` in front, from 0 to 4294967295; else [`IdMapError::InvalidValue`] with
+    ///    the first field that is not one.
+    /// 3. The prefix, in upper or lower case, is one of the six words; else
+    ///    [`IdMapError::InvalidPrefix`].
+    /// 4. There are as many numbers as the word takes; else [`IdMapError::InvalidLength`].
+    ///
+    /// Where a request for memory is refused, the error is [`IdMapError::OutOfMemory`].
     pub fn from_str<A: Allocator + Copy>(alloc: A, text: &str) -> Result<IdMap, IdMapError<A>>
         ensures read { IfOk result (λ spec. Says (chars text.now) spec) }
-        ensures fault { IfErr result (λ e. (e ≡ OutOfMemory) ⊎ IsFaultOf (chars text.now) e) }
-        ensures said { (spec : Specification) → Says (chars text.now) spec → MatchResult result (λ r. r ≡ spec) (λ e. e ≡ OutOfMemory) }
+        ensures complete { (spec : Specification) → Says (chars text.now) spec
+            → MatchResult result (λ r. r ≡ spec) (λ e. IsOutOfMemory (specification_fault_of e)) }
+        ensures refused { IfErr result (λ e.
+            OutOfMemoryOr (specification_fault_of e) (HasSpecificationFault (chars text.now))) }
+        ensures faulty { (fault : SpecificationFault) → HasSpecificationFault (chars text.now) fault
+            → MatchResult result (λ _. ⊥)
+            (λ e. OutOfMemoryOr (specification_fault_of e) (λ told. told ≡ fault)) }
     {
         read(alloc, text)
     }

@@ -1,5 +1,5 @@
 //! The plain numbers that ids are made of, and the distances between ids.
-ghost use Rattle.std.specs.Prelude.{◌≡◌, ℕ, ◌↔◌, IsTrue, Some};
+ghost use Rattle.std.specs.Prelude.{◌≡◌, ℕ, ◌≤◌, ◌↔◌, IsTrue, Some};
 ghost use Rattle.std.specs.Ordering.{nat_cmp};
 
 /// A plain number that an id can be made of: one for each `u32`.
@@ -14,6 +14,10 @@ pub trait IdNumber: Copy + Eq + Ord {
     /// The value whose number is `n`.
     fn from_u32(n: u32) -> Self
         ensures { number result ≡ n };
+
+    /// Law: no number is above 4294967295.
+    fn bounded(self)
+        ensures { number self ≤ 4294967295 };
 
     /// Law: two values with one number are the same value, so that `from_u32` undoes `to_u32`.
     fn identified(self, other: Self)
@@ -37,6 +41,10 @@ pub trait IdOffset: Copy {
     /// The distance as a number.
     fn to_u32(self) -> u32
         ensures { result ≡ number self };
+
+    /// Law: no distance is above 4294967295.
+    fn bounded(self)
+        ensures { number self ≤ 4294967295 };
 }
 
 impl IdNumber for u32 {
@@ -49,6 +57,8 @@ impl IdNumber for u32 {
     fn from_u32(n: u32) -> u32 {
         n
     }
+
+    fn bounded(self) {}
 
     fn identified(self, _other: u32) {}
 

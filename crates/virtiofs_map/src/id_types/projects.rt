@@ -23,6 +23,8 @@ impl IdNumber for ProjectNumber {
         ProjectNumber(n)
     }
 
+    fn bounded(self) {}
+
     fn identified(self, _other: Self) {}
 
     fn ordered(self, _other: Self) {}
@@ -38,6 +40,8 @@ impl IdOffset for ProjectOffset {
     fn to_u32(self) -> u32 {
         self.0
     }
+
+    fn bounded(self) {}
 }
 
 /// The id of a project in the guest.

@@ -3,7 +3,7 @@ ghost use Rattle.std.specs.Prelude.{IfOk, string_bytes};
 ghost use Rattle.std.specs.Str.{chars};
 ghost use Rattle.virtiofs_map.specs.NamespaceText.{SaysNamespace};
 
-use super::{GidMap, IdMapError, UidMap, printed_namespaces_read_back};
+use super::{GidMap, IdMapError, UidMap, laws};
 use std::alloc::{AllocError, Global};
 use std::test::Fail;
 
@@ -57,15 +57,15 @@ fn name_of(fault: &IdMapError) -> &'static str {
 
 /// The printed form of a range of user ids, proved from the law.
 fn printed(alloc: Global, map: &UidMap) -> Result<String, AllocError>
-    ensures { IfOk result (λ text.
-        SaysNamespace (chars (string_bytes text)) map.now.inside_uid map.now.outside_uid map.now.count) }
+    ensures { IfOk result (λ text. SaysNamespace (chars (string_bytes text))
+        map.now.inside_uid map.now.outside_uid map.now.count) }
 {
     let UidMap {
         inside_uid: _inside,
         outside_uid: _outside,
         count: _count,
     } = *map;
-    printed_namespaces_read_back();
+    laws::reads_back();
     map.to_string(alloc)
 }
 

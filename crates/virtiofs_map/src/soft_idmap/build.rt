@@ -1,8 +1,9 @@
 //! Whether a map can be made of a list of specifications.
 ghost use Rattle.std.specs.Prelude.{◌↔◌, IsTrue, MatchResult};
 ghost use Rattle.virtiofs_map.specs.Mapping.{entry_of};
-ghost use Rattle.virtiofs_map.specs.Build.{Accepted, Fits, IsFirstFault};
+ghost use Rattle.virtiofs_map.specs.Build.{Accepted, Fits, HasFirstFault, build_fault_of};
 ghost use Rattle.virtiofs_map.specs.BuildParts.{EntryMeets, EntryMeetsEarlier, IsFaultHere};
+ghost use Rattle.virtiofs_map.specs.Refusal.{OutOfMemoryOr};
 
 use super::entry::{Entry, entry_of};
 use super::{Direction, IdMapBuildError, RangeEnd};
@@ -30,14 +31,16 @@ fn meets_earlier(entry: Entry, earlier: &[IdMap], direction: Direction) -> bool
     false
 }
 
-/// Tests a specification in one direction, behind the earlier ones.
+/// Tests a specification in one direction, after the earlier ones.
 fn check_direction(
     earlier: &[IdMap],
     spec: IdMap,
     index: usize,
     direction: Direction,
 ) -> Result<(), IdMapBuildError>
-    ensures { MatchResult result (λ _. Fits earlier.now spec direction) (IsFaultHere earlier.now spec index direction) }
+    ensures { MatchResult result
+        (λ _. Fits earlier.now spec direction)
+        (λ e. OutOfMemoryOr (build_fault_of e) (IsFaultHere earlier.now spec index direction)) }
 {
     let Some(entry) = entry_of(spec, direction) else {
         return Ok(());
@@ -70,7 +73,9 @@ fn check_direction(
 
 /// Finds the first fault of a list of specifications.
 pub(crate) fn check(specs: &[IdMap]) -> Result<(), IdMapBuildError>
-    ensures { MatchResult result (λ _. Accepted specs.now) (IsFirstFault specs.now) }
+    ensures { MatchResult result
+        (λ _. Accepted specs.now)
+        (λ e. OutOfMemoryOr (build_fault_of e) (HasFirstFault specs.now)) }
 {
     for (index, spec) in specs.iter().enumerate() {
         let earlier = &specs[..index];

@@ -1,25 +1,39 @@
 //! Why a map is not made, and why an id is not mapped.
 ghost use Rattle.std.specs.Prelude.{◌≡◌};
-ghost use Rattle.virtiofs_map.specs.FaultKinds.{kind_of};
+ghost use Rattle.virtiofs_map.specs.Build.{kind_of};
 ghost use Rattle.virtiofs_map.specs.Printed.{direction_text};
 
 use crate::cmdline;
 use crate::id_types::{Id, IdNumber};
+use crate::soft_idmap::Direction;
 use crate::soft_idmap::entry::entry_of;
-use crate::soft_idmap::{Direction, FaultKind};
+use std::alloc::{AllocFailed, Allocator, Global};
 use std::error::Error;
 use std::fmt;
 
 #[cfg(test)]
 mod tests;
 
-/// Which end of an entry goes past the greatest number.
+/// Which range of a specification goes too far.
 #[derive(Clone, Copy, Debug, PartialEq, Eq)]
 pub enum RangeEnd {
-    /// The range of numbers that are mapped, which may not hold 4294967295 or go past it.
+    /// The range of numbers that are mapped, whose last number may be 4294967294.
     Source,
-    /// The range of numbers that they become, which may not go past 4294967295.
+    /// The range of numbers that they become, whose last number may be 4294967295.
     Target,
+}
+
+/// The kind of an error, in the terms of the operating system.
+#[derive(Clone, Copy, Debug, PartialEq, Eq)]
+pub enum FaultKind {
+    /// The use of an id is forbidden.
+    PermissionDenied,
+    /// A range of a specification goes too far.
+    InvalidInput,
+    /// None of the others, as specifications that meet.
+    Other,
+    /// A request for memory was refused.
+    OutOfMemory,
 }
 
 /// Why an id is not mapped.
@@ -48,11 +62,21 @@ impl<Source: Id> fmt::Display for MapError<Source> {
 
 impl<Source: Id> Error for MapError<Source> {}
 
+impl<Source: Id> From<MapError<Source>> for FaultKind {
+    ghost use Rattle.virtiofs_map.specs.declared.soft_idmap.errors.FaultKind.TheVariants.{PermissionDenied};
+
+    ghost from_gives = { λ _ kind. kind ≡ PermissionDenied };
+
+    fn from(_error: MapError<Source>) -> FaultKind {
+        FaultKind::PermissionDenied
+    }
+}
+
 /// Why no map is made of a list of specifications: the first fault, in the order of the list.
 #[derive(Debug, Drop, PartialEq, Eq)]
 pub enum IdMapBuildError {
-    /// A range of numbers that are mapped holds 4294967295 or goes past it, or what its last number
-    /// becomes goes past 4294967295.
+    /// A range of numbers that are mapped goes past 4294967294, or what its last number becomes is
+    /// past 4294967295.
     RangeOverflow {
         /// The specification at fault.
         spec: cmdline::IdMap,
@@ -79,7 +103,7 @@ pub enum IdMapBuildError {
 }
 
 impl IdMapBuildError {
-    /// The kind of the fault.
+    /// The kind of the error.
     pub fn kind(&self) -> FaultKind
         ensures { result ≡ kind_of self.now }
     {
@@ -117,8 +141,8 @@ impl fmt::Display for IdMapBuildError {
                 direction,
                 ..
             } => {
-                let whither = name_of(direction);
-                write!(f, "{whither} mapping '")?;
+                let name = name_of(direction);
+                write!(f, "{name} mapping '")?;
                 if let Some(entry) = entry_of(spec, direction) {
                     write!(f, "{entry}")?;
                 }
@@ -130,3 +154,40 @@ impl fmt::Display for IdMapBuildError {
 }
 
 impl Error for IdMapBuildError {}
+
+/// Why no map is made of a list of texts.
+#[derive(Debug, Drop)]
+pub enum SpecsError<A: Allocator = Global> {
+    /// A text is not read: the first one, in the order of the list.
+    Spec {
+        /// Its place in the list, from 0.
+        index: usize,
+        /// Why it is not read.
+        cause: cmdline::IdMapError<A>,
+    },
+
+    /// Each text is read, and no map is made of the specifications; or a request for memory was
+    /// refused outside of the reading of a text.
+    Build(IdMapBuildError),
+}
+
+impl<A: Allocator> From<IdMapBuildError> for SpecsError<A> {
+    ghost use Rattle.virtiofs_map.specs.declared.soft_idmap.errors.SpecsError.TheVariants.{Build};
+
+    ghost from_gives = { λ e r. r ≡ Build e };
+
+    fn from(error: IdMapBuildError) -> SpecsError<A> {
+        SpecsError::Build(error)
+    }
+}
+
+impl<T: Drop, A: Allocator> From<AllocFailed<T>> for SpecsError<A> {
+    ghost use Rattle.virtiofs_map.specs.declared.soft_idmap.errors.IdMapBuildError.TheVariants.{OutOfMemory};
+    ghost use Rattle.virtiofs_map.specs.declared.soft_idmap.errors.SpecsError.TheVariants.{Build};
+
+    ghost from_gives = { λ _ r. r ≡ Build OutOfMemory };
+
+    fn from(_error: AllocFailed<T>) -> SpecsError<A> {
+        SpecsError::Build(IdMapBuildError::OutOfMemory)
+    }
+}

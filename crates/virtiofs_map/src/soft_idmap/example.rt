@@ -1,19 +1,33 @@
 //! How a daemon calls the maps, as the README shows it.
-ghost use Rattle.std.specs.Prelude.{None, Some, IfOk, MatchOption};
+ghost use Rattle.std.specs.Prelude.{◌≡◌, None, Some, IfOk, MatchOption};
 ghost use Rattle.virtiofs_map.specs.Mapping.{Becomes};
-ghost use Rattle.virtiofs_map.specs.Specifications.{AllSay};
+ghost use Rattle.virtiofs_map.specs.Specifications.{texts_of, AllSay};
 ghost use Rattle.virtiofs_map.specs.declared.soft_idmap.entry.Direction.TheVariants.{GuestToHost};
 
 use crate::id_types::{GuestUid, HostUid};
-use crate::soft_idmap::{IdMap, SpecsError};
+use crate::soft_idmap::{IdMap, SpecsError, laws};
 use std::alloc::Global;
 use std::test::Fail;
 
 /// The map that a daemon's settings ask for.
 fn users(alloc: Global, texts: &[&str]) -> Result<IdMap<GuestUid, HostUid>, SpecsError>
-    ensures { IfOk result (AllSay texts.now) }
+    ensures { IfOk result (AllSay (texts_of texts.now)) }
 {
     IdMap::from_specs(alloc, texts)
+}
+
+/// The map that the settings ask for when they are read again: where they still say what the map
+/// was made of, the same map.
+fn users_again(
+    alloc: Global,
+    texts: &[&str],
+    before: &IdMap<GuestUid, HostUid>,
+) -> Result<IdMap<GuestUid, HostUid>, SpecsError>
+    ensures { AllSay (texts_of texts.now) before.now
+        → IfOk result (λ again. again ≡ before.now) }
+{
+    laws::texts_one_value();
+    users(alloc, texts)
 }
 
 /// Who owns a file on the host that the guest gave to this user; `None` where that is forbidden.
@@ -30,7 +44,9 @@ fn owner(map: &IdMap<GuestUid, HostUid>, user: GuestUid) -> Option<HostUid>
 
 #[test]
 fn a_forbidden_user_owns_nothing(rt: HostRuntime) -> Result<(), Fail> {
-    let map = users(rt.alloc(), &["map:0:1000:10", "forbid-guest:10:1"])?;
+    let texts = ["map:0:1000:10", "forbid-guest:10:1"];
+    let map = users(rt.alloc(), &texts)?;
+    let map = users_again(rt.alloc(), &texts, &map)?;
     assert_eq!(rt; owner(&map, GuestUid::from(5)), Some(HostUid::from(1005)));
     assert_eq!(rt; owner(&map, GuestUid::from(10)), None);
     assert_eq!(rt; owner(&map, GuestUid::from(11)), Some(HostUid::from(11)));

@@ -1,21 +1,43 @@
-//! What holds of every list of specifications. These functions do nothing: their contracts are laws.
-ghost use Rattle.std.specs.Prelude.{◌≡◌, List};
-ghost use Rattle.virtiofs_map.specs.Build.{Accepted, IsFirstFault};
-ghost use Rattle.virtiofs_map.specs.Laws.{HasOneValue};
+//! What holds of every list of specifications, and of every list of texts.
+//!
+//! These functions do nothing when they run. A caller names one to have its contract as a fact.
+ghost use Rattle.std.specs.Prelude.{◌≡◌, ℕ, List};
+ghost use Rattle.virtiofs_map.specs.Build.{Accepted, BuildFault, HasFirstFault};
+ghost use Rattle.virtiofs_map.specs.MappingLaws.{HasOneValue};
+ghost use Rattle.virtiofs_map.specs.Specifications.{AllSay, SpecsFault, HasSpecsFault};
 ghost use Rattle.virtiofs_map.specs.declared.cmdline.IdMap.{IdMap as Specification};
-ghost use Rattle.virtiofs_map.specs.declared.soft_idmap.errors.IdMapBuildError.{IdMapBuildError};
 
-/// An accepted list makes one thing alone of a number.
-pub fn an_accepted_list_gives_one_value()
+/// An accepted list makes only one thing of a number.
+pub fn one_value()
     ensures { (specs : List Specification) → Accepted specs → HasOneValue specs }
 {}
 
-/// A list that is accepted has no fault.
-pub fn an_accepted_list_has_no_fault()
-    ensures { (specs : List Specification) (e : IdMapBuildError) → Accepted specs → ¬ IsFirstFault specs e }
+/// An accepted list has no fault.
+pub fn no_fault()
+    ensures { (specs : List Specification) (fault : BuildFault)
+        → Accepted specs → ¬ HasFirstFault specs fault }
 {}
 
-/// A list has one first fault alone.
-pub fn a_list_has_one_first_fault()
-    ensures { (specs : List Specification) (e other : IdMapBuildError) → IsFirstFault specs e → IsFirstFault specs other → e ≡ other }
+/// A list has at most one first fault.
+pub fn one_fault()
+    ensures { (specs : List Specification) (fault other : BuildFault)
+        → HasFirstFault specs fault → HasFirstFault specs other → fault ≡ other }
+{}
+
+/// A list of texts says at most one list of specifications.
+pub fn texts_one_value()
+    ensures { (texts : List (List ℕ)) (specs others : List Specification)
+        → AllSay texts specs → AllSay texts others → specs ≡ others }
+{}
+
+/// A list of texts that says an accepted list has no fault.
+pub fn texts_no_fault()
+    ensures { (texts : List (List ℕ)) (specs : List Specification) (fault : SpecsFault)
+        → AllSay texts specs → Accepted specs → ¬ HasSpecsFault texts fault }
+{}
+
+/// A list of texts has at most one fault.
+pub fn texts_one_fault()
+    ensures { (texts : List (List ℕ)) (fault other : SpecsFault)
+        → HasSpecsFault texts fault → HasSpecsFault texts other → fault ≡ other }
 {}

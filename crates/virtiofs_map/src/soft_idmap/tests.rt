@@ -199,7 +199,7 @@ fn refuses_ranges_that_meet(rt: HostRuntime) -> Result<(), Fail> {
     )
 }
 
-/// Sees that a text is refused alone, since a range of its goes past the greatest number.
+/// Sees that a list of this one text is refused, since a range of it goes too far.
 fn check_overflow(
     rt: &impl Abort,
     alloc: Global,
@@ -219,7 +219,7 @@ fn check_overflow(
 }
 
 #[test]
-fn refuses_ranges_that_end_too_late(rt: HostRuntime) -> Result<(), Fail> {
+fn refuses_ranges_that_go_too_far(rt: HostRuntime) -> Result<(), Fail> {
     let alloc = rt.alloc();
     let to_host = Direction::GuestToHost;
     let to_guest = Direction::HostToGuest;

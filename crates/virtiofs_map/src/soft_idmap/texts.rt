@@ -1,19 +1,23 @@
-//! The specifications that a list of texts says.
+//! The specifications that a list of texts says, read before any of them is built.
 ghost use Rattle.std.specs.Prelude.{IfOk, IfErr};
-ghost use Rattle.virtiofs_map.specs.TextParts.{IsReadingFault};
-ghost use Rattle.virtiofs_map.specs.Specifications.{AllSay};
+ghost use Rattle.virtiofs_map.specs.Refusal.{OutOfMemoryOr};
+ghost use Rattle.virtiofs_map.specs.Specifications.{texts_of, AllSay, HasSpecsFault, specs_fault_of, NamesReached};
 
 use super::SpecsError;
 use crate::cmdline::IdMap;
 use std::alloc::Allocator;
 
 /// Reads each text, in order, up to the first one that is not read.
+///
+/// The error names that text by its place in the list, from 0.
 pub(crate) fn read_all<A: Allocator + Copy>(
     alloc: A,
     texts: &[&str],
 ) -> Result<Vec<IdMap, A>, SpecsError<A>>
-    ensures read { IfOk result (λ specs. AllSay texts.now specs.items) }
-    ensures fault { IfErr result (IsReadingFault texts.now) }
+    ensures read { IfOk result (λ specs. AllSay (texts_of texts.now) specs.items) }
+    ensures refused { IfErr result (λ e.
+        OutOfMemoryOr (specs_fault_of e) (HasSpecsFault (texts_of texts.now))) }
+    ensures reached { IfErr result (NamesReached (texts_of texts.now)) }
 {
     let mut specs = Vec::new(alloc);
     for (index, text) in texts.iter().enumerate() {

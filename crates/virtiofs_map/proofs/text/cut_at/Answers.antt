@@ -1,4 +1,4 @@
-use Rattle.virtiofs_map.proofs.Cuts.{split_nowhere, split_whole, split_first, split_texts}
+use Rattle.virtiofs_map.proofs.CutLemmas.{split_nowhere, split_whole, split_first, split_texts}
 use Rattle.virtiofs_map.proofs.text.cut_at.Goals as goal
 
 pub returns-clause-absent : goal.returns-clause-absent

@@ -4,7 +4,7 @@ ghost use Rattle.std.specs.Str.{chars};
 ghost use Rattle.virtiofs_map.specs.SpecificationText.{Says};
 ghost use Rattle.virtiofs_map.specs.declared.cmdline.IdMap.TheVariants.{ForbidGuest};
 
-use crate::cmdline::{IdMap, IdMapError};
+use crate::cmdline::{IdMap, IdMapError, laws};
 use std::alloc::{AllocError, Global};
 use std::test::Fail;
 
@@ -50,10 +50,11 @@ const REFUSED: [(&str, &str); 6] = [
 
 /// A text that forbids guest ids, proved from the law.
 fn forbidding(alloc: Global, from_guest: u32, count: u32) -> Result<String, AllocError>
-    ensures { IfOk result (λ text. Says (chars (string_bytes text)) (ForbidGuest from_guest count)) }
+    ensures { IfOk result (λ text.
+        Says (chars (string_bytes text)) (ForbidGuest from_guest count)) }
 {
     let spec = IdMap::ForbidGuest { from_guest, count };
-    IdMap::printed_says_it();
+    laws::reads_back();
     spec.to_string(alloc)
 }
 

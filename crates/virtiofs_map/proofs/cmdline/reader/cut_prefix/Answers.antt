@@ -1,6 +1,6 @@
 use Rattle.std.proofs.Common.{sym, ◌∙◌}
 use Rattle.std.proofs.lemmas.Str.{IsUtf8-string_bytes}
-use Rattle.virtiofs_map.proofs.PrefixLemmas.{IsPrefixSoFar-start, IsPrefixSoFar-more, IsLoweredCut-here, AllPass-prefix}
+use Rattle.virtiofs_map.proofs.SpecificationPrefixLemmas.{IsPrefixSoFar-start, IsPrefixSoFar-more, IsLoweredCut-here, AllPass-prefix}
 use Rattle.virtiofs_map.proofs.cmdline.reader.cut_prefix.Goals as goal
 
 pub loop-c-init : goal.loop-c-init

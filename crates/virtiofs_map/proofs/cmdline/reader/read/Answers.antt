@@ -1,15 +1,15 @@
 use Rattle.std.proofs.lemmas.Str.{IsUtf8-string_bytes}
-use Rattle.virtiofs_map.proofs.SpecificationLemmas.{Says-answer, IsFaultOf-answer}
+use Rattle.virtiofs_map.proofs.SpecificationLemmas.{read-word, refused-word}
 use Rattle.virtiofs_map.proofs.cmdline.reader.read.Goals as goal
 
 pub returns-clause-read : goal.returns-clause-read
 returns-clause-read g c =
     let cut = rw c.in-Some.is at c.in_ok-cut.ensures.cut in
     let read = rw (← c.deref.ensures.value) at c.in_ok-numbers.ensures.read in
-    Says-answer _ _ _ _ _ _ cut read c.specification.ensures.word c.specification.ensures.numbers
+    read-word _ _ _ _ _ _ cut read c.specification.ensures.word c.specification.ensures.numbers
 
-pub returns-clause-fault : goal.returns-clause-fault
-returns-clause-fault g c =
+pub returns-clause-refused : goal.returns-clause-refused
+returns-clause-refused g c =
     let cut = rw c.in-Some.is at c.in_ok-cut.ensures.cut in
     let read = rw (← c.deref.ensures.value) at c.in_ok-numbers.ensures.read in
-    IsFaultOf-answer _ _ _ _ _ _ (IsUtf8-string_bytes c.in-Some.cut.word) cut read c.specification.ensures.fault
+    refused-word _ _ _ _ _ _ (IsUtf8-string_bytes c.in-Some.cut.word) cut read c.specification.ensures.refused

@@ -2,23 +2,23 @@ use Rattle.std.proofs.Common.{◌++◌, ◌∷◌, [], List, ℕ, ap, sym, ◌�
 use Rattle.std.specs.Str.{chars}
 use Rattle.std.proofs.lemmas.Result.{err_from_is_err_and}
 use Rattle.virtiofs_map.specs.Numeral.{IsNumeral}
-use Rattle.virtiofs_map.proofs.SpecificationLemmas.{fields_of-cut, fields_of-last, IsFieldsFault-here}
-use Rattle.virtiofs_map.proofs.Zips.{AllZip-push}
+use Rattle.virtiofs_map.proofs.SpecificationLemmas.{split_at_each-cut, split_at_each-last, IsFieldsFault-here}
+use Rattle.virtiofs_map.proofs.ZipLemmas.{AllZip-push}
 use Rattle.virtiofs_map.proofs.cmdline.reader.read_fields.Goals as goal
 
-pub returns-in_err-read_field-clause-fault : goal.returns-in_err-read_field-clause-fault
-returns-in_err-read_field-clause-fault g c =
+pub returns-in_err-read_field-clause-refused : goal.returns-in_err-read_field-clause-refused
+returns-in_err-read_field-clause-refused g c =
     let p = err_from_is_err_and c.from_residual.result c.from_residual.ensures.1 in
     let (done, so_far, read) = c.loop-field.invariant.1 in
     let s = c.in-Some.ensures in
-    let next = fields_of-cut c.args.separator _ _ _ s.whole s.first in
+    let next = split_at_each-cut c.args.separator _ _ _ s.whole s.first in
     rw (p.1, p.2) (IsFieldsFault-here _ done _ _ _ _ (so_far ∙ ap (λ (xs : List (List ℕ)). done ++ xs) next) read c.in_err-read_field.ensures)
 
 pub loop-field-preserved : goal.loop-field-preserved
 loop-field-preserved g c =
     let (done, so_far, read) = c.loop-field.invariant.1 in
     let s = c.in-Some.ensures in
-    let next = fields_of-cut c.args.separator _ _ _ s.whole s.first in
+    let next = split_at_each-cut c.args.separator _ _ _ s.whole s.first in
     let field = chars c.in-Some.field.now in (
       search rules,
       (
@@ -28,16 +28,16 @@ loop-field-preserved g c =
       ),
     )
 
-pub returns-in_err-read_field-2-clause-fault : goal.returns-in_err-read_field-2-clause-fault
-returns-in_err-read_field-2-clause-fault g c =
+pub returns-in_err-read_field-2-clause-refused : goal.returns-in_err-read_field-2-clause-refused
+returns-in_err-read_field-2-clause-refused g c =
     let p = err_from_is_err_and c.from_residual-in_err-read_field-2.result c.from_residual-in_err-read_field-2.ensures.1 in
     let (done, so_far, read) = c.loop-field.invariant.1 in
-    let last = fields_of-last c.args.separator _ c.in_default.ensures.absent in
+    let last = split_at_each-last c.args.separator _ c.in_default.ensures.absent in
     rw (p.1, p.2) (IsFieldsFault-here _ done _ _ _ _ (so_far ∙ ap (λ (xs : List (List ℕ)). done ++ xs) last) read c.in_err-read_field-2.ensures)
 
 pub returns-clause-read : goal.returns-clause-read
 returns-clause-read g c =
     let (done, so_far, read) = c.loop-field.invariant.1 in
-    let last = fields_of-last c.args.separator _ c.in_default.ensures.absent in
+    let last = split_at_each-last c.args.separator _ c.in_default.ensures.absent in
     let whole = so_far ∙ ap (λ (xs : List (List ℕ)). done ++ xs) last in
     rw (whole, c.in_ok-push-2.ensures.items) (AllZip-push IsNumeral done _ _ _ read c.in_ok-read_field-2.ensures)

@@ -17,4 +17,4 @@ small_two m n first second = All-cons (λ k. k < 2 ^ 32) m (n ∷ []) first (All
 pub returns : goal.returns
 returns c =
     let spec : IdMap = ForbidGuest c.args.from_guest c.args.count in
-    says_it string_bytes spec c.to_string.result (c.printed_says_it.ensures spec (small_two c.args.from_guest c.args.count (omega arith) (omega arith))) c.to_string.ensures.ok
+    says_it string_bytes spec c.to_string.result (c.reads_back.ensures spec (small_two c.args.from_guest c.args.count (omega arith) (omega arith))) c.to_string.ensures.ok

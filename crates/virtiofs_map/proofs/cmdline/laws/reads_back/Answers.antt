@@ -1,0 +1,5 @@
+use Rattle.virtiofs_map.proofs.SpecificationPrintedLemmas.{Says-printed}
+use Rattle.virtiofs_map.proofs.cmdline.laws.reads_back.Goals as goal
+
+pub returns : goal.returns
+returns c = Says-printed
