@@ -1,27 +1,29 @@
-pub mod BuildLemmas
-pub mod NumeralLemmas
-pub mod PrefixLemmas
-pub mod SpecificationLemmas
-pub mod PrintedLemmas
-pub mod OrderLemmas
-pub mod LawLemmas
-pub mod FaultLemmas
-pub mod SaysLemmas
-pub mod SpecsLemmas
-pub mod NamespaceLemmas
-pub mod NamespacePrintedLemmas
-pub mod Begins
-pub mod Cuts
-pub mod Determined
-pub mod Grammar
-pub mod Lists
-pub mod Lookups
-pub mod Made
-pub mod NoZeros
-pub mod OneMapRule
-pub mod OneMeaning
-pub mod ReadSoFar
-pub mod SameRules
-pub mod Trimming
-pub mod Words
-pub mod Zips
+pub mod ForCallers
+mod BeginsLemmas
+mod BuildFaultLemmas
+mod BuildLemmas
+mod CutLemmas
+mod FirstRuleLemmas
+mod MadeRuleLemmas
+mod MapRuleLemmas
+mod MappingLawLemmas
+mod NamespaceLemmas
+mod NamespacePrintedLemmas
+mod NoZeroLemmas
+mod NumeralLemmas
+mod OrderLemmas
+mod ReadSoFarLemmas
+mod ReaderLemmas
+mod RuleEqualityLemmas
+mod RuleFieldLemmas
+mod RuleReadingLemmas
+mod RuleTextLemmas
+mod RuleWordLemmas
+mod ServerListLemmas
+mod SpecificationLawLemmas
+mod SpecificationLemmas
+mod SpecificationPrefixLemmas
+mod SpecificationPrintedLemmas
+mod SpecificationsLemmas
+mod TrimLemmas
+mod ZipLemmas

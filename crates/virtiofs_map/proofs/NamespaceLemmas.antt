@@ -11,19 +11,19 @@ use Rattle.std.proofs.lemmas.List.Elements.{All-nil, All-cons, All-contains}
 use Rattle.std.proofs.lemmas.Str.{chars-nil, chars_past_char, IsUtf8-encode, IsUtf8-take, IsCharBoundary-at_seam}
 use Rattle.virtiofs_map.specs.Alphanumeric.{is_alphanumeric}
 use Rattle.virtiofs_map.specs.Numeral.{IsNumeral}
-use Rattle.virtiofs_map.specs.Separator.{Lacks, fields_of}
+use Rattle.virtiofs_map.specs.Separator.{Lacks, split_at_each}
 use Rattle.virtiofs_map.specs.NamespaceParts.{IsThreeFields}
-use Rattle.virtiofs_map.specs.NamespaceText.{SaysNamespace, IsEnclosed, HasNoDelimiter, HasOtherField, Fault, InvalidDelimiter, IncompleteMap, InvalidValue, HasFault}
-use Rattle.virtiofs_map.proofs.NumeralLemmas.{IsNumeral-unique}
-use Rattle.virtiofs_map.proofs.PrefixLemmas.{chars-push}
-use Rattle.virtiofs_map.proofs.SpecificationLemmas.{fields_of-cut, fields_of-last}
+use Rattle.virtiofs_map.specs.NamespaceText.{SaysNamespace, IsEnclosed, HasNoDelimiter, HasOtherField, NamespaceFault, InvalidDelimiter, IncompleteMap, InvalidValue, HasNamespaceFault}
+use Rattle.virtiofs_map.proofs.NumeralLemmas.{IsNumeral-one}
+use Rattle.virtiofs_map.proofs.SpecificationPrefixLemmas.{chars-push}
+use Rattle.virtiofs_map.proofs.SpecificationLemmas.{split_at_each-cut, split_at_each-last}
 
 -- the three fields are those that the delimiter separates
-fields_of-three : (d : ℕ) (inner x y z : List ℕ) → IsThreeFields d inner x y z → fields_of d inner ≡ x ∷ y ∷ z ∷ []
-fields_of-three d inner x y z three =
-    let one : fields_of d inner ≡ x ∷ fields_of d (y ++ d ∷ z) = fields_of-cut d inner x (y ++ d ∷ z) three.whole three.first_free in
-    let two : fields_of d (y ++ d ∷ z) ≡ y ∷ fields_of d z = fields_of-cut d (y ++ d ∷ z) y z refl three.second_free in
-    let last : fields_of d z ≡ z ∷ [] = fields_of-last d z three.third_free in
+split_at_each-three : (d : ℕ) (inner x y z : List ℕ) → IsThreeFields d inner x y z → split_at_each d inner ≡ x ∷ y ∷ z ∷ []
+split_at_each-three d inner x y z three =
+    let one : split_at_each d inner ≡ x ∷ split_at_each d (y ++ d ∷ z) = split_at_each-cut d inner x (y ++ d ∷ z) three.whole three.first_free in
+    let two : split_at_each d (y ++ d ∷ z) ≡ y ∷ split_at_each d z = split_at_each-cut d (y ++ d ∷ z) y z refl three.second_free in
+    let last : split_at_each d z ≡ z ∷ [] = split_at_each-last d z three.third_free in
     cc
 
 -- two lists with one more element at the end
@@ -51,7 +51,7 @@ record IsRangeInside (text : List ℕ) (inside outside count : ℕ) : Type 0 whe
   second : List ℕ
   third : List ℕ
   enclosed : IsEnclosed text delimiter inner
-  fields : fields_of delimiter inner ≡ first ∷ second ∷ third ∷ []
+  fields : split_at_each delimiter inner ≡ first ∷ second ∷ third ∷ []
   first_says : IsNumeral first inside
   second_says : IsNumeral second outside
   third_says : IsNumeral third count
@@ -67,7 +67,7 @@ range_inside text a b c says =
       second = says.second;
       third = says.third;
       enclosed = record { whole = says.whole ∙ simp append_assoc; delimits = says.delimits };
-      fields = fields_of-three d inner says.first says.second says.third (record {
+      fields = split_at_each-three d inner says.first says.second says.third (record {
         whole = refl;
         first_free = says.first_says.free;
         second_free = says.second_says.free;
@@ -97,7 +97,7 @@ SaysNamespace-parts text d inner x y z a b c enclosed three one two last =
 -- one of the three fields is no numeral
 pub HasOtherField-parts : (text : List ℕ) (d : ℕ) (inner x y z field : List ℕ) → IsEnclosed text d inner → IsThreeFields d inner x y z → Contains (x ∷ y ∷ z ∷ []) field → ((value : ℕ) → ¬ IsNumeral field value) → HasOtherField text
 HasOtherField-parts text d inner x y z field enclosed three here unread =
-    let fields : fields_of d inner ≡ x ∷ y ∷ z ∷ [] = fields_of-three d inner x y z three in
+    let fields : split_at_each d inner ≡ x ∷ y ∷ z ∷ [] = split_at_each-three d inner x y z three in
     record {
       delimiter = d;
       inner = inner;
@@ -109,19 +109,19 @@ HasOtherField-parts text d inner x y z field enclosed three here unread =
     }
 
 -- a text says one range at most
-pub SaysNamespace-unique : (text : List ℕ) (a b c x y z : ℕ) → SaysNamespace text a b c → SaysNamespace text x y z → (a ≡ x) × (b ≡ y) × (c ≡ z)
-SaysNamespace-unique text a b c x y z one two =
+pub SaysNamespace-one : (text : List ℕ) (a b c x y z : ℕ) → SaysNamespace text a b c → SaysNamespace text x y z → (a ≡ x) × (b ≡ y) × (c ≡ z)
+SaysNamespace-one text a b c x y z one two =
     let p = range_inside text a b c one in
     let q = range_inside text x y z two in
     let (delimiter, inner) = enclosed_same text p.delimiter q.delimiter p.inner q.inner p.enclosed q.enclosed in
-    let same : fields_of p.delimiter p.inner ≡ fields_of q.delimiter q.inner = rw (delimiter, inner) refl in
+    let same : split_at_each p.delimiter p.inner ≡ split_at_each q.delimiter q.inner = rw (delimiter, inner) refl in
     let fields : p.first ∷ p.second ∷ p.third ∷ [] ≡ q.first ∷ q.second ∷ q.third ∷ [] = sym p.fields ∙ same ∙ q.fields in
     let first : p.first ≡ q.first = cc in
     let second : p.second ≡ q.second = cc in
     let third : p.third ≡ q.third = cc in (
-      IsNumeral-unique q.first a x (subst (λ (cs : List ℕ). IsNumeral cs a) first p.first_says) q.first_says,
-      IsNumeral-unique q.second b y (subst (λ (cs : List ℕ). IsNumeral cs b) second p.second_says) q.second_says,
-      IsNumeral-unique q.third c z (subst (λ (cs : List ℕ). IsNumeral cs c) third p.third_says) q.third_says,
+      IsNumeral-one q.first a x (subst (λ (cs : List ℕ). IsNumeral cs a) first p.first_says) q.first_says,
+      IsNumeral-one q.second b y (subst (λ (cs : List ℕ). IsNumeral cs b) second p.second_says) q.second_says,
+      IsNumeral-one q.third c z (subst (λ (cs : List ℕ). IsNumeral cs c) third p.third_says) q.third_says,
     )
 
 -- a text between delimiters has one
@@ -143,13 +143,13 @@ some_of_enclosed text d inner enclosed empty =
     cc
 
 -- the count of its fields is determined
-count_of_enclosed : (text : List ℕ) (d e : ℕ) (inner other : List ℕ) → IsEnclosed text d inner → IsEnclosed text e other → length (fields_of d inner) ≡ length (fields_of e other)
+count_of_enclosed : (text : List ℕ) (d e : ℕ) (inner other : List ℕ) → IsEnclosed text d inner → IsEnclosed text e other → length (split_at_each d inner) ≡ length (split_at_each e other)
 count_of_enclosed text d e inner other one two =
     let (delimiter, inside) = enclosed_same text d e inner other one two in
     rw (delimiter, inside) refl
 
 -- where the fields of a range are numerals, none is no numeral
-fields_of_range : (text : List ℕ) (a b c : ℕ) → (p : IsRangeInside text a b c) → All (λ field. (value : ℕ) × IsNumeral field value) (fields_of p.delimiter p.inner)
+fields_of_range : (text : List ℕ) (a b c : ℕ) → (p : IsRangeInside text a b c) → All (λ field. (value : ℕ) × IsNumeral field value) (split_at_each p.delimiter p.inner)
 fields_of_range text a b c p =
     let Read : List ℕ → Type 0 = λ field. (value : ℕ) × IsNumeral field value in
     rw p.fields
@@ -158,7 +158,7 @@ fields_of_range text a b c p =
     (All-cons Read p.third [] (c, p.third_says) (All-nil Read))))
 
 -- a text that says a range has no fault
-pub SaysNamespace-no_fault : (text : List ℕ) (a b c : ℕ) (e : Fault) → SaysNamespace text a b c → ¬ HasFault text e
+pub SaysNamespace-no_fault : (text : List ℕ) (a b c : ℕ) (e : NamespaceFault) → SaysNamespace text a b c → ¬ HasNamespaceFault text e
 SaysNamespace-no_fault text a b c InvalidDelimiter says fault =
     let p = range_inside text a b c says in
     delimiter_of_enclosed text p.delimiter p.inner p.enclosed fault
@@ -171,19 +171,19 @@ SaysNamespace-no_fault text a b c IncompleteMap says fault =
 SaysNamespace-no_fault text a b c InvalidValue says fault =
     let p = range_inside text a b c says in
     let (delimiter, inner) = enclosed_same text fault.delimiter p.delimiter fault.inner p.inner fault.enclosed p.enclosed in
-    let here : Contains (fields_of p.delimiter p.inner) fault.field = subst (λ (fs : List (List ℕ)). Contains fs fault.field) (rw (delimiter, inner) refl) fault.here in
-    let read : (value : ℕ) × IsNumeral fault.field value = All-contains (λ field. (value : ℕ) × IsNumeral field value) (fields_of p.delimiter p.inner) fault.field (fields_of_range text a b c p) here in
+    let here : Contains (split_at_each p.delimiter p.inner) fault.field = subst (λ (fs : List (List ℕ)). Contains fs fault.field) (rw (delimiter, inner) refl) fault.here in
+    let read : (value : ℕ) × IsNumeral fault.field value = All-contains (λ field. (value : ℕ) × IsNumeral field value) (split_at_each p.delimiter p.inner) fault.field (fields_of_range text a b c p) here in
     fault.unread read.0 read.1
 
 -- an empty text or another count of fields is no other fault
-apart_from_incomplete : (text : List ℕ) (d : ℕ) (inner : List ℕ) → IsEnclosed text d inner → length (fields_of d inner) ≡ 3 → ¬ HasFault text IncompleteMap
+apart_from_incomplete : (text : List ℕ) (d : ℕ) (inner : List ℕ) → IsEnclosed text d inner → length (split_at_each d inner) ≡ 3 → ¬ HasNamespaceFault text IncompleteMap
 apart_from_incomplete text d inner enclosed three fault =
     elim fault [
       | inl empty ↦ some_of_enclosed text d inner enclosed empty
       | inr count ↦ count.other (count_of_enclosed text count.delimiter d count.inner inner count.enclosed enclosed ∙ three)
     ]
 
-apart_from_delimiter : (text : List ℕ) → HasNoDelimiter text → ¬ HasFault text IncompleteMap
+apart_from_delimiter : (text : List ℕ) → HasNoDelimiter text → ¬ HasNamespaceFault text IncompleteMap
 apart_from_delimiter text none fault =
     elim fault [
       | inl empty ↦ absurd (omega (arith, ap length (sym empty ∙ none.ends), length-append none.front (none.last ∷ [])))
@@ -191,16 +191,16 @@ apart_from_delimiter text none fault =
     ]
 
 -- a text has one fault at most
-pub HasFault-one : (text : List ℕ) (e f : Fault) → HasFault text e → HasFault text f → e ≡ f
-HasFault-one text InvalidDelimiter InvalidDelimiter one two = refl
-HasFault-one text InvalidDelimiter IncompleteMap one two = absurd (apart_from_delimiter text one two)
-HasFault-one text InvalidDelimiter InvalidValue one two = absurd (delimiter_of_enclosed text two.delimiter two.inner two.enclosed one)
-HasFault-one text IncompleteMap InvalidDelimiter one two = absurd (apart_from_delimiter text two one)
-HasFault-one text IncompleteMap IncompleteMap one two = refl
-HasFault-one text IncompleteMap InvalidValue one two = absurd (apart_from_incomplete text two.delimiter two.inner two.enclosed two.three one)
-HasFault-one text InvalidValue InvalidDelimiter one two = absurd (delimiter_of_enclosed text one.delimiter one.inner one.enclosed two)
-HasFault-one text InvalidValue IncompleteMap one two = absurd (apart_from_incomplete text one.delimiter one.inner one.enclosed one.three two)
-HasFault-one text InvalidValue InvalidValue one two = refl
+pub HasNamespaceFault-one : (text : List ℕ) (e f : NamespaceFault) → HasNamespaceFault text e → HasNamespaceFault text f → e ≡ f
+HasNamespaceFault-one text InvalidDelimiter InvalidDelimiter one two = refl
+HasNamespaceFault-one text InvalidDelimiter IncompleteMap one two = absurd (apart_from_delimiter text one two)
+HasNamespaceFault-one text InvalidDelimiter InvalidValue one two = absurd (delimiter_of_enclosed text two.delimiter two.inner two.enclosed one)
+HasNamespaceFault-one text IncompleteMap InvalidDelimiter one two = absurd (apart_from_delimiter text two one)
+HasNamespaceFault-one text IncompleteMap IncompleteMap one two = refl
+HasNamespaceFault-one text IncompleteMap InvalidValue one two = absurd (apart_from_incomplete text two.delimiter two.inner two.enclosed two.three one)
+HasNamespaceFault-one text InvalidValue InvalidDelimiter one two = absurd (delimiter_of_enclosed text one.delimiter one.inner one.enclosed two)
+HasNamespaceFault-one text InvalidValue IncompleteMap one two = absurd (apart_from_incomplete text one.delimiter one.inner one.enclosed one.three two)
+HasNamespaceFault-one text InvalidValue InvalidValue one two = refl
 
 -- a text before its last character
 pub record IsBeforeLast (bs rest : List ℕ) (c : ℕ) : Type 0 where
@@ -253,12 +253,12 @@ other_option r c differs same =
     cc
 
 -- where the delimiter is not in the text, the text is one field
-pub one_field : (d : ℕ) (inner : List ℕ) → Lacks d inner → length (fields_of d inner) ≢ 3
-one_field d inner none = rw (fields_of-last d inner none) (omega arith)
+pub one_field : (d : ℕ) (inner : List ℕ) → Lacks d inner → length (split_at_each d inner) ≢ 3
+one_field d inner none = rw (split_at_each-last d inner none) (omega arith)
 
 -- where it is in it once, it is two
-pub two_fields : (d : ℕ) (inner x rest : List ℕ) → inner ≡ x ++ d ∷ rest → Lacks d x → Lacks d rest → length (fields_of d inner) ≢ 3
-two_fields d inner x rest whole first none = rw (fields_of-cut d inner x rest whole first, fields_of-last d rest none) (omega arith)
+pub two_fields : (d : ℕ) (inner x rest : List ℕ) → inner ≡ x ++ d ∷ rest → Lacks d x → Lacks d rest → length (split_at_each d inner) ≢ 3
+two_fields d inner x rest whole first none = rw (split_at_each-cut d inner x rest whole first, split_at_each-last d rest none) (omega arith)
 
 -- where it is in it twice, it is three
 pub IsThreeFields-here : (d : ℕ) (inner x rest y z : List ℕ) → inner ≡ x ++ d ∷ rest → Lacks d x → rest ≡ y ++ d ∷ z → Lacks d y → Lacks d z → IsThreeFields d inner x y z
@@ -270,11 +270,11 @@ IsThreeFields-here d inner x rest y z whole first cut second third = record {
 }
 
 -- there is always a field
-length-fields_of : (d : ℕ) (cs : List ℕ) → 0 < length (fields_of d cs)
-length-fields_of d cs = omega (arith, length-slice_split (λ c. c == d) cs)
+length-split_at_each : (d : ℕ) (cs : List ℕ) → 0 < length (split_at_each d cs)
+length-split_at_each d cs = omega (arith, length-slice_split (λ c. c == d) cs)
 
 -- where it is in it more often, there are more
-pub more_fields : (d : ℕ) (inner x rest y z front back : List ℕ) → inner ≡ x ++ d ∷ rest → Lacks d x → rest ≡ y ++ d ∷ z → Lacks d y → z ≡ front ++ d ∷ back → Lacks d front → length (fields_of d inner) ≢ 3
+pub more_fields : (d : ℕ) (inner x rest y z front back : List ℕ) → inner ≡ x ++ d ∷ rest → Lacks d x → rest ≡ y ++ d ∷ z → Lacks d y → z ≡ front ++ d ∷ back → Lacks d front → length (split_at_each d inner) ≢ 3
 more_fields d inner x rest y z front back whole first cut second more third =
-    rw (fields_of-cut d inner x rest whole first, fields_of-cut d rest y z cut second, fields_of-cut d z front back more third)
-    (omega (arith, length-fields_of d back))
+    rw (split_at_each-cut d inner x rest whole first, split_at_each-cut d rest y z cut second, split_at_each-cut d z front back more third)
+    (omega (arith, length-split_at_each d back))

@@ -27,7 +27,7 @@ field_decimal n small =
 IsAscii-colon : IsAscii (codes ":")
 IsAscii-colon = IsAscii-cons 58 [] (omega arith) IsAscii-nil
 
--- one more field, and a colon behind it
+-- one more field, and a colon after it
 IsAscii-field : (front : List ℕ) (n : ℕ) → IsAscii front → n < 2 ^ 32 → IsAscii (front ++ decimal n ++ codes ":")
 IsAscii-field front n ascii small =
     IsAscii-append (front ++ decimal n) (codes ":") (IsAscii-append front (decimal n) ascii (IsAscii-decimal n (omega arith))) IsAscii-colon

@@ -1,5 +1,5 @@
 -- What `parse` reads as a number is a numeral, over characters, and nothing else is.
-use Rattle.std.proofs.Common.{◌≡◌, ◌≢◌, ◌⊎◌, ℕ, zero, suc, ◌^◌, ◌<◌, List, [], ◌∷◌, length, get_or, All, Result, Ok, Err, MatchResult, refl, sym, ap, ◌∙◌, subst, inl, inr, arith}
+use Rattle.std.proofs.Common.{◌≡◌, ◌≢◌, ◌⊎◌, ℕ, zero, suc, ◌^◌, ◌<◌, List, [], ◌∷◌, length, get_or, All, Result, Ok, Err, MatchResult, IfOk, IfErr, IsOkAnd, IsErr, refl, sym, ap, ◌∙◌, subst, inl, inr, arith}
 use Rattle.std.specs.Char.{IsAsciiDigit}
 use Rattle.std.specs.Fmt.{decimal}
 use Rattle.std.specs.Int.{IsInRange}
@@ -80,12 +80,12 @@ digits_of_numeral bs value n =
     ]
 
 -- a text has one value
-pub IsNumeral-unique : (text : List ℕ) (v w : ℕ) → IsNumeral text v → IsNumeral text w → v ≡ w
-IsNumeral-unique text v w a b =
+pub IsNumeral-one : (text : List ℕ) (v w : ℕ) → IsNumeral text v → IsNumeral text w → v ≡ w
+IsNumeral-one text v w a b =
     let same : a.digits ≡ b.digits = sym (digits_of_numeral text v a) ∙ digits_of_numeral text w b in
     sym a.worth ∙ ap (digits_value 10) same ∙ b.worth
 
-pub numeral_from_parse : {E : Type 0} (bs : List ℕ) (r : Result ℕ E) → IsUtf8 bs → ParsesUnsigned 32 10 bs r → MatchResult r (λ value. IsNumeral (chars bs) value) (λ _. (value : ℕ) → IsNumeral (chars bs) value → ⊥)
+numeral_from_parse : {E : Type 0} (bs : List ℕ) (r : Result ℕ E) → IsUtf8 bs → ParsesUnsigned 32 10 bs r → MatchResult r (λ value. IsNumeral (chars bs) value) (λ _. (value : ℕ) → IsNumeral (chars bs) value → ⊥)
 numeral_from_parse bs (Ok value) text (parsed, is) =
     let numeral : IsNumeral bs value = subst (λ (n : ℕ). IsNumeral bs n) (sym is) (numeral_from_digits bs parsed.0 parsed.1) in
     subst (λ (xs : List ℕ). IsNumeral xs value) (sym (chars-IsAscii bs (IsAscii-numeral bs value numeral))) numeral
@@ -95,7 +95,24 @@ numeral_from_parse bs (Err e) text refused =
     let same : without_leading_plus bs ≡ numeral.digits = digits_of_numeral bs value numeral in
     refused (rw same ((numeral.some, AllDigits-All numeral.digits numeral.decimal), rw numeral.worth (omega (arith, numeral.fits))))
 
--- a number in decimal is digits alone
+-- so what `parse` answers is told both ways
+pub numeral_read : {E : Type 0} (bs : List ℕ) (r : Result ℕ E) → IsUtf8 bs → ParsesUnsigned 32 10 bs r → IfOk r (λ value. IsNumeral (chars bs) value)
+numeral_read {E} bs (Ok value) text parsed = numeral_from_parse {E = E} bs (Ok value) text parsed
+numeral_read {E} bs (Err e) text parsed = tt
+
+pub numeral_complete : {E : Type 0} (bs : List ℕ) (r : Result ℕ E) → IsUtf8 bs → ParsesUnsigned 32 10 bs r → (value : ℕ) → IsNumeral (chars bs) value → IsOkAnd r (λ read. read ≡ value)
+numeral_complete {E} bs (Ok read) text parsed value numeral = IsNumeral-one (chars bs) read value (numeral_from_parse {E = E} bs (Ok read) text parsed) numeral
+numeral_complete {E} bs (Err e) text parsed value numeral = numeral_from_parse {E = E} bs (Err e) text parsed value numeral
+
+pub numeral_refused : {E : Type 0} (bs : List ℕ) (r : Result ℕ E) → IsUtf8 bs → ParsesUnsigned 32 10 bs r → IfErr r (λ _. (value : ℕ) → ¬ IsNumeral (chars bs) value)
+numeral_refused {E} bs (Ok value) text parsed = tt
+numeral_refused {E} bs (Err e) text parsed = numeral_from_parse {E = E} bs (Err e) text parsed
+
+pub numeral_faulty : {E : Type 0} (bs : List ℕ) (r : Result ℕ E) → IsUtf8 bs → ParsesUnsigned 32 10 bs r → ((value : ℕ) → ¬ IsNumeral (chars bs) value) → IsErr r
+numeral_faulty {E} bs (Ok value) text parsed none = absurd (none value (numeral_from_parse {E = E} bs (Ok value) text parsed))
+numeral_faulty {E} bs (Err e) text parsed none = refl
+
+-- a number in decimal is nothing but digits
 pub All-decimal : (n : ℕ) → n < 2 ^ 32 → All IsAsciiDigit (decimal n)
 All-decimal n small = All-AllDigits (decimal n) (decimal_is_IsNumeral n (omega arith)).0.1
 

@@ -55,7 +55,7 @@ either_order R flips xs i j d pairs differ below under =
     elim (cases_order i j) [
       | inl same ↦ absurd (differ same)
       | inr (inl before) ↦ pairs i j d before under
-      | inr (inr behind) ↦ flips (get_or xs j d) (get_or xs i d) (pairs j i d behind below)
+      | inr (inr later) ↦ flips (get_or xs j d) (get_or xs i d) (pairs j i d later below)
     ]
 
 AllPairs-swap : {X : Type 0} (R : X → X → Type 0) (flips : (x y : X) → R x y → R y x) (xs : List X) (a b : ℕ) → a < length xs → b < length xs → AllPairs R xs → AllPairs R (swap xs a b)

@@ -1,38 +1,49 @@
 -- What one map rule means, said of its key and its prepend alone, in bytes.
-use Rattle.std.specs.Prelude.{◌≡◌, ◌≢◌, ◌⊎◌, ℕ, ◌<◌, Bool, true, false, not, if◌then◌else◌, List, [], ◌∷◌, ◌++◌, length, drop, filter, encode_utf8_all, All, Option, Some, None}
+use Rattle.std.specs.Prelude.{◌≡◌, ◌≢◌, ◌⊎◌, ℕ, ◌<◌, Bool, true, false, not, if◌then◌else◌, List, [], ◌∷◌, ◌++◌, length, drop, filter, encode_utf8_all, All, Some, None}
 use Rattle.std.specs.List.{filter_map}
 use Rattle.virtiofs_map.specs.Rule.{MappingRule}
-use Rattle.virtiofs_map.specs.RuleText.{Written, RuleText, expanded}
-use Rattle.virtiofs_map.specs.declared.xattrmap.written.Head.TheVariants.{Map}
-use Rattle.virtiofs_map.specs.Names.{begins, ClientAnswer, Passes, IsDenied, IsUnterminated, client_answer, names, kept, as_list, server_answer, ListsBack}
+use Rattle.virtiofs_map.specs.RuleText.{RuleAsWritten, Map, RuleText, expanded}
+use Rattle.virtiofs_map.specs.Names.{begins, ClientAnswer, Passes, IsDenied, IsUnterminated, client_answer, HostAnswer, IsListed, IsHidden, host_answer, listed_name, names, as_list, server_answer, ListsBack}
 
--- a name that begins with the key passes behind the prepend; of the others, one that begins with the prepend is denied
+-- a name that begins with the key passes with the prepend before it; of the others, one that begins with the prepend is denied
 abbrev pub map_client : List ℕ → List ℕ → List ℕ → ClientAnswer
-map_client key prepend name = if begins key name then Passes (prepend ++ name) else if begins prepend name then IsDenied else Passes name
+map_client key prepend name =
+    if begins key name then Passes (prepend ++ name)
+    else if begins prepend name then IsDenied
+    else Passes name
 
 -- a host name that begins with the prepend is listed without it; of the others, one that begins with the key is hidden
-abbrev pub map_server : List ℕ → List ℕ → List ℕ → Option (List ℕ)
-map_server key prepend name = if begins prepend name then Some (drop (length prepend) name) else if begins key name then None else Some name
+abbrev pub map_server : List ℕ → List ℕ → List ℕ → HostAnswer
+map_server key prepend name =
+    if begins prepend name then IsListed (drop (length prepend) name)
+    else if begins key name then IsHidden
+    else IsListed name
 
 -- a name: each byte is 1 to 255
 abbrev pub IsName : List ℕ → Type 0
 IsName name = All (λ byte. (0 < byte) × (byte < 256)) name
 
+-- the list of the names that one map rule lists
+abbrev pub map_list : List ℕ → List ℕ → List ℕ → List ℕ
+map_list key prepend list = as_list (filter_map (λ name. listed_name (map_server key prepend name)) (names list))
+
 -- The rules mean what one map rule with that key and prepend means.
 pub record IsMapRule (key prepend : List ℕ) (rules : List MappingRule) : Type 0 where
   pub client : (name : List ℕ) → client_answer rules name ≡ map_client key prepend name
-  pub server : (list : List ℕ) → server_answer rules list ≡ Some (as_list (filter_map (map_server key prepend) (names list)))
-  -- what the guest may use it sees again by the same name
+  pub host : (name : List ℕ) → host_answer rules name ≡ map_server key prepend name
+  pub server : (list : List ℕ) → server_answer rules list ≡ Some (map_list key prepend list)
+  -- a name that the guest may use is listed to it as the same name
   pub lists_back : (name host : List ℕ) → IsName name → client_answer rules name ≡ Passes host → ListsBack rules name
   pub client_terminated : (name : List ℕ) → client_answer rules name ≢ IsUnterminated
   pub server_terminated : (list : List ℕ) → server_answer rules list ≢ None
-  -- with a key, what passes lies behind the prepend and the key, or apart from both
-  pub fronts : (name host : List ℕ) → key ≢ [] → client_answer rules name ≡ Passes host → (begins (prepend ++ key) host ≡ true) ⊎ ((begins key host ≡ false) × (begins prepend host ≡ false))
-  -- with no key, what the guest sees it may use, and means the same by it
-  pub way_back : (name host : List ℕ) → key ≡ [] → kept rules host ≡ Some name → client_answer rules name ≡ Passes host
+  -- with a key, what passes begins with the prepend and the key, or with neither of them
+  pub fronts : (name host : List ℕ) → key ≢ [] → client_answer rules name ≡ Passes host
+      → (begins (prepend ++ key) host ≡ true) ⊎ ((begins key host ≡ false) × (begins prepend host ≡ false))
+  -- with no key, a name that is listed to the guest is one that it may use, for the same name of the host
+  pub way_back : (name host : List ℕ) → key ≡ [] → host_answer rules host ≡ IsListed name → client_answer rules name ≡ Passes host
 
 -- one map rule, as it is written, in characters
-abbrev pub map_rule : List ℕ → List ℕ → Written
+abbrev pub map_rule : List ℕ → List ℕ → RuleAsWritten
 map_rule key prepend = record { head = Map; key = key; prepend = prepend }
 
 -- where the text is one map rule, the rules mean what it means
@@ -45,7 +56,9 @@ ReadsMapRule text rules = (key prepend : List ℕ) → RuleText text (map_rule k
 abbrev pub Agree : List ℕ → List ℕ → (List ℕ → Bool) → Type 0
 Agree list other set = filter (λ name. not (set name)) (names list) ≡ filter (λ name. not (set name)) (names other)
 
--- where the rules are one map rule with no key, names behind another prepend make no difference to the list, if neither prepend begins the other
+-- where the rules are one map rule with no key, names that begin with another prepend make no difference to the list, if neither prepend begins the other
 abbrev pub KeepsGuestsApart : List MappingRule → List ℕ → Type 0
 KeepsGuestsApart rules list =
-    (prepend another other : List ℕ) → rules ≡ expanded (map_rule [] prepend ∷ []) → begins (encode_utf8_all prepend) another ≡ false → begins another (encode_utf8_all prepend) ≡ false → Agree list other (begins another) → server_answer rules list ≡ server_answer rules other
+    (prepend another other : List ℕ) → rules ≡ expanded (map_rule [] prepend ∷ [])
+    → begins (encode_utf8_all prepend) another ≡ false → begins another (encode_utf8_all prepend) ≡ false
+    → Agree list other (begins another) → server_answer rules list ≡ server_answer rules other

@@ -21,7 +21,7 @@
 //!
 //! | Type | A guest's name that begins with the key | A host's name that begins with the prepend |
 //! |---|---|---|
-//! | `prefix` | goes to the host with the prepend before the whole name | is listed without the prepend |
+//! | `prefix` | goes to the host with the prepend before it | is listed without the prepend |
 //! | `ok` | goes to the host as it is | is listed as it is |
 //! | `bad` | is denied | is hidden |
 //! | `unsupported` | is refused as unsupported | is hidden |
@@ -29,29 +29,32 @@
 //! The scope says on which side a rule acts: `client` for names from the guest, `server` for names
 //! from the host, `all` for both.
 
-ghost use Rattle.std.specs.Prelude.{◌≡◌, ◌⊎◌, ℕ, List, Option, IfOk, IfErr, MatchResult};
+ghost use Rattle.std.specs.Prelude.{◌≡◌, List, IfOk, IfErr, MatchResult};
 ghost use Rattle.std.specs.Str.{chars};
 ghost use Rattle.virtiofs_map.specs.MapRule.{ReadsMapRule};
-ghost use Rattle.virtiofs_map.specs.RuleText.{RuleText, RuleFault, Written, Cause, IsWantOfMemory, cause_of, expanded};
+ghost use Rattle.virtiofs_map.specs.Refusal.{IsOutOfMemory, OutOfMemoryOr};
+ghost use Rattle.virtiofs_map.specs.Rule.{MappingRule};
+ghost use Rattle.virtiofs_map.specs.RuleText.{SaysRules};
+ghost use Rattle.virtiofs_map.specs.RulesFault.{RulesFault, HasRulesFault, rules_fault_of};
 
 mod client;
 mod errors;
-mod fields;
+#[cfg(test)]
+mod example;
 pub mod laws;
 mod lookup;
 mod names;
-mod reading;
+mod reader;
 mod rules;
 mod scopes;
 mod server;
 #[cfg(test)]
 mod tests;
-mod written;
 
 pub use client::{AppliedRule, PassedName};
 pub use errors::{Error, ErrorKind, PatternField};
 pub use names::{XattrName, XattrNameBuf};
-use reading::read_rules;
+use reader::read_rules;
 use rules::{Rule, copied_rules};
 pub use scopes::Side;
 use std::alloc::{AllocError, Allocator, Global};
@@ -78,7 +81,7 @@ impl<A: Allocator> Model for XattrMap<A> {
 
 impl<A: Allocator> PartialEq for XattrMap<A> {
     ghost use Rattle.std.specs.Prelude.{◌≡◌, ◌↔◌, IsTrue};
-    ghost use Rattle.virtiofs_map.specs.SameRule.{same_rules};
+    ghost use Rattle.virtiofs_map.specs.Rule.{same_rules};
     ghost use Rattle.std.proofs.Common.{rules};
     ghost use Rattle.std.specs.Cmp.Rules.{comparing};
 
@@ -105,28 +108,32 @@ impl<A: Allocator> Eq for XattrMap<A> {
 impl<A: Allocator + Copy> XattrMap<A> {
     /// Reads a map from a text of rules, as the module's page describes them.
     ///
-    /// The first fault of a text that is none is answered with the number of its rule, counted
-    /// from 1. Of the faults in one rule the first to be read counts:
+    /// # Errors
     ///
-    /// - a field that the delimiter does not close: `IncompleteRule`;
-    /// - a type or a scope that there is not: `InvalidType`, `InvalidScope`;
-    /// - U+0000 in the key or in the prepend: `NulInPattern`;
-    /// - anything at all after a `map` rule: `MapRuleViolation`.
+    /// The first fault of the text, with the number of the rule that has it, counted from 1. A rule
+    /// is read field by field, and whether a field is closed is tested before what it holds:
     ///
-    /// A text of white space alone is answered with `NoRulesProvided`. Where a request for memory
-    /// is refused the answer may be `OutOfMemory` instead, which has no rule.
+    /// - `IncompleteRule`: the delimiter does not close a field.
+    /// - `InvalidType`, `InvalidScope`: there is no such type, or no such scope.
+    /// - `NulInPattern`: the key or the prepend holds U+0000.
+    /// - `MapRuleViolation`: anything at all follows the last field of a `map` rule.
+    ///
+    /// Two errors blame no rule:
+    ///
+    /// - `NoRulesProvided`: the text is empty or white space alone.
+    /// - `OutOfMemory`: a request for memory was refused.
     pub fn try_from(alloc: A, text: &str) -> Result<XattrMap<A>, Error<A>>
-        // What is read is what the rules of the text stand for.
-        ensures read { IfOk result (λ map. (rules : List Written) × RuleText (chars text.now) rules × (map ≡ expanded rules)) }
-        // A text of rules is refused for want of memory alone.
-        ensures accepted { (rules : List Written) → RuleText (chars text.now) rules → MatchResult result (λ map. map ≡ expanded rules) IsWantOfMemory }
-        // A text that is refused has the fault that is answered.
-        ensures refused { IfErr result (λ error. IsWantOfMemory error ⊎ RuleFault (chars text.now) error.rule (cause_of error.cause)) }
-        // A text that has a fault is refused for that, or for want of memory.
-        ensures faulty { (rule : Option ℕ) (cause : Cause) → RuleFault (chars text.now) rule cause
-            → MatchResult result (λ _. ⊥) (λ error. IsWantOfMemory error ⊎ ((error.rule ≡ rule) × (cause_of error.cause ≡ cause))) }
+        ensures read { IfOk result (SaysRules (chars text.now)) }
+        ensures complete { (rules : List MappingRule) → SaysRules (chars text.now) rules
+            → MatchResult result (λ map. map ≡ rules) (λ e. IsOutOfMemory (rules_fault_of e)) }
+        ensures refused { IfErr result (λ e.
+            OutOfMemoryOr (rules_fault_of e) (HasRulesFault (chars text.now))) }
+        ensures faulty { (fault : RulesFault) → HasRulesFault (chars text.now) fault
+            → MatchResult result
+            (λ _. ⊥)
+            (λ e. OutOfMemoryOr (rules_fault_of e) (λ told. told ≡ fault)) }
         // Where the text is one map rule, the map means what that rule means.
-        ensures map_rule { IfOk result (λ map. ReadsMapRule (chars text.now) map) }
+        ensures map_rule { IfOk result (ReadsMapRule (chars text.now)) }
     {
         let rules = read_rules(alloc, text)?;
         Ok(XattrMap { rules })

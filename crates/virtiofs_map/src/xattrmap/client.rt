@@ -32,7 +32,7 @@ pub enum AppliedRule<'a, A: Allocator = Global> {
 }
 
 impl<A: Allocator> PassedName<'_, A> {
-    ghost use Rattle.virtiofs_map.specs.Passed.{passed_bytes};
+    ghost use Rattle.virtiofs_map.specs.LookupAnswers.{passed_bytes};
 
     /// The bytes of the name, with no zero after them.
     pub fn as_bytes(&self) -> &[u8]
@@ -46,16 +46,20 @@ impl<A: Allocator> PassedName<'_, A> {
 }
 
 impl<A: Allocator> PartialEq for PassedName<'_, A> {
-    ghost use Rattle.std.specs.Prelude.{nat_eq};
+    ghost use Rattle.std.specs.Prelude.{◌≡◌, ◌↔◌, nat_eq, IsTrue};
     ghost use Rattle.std.specs.Cmp.Lexicographic.{pointwise, nat_list_eq_equiv};
     ghost use Rattle.std.specs.Cmp.{on_per, partial_equiv_from_equiv};
-    ghost use Rattle.virtiofs_map.specs.Passed.{passed_bytes};
+    ghost use Rattle.virtiofs_map.specs.LookupAnswers.{passed_bytes};
 
     ghost eq = { λ one other. pointwise nat_eq (passed_bytes one) (passed_bytes other) };
 
     ghost laws = { on_per passed_bytes (partial_equiv_from_equiv nat_list_eq_equiv) };
 
-    fn eq(&self, other: &Self) -> bool {
+    fn eq(&self, other: &Self) -> bool
+        ensures value { result ≡ pointwise nat_eq (passed_bytes self.now) (passed_bytes other.now) }
+        // Names are equal where their bytes are.
+        ensures equal { IsTrue result ↔ (passed_bytes self.now ≡ passed_bytes other.now) }
+    {
         self.as_bytes() == other.as_bytes()
     }
 }
@@ -63,41 +67,52 @@ impl<A: Allocator> PartialEq for PassedName<'_, A> {
 impl<A: Allocator> Eq for PassedName<'_, A> {
     ghost use Rattle.std.specs.Cmp.Lexicographic.{nat_list_eq_equiv};
     ghost use Rattle.std.specs.Cmp.{on_equiv};
-    ghost use Rattle.virtiofs_map.specs.Passed.{passed_bytes};
+    ghost use Rattle.virtiofs_map.specs.LookupAnswers.{passed_bytes};
 
     ghost laws = { on_equiv passed_bytes nat_list_eq_equiv };
 }
 
 impl<A: Allocator + Copy> XattrMap<A> {
     ghost use Rattle.std.specs.Prelude.{◌↔◌, ◌⊎◌, IfOk, IfErr};
+    ghost use Rattle.virtiofs_map.specs.LookupAnswers.{meaning, of_no_rule, IsDecidedBy, IsOwned};
     ghost use Rattle.virtiofs_map.specs.Names.{client_answer, IsUnterminated};
-    ghost use Rattle.virtiofs_map.specs.Passed.{meaning, of_no_rule, IsDecidedBy, IsOwned};
+    ghost use Rattle.virtiofs_map.specs.Rule.{Okay, Prefix};
 
     /// What becomes of a name that the guest asks for. The first rule that acts on the client's
     /// side and whose key begins the name decides: the name passes as it is, passes with the
-    /// rule's prepend before it, is denied, or is refused as unsupported. A name that no rule
-    /// decides is `UnterminatedMapping`.
+    /// rule's prepend before it, is denied, or is refused as unsupported.
     ///
-    /// Only a name that passes with a prepend takes memory, from `alloc`, and only there the
-    /// answer can be `OutOfMemory`. A name that passes as it is lives as long as the name handed
-    /// in, and not as long as the map.
+    /// A name that passes as it is lives as long as the name handed in, and not as long as the
+    /// map. Only a name that passes with a prepend takes memory, from `alloc`.
+    ///
+    /// # Errors
+    ///
+    /// No error blames a rule. The rule is looked up before memory is asked for, so that want of
+    /// memory never hides that no rule decides the name.
+    ///
+    /// - `UnterminatedMapping`: no rule decides the name, and only then.
+    /// - `OutOfMemory`: a request for memory was refused, which is made only where the name passes
+    ///   with a prepend.
     pub fn map_client_xattr<'a>(
         &self,
         alloc: A,
         name: XattrName<'a>,
     ) -> Result<AppliedRule<'a, A>, Error<A>>
-        ensures answer { IfOk result (λ rule. meaning rule ≡ client_answer self.now name.entry.bytes.now) }
+        ensures answer { IfOk result (λ applied.
+            meaning applied ≡ client_answer self.now name.entry.bytes.now) }
         ensures unterminated { (result ≡ Err (of_no_rule ErrorKind.UnterminatedMapping))
             ↔ (client_answer self.now name.entry.bytes.now ≡ IsUnterminated) }
 
         // A name that passes as it is is the very name handed in.
-        ensures okay { IsDecidedBy RuleKind.Okay self.now name.entry.bytes.now
+        ensures okay { IsDecidedBy Okay self.now name.entry.bytes.now
             → result ≡ Ok (AppliedRule.Pass (PassedName.Borrowed name.entry)) }
-        ensures prefix { IsDecidedBy RuleKind.Prefix self.now name.entry.bytes.now → IfOk result IsOwned }
+        ensures prefix { IsDecidedBy Prefix self.now name.entry.bytes.now → IfOk result IsOwned }
 
+        ensures errors { IfErr result (λ error. (error ≡ of_no_rule ErrorKind.UnterminatedMapping)
+            ⊎ (error ≡ of_no_rule ErrorKind.OutOfMemory)) }
         // Memory is wanted only where a name passes with something before it.
-        ensures faults { IfErr result (λ error. (error ≡ of_no_rule ErrorKind.UnterminatedMapping)
-            ⊎ ((error ≡ of_no_rule ErrorKind.OutOfMemory) × IsDecidedBy RuleKind.Prefix self.now name.entry.bytes.now)) }
+        ensures memory { result ≡ Err (of_no_rule ErrorKind.OutOfMemory)
+            → IsDecidedBy Prefix self.now name.entry.bytes.now }
     {
         let Some(rule) = self.deciding(Side::Client, name.bytes) else {
             return Err(Error::from(ErrorKind::UnterminatedMapping));
@@ -108,7 +123,7 @@ impl<A: Allocator + Copy> XattrMap<A> {
                 let prepend = XattrName {
                     bytes: rule.prepend.as_slice(),
                 };
-                let name = name.behind(alloc, prepend)?;
+                let name = name.prefixed_with(alloc, prepend)?;
                 Ok(AppliedRule::Pass(PassedName::Owned(name)))
             }
             RuleKind::Bad => Ok(AppliedRule::Deny),

@@ -1,4 +1,4 @@
-//! Why a text is no map, and why a map gives a name no answer.
+//! Why a text of rules is refused, and why names are.
 
 ghost use Rattle.std.specs.Prelude.{◌≡◌, ◌≢◌, Some, None};
 ghost use Rattle.virtiofs_map.specs.declared.xattrmap.errors.ErrorKind.TheVariants.{OutOfMemory};
@@ -19,18 +19,18 @@ pub enum PatternField {
 #[derive(Drop, thiserror::Error)]
 #[derive_where(PartialEq, Eq, Debug)]
 pub enum ErrorKind<A: Allocator = Global> {
-    /// The scope of a rule is none of the three.
+    /// There is no such scope.
     #[error("invalid scope '{got}', expected one of: {expected}")]
     InvalidScope {
-        /// The field that stands in the scope's place.
+        /// What the rule has in the place of its scope.
         got: String<A>,
-        /// The scopes that there are.
+        /// The three scopes.
         expected: &'static str,
     },
-    /// The type of a rule is none of those that there are.
+    /// There is no such type.
     #[error("invalid type '{got}', expected one of: {expected}")]
     InvalidType {
-        /// The field that stands in the type's place.
+        /// What the rule has in the place of its type.
         got: String<A>,
         /// The usual types.
         expected: &'static str,
@@ -68,12 +68,12 @@ pub enum ErrorKind<A: Allocator = Global> {
 pub struct Error<A: Allocator = Global> {
     /// What is wrong.
     pub cause: ErrorKind<A>,
-    /// The number of the rule as it is written, from 1. `None` where no one rule is at fault.
+    /// The number of the rule in the text, counted from 1. `None` where no rule is to blame.
     pub rule: Option<usize>,
 }
 
 impl<A: Allocator> ErrorKind<A> {
-    /// The same as an error of that rule. Want of memory is no rule's fault.
+    /// The error that blames that rule for this. Want of memory blames no rule.
     pub(crate) fn in_rule(self, number: usize) -> Error<A>
         ensures cause { result.cause ≡ self }
         ensures rule { self ≢ ErrorKind.OutOfMemory → result.rule ≡ Some number }

@@ -1,19 +1,31 @@
-//! Laws of texts of rules. Each is the contract of a function that does nothing.
+//! What holds of every text of rules. These functions do nothing: their contracts are laws, and a
+//! function that calls one may rest its own contract on it.
 
-ghost use Rattle.std.specs.Prelude.{◌≡◌, ℕ, List, Option};
-ghost use Rattle.virtiofs_map.specs.RuleText.{RuleText, RuleFault, Written, Cause};
+ghost use Rattle.std.specs.Prelude.{◌≡◌, ℕ, List};
+ghost use Rattle.virtiofs_map.specs.Rule.{MappingRule};
+ghost use Rattle.virtiofs_map.specs.RuleText.{RuleAsWritten, RuleText, SaysRules};
+ghost use Rattle.virtiofs_map.specs.RulesFault.{RulesFault, HasRulesFault};
 
-/// A text of rules says one thing.
-pub fn one_meaning()
-    ensures { (text : List ℕ) (a b : List Written) → RuleText text a → RuleText text b → a ≡ b }
+/// A text can be read as one list of written rules alone.
+pub fn one_reading()
+    ensures { (text : List ℕ) (written other : List RuleAsWritten)
+        → RuleText text written → RuleText text other → written ≡ other }
 {}
 
-/// A text of rules has no fault.
+/// A text says one list of rules alone.
+pub fn one_value()
+    ensures { (text : List ℕ) (rules other : List MappingRule)
+        → SaysRules text rules → SaysRules text other → rules ≡ other }
+{}
+
+/// A text that says rules has no fault.
 pub fn no_fault()
-    ensures { (text : List ℕ) (rules : List Written) (rule : Option ℕ) (cause : Cause) → RuleText text rules → RuleFault text rule cause → ⊥ }
+    ensures { (text : List ℕ) (rules : List MappingRule) (fault : RulesFault)
+        → SaysRules text rules → ¬ HasRulesFault text fault }
 {}
 
-/// A text has one fault at most, in one place.
+/// A text has one fault at most.
 pub fn one_fault()
-    ensures { (text : List ℕ) (j k : Option ℕ) (a b : Cause) → RuleFault text j a → RuleFault text k b → (j ≡ k) × (a ≡ b) }
+    ensures { (text : List ℕ) (fault other : RulesFault)
+        → HasRulesFault text fault → HasRulesFault text other → fault ≡ other }
 {}

@@ -5,7 +5,7 @@ ghost use Rattle.std.specs.Prelude.{◌≢◌, All};
 use std::alloc::{AllocError, Allocator, Global};
 use std::marker::Model;
 
-/// A borrowed name: any bytes but zero, also none at all. It need not be UTF-8.
+/// A borrowed name: any bytes but zero. It may be empty, and need not be UTF-8.
 #[derive(Clone, Copy, PartialEq, Eq, Debug)]
 pub struct XattrName<'a> {
     /// The bytes of the name, with no zero after them.
@@ -35,7 +35,7 @@ impl<'a> XattrName<'a> {
     }
 
     /// The prepend, and then the name.
-    pub(crate) fn behind<A: Allocator>(
+    pub(crate) fn prefixed_with<A: Allocator>(
         self,
         alloc: A,
         prepend: XattrName<'_>,
@@ -80,7 +80,7 @@ impl<A: Allocator> XattrNameBuf<A> {
 }
 
 impl<A: Allocator> PartialEq for XattrNameBuf<A> {
-    ghost use Rattle.std.specs.Prelude.{nat_eq};
+    ghost use Rattle.std.specs.Prelude.{◌≡◌, ◌↔◌, nat_eq, IsTrue};
     ghost use Rattle.std.specs.Cmp.Lexicographic.{pointwise, nat_list_eq_equiv};
     ghost use Rattle.std.specs.Cmp.{partial_equiv_from_equiv};
 
@@ -88,7 +88,11 @@ impl<A: Allocator> PartialEq for XattrNameBuf<A> {
 
     ghost laws = { partial_equiv_from_equiv nat_list_eq_equiv };
 
-    fn eq(&self, other: &XattrNameBuf<A>) -> bool {
+    fn eq(&self, other: &XattrNameBuf<A>) -> bool
+        ensures value { result ≡ pointwise nat_eq self.now other.now }
+        // Names are equal where their bytes are.
+        ensures equal { IsTrue result ↔ (self.now ≡ other.now) }
+    {
         self.bytes.as_slice() == other.bytes.as_slice()
     }
 }

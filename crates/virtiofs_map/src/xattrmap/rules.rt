@@ -1,11 +1,11 @@
-//! A rule of a map.
+//! A rule of a map, as it is written and as lookups use it.
 
 ghost use Rattle.std.specs.Prelude.{◌≡◌, ◌++◌, IfOk, OnOk};
 ghost use Rattle.std.specs.Str.{chars, IsUtf8};
-ghost use Rattle.virtiofs_map.specs.RuleText.{rule_of, rules_of};
+ghost use Rattle.virtiofs_map.specs.RuleParts.{type_of, scope_of, rules_for};
+ghost use Rattle.virtiofs_map.specs.RuleText.{rule_of};
 
-use crate::xattrmap::scopes::{Scope, Side};
-use crate::xattrmap::written::{Head, ScopeWord, WrittenRule};
+use crate::xattrmap::scopes::{Scope, ScopeWord, Side};
 use std::alloc::{AllocError, Allocator, Global};
 use std::marker::Model;
 
@@ -18,7 +18,22 @@ pub(crate) enum RuleKind {
     Unsupported,
 }
 
-/// A rule as lookups use it: a `map` rule stands as the rules that it means.
+/// What comes before the key of a rule: its type and scope, or the word `map`.
+#[derive(Clone, Copy, PartialEq, Eq, Debug)]
+pub(crate) enum Head {
+    Typed(RuleKind, ScopeWord),
+    Map,
+}
+
+/// A rule as it is written.
+#[derive(Clone, Copy)]
+pub(crate) struct WrittenRule<'a> {
+    pub(crate) head: Head,
+    pub(crate) key: &'a str,
+    pub(crate) prepend: &'a str,
+}
+
+/// A rule as lookups use it. In place of a `map` rule stand the two or three rules that it means.
 #[derive(Drop)]
 #[derive_where(Debug)]
 pub(crate) struct Rule<A: Allocator = Global> {
@@ -30,13 +45,13 @@ pub(crate) struct Rule<A: Allocator = Global> {
 
 impl<A: Allocator> Model for Rule<A> {
     ghost use Rattle.virtiofs_map.specs.Rule.{MappingRule};
-    ghost use Rattle.virtiofs_map.specs.Scope.{holds};
+    ghost use Rattle.virtiofs_map.specs.RuleParts.{type_of, holds};
     ghost use Rattle.virtiofs_map.specs.declared.xattrmap.scopes.Side.TheVariants.{Client, Server};
 
     ghost Value = { MappingRule };
 
     ghost view = { λ rule. record {
-      kind = rule.kind;
+      kind = type_of rule.kind;
       client = holds Client rule.scope.0;
       server = holds Server rule.scope.0;
       key = rule.key.items;
@@ -47,7 +62,7 @@ impl<A: Allocator> Model for Rule<A> {
 impl<A: Allocator> PartialEq for Rule<A> {
     ghost use Rattle.std.proofs.Common.{rules};
     ghost use Rattle.std.specs.Cmp.Rules.{comparing};
-    ghost use Rattle.virtiofs_map.specs.SameRule.{same_rule};
+    ghost use Rattle.virtiofs_map.specs.Rule.{same_rule};
 
     ghost eq = { same_rule };
 
@@ -69,7 +84,7 @@ impl<A: Allocator> Eq for Rule<A> {
     ghost laws = { Prim.search (comparing, rules) depth 12 };
 }
 
-/// A rule of that kind for these sides.
+/// A rule of that type for these sides.
 fn make_rule<A: Allocator + Copy>(
     alloc: A,
     kind: RuleKind,
@@ -77,7 +92,8 @@ fn make_rule<A: Allocator + Copy>(
     key: &str,
     prepend: &str,
 ) -> Result<Rule<A>, AllocError>
-    ensures { IfOk result (λ rule. rule ≡ rule_of kind scope (chars key.now) (chars prepend.now)) }
+    ensures { IfOk result (λ rule. rule
+        ≡ rule_of (type_of kind) (scope_of scope) (chars key.now) (chars prepend.now)) }
 {
     Ok(Rule {
         kind,
@@ -87,14 +103,14 @@ fn make_rule<A: Allocator + Copy>(
     })
 }
 
-/// Puts the rules that a written one stands for at the end.
+/// Appends the rules that a written one stands for.
 pub(crate) fn push_rules<A: Allocator + Copy>(
     alloc: A,
     rules: &mut Vec<Rule<A>, A>,
     written: WrittenRule<'_>,
 ) -> Result<(), AllocError>
     requires { IsUtf8 written.key.now × IsUtf8 written.prepend.now }
-    ensures { OnOk result (rules.new.items ≡ rules.old.items ++ rules_of written.entry.head (chars written.entry.key.now) (chars written.entry.prepend.now)) }
+    ensures { OnOk result (rules.new.items ≡ rules.old.items ++ rules_for written.entry) }
 {
     let WrittenRule { head, key, prepend } = written;
     let all = ScopeWord::All;

@@ -1,9 +1,8 @@
 //! The sides on which a rule acts.
 
 ghost use Rattle.std.specs.Prelude.{⊤, ◌≡◌, [], ◌∷◌, codes};
-ghost use Rattle.virtiofs_map.specs.Scope.{holds, bits_of};
+ghost use Rattle.virtiofs_map.specs.RuleParts.{holds, bits_of};
 
-use crate::xattrmap::written::ScopeWord;
 use bitflags::{Flag, Flags, bitflag_items};
 
 /// Where a name comes from.
@@ -12,6 +11,14 @@ pub enum Side {
     /// The guest, which asks for a name.
     Client,
     /// The host, which lists its names.
+    Server,
+}
+
+/// The word of a rule for the sides on which it acts.
+#[derive(Clone, Copy, PartialEq, Eq, Debug)]
+pub(crate) enum ScopeWord {
+    All,
+    Client,
     Server,
 }
 

@@ -4,7 +4,7 @@ use Rattle.std.proofs.lemmas.Iterator.Search.{find_from_yields_List}
 use Rattle.virtiofs_map.specs.Names.{fits}
 use Rattle.std.proofs.lemmas.List.Elements.{All-same}
 use Rattle.virtiofs_map.specs.Rule.{HasNoZero}
-use Rattle.virtiofs_map.proofs.Lookups.{deciding-find, found_has}
+use Rattle.virtiofs_map.proofs.FirstRuleLemmas.{deciding-find, found_has}
 use Rattle.virtiofs_map.proofs.xattrmap.XattrMap.deciding.Goals as goal
 
 pub returns-clause-found : goal.returns-clause-found

@@ -1,5 +1,5 @@
 use Rattle.std.proofs.Common.{◌≤◌, length, ap, arith, rules}
-use Rattle.virtiofs_map.proofs.Begins.{deciding_length}
+use Rattle.virtiofs_map.proofs.BeginsLemmas.{deciding_length}
 use Rattle.virtiofs_map.proofs.xattrmap.XattrMap.listed_as.Goals as goal
 
 pub slice_bounds-result-count : goal.slice_bounds-result-count

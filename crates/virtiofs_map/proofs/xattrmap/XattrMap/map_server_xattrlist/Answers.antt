@@ -1,19 +1,31 @@
 use Rattle.std.proofs.Common.{rules, ◌≡◌, true, sym, ◌∙◌, inl, inr, arith}
 use Rattle.std.proofs.lemmas.Result.{err_from_is_err_and}
 use Rattle.std.proofs.lemmas.Bool.Decides.{nat_tests}
-use Rattle.virtiofs_map.proofs.OneMapRule.{guests_apart}
-use Rattle.virtiofs_map.proofs.Lists.{is_name, IsCut, decided_more, listed_more, decided_no_more, not_decided, length_listed_at}
+use Rattle.virtiofs_map.proofs.MapRuleLemmas.{guests_apart}
+use Rattle.virtiofs_map.proofs.ServerListLemmas.{is_name, IsCut, decided_more, listed_more, decided_no_more, not_decided, length_listed_at}
 use Rattle.virtiofs_map.proofs.xattrmap.XattrMap.map_server_xattrlist.Goals as goal
 use Rattle.virtiofs_map.proofs.xattrmap.XattrMap.map_server_xattrlist.Goals.{then-is_empty+in_ok-push, else-is_empty}
 
-pub returns-in_err-list_name-clause-faults : goal.returns-in_err-list_name-clause-faults
-returns-in_err-list_name-clause-faults g c =
-    let p = err_from_is_err_and c.from_residual-in_err-list_name.result c.from_residual-in_err-list_name.ensures.1 in
+pub returns-in_err-list_name-clause-unterminated : goal.returns-in_err-list_name-clause-unterminated
+returns-in_err-list_name-clause-unterminated g c = λ is.
+    (let p = err_from_is_err_and c.from_residual-in_err-list_name.result c.from_residual-in_err-list_name.ensures.1 in
     let cut : IsCut c.names.rest.now c.cut_name.result.0.now c.cut_name.result.1.now = record { before = c.cut_name.ensures.name; after = c.cut_name.ensures.rest } in
     let named : is_name c.cut_name.result.0.now ≡ true = search rules in
-    let no_more = decided_no_more c.args.self.now c.names.rest.now _ _ cut named in
-    rw (p.1, p.2)
-    (elim c.in_err-list_name.ensures.faults [ inl fault ↦ inl (fault.0, not_decided c.args.self.now c.args.names.items (sym c.names.invariant.decides ∙ no_more fault.1)) | inr fault ↦ inr fault ])
+    let both = sym p.1 ∙ is in
+    let undecided = c.in_err-list_name.ensures.unterminated (sym p.2 ∙ (cc)) in
+    not_decided c.args.self.now c.args.names.items (sym c.names.invariant.decides ∙ decided_no_more c.args.self.now c.names.rest.now _ _ cut named undecided))
+
+pub returns-in_err-list_name-clause-complete : goal.returns-in_err-list_name-clause-complete
+returns-in_err-list_name-clause-complete g c = λ list some.
+    (let p = err_from_is_err_and c.from_residual-in_err-list_name.result c.from_residual-in_err-list_name.ensures.1 in
+    let cut : IsCut c.names.rest.now c.cut_name.result.0.now c.cut_name.result.1.now = record { before = c.cut_name.ensures.name; after = c.cut_name.ensures.rest } in
+    let named : is_name c.cut_name.result.0.now ≡ true = search rules in
+    rw (p.1, p.2) (elim c.in_err-list_name.ensures.errors [
+      | inl unterminated ↦
+          (let undecided = c.in_err-list_name.ensures.unterminated unterminated in
+          absurd (let none = not_decided c.args.self.now c.args.names.items (sym c.names.invariant.decides ∙ decided_no_more c.args.self.now c.names.rest.now _ _ cut named undecided) in (cc)))
+      | inr memory ↦ memory
+    ]))
 
 pub names-preserved-in_ok-list_name : goal.names-preserved-in_ok-list_name
 names-preserved-in_ok-list_name g c =

@@ -1,5 +1,5 @@
 use Rattle.std.proofs.Common.{◌≡◌, ◌++◌, length}
-use Rattle.virtiofs_map.proofs.Lists.{decided, listed}
+use Rattle.virtiofs_map.proofs.ServerListLemmas.{decided, listed}
 use Rattle.virtiofs_map.proofs.xattrmap.XattrMap.map_server_xattrlist.Given as goal
 
 abbrev pub invariant-names : goal.invariant-names

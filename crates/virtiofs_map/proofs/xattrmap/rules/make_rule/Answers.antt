@@ -1,5 +1,5 @@
 use Rattle.std.proofs.Common.{◌∙◌}
-use Rattle.virtiofs_map.proofs.Made.{made-rule_of}
+use Rattle.virtiofs_map.proofs.MadeRuleLemmas.{made-rule_of}
 use Rattle.virtiofs_map.proofs.xattrmap.rules.make_rule.Goals as goal
 
 pub returns : goal.returns

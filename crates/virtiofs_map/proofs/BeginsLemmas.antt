@@ -1,0 +1,39 @@
+-- A row of bytes that begins a name.
+use Rattle.std.proofs.Common.{◌≡◌, ℕ, ◌≤◌, Bool, true, List, [], ◌∷◌, ◌++◌, length, drop, Some, refl, sym, ◌∙◌}
+use Rattle.std.specs.List.{find}
+use Rattle.std.proofs.lemmas.Bool.Decides.{Decides-eqb}
+use Rattle.std.proofs.lemmas.Slice.Eq.{starts_is}
+use Rattle.std.proofs.lemmas.Bool.{and_parts, cond_both}
+use Rattle.std.proofs.lemmas.List.Prefix.{front_fits}
+use Rattle.virtiofs_map.specs.Rule.{MappingRule}
+use Rattle.virtiofs_map.specs.declared.xattrmap.scopes.Side.{Side}
+use Rattle.virtiofs_map.specs.declared.xattrmap.scopes.Side.TheVariants.{Server}
+use Rattle.virtiofs_map.specs.Names.{begins, fits, deciding}
+use Rattle.virtiofs_map.proofs.FirstRuleLemmas.{deciding-find}
+
+-- a name that p begins is p, and then the rest
+pub begins_split : (p n : List ℕ) → begins p n ≡ true → n ≡ p ++ drop (length p) n
+begins_split p n b = (starts_is Decides-eqb n p (begins p n) refl).0 b
+
+pub begins_from : (p n rest : List ℕ) → n ≡ p ++ rest → begins p n ≡ true
+begins_from p n rest e = (starts_is Decides-eqb n p (begins p n) refl).1 rest e
+
+pub begins-append : (p rest : List ℕ) → begins p (p ++ rest) ≡ true
+begins-append p rest = begins_from p (p ++ rest) rest refl
+
+pub begins_length : (p n : List ℕ) → begins p n ≡ true → length p ≤ length n
+begins_length p n b = front_fits n p (drop (length p) n) (begins_split p n b)
+
+-- what `find` gives passes
+pub found_passes : {X : Type 0} (p : X → Bool) (xs : List X) (x : X) → find p xs ≡ Some x → p x ≡ true
+found_passes p [] x e = cc
+found_passes p (y ∷ ys) x e =
+    cond_both (p y) (Some y) (find p ys) (λ o. o ≡ Some x → p x ≡ true) (λ b k. cc) (λ _ k. found_passes p ys x k) e
+
+-- the rule that decides a name fits it
+pub deciding_fits : (side : Side) (rules : List MappingRule) (name : List ℕ) (rule : MappingRule) → Some rule ≡ deciding side rules name → fits side name rule ≡ true
+deciding_fits side rules name rule e = found_passes (fits side name) rules rule (sym (e ∙ deciding-find side rules name))
+
+-- the prepend of the rule that decides a host's name is no longer than the name
+pub deciding_length : (rules : List MappingRule) (name : List ℕ) (rule : MappingRule) → Some rule ≡ deciding Server rules name → length rule.prepend ≤ length name
+deciding_length rules name rule e = begins_length rule.prepend name (and_parts rule.server (begins rule.prepend name) (deciding_fits Server rules name rule e)).1

@@ -1,0 +1,215 @@
+-- What is known of a text of rules of which a front was read.
+use Rattle.std.proofs.Common.{◌≡◌, ◌≢◌, ℕ, ◌+◌, ◌<◌, Bool, true, false, eqb, List, [], ◌∷◌, ◌++◌, length, Option, Some, None, IsSomeAnd, ◌⊎◌, inl, inr, refl, sym, ap, subst, ◌∙◌, arith, append_assoc, length-append, append-nil}
+use Rattle.std.proofs.lemmas.Bool.Decides.{nat_tests}
+use Rattle.std.proofs.lemmas.Grind.{flat_map-append}
+use Rattle.std.specs.List.{AllByRecursion}
+use Rattle.std.specs.Option.{option_map_or}
+use Rattle.std.specs.Str.{drop_trailing_whitespace}
+use Rattle.virtiofs_map.specs.Rule.{MappingRule}
+use Rattle.virtiofs_map.specs.RuleText.{RuleHead, Typed, Map, RuleAsWritten, Fields, RuleThen, RulesThen, RuleText, IsBlank, trimmed, rule_fields, rules_of, expanded, SaysRules}
+use Rattle.virtiofs_map.specs.Refusal.{OutOfMemoryOr}
+use Rattle.virtiofs_map.specs.RulesFault.{RuleFault, InRule, NotOfText, HasRulesFault, rule_fault_of, rules_fault_of}
+use Rattle.virtiofs_map.specs.RuleParts.{IsOpened, BeginsWithFault}
+use Rattle.virtiofs_map.specs.declared.xattrmap.errors.ErrorKind.{ErrorKind}
+use Rattle.virtiofs_map.specs.declared.xattrmap.errors.ErrorKind.TheVariants.{OutOfMemory}
+use Rattle.virtiofs_map.proofs.TrimLemmas.{trimmed_opened, trimmed_solid, solid_back, solid_blanks, Skips}
+
+-- rest is what follows some front of the text
+pub record EndsWith (text rest : List ℕ) : Type 0 where
+  pub front : List ℕ
+  pub are : text ≡ front ++ rest
+
+fields_end : (d : ℕ) (text : List ℕ) (fields : List (List ℕ)) (rest : List ℕ) → Fields d text fields rest → EndsWith text rest
+fields_end d text [] rest e = record { front = []; are = e }
+fields_end d text (field ∷ fields) rest (after, spells, lacks, others) =
+    let back = fields_end d after fields rest others in
+    record { front = field ++ d ∷ back.front; are = spells ∙ ap (λ x. field ++ d ∷ x) back.are ∙ sym (append_assoc field (d ∷ back.front) rest) }
+
+pub rule_end : (text : List ℕ) (rule : RuleAsWritten) (after : List ℕ) → RuleThen text rule after → (d : ℕ) × (front : List ℕ) × (text ≡ d ∷ front ++ after)
+rule_end text rule after whole =
+    let back = fields_end whole.delimiter whole.body (rule_fields rule) after whole.fields in
+    (whole.delimiter, back.front, whole.opens.0 ∙ ap (λ x. whole.delimiter ∷ x) back.are)
+
+-- a rule takes at least its delimiter
+pub rule_shorter : (text : List ℕ) (rule : RuleAsWritten) (after : List ℕ) → RuleThen text rule after → length after < length text
+rule_shorter text rule after whole =
+    let (d, front, e) = rule_end text rule after whole in
+    omega (arith, ap length e, length-append front after)
+
+-- ---- rules, one after another
+
+rules_snoc : (text : List ℕ) (rules : List RuleAsWritten) (middle : List ℕ) (rule : RuleAsWritten) (blanks rest : List ℕ)
+    → RulesThen text rules middle → RuleThen middle rule (blanks ++ rest) → rule.head ≢ Map → AllByRecursion IsBlank blanks → RulesThen text (rules ++ rule ∷ []) rest
+rules_snoc text [] middle rule blanks rest e whole plain blank = (blanks, rest, subst (λ t. RuleThen t rule (blanks ++ rest)) (sym e) whole, plain, blank, refl)
+rules_snoc text (first ∷ rules) middle rule blanks rest (between, next, here, not_map, are_blank, others) whole plain blank =
+    (between, next, here, not_map, are_blank, rules_snoc next rules middle rule blanks rest others whole plain blank)
+
+expanded_snoc : (rules : List RuleAsWritten) (rule : RuleAsWritten) → expanded (rules ++ rule ∷ []) ≡ expanded rules ++ rules_of rule.head rule.key rule.prepend
+expanded_snoc rules rule =
+    flat_map-append (λ (r : RuleAsWritten). rules_of r.head r.key r.prepend) rules (rule ∷ []) ∙ ap (λ x. expanded rules ++ x) (append-nil (rules_of rule.head rule.key rule.prepend))
+
+-- a text that is nothing but rules with blanks after each, and does not end in a blank, is a text of rules
+text_of_rules : (text : List ℕ) (rules : List RuleAsWritten) → RulesThen text rules [] → drop_trailing_whitespace text ≡ text
+    → (rules ≡ []) ⊎ ((front : List RuleAsWritten) × (last : RuleAsWritten) × (rest : List ℕ) × (rules ≡ front ++ last ∷ []) × RulesThen text front rest × RuleThen rest last [])
+text_of_rules text [] before solid = inl refl
+text_of_rules text (rule ∷ rules) (blanks, next, here, plain, blank, others) solid =
+    let (d, front, e) = rule_end text rule (blanks ++ next) here in
+    let solid_after : drop_trailing_whitespace (blanks ++ next) ≡ blanks ++ next = solid_back (d ∷ front) (blanks ++ next) (subst (λ t. drop_trailing_whitespace t ≡ t) e solid) in
+    let only : rules ≡ [] → next ≡ [] = λ none. subst (λ rs. RulesThen next rs []) none others in
+    elim (text_of_rules next rules others (solid_back blanks next solid_after)) [
+      | inl none ↦
+          (let here_only : blanks ++ next ≡ blanks = ap (λ x. blanks ++ x) (only none) ∙ append-nil blanks in
+          let no_blanks : blanks ≡ [] = solid_blanks blanks blank (subst (λ x. drop_trailing_whitespace x ≡ x) here_only solid_after) in
+          inr ([], rule, text, ap (λ rs. rule ∷ rs) none, refl, subst (RuleThen text rule) (here_only ∙ no_blanks) here))
+      | inr (init, last, rest, are, before, ends) ↦ inr (rule ∷ init, last, rest, ap (λ x. rule ∷ x) are, (blanks, next, here, plain, blank, before), ends)
+    ]
+
+-- ---- the state of the reader
+
+-- only rules that are no map rules were read, and the rest is empty or begins with a rule's delimiter
+pub record Going (text rest : List ℕ) (written : List RuleAsWritten) (items : List MappingRule) : Type 0 where
+  pub before : RulesThen (trimmed text) written rest
+  pub opened : (rest ≡ []) ⊎ IsOpened rest
+  pub count : length items ≡ length written
+
+pub record ReadSoFar (text rest : List ℕ) (items : List MappingRule) : Type 0 where
+  pub written : List RuleAsWritten
+  pub are : items ≡ expanded written
+  pub state : Going text rest written items ⊎ ((rest ≡ []) × RuleText text written)
+
+pub start : (text rest : List ℕ) (items : List MappingRule) → rest ≡ trimmed text → items ≡ [] → ReadSoFar text rest items
+start text rest items e none = record {
+  written = [];
+  are = none;
+  state = inl record {
+    before = sym e;
+    opened = subst (λ r. (r ≡ []) ⊎ IsOpened r) (sym e) (trimmed_opened text);
+    count = ap length none;
+  };
+}
+
+going : (text rest : List ℕ) (items : List MappingRule) (so_far : ReadSoFar text rest items) → rest ≢ [] → Going text rest so_far.written items
+going text rest items so_far more = elim so_far.state [ inl state ↦ state | inr over ↦ absurd (more over.0) ]
+
+pub opened : (text rest : List ℕ) (items : List MappingRule) → ReadSoFar text rest items → rest ≢ [] → IsOpened rest
+opened text rest items so_far more = elim (going text rest items so_far more).opened [ inl none ↦ absurd (more none) | inr opens ↦ opens ]
+
+pub fault : (text rest : List ℕ) (items : List MappingRule) (cause : RuleFault) (k : ℕ)
+    → ReadSoFar text rest items → rest ≢ [] → BeginsWithFault rest cause → k ≡ length items + 1 → HasRulesFault text (InRule k cause)
+fault text rest items cause k so_far more (d, body, opens, wrong) number =
+    let state = going text rest items so_far more in
+    record {
+      front = so_far.written;
+      rest = rest;
+      delimiter = d;
+      body = body;
+      number = number ∙ ap (λ n. n + 1) state.count;
+      before = state.before;
+      opens = opens;
+      wrong = wrong;
+    }
+
+-- an error that tells a fault of the rule that is read, told with the number of that rule, tells a fault of the text
+told_at : (text rest : List ℕ) (items : List MappingRule) (k : ℕ) (told : Option RuleFault)
+    → ReadSoFar text rest items → rest ≢ [] → k ≡ length items + 1 → IsSomeAnd told (BeginsWithFault rest) → HasRulesFault text (option_map_or (InRule k) told NotOfText)
+told_at text rest items k None so_far more number none = absurd none
+told_at text rest items k (Some cause) so_far more number wrong = fault text rest items cause k so_far more wrong number
+
+pub refused_at : {A : Type 0} (text rest : List ℕ) (items : List MappingRule) (k : ℕ) (cause : ErrorKind A)
+    → ReadSoFar text rest items → rest ≢ [] → k ≡ length items + 1 → IsSomeAnd (rule_fault_of cause) (BeginsWithFault rest)
+    → OutOfMemoryOr (rules_fault_of (record { cause = cause; rule = Some k })) (HasRulesFault text)
+refused_at text rest items k cause so_far more number wrong = told_at text rest items k (rule_fault_of cause) so_far more number wrong
+
+-- it does not tell want of memory
+pub not_out_of_memory : {A : Type 0} (cause : ErrorKind A) (P : RuleFault → Type 0) → IsSomeAnd (rule_fault_of cause) P → cause ≢ OutOfMemory
+not_out_of_memory cause P wrong e = subst (λ x. IsSomeAnd (rule_fault_of x) P) e wrong
+
+pub nothing_after : {A : Type 0} (xs ys : List A) → xs ++ ys ≡ [] → ys ≡ []
+nothing_after [] ys e = e
+nothing_after (x ∷ xs) ys e = absurd (cc)
+
+step_by : (head : RuleHead) (text rest : List ℕ) (items more_items : List MappingRule) (rule : RuleAsWritten) (after blanks next : List ℕ)
+    → rule.head ≡ head → ReadSoFar text rest items → rest ≢ [] → RuleThen rest rule after → (rule.head ≡ Map → after ≡ [])
+    → after ≡ blanks ++ next → AllByRecursion IsBlank blanks → (next ≡ []) ⊎ IsOpened next
+    → more_items ≡ items ++ rules_of rule.head rule.key rule.prepend → ReadSoFar text next more_items
+step_by (Typed kind scope) text rest items more_items rule after blanks next is_head so_far more whole last spells blank open_next pushed =
+    let state = going text rest items so_far more in
+    let w = so_far.written in
+    let one : length (rules_of rule.head rule.key rule.prepend) ≡ 1 = rw is_head refl in
+    let plain : rule.head ≢ Map = λ e. (let f : Typed kind scope ≡ Map = sym is_head ∙ e in (cc)) in
+    record {
+      written = w ++ rule ∷ [];
+      are = pushed ∙ ap (λ x. x ++ rules_of rule.head rule.key rule.prepend) so_far.are ∙ sym (expanded_snoc w rule);
+      state = inl record {
+        before = rules_snoc (trimmed text) w rest rule blanks next state.before (subst (RuleThen rest rule) spells whole) plain blank;
+        opened = open_next;
+        count = omega (arith, ap length pushed, length-append items (rules_of rule.head rule.key rule.prepend), one, state.count, length-append w (rule ∷ []));
+      };
+    }
+step_by Map text rest items more_items rule after blanks next is_head so_far more whole last spells blank open_next pushed =
+    let state = going text rest items so_far more in
+    let w = so_far.written in
+    record {
+      written = w ++ rule ∷ [];
+      are = pushed ∙ ap (λ x. x ++ rules_of rule.head rule.key rule.prepend) so_far.are ∙ sym (expanded_snoc w rule);
+      state = inr (
+        nothing_after blanks next (sym spells ∙ last is_head),
+        record {
+          front = w;
+          last = rule;
+          rest = rest;
+          are = refl;
+          before = state.before;
+          ends = subst (RuleThen rest rule) (last is_head) whole;
+        },
+      );
+    }
+
+-- one more rule was read
+pub step : (text rest : List ℕ) (items more_items : List MappingRule) (rule : RuleAsWritten) (after next : List ℕ)
+    → ReadSoFar text rest items → rest ≢ [] → RuleThen rest rule after → (rule.head ≡ Map → after ≡ []) → Skips after next
+    → more_items ≡ items ++ rules_of rule.head rule.key rule.prepend → ReadSoFar text next more_items
+step text rest items more_items rule after next so_far more whole last skipped pushed =
+    step_by rule.head text rest items more_items rule after skipped.blanks next refl so_far more whole last skipped.spells skipped.are_blank skipped.opened pushed
+
+-- ---- the end
+
+some_rules : (head : RuleHead) (key prepend : List ℕ) (others : List MappingRule) → rules_of head key prepend ++ others ≢ []
+some_rules (Typed kind scope) key prepend others e = (cc)
+some_rules Map [] prepend others e = (cc)
+some_rules Map (c ∷ cs) prepend others e = (cc)
+
+expanded_none : (rules : List RuleAsWritten) → expanded rules ≡ [] → rules ≡ []
+expanded_none [] e = refl
+expanded_none (rule ∷ rules) e = absurd (some_rules rule.head rule.key rule.prepend (expanded rules) e)
+
+-- the rest is empty, and some rules were read
+pub finish : (text rest : List ℕ) (items : List MappingRule) → ReadSoFar text rest items → rest ≡ [] → items ≢ []
+    → SaysRules text items
+finish text rest items so_far over some =
+    let w = so_far.written in
+    let whole : Going text rest w items → RuleText text w = λ state.
+    (let all : RulesThen (trimmed text) w [] = subst (RulesThen (trimmed text) w) over state.before in
+    elim (text_of_rules (trimmed text) w all (trimmed_solid text)) [
+      | inl none ↦ absurd (some (so_far.are ∙ ap expanded none))
+      | inr (front, last, last_rest, are, before, ends) ↦ record { front = front; last = last; rest = last_rest; are = are; before = before; ends = ends }
+    ]) in
+    (w, elim so_far.state [ inl state ↦ whole state | inr done ↦ done.1 ], so_far.are)
+
+-- the rest is empty, and no rule was read
+pub nothing : (text rest : List ℕ) (items : List MappingRule) → ReadSoFar text rest items → rest ≡ [] → items ≡ [] → trimmed text ≡ []
+nothing text rest items so_far over none =
+    let no_rules : so_far.written ≡ [] = expanded_none so_far.written (sym so_far.are ∙ none) in
+    elim so_far.state [
+      | inl state ↦ subst (λ w. RulesThen (trimmed text) w rest) no_rules state.before ∙ over
+      | inr done ↦ absurd (let e = nothing_after done.1.front (done.1.last ∷ []) (sym done.1.are ∙ no_rules) in (cc))
+    ]
+
+-- ---- whether a `Vec` is empty, as its items
+
+pub items_none : {A : Type 0} (xs : List A) (n : ℕ) (r : Bool) → length xs ≡ n → r ≡ eqb n 0 → r ≡ true → xs ≡ []
+items_none [] n r long e is_true = refl
+items_none (x ∷ xs) n r long e is_true = absurd (let f : eqb n 0 ≡ true = sym e ∙ is_true in grind (arith, nat_tests))
+
+pub items_some : {A : Type 0} (xs : List A) (n : ℕ) (r : Bool) → length xs ≡ n → r ≡ eqb n 0 → r ≡ false → xs ≢ []
+items_some xs n r long e is_false none = absurd (let f : eqb n 0 ≡ false = sym e ∙ is_false in let z : length xs ≡ 0 = ap length none in grind (arith, nat_tests))

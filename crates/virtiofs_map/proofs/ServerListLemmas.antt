@@ -1,0 +1,152 @@
+-- The list that the guest gets, name by name.
+use Rattle.std.proofs.Common.{◌≡◌, ℕ, ◌+◌, ◌<◌, ◌≤◌, Bool, true, false, ◌&&◌, not, eqb, ltb, List, [], ◌∷◌, ◌++◌, length, Option, Some, None, IfSome, MatchOption, inl, inr, refl, sym, ap, ◌∙◌, arith, filter}
+use Rattle.std.specs.List.{slice_split, onto_first, cons_option, list_all, filter_map, flat_map, position, position_or_len, before_first, after_first}
+use Rattle.std.proofs.lemmas.Bool.{cond_both, ltb-true, ltb-false, cases_lt}
+use Rattle.std.proofs.lemmas.List.{take_all, drop_all, append_assoc, append-nil, length-append, length-drop, length_push}
+use Rattle.std.proofs.lemmas.List.Splits.{slice_split_first, slice_split_none, length-slice_split}
+use Rattle.std.proofs.lemmas.List.Sums.{fails_before_first}
+use Rattle.std.proofs.lemmas.List.Elements.{All-from_get_or, filter-append}
+use Rattle.virtiofs_map.specs.Rule.{RuleType, Prefix, Okay, Bad, Unsupported, MappingRule}
+use Rattle.virtiofs_map.specs.declared.xattrmap.scopes.Side.TheVariants.{Server}
+use Rattle.virtiofs_map.specs.Names.{deciding, IsUndecided, host_answer_by, host_answer, is_decided, listed_name, names, server_answer}
+use Rattle.std.specs.Option.{option_map_or}
+
+abbrev pub is_zero : ℕ → Bool
+is_zero byte = eqb byte 0
+
+abbrev pub is_name : List ℕ → Bool
+is_name part = not (eqb (length part) 0)
+
+-- ---- the first zero
+
+-- a place that `position` gives is the first that passes
+pub position-Some_is : {X : Type 0} (p : X → Bool) (xs : List X) (i : ℕ) → Some i ≡ position p xs → (i ≡ position_or_len p xs) × (i < length xs)
+position-Some_is p xs i =
+    cond_both (ltb (position_or_len p xs) (length xs)) (Some (position_or_len p xs)) None (λ o. Some i ≡ o → (i ≡ position_or_len p xs) × (i < length xs)) (λ b k. let e : i ≡ position_or_len p xs = cc in (e, omega (arith, ltb-true (position_or_len p xs) (length xs) b))) (λ _ k. cc)
+
+pub position-None_is : {X : Type 0} (p : X → Bool) (xs : List X) → None ≡ position p xs → length xs ≤ position_or_len p xs
+position-None_is p xs =
+    cond_both (ltb (position_or_len p xs) (length xs)) (Some (position_or_len p xs)) None (λ o. None ≡ o → length xs ≤ position_or_len p xs) (λ _ k. cc) (λ b _. ltb-false (position_or_len p xs) (length xs) b)
+
+-- ---- the names of a list
+
+-- a list with a zero is its first part, and then the others
+parts_first : (list : List ℕ) → position_or_len is_zero list < length list → slice_split is_zero list ≡ before_first is_zero list ∷ slice_split is_zero (after_first is_zero list)
+parts_first list l = slice_split_first is_zero list 0 l
+
+-- a list with no zero is one part
+parts_none : (list : List ℕ) → length list ≤ position_or_len is_zero list → slice_split is_zero list ≡ list ∷ []
+parts_none list l =
+    slice_split_none is_zero list (All-from_get_or (λ x. is_zero x ≡ false) list 0 (λ i h. fails_before_first is_zero list i 0 (omega arith)))
+
+-- the first name of a list, if it is one, and then the names of the rest
+pub names_step : (list : List ℕ) → names list ≡ filter is_name (before_first is_zero list ∷ []) ++ names (after_first is_zero list)
+names_step list =
+    elim (cases_lt (position_or_len is_zero list) (length list)) [
+      | inl l ↦ ap (filter is_name) (parts_first list l) ∙ filter-append is_name (before_first is_zero list ∷ []) (slice_split is_zero (after_first is_zero list))
+      | inr l ↦ ap (filter is_name) (parts_none list l) ∙ alone list l
+    ] where
+      alone : (list : List ℕ) → length list ≤ position_or_len is_zero list → filter is_name (list ∷ []) ≡ filter is_name (before_first is_zero list ∷ []) ++ names (after_first is_zero list)
+      alone list l =
+          rw (take_all (position_or_len is_zero list) list l, drop_all (position_or_len is_zero list + 1) list (omega arith)) (sym (append-nil (filter is_name (list ∷ []))))
+
+-- what `cut_name` gives: what stands before the first zero, and what stands after it
+pub record IsCut (list name rest : List ℕ) : Type 0 where
+  pub before : name ≡ before_first is_zero list
+  pub after : rest ≡ after_first is_zero list
+
+names_step_name : (list name rest : List ℕ) → IsCut list name rest → is_name name ≡ true → names list ≡ name ∷ names rest
+names_step_name list name rest cut e = names_step list ∙ rw (← cut.before, ← cut.after, e) refl
+
+names_step_none : (list name rest : List ℕ) → IsCut list name rest → is_name name ≡ false → names list ≡ names rest
+names_step_none list name rest cut e = names_step list ∙ rw (← cut.before, ← cut.after, e) refl
+
+-- ---- what becomes of them
+
+-- some rule decides each name of the list
+abbrev pub decided : List MappingRule → List ℕ → Bool
+decided rules list = list_all (λ name. is_decided (host_answer rules name)) (names list)
+
+-- the names, each followed by a zero
+abbrev pub with_zeros : List (List ℕ) → List ℕ
+with_zeros names = flat_map (λ name. name ++ 0 ∷ []) names
+
+-- the names that are listed, each followed by a zero
+abbrev pub shown : List MappingRule → List ℕ → Option (List ℕ)
+shown rules name = listed_name (host_answer rules name)
+
+abbrev pub listed : List MappingRule → List ℕ → List ℕ
+listed rules list = with_zeros (filter_map (shown rules) (names list))
+
+pub decided_more : (rules : List MappingRule) (list name rest : List ℕ) → IsCut list name rest → is_name name ≡ true → is_decided (host_answer rules name) ≡ true → decided rules list ≡ decided rules rest
+decided_more rules list name rest cut e some =
+    rw (names_step_name list name rest cut e) (ap (λ b. b && decided rules rest) some)
+
+pub decided_no_more : (rules : List MappingRule) (list name rest : List ℕ) → IsCut list name rest → is_name name ≡ true → host_answer rules name ≡ IsUndecided → decided rules list ≡ false
+decided_no_more rules list name rest cut e none =
+    rw (names_step_name list name rest cut e) (ap (λ answer. is_decided answer && decided rules rest) none)
+
+pub not_decided : (rules : List MappingRule) (list : List ℕ) → decided rules list ≡ false → server_answer rules list ≡ None
+not_decided rules list e = rw e refl
+
+pub decided_same : (rules : List MappingRule) (list name rest : List ℕ) → IsCut list name rest → is_name name ≡ false → decided rules list ≡ decided rules rest
+decided_same rules list name rest cut e = rw (names_step_none list name rest cut e) refl
+
+pub listed_same : (rules : List MappingRule) (list name rest : List ℕ) → IsCut list name rest → is_name name ≡ false → listed rules list ≡ listed rules rest
+listed_same rules list name rest cut e = rw (names_step_none list name rest cut e) refl
+
+-- one more name, listed as o says
+more_by : (o : Option (List ℕ)) (old new : List ℕ) (names : List (List ℕ)) → MatchOption o (new ≡ old) (λ shown. new ≡ old ++ shown ++ 0 ∷ []) → new ++ with_zeros names ≡ old ++ with_zeros (cons_option o names)
+more_by None old new names e = ap (λ list. list ++ with_zeros names) e
+more_by (Some shown) old new names e = ap (λ list. list ++ with_zeros names) e ∙ simp append_assoc
+
+pub listed_more : (rules : List MappingRule) (list name rest old new : List ℕ) → IsCut list name rest → is_name name ≡ true → MatchOption (shown rules name) (new ≡ old) (λ shown. new ≡ old ++ shown ++ 0 ∷ []) → new ++ listed rules rest ≡ old ++ listed rules list
+listed_more rules list name rest old new cut e m =
+    rw (names_step_name list name rest cut e) (more_by (shown rules name) old new (filter_map (shown rules) (names rest)) m)
+
+-- ---- how long the list is
+
+-- the bytes of the parts, and one more for each
+abbrev total : List (List ℕ) → ℕ
+total [] = 0
+total (part ∷ parts) = (length part + 1) + total parts
+
+total_onto : (x : ℕ) (parts : List (List ℕ)) → 0 < length parts → total (onto_first x parts) ≡ total parts + 1
+total_onto x [] l = absurd (omega arith)
+total_onto x (part ∷ parts) l = omega arith
+
+total_split : (list : List ℕ) → total (slice_split is_zero list) ≡ length list + 1
+total_split [] = refl
+total_split (x ∷ xs) =
+    cond_both (is_zero x) ([] ∷ slice_split is_zero xs) (onto_first x (slice_split is_zero xs)) (λ parts. total parts ≡ length (x ∷ xs) + 1) (λ _. omega (arith, total_split xs)) (λ _. omega (arith, total_split xs, total_onto x (slice_split is_zero xs) (omega (arith, length-slice_split is_zero xs))))
+
+-- a name is listed as no longer a name than it is
+length_by : (kind : RuleType) (prepend name : List ℕ) → IfSome (listed_name (host_answer_by kind prepend name)) (λ shown. length shown ≤ length name)
+length_by Okay prepend name = omega arith
+length_by Prefix prepend name = omega (arith, length-drop (length prepend) name)
+length_by Bad prepend name = tt
+length_by Unsupported prepend name = tt
+
+shown_length : (rules : List MappingRule) (name : List ℕ) → IfSome (shown rules name) (λ shown. length shown ≤ length name)
+shown_length rules name = by_rule (deciding Server rules name) where
+  by_rule : (o : Option MappingRule) → IfSome (listed_name (option_map_or (λ rule. host_answer_by rule.kind rule.prepend name) o IsUndecided)) (λ shown. length shown ≤ length name)
+  by_rule None = tt
+  by_rule (Some rule) = length_by rule.kind rule.prepend name
+
+length_more : (o : Option (List ℕ)) (part : List ℕ) (names : List (List ℕ)) → IfSome o (λ shown. length shown ≤ length part) → length (with_zeros (cons_option o names)) ≤ (length part + 1) + length (with_zeros names)
+length_more None part names h = omega arith
+length_more (Some shown) part names h = omega (arith, length-append (shown ++ 0 ∷ []) (with_zeros names), length_push shown 0)
+
+length_parts : (rules : List MappingRule) (parts : List (List ℕ)) → length (with_zeros (filter_map (shown rules) (filter is_name parts))) ≤ total parts
+length_parts rules [] = omega arith
+length_parts rules (part ∷ parts) =
+    cond_both (is_name part) (part ∷ filter is_name parts) (filter is_name parts) (λ names. length (with_zeros (filter_map (shown rules) names)) ≤ total (part ∷ parts)) (λ _. omega (arith, length_parts rules parts, length_more (shown rules part) part (filter_map (shown rules) (filter is_name parts)) (shown_length rules part))) (λ _. omega (arith, length_parts rules parts))
+
+pub length-listed : (rules : List MappingRule) (list : List ℕ) → length (listed rules list) ≤ length list + 1
+length-listed rules list = omega (arith, length_parts rules (slice_split is_zero list), total_split list)
+
+-- the same of what is listed once nothing is left of the list
+pub length_listed_at : (rules : List MappingRule) (list rest shown : List ℕ) → length rest ≡ 0 → shown ++ listed rules rest ≡ listed rules list → length shown ≤ length list + 1
+length_listed_at rules list [] shown l e =
+    omega (arith, length-listed rules list, ap length (sym (append-nil shown) ∙ e))
+length_listed_at rules list (x ∷ xs) shown l e = absurd (omega arith)

@@ -1,0 +1,95 @@
+-- The printed form of a specification is a text that says it.
+use Rattle.std.proofs.Common.{◌≡◌, ℕ, ◌^◌, ◌<◌, true, false, List, [], ◌∷◌, ◌++◌, All, flat_map, codes, refl, sym, ap, ◌∙◌, subst, arith}
+use Rattle.std.specs.Fmt.{decimal}
+use Rattle.std.specs.List.{AllZip, list_all}
+use Rattle.std.specs.Str.{chars, IsAscii}
+use Rattle.std.proofs.lemmas.Fmt.{IsAscii-decimal}
+use Rattle.std.proofs.lemmas.List.{append-nil}
+use Rattle.std.proofs.lemmas.List.Elements.{All-head, All-tail}
+use Rattle.std.proofs.lemmas.List.Sums.{AllPass-from_list_all}
+use Rattle.std.proofs.lemmas.Str.{chars-IsAscii, IsAscii-append}
+use Rattle.std.proofs.lemmas.Str.Ascii.{IsAscii-nil, IsAscii-cons}
+use Rattle.unicode.proofs.DerivedComputing.{ucd_derived}
+use Rattle.unicode.proofs.CategoryComputing.{ucd_category}
+use Rattle.virtiofs_map.specs.Alphanumeric.{is_alphanumeric}
+use Rattle.virtiofs_map.specs.Numeral.{IsNumeral}
+use Rattle.virtiofs_map.specs.Printed.{specification_text}
+use Rattle.virtiofs_map.specs.SpecificationText.{is_word_character, lowered, word_of, numbers_of, Says}
+use Rattle.virtiofs_map.specs.Separator.{split_at_each}
+use Rattle.virtiofs_map.specs.declared.cmdline.IdMap.{IdMap}
+use Rattle.virtiofs_map.specs.declared.cmdline.IdMap.TheVariants.{Guest, Host, SquashGuest, SquashHost, Bidirectional, ForbidGuest}
+use Rattle.virtiofs_map.proofs.NumeralLemmas.{decimal_lacks_colon, IsNumeral-decimal}
+use Rattle.virtiofs_map.proofs.SpecificationLemmas.{split_at_each-cut, split_at_each-last, IsAscii-word_of}
+
+-- a colon ends a word
+colon_ends : is_word_character 58 ≡ false
+unfolding is_alphanumeric ucd_derived ucd_category
+colon_ends = refl
+
+-- the letters of the words are alphanumeric
+all_word : (spec : IdMap) → list_all is_word_character (word_of spec) ≡ true
+unfolding is_alphanumeric ucd_derived ucd_category
+all_word (Guest a b n) = refl
+all_word (Host a b n) = refl
+all_word (SquashGuest a b n) = refl
+all_word (SquashHost a b n) = refl
+all_word (Bidirectional a b n) = refl
+all_word (ForbidGuest a n) = refl
+
+-- and in lower case
+lowered-word_of : (spec : IdMap) → lowered (word_of spec) ≡ word_of spec
+lowered-word_of (Guest a b n) = refl
+lowered-word_of (Host a b n) = refl
+lowered-word_of (SquashGuest a b n) = refl
+lowered-word_of (SquashHost a b n) = refl
+lowered-word_of (Bidirectional a b n) = refl
+lowered-word_of (ForbidGuest a n) = refl
+
+-- numbers in decimal, each after a colon
+abbrev after_colons : List ℕ → List ℕ
+after_colons ns = flat_map (λ n. codes ":" ++ decimal n) ns
+
+-- their fields are the numbers
+AllZip-fields : (n : ℕ) (ns : List ℕ) → All (λ m. m < 2 ^ 32) (n ∷ ns) → AllZip IsNumeral (split_at_each 58 (decimal n ++ after_colons ns)) (n ∷ ns)
+AllZip-fields n [] small =
+    let below : n < 2 ^ 32 = All-head (λ m. m < 2 ^ 32) n [] small in
+    let one : split_at_each 58 (decimal n ++ []) ≡ decimal n ∷ [] = ap (split_at_each 58) (append-nil (decimal n)) ∙ split_at_each-last 58 (decimal n) (decimal_lacks_colon n below) in
+    subst (λ (fs : List (List ℕ)). AllZip IsNumeral fs (n ∷ [])) (sym one) (IsNumeral-decimal n below, tt)
+AllZip-fields n (m ∷ ns) small =
+    let below : n < 2 ^ 32 = All-head (λ m. m < 2 ^ 32) n (m ∷ ns) small in
+    let cut : split_at_each 58 (decimal n ++ after_colons (m ∷ ns)) ≡ decimal n ∷ split_at_each 58 (decimal m ++ after_colons ns) =
+    split_at_each-cut 58 (decimal n ++ after_colons (m ∷ ns)) (decimal n) (decimal m ++ after_colons ns) refl (decimal_lacks_colon n below) in
+    subst (λ (fs : List (List ℕ)). AllZip IsNumeral fs (n ∷ m ∷ ns)) (sym cut) (IsNumeral-decimal n below, AllZip-fields m ns (All-tail (λ m. m < 2 ^ 32) n (m ∷ ns) small))
+
+IsAscii-after_colons : (ns : List ℕ) → All (λ m. m < 2 ^ 32) ns → IsAscii (after_colons ns)
+IsAscii-after_colons [] small = IsAscii-nil
+IsAscii-after_colons (n ∷ ns) small =
+    let below : n < 2 ^ 32 = All-head (λ m. m < 2 ^ 32) n ns small in
+    IsAscii-cons 58 (decimal n ++ after_colons ns) (omega arith) (IsAscii-append (decimal n) (after_colons ns) (IsAscii-decimal n (omega arith)) (IsAscii-after_colons ns (All-tail (λ m. m < 2 ^ 32) n ns small)))
+
+-- the printed form is ASCII, so its characters are its bytes
+chars-printed : (spec : IdMap) → All (λ n. n < 2 ^ 32) (numbers_of spec) → chars (specification_text spec) ≡ specification_text spec
+chars-printed spec small = chars-IsAscii (specification_text spec) (IsAscii-append (word_of spec) (after_colons (numbers_of spec)) (IsAscii-word_of spec) (IsAscii-after_colons (numbers_of spec) small))
+
+-- the word, and the numbers after it
+Says-parts : (spec : IdMap) (n : ℕ) (ns : List ℕ) → numbers_of spec ≡ n ∷ ns → All (λ m. m < 2 ^ 32) (numbers_of spec) → Says (chars (specification_text spec)) spec
+Says-parts spec n ns are small = record {
+  prefix = word_of spec;
+  separator = 58;
+  rest = decimal n ++ after_colons ns;
+  cut = record {
+    whole = chars-printed spec small ∙ ap (λ (ms : List ℕ). word_of spec ++ after_colons ms) are;
+    word = AllPass-from_list_all is_word_character (word_of spec) (all_word spec);
+    ends = colon_ends;
+  };
+  word = lowered-word_of spec;
+  numbers = subst (λ (ms : List ℕ). AllZip IsNumeral (split_at_each 58 (decimal n ++ after_colons ns)) ms) (sym are) (AllZip-fields n ns (subst (λ (ms : List ℕ). All (λ m. m < 2 ^ 32) ms) are small));
+}
+
+pub Says-printed : (spec : IdMap) → All (λ n. n < 2 ^ 32) (numbers_of spec) → Says (chars (specification_text spec)) spec
+Says-printed (Guest a b n) small = Says-parts (Guest a b n) a (b ∷ n ∷ []) refl small
+Says-printed (Host a b n) small = Says-parts (Host a b n) a (b ∷ n ∷ []) refl small
+Says-printed (SquashGuest a b n) small = Says-parts (SquashGuest a b n) a (b ∷ n ∷ []) refl small
+Says-printed (SquashHost a b n) small = Says-parts (SquashHost a b n) a (b ∷ n ∷ []) refl small
+Says-printed (Bidirectional a b n) small = Says-parts (Bidirectional a b n) a (b ∷ n ∷ []) refl small
+Says-printed (ForbidGuest a n) small = Says-parts (ForbidGuest a n) a (n ∷ []) refl small

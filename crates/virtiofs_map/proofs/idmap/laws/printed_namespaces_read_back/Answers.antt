@@ -1,5 +1,0 @@
-use Rattle.virtiofs_map.proofs.NamespacePrintedLemmas.{SaysNamespace-printed}
-use Rattle.virtiofs_map.proofs.idmap.laws.printed_namespaces_read_back.Goals as goal
-
-pub returns : goal.returns
-returns c = SaysNamespace-printed

@@ -1,0 +1,79 @@
+-- What the private functions on rules and their text say. Only they cite these words.
+use Rattle.std.specs.Prelude.{◌≡◌, ◌⊎◌, ℕ, Bool, List, [], ◌∷◌, ◌==◌, Contains, IsSomeAnd}
+use Rattle.std.specs.Int.RustNames.{bit_and}
+use Rattle.std.specs.Str.{chars}
+use Rattle.virtiofs_map.specs.Rule.{RuleType, MappingRule}
+use Rattle.virtiofs_map.specs.Rule as types
+use Rattle.virtiofs_map.specs.RuleText.{ScopeName, RuleHead, RuleAsWritten, rules_of, Opens, Fields}
+use Rattle.virtiofs_map.specs.RuleText as texts
+use Rattle.virtiofs_map.specs.RulesFault.{RuleFault, IncompleteRule, NulInPattern, HasRuleFault, rule_fault_of}
+use Rattle.virtiofs_map.specs.Separator.{Lacks}
+use Rattle.virtiofs_map.specs.declared.xattrmap.errors.ErrorKind.{ErrorKind}
+use Rattle.virtiofs_map.specs.declared.xattrmap.errors.ErrorKind.TheVariants.{OutOfMemory}
+use Rattle.virtiofs_map.specs.declared.xattrmap.errors.PatternField.{PatternField}
+use Rattle.virtiofs_map.specs.declared.xattrmap.rules.Head.{Head}
+use Rattle.virtiofs_map.specs.declared.xattrmap.rules.Head.TheVariants.{Typed, Map}
+use Rattle.virtiofs_map.specs.declared.xattrmap.rules.RuleKind.{RuleKind}
+use Rattle.virtiofs_map.specs.declared.xattrmap.rules.RuleKind.TheVariants.{Prefix, Okay, Bad, Unsupported}
+use Rattle.virtiofs_map.specs.declared.xattrmap.rules.WrittenRule.{WrittenRule}
+use Rattle.virtiofs_map.specs.declared.xattrmap.scopes.ScopeWord.{ScopeWord}
+use Rattle.virtiofs_map.specs.declared.xattrmap.scopes.ScopeWord.TheVariants.{All, Client, Server}
+use Rattle.virtiofs_map.specs.declared.xattrmap.scopes.Side.{Side}
+use Rattle.virtiofs_map.specs.declared.xattrmap.scopes.Side.TheVariants as sides
+
+-- ---- the code's types, as the definitions have them
+
+abbrev pub type_of : RuleKind → RuleType
+type_of Prefix = types.Prefix
+type_of Okay = types.Okay
+type_of Bad = types.Bad
+type_of Unsupported = types.Unsupported
+
+abbrev pub scope_of : ScopeWord → ScopeName
+scope_of All = texts.All
+scope_of Client = texts.Client
+scope_of Server = texts.Server
+
+abbrev pub head_of : Head → RuleHead
+head_of (Typed kind scope) = texts.Typed (type_of kind) (scope_of scope)
+head_of Map = texts.Map
+
+-- the rule in characters
+abbrev pub as_written : WrittenRule → RuleAsWritten
+as_written rule = record { head = head_of rule.head; key = chars rule.key.now; prepend = chars rule.prepend.now }
+
+-- the rules that it stands for
+abbrev pub rules_for : WrittenRule → List MappingRule
+rules_for rule = rules_of (head_of rule.head) (chars rule.key.now) (chars rule.prepend.now)
+
+-- ---- sets of sides, as bits: 1 for the client, 2 for the server
+
+-- whether the set holds the side
+abbrev pub holds : Side → ℕ → Bool
+holds sides.Client bits = bit_and bits 1 == 1
+holds sides.Server bits = bit_and bits 2 == 2
+
+-- the sides that a word names
+abbrev pub bits_of : ScopeWord → ℕ
+bits_of All = 3
+bits_of Client = 1
+bits_of Server = 2
+
+-- ---- reading
+
+-- the text begins with a delimiter that is no blank
+abbrev pub IsOpened : List ℕ → Type 0
+IsOpened text = (d : ℕ) × (body : List ℕ) × Opens text d body
+
+-- the text begins with a rule that has that fault
+abbrev pub BeginsWithFault : List ℕ → RuleFault → Type 0
+BeginsWithFault text fault = (d : ℕ) × (body : List ℕ) × Opens text d body × HasRuleFault d body fault
+
+-- the text does not begin with a key or a prepend: no d closes it, or it holds U+0000
+abbrev pub HasPatternFault : ℕ → List ℕ → PatternField → RuleFault → Type 0
+HasPatternFault d text which fault =
+    ((fault ≡ IncompleteRule) × Lacks d text) ⊎ ((fault ≡ NulInPattern which) × (field : List ℕ) × (rest : List ℕ) × Fields d text (field ∷ []) rest × Contains field 0)
+
+-- the error tells want of memory, or a fault of a rule of which this holds
+abbrev pub TellsFault : {A : Type 0} → (RuleFault → Type 0) → ErrorKind A → Type 0
+TellsFault P cause = (cause ≡ OutOfMemory) ⊎ IsSomeAnd (rule_fault_of cause) P
