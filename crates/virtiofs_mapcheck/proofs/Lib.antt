@@ -1,7 +1,11 @@
-pub mod AnswerLemmas
-pub mod AttributeLemmas
-pub mod LineLemmas
-pub mod OneAnswer
-pub mod OneForm
-pub mod OneIds
-pub mod WordsLemmas
+mod AnswerLemmas
+mod AttributesAnswerLemmas
+mod FormLemmas
+mod IdsAnswerLemmas
+mod KindLemmas
+mod NamespaceAnswerLemmas
+mod OutcomeLemmas
+mod QueryLineLemmas
+mod RulesAnswerLemmas
+mod WordsLemmas
+mod WrittenLemmas

@@ -1,5 +1,10 @@
 pub mod Answer
+pub mod AttributesAnswer
+pub mod IdsAnswer
+pub mod NamespaceAnswer
+pub mod Outcome
 pub mod Output
+pub mod RulesAnswer
 pub mod Words
 pub mod WordsParts
 pub mod Written

@@ -27,6 +27,20 @@ pub record Asks (word : List ℕ) (query : Query) : Type 0 where
   pub whole : word ≡ query_front query.direction ++ numeral
   pub number : IsNumeral (chars numeral) query.number
 
+-- the forms
+pub data Kind : Type 0 where
+  IdsKind : Kind
+  NamespaceKind : Kind
+  ClientKind : Kind
+  ServerKind : Kind
+
+-- the first word of a form
+abbrev pub first_word : Kind → List ℕ
+first_word IdsKind = codes "ids"
+first_word NamespaceKind = codes "ns"
+first_word ClientKind = codes "client"
+first_word ServerKind = codes "server"
+
 -- what the words ask for: ids under specifications, the meaning of a namespace text, or what becomes of a guest's name or of a host's names under rules
 pub data Form : Type 0 where
   Ids : List (List ℕ) → List Query → Form
@@ -34,7 +48,13 @@ pub data Form : Type 0 where
   Client : List ℕ → List ℕ → Form
   Server : List ℕ → List (List ℕ) → Form
 
--- the words behind `ids` are specifications, the first `ask`, and then one query or more
+abbrev pub kind_of : Form → Kind
+kind_of (Ids specs queries) = IdsKind
+kind_of (Namespace text) = NamespaceKind
+kind_of (Client rules name) = ClientKind
+kind_of (Server rules names) = ServerKind
+
+-- the words after `ids` are specifications, the first `ask`, and then one query or more
 pub record IsIds (words specs : List (List ℕ)) (queries : List Query) : Type 0 where
   pub asked : List (List ℕ)
   pub whole : words ≡ specs ++ ask ∷ asked
@@ -42,14 +62,7 @@ pub record IsIds (words specs : List (List ℕ)) (queries : List Query) : Type 0
   pub some : 0 < length asked
   pub read : AllZip Asks asked queries
 
--- the word that a form begins with
-abbrev pub name_of : Form → List ℕ
-name_of (Ids specs queries) = codes "ids"
-name_of (Namespace text) = codes "ns"
-name_of (Client rules name) = codes "client"
-name_of (Server rules names) = codes "server"
-
--- the words behind it
+-- the words after the first are those of the form
 abbrev pub HasBody : List (List ℕ) → Form → Type 0
 HasBody words (Ids specs queries) = IsIds words specs queries
 HasBody words (Namespace text) = words ≡ text ∷ []
@@ -58,4 +71,9 @@ HasBody words (Server rules names) = words ≡ rules ∷ names
 
 -- the words have that form
 abbrev pub HasForm : List (List ℕ) → Form → Type 0
-HasForm words form = (others : List (List ℕ)) × (words ≡ name_of form ∷ others) × HasBody others form
+HasForm words form =
+    (others : List (List ℕ)) × (words ≡ first_word (kind_of form) ∷ others) × HasBody others form
+
+-- the words have no form
+abbrev pub HasNoForm : List (List ℕ) → Type 0
+HasNoForm words = (form : Form) → HasForm words form → ⊥

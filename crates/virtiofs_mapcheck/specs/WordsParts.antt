@@ -1,6 +1,6 @@
 -- What the parts of the reader of words answer. Only private functions cite these words.
 use Rattle.std.specs.Prelude.{◌≡◌, ◌≢◌, ℕ, List, ◌∷◌, ◌++◌, All, Option, MatchOption}
-use Rattle.virtiofs_mapcheck.specs.Words.{words_of, ask, Form, Ids, Namespace, Client, Server, name_of, HasBody}
+use Rattle.virtiofs_mapcheck.specs.Words.{words_of, ask, Kind, Form, Ids, Namespace, Client, Server, kind_of, HasBody}
 use Rattle.virtiofs_mapcheck.specs.declared.words.Words.{Words}
 use Rattle.virtiofs_mapcheck.specs.declared.words.Words.TheVariants as read
 
@@ -16,8 +16,12 @@ form_of (read.Namespace text) = Namespace text.now
 form_of (read.Client rules name) = Client rules.now name.bytes.now
 form_of (read.Server rules names) = Server rules.now (words_of names.now)
 
--- what was read of the words behind that name, where they have a form that begins with it
-abbrev pub ReadsBehind : {A : Type 0} → List ℕ → List (List ℕ) → Option (Words A) → Type 0
-ReadsBehind name words o = MatchOption o
-    ((form : Form) → name_of form ≡ name → HasBody words form → ⊥)
-    (λ read. (name_of (form_of read) ≡ name) × HasBody words (form_of read))
+-- no form of that kind has these words after its first
+abbrev pub HasNoBody : Kind → List (List ℕ) → Type 0
+HasNoBody kind words = (form : Form) → kind_of form ≡ kind → HasBody words form → ⊥
+
+-- what was read of the words after the first, where they are those of a form of that kind
+abbrev pub ReadsBody : {A : Type 0} → Kind → List (List ℕ) → Option (Words A) → Type 0
+ReadsBody kind words o = MatchOption o
+    (HasNoBody kind words)
+    (λ read. (kind_of (form_of read) ≡ kind) × HasBody words (form_of read))

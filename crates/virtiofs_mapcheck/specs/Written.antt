@@ -1,4 +1,4 @@
--- How the program writes bytes.
+-- How the program writes bytes and lines.
 use Rattle.std.specs.Prelude.{ℕ, ◌/◌, ◌%◌, List, [], ◌∷◌, ◌++◌, codes, flat_map, if◌then◌else◌, ◌==◌, nat_le, ◌&&◌}
 use Rattle.std.specs.Char.{digit_char}
 
@@ -11,3 +11,15 @@ written_byte byte =
 
 abbrev pub written : List ℕ → List ℕ
 written bytes = flat_map written_byte bytes
+
+-- bytes between quotes, as the program writes them
+abbrev pub quoted : List ℕ → List ℕ
+quoted bytes = codes "'" ++ written bytes ++ codes "'"
+
+-- a text and its line feed
+abbrev pub line : List ℕ → List ℕ
+line text = text ++ 10 ∷ []
+
+-- the line of a refusal
+abbrev pub refusal : List ℕ → List ℕ
+refusal why = line (codes "refused: " ++ why)

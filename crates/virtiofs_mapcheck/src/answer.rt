@@ -5,7 +5,7 @@ ghost use Rattle.virtiofs_mapcheck.specs.Output.{Writes, WritesFrontOf};
 ghost use Rattle.virtiofs_mapcheck.specs.Words.{words_of};
 
 use crate::attributes::{answer_client, answer_server};
-use crate::emit::deliver;
+use crate::emit::emit;
 use crate::ids::answer_ids;
 use crate::namespace::answer_namespace;
 use crate::outcome::{AnswerFault, Answered};
@@ -35,23 +35,30 @@ fn text_of<A: Allocator + Copy>(
 
 /// Answers the program's words: makes the whole text, and then writes it.
 ///
-/// The words are those behind the program's name; they come to one outcome alone, with one text.
-/// Where memory ran out, `out` is as it was. `Write` is the answer just where a write to `out`
-/// failed; a front of the text was written before.
+/// The words are those after the program's name; they come to one outcome alone, with one text.
+///
+/// # Errors
+///
+/// - `OutOfMemory`: a request for memory was refused, and `out` is as it was.
+/// - `Write`: a write to `out` failed, and only then. What was written before is the beginning of
+///   the text, and lacks its end.
 pub fn answer<A: Allocator + Copy, W: Write>(
     alloc: A,
     words: &[&str],
     out: &mut Tally<W>,
 ) -> Result<Answered, AnswerFault>
     requires { IsFalse out.old.failed }
-    ensures answered { IfOk result (λ answered. (text : List ℕ) × Answers (words_of words.now) answered text × Writes out.old out.new text) }
+    ensures answered { IfOk result (λ answered. (text : List ℕ)
+        × Answers (words_of words.now) answered text × Writes out.old out.new text) }
     ensures one_answer { HasOneAnswer (words_of words.now) }
     ensures out_of_memory { IsErrOf result AnswerFault.OutOfMemory → out.new ≡ out.old }
-    ensures front { IsErrOf result AnswerFault.Write → (answered : _) × (text : List ℕ) × Answers (words_of words.now) answered text × WritesFrontOf out.old out.new text }
+    ensures front { IsErrOf result AnswerFault.Write → (answered : _) × (text : List ℕ)
+        × Answers (words_of words.now) answered text × WritesFrontOf out.old out.new text }
     ensures failed { IsErrOf result AnswerFault.Write ↔ IsTrue out.new.failed }
 {
     let (answered, text) = text_of(alloc, words)?;
-    deliver(answered, text.as_bytes(), out)
+    emit(text.as_bytes(), out)?;
+    Ok(answered)
 }
 
 #[cfg(test)]

@@ -1,65 +1,28 @@
 //! What becomes of the names of attributes under a text of rules.
-ghost use Rattle.std.specs.Prelude.{◌≡◌, ◌≢◌, ◌++◌, OnOk, IfOk, string_bytes};
-ghost use Rattle.virtiofs_map.specs.Passed.{meaning};
-ghost use Rattle.virtiofs_map.specs.RuleText.{cause_of};
-ghost use Rattle.virtiofs_mapcheck.specs.Answer.{AnswersForm, SaysAnswer, pattern_word, cause_text, fault_refusal, line, list_of};
-ghost use Rattle.virtiofs_mapcheck.specs.Words.{words_of, Client, Server};
-ghost use Rattle.virtiofs_mapcheck.specs.Written.{written};
+ghost use Rattle.std.specs.Prelude.{◌≡◌, OnOk, IfOk, string_bytes};
+ghost use Rattle.virtiofs_map.specs.LookupAnswers.{meaning};
+ghost use Rattle.virtiofs_mapcheck.specs.AttributesAnswer.{undecided, AnswersName, list_of, AnswersClient, AnswersServer};
+ghost use Rattle.virtiofs_mapcheck.specs.Words.{words_of};
+ghost use Rattle.virtiofs_mapcheck.specs.Written.{written, line, refusal};
+ghost use Rattle.virtiofs_mapcheck.specs.declared.outcome.Answered.TheVariants.{Given};
 
 use crate::outcome::Answered;
-use crate::written::{push_quoted, push_written};
+use crate::rules::read_rules;
+use crate::written::push_written;
 use std::alloc::{AllocError, Allocator};
-use virtiofs_map::xattrmap::{AppliedRule, Error, ErrorKind, PatternField, XattrMap, XattrName};
+use virtiofs_map::xattrmap::{AppliedRule, Error, ErrorKind, XattrName};
 
-/// The word for a pattern of a rule.
-fn pattern_name(pattern: PatternField) -> &'static str
-    ensures { result.now ≡ pattern_word pattern }
+/// The line of names that no rule decides. Any other error of a lookup is want of memory.
+fn undecided_line<A: Allocator>(alloc: A, error: &Error<A>) -> Result<String<A>, AllocError>
+    ensures cause { OnOk result (error.now.cause ≡ ErrorKind.UnterminatedMapping) }
+    ensures line { IfOk result (λ text. string_bytes text ≡ refusal undecided) }
 {
-    match pattern {
-        PatternField::Key => "key",
-        PatternField::Prepend => "prepend",
+    match error.cause {
+        ErrorKind::UnterminatedMapping => {
+            String::from_str(alloc, "refused: UnterminatedMapping\n")
+        }
+        _ => Err(AllocError),
     }
-}
-
-/// Writes what is wrong at the end of a text.
-fn push_cause<A: Allocator>(text: &mut String<A>, cause: &ErrorKind<A>) -> Result<(), AllocError>
-    ensures known { OnOk result (cause.now ≢ ErrorKind.OutOfMemory) }
-    ensures said { OnOk result (string_bytes text.new ≡ string_bytes text.old ++ cause_text (cause_of cause.now)) }
-{
-    match cause {
-        ErrorKind::InvalidScope { got, .. } => {
-            text.push_str("InvalidScope ")?;
-            push_quoted(text, got.as_bytes())
-        }
-        ErrorKind::InvalidType { got, .. } => {
-            text.push_str("InvalidType ")?;
-            push_quoted(text, got.as_bytes())
-        }
-        ErrorKind::InvalidDelimiter => text.push_str("InvalidDelimiter"),
-        ErrorKind::IncompleteRule => text.push_str("IncompleteRule"),
-        ErrorKind::MapRuleViolation => text.push_str("MapRuleViolation"),
-        ErrorKind::NoRulesProvided => text.push_str("NoRulesProvided"),
-        ErrorKind::UnterminatedMapping => text.push_str("UnterminatedMapping"),
-        ErrorKind::NulInPattern { pattern } => {
-            text.push_str("NulInPattern ")?;
-            text.push_str(pattern_name(*pattern))
-        }
-        ErrorKind::OutOfMemory => Err(AllocError),
-    }
-}
-
-/// The line of an error, and the number of the rule that it blames.
-fn refusal<A: Allocator>(alloc: A, error: &Error<A>) -> Result<String<A>, AllocError>
-    ensures known { OnOk result (error.now.cause ≢ ErrorKind.OutOfMemory) }
-    ensures said { IfOk result (λ text. string_bytes text ≡ fault_refusal error.now.rule (cause_of error.now.cause)) }
-{
-    let mut text = match error.rule {
-        Some(number) => format!(in alloc; "refused: rule {number}: ")?,
-        None => String::from_str(alloc, "refused: ")?,
-    };
-    push_cause(&mut text, &error.cause)?;
-    text.push('\n')?;
-    Ok(text)
 }
 
 /// The line that says what becomes of a name.
@@ -67,7 +30,7 @@ fn client_line<A: Allocator>(
     alloc: A,
     applied: &AppliedRule<'_, A>,
 ) -> Result<String<A>, AllocError>
-    ensures { IfOk result (λ text. SaysAnswer (meaning applied.now) (string_bytes text)) }
+    ensures { IfOk result (λ text. AnswersName (meaning applied.now) Given (string_bytes text)) }
 {
     match applied {
         AppliedRule::Pass(name) => {
@@ -81,25 +44,26 @@ fn client_line<A: Allocator>(
     }
 }
 
-/// What becomes of a guest's name under the rules of a text, or why these do not tell.
+/// What becomes of a guest's name under the rules of a text, or how the text is refused.
 pub(crate) fn answer_client<A: Allocator + Copy>(
     alloc: A,
     rules: &str,
     name: XattrName<'_>,
 ) -> Result<(Answered, String<A>), AllocError>
-    ensures { IfOk result (λ p. AnswersForm (Client rules.now name.entry.bytes.now) p.0 (string_bytes p.1)) }
+    ensures { IfOk result (λ p.
+        AnswersClient rules.now name.entry.bytes.now p.0 (string_bytes p.1)) }
 {
-    let map = match XattrMap::try_from(alloc, rules) {
+    let map = match read_rules(alloc, "", rules)? {
         Ok(map) => map,
-        Err(error) => return Ok((Answered::Refused, refusal(alloc, &error)?)),
+        Err(refused) => return Ok((Answered::Refused, refused)),
     };
     match map.map_client_xattr(alloc, name) {
         Ok(applied) => Ok((Answered::Given, client_line(alloc, &applied)?)),
-        Err(error) => Ok((Answered::Refused, refusal(alloc, &error)?)),
+        Err(error) => Ok((Answered::Refused, undecided_line(alloc, &error)?)),
     }
 }
 
-/// The list of names: a zero behind each.
+/// The list of names: a zero after each.
 fn joined<A: Allocator>(alloc: A, names: &[&str]) -> Result<Vec<u8, A>, AllocError>
     ensures { IfOk result (λ list. list.items ≡ list_of (words_of names.now)) }
 {
@@ -121,23 +85,21 @@ fn server_line<A: Allocator>(alloc: A, listed: &[u8]) -> Result<String<A>, Alloc
     Ok(text)
 }
 
-/// What the guest sees of a host's names under the rules of a text, or why these do not tell.
+/// What the guest sees of a host's names under the rules of a text, or how the text is refused.
 pub(crate) fn answer_server<A: Allocator + Copy>(
     alloc: A,
     rules: &str,
     names: &[&str],
 ) -> Result<(Answered, String<A>), AllocError>
-    ensures { IfOk result (λ p. AnswersForm (Server rules.now (words_of names.now)) p.0 (string_bytes p.1)) }
+    ensures { IfOk result (λ p.
+        AnswersServer rules.now (words_of names.now) p.0 (string_bytes p.1)) }
 {
-    let map = match XattrMap::try_from(alloc, rules) {
+    let map = match read_rules(alloc, "", rules)? {
         Ok(map) => map,
-        Err(error) => return Ok((Answered::Refused, refusal(alloc, &error)?)),
+        Err(refused) => return Ok((Answered::Refused, refused)),
     };
     match map.map_server_xattrlist(alloc, joined(alloc, names)?) {
         Ok(listed) => Ok((Answered::Given, server_line(alloc, listed.as_slice())?)),
-        Err(error) => Ok((Answered::Refused, refusal(alloc, &error)?)),
+        Err(error) => Ok((Answered::Refused, undecided_line(alloc, &error)?)),
     }
 }
-
-#[cfg(test)]
-mod tests;

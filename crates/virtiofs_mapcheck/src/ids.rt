@@ -1,10 +1,12 @@
 //! What ids become under specifications.
-ghost use Rattle.std.specs.Prelude.{◌≡◌, ◌≢◌, ℕ, List, ◌++◌, Some, OnOk, IfOk, string_bytes};
+ghost use Rattle.std.specs.Prelude.{◌≡◌, ℕ, List, ◌++◌, Some, OnOk, IfOk, string_bytes};
 ghost use Rattle.std.specs.List.{AllZip, concat};
 ghost use Rattle.virtiofs_map.specs.Printed.{build_error_text};
-ghost use Rattle.virtiofs_map.specs.SpecificationText.{Fault, fault_of};
-ghost use Rattle.virtiofs_mapcheck.specs.Answer.{IsLine, specification_fault_text, refused_line, index_of, AnswersForm};
-ghost use Rattle.virtiofs_mapcheck.specs.Words.{words_of, Ids};
+ghost use Rattle.virtiofs_map.specs.SpecificationText.{SpecificationFault, specification_fault_of};
+ghost use Rattle.virtiofs_map.specs.Specifications.{SpecsFault, specs_fault_of};
+ghost use Rattle.virtiofs_mapcheck.specs.IdsAnswer.{IsLine, specification_fault_text, at_index, specs_fault_text, AnswersIds};
+ghost use Rattle.virtiofs_mapcheck.specs.Words.{words_of};
+ghost use Rattle.virtiofs_mapcheck.specs.Written.{refusal};
 
 use crate::outcome::Answered;
 use crate::words::Query;
@@ -20,7 +22,8 @@ fn push_line<A: Allocator>(
     map: &IdMap<GuestUid, HostUid, A>,
     query: Query,
 ) -> Result<(), AllocError>
-    ensures { OnOk result ((line : List ℕ) × IsLine map.now query line × (string_bytes text.new ≡ string_bytes text.old ++ line)) }
+    ensures { OnOk result ((line : List ℕ) × IsLine map.now query line
+        × (string_bytes text.new ≡ string_bytes text.old ++ line)) }
 {
     match query.direction {
         Direction::GuestToHost => match map.map_guest(GuestUid::from(query.number)) {
@@ -40,7 +43,8 @@ pub(crate) fn lines_of<A: Allocator>(
     map: &IdMap<GuestUid, HostUid, A>,
     queries: &[Query],
 ) -> Result<String<A>, AllocError>
-    ensures { IfOk result (λ text. (lines : List _) × AllZip (IsLine map.now) queries.now lines × (string_bytes text ≡ concat lines)) }
+    ensures { IfOk result (λ text. (lines : List _) × AllZip (IsLine map.now) queries.now lines
+        × (string_bytes text ≡ concat lines)) }
 {
     let mut text = String::new(alloc);
     for query in queries {
@@ -49,14 +53,16 @@ pub(crate) fn lines_of<A: Allocator>(
     Ok(text)
 }
 
-/// Writes why a text is not read at the end of a text.
-fn push_cause<A: Allocator>(
+/// Writes what is wrong with a specification's text at the end of a text.
+fn push_fault<A: Allocator>(
     text: &mut String<A>,
-    cause: &cmdline::IdMapError<A>,
+    error: &cmdline::IdMapError<A>,
 ) -> Result<(), AllocError>
-    ensures { OnOk result ((fault : Fault) × (fault_of cause.now ≡ Some fault) × (string_bytes text.new ≡ string_bytes text.old ++ specification_fault_text fault)) }
+    ensures { OnOk result ((fault : SpecificationFault)
+        × (specification_fault_of error.now ≡ Some fault)
+        × (string_bytes text.new ≡ string_bytes text.old ++ specification_fault_text fault)) }
 {
-    match cause {
+    match error {
         cmdline::IdMapError::InvalidPrefix(prefix) => {
             text.push_str("InvalidPrefix ")?;
             push_quoted(text, prefix.as_bytes())
@@ -72,58 +78,63 @@ fn push_cause<A: Allocator>(
     }
 }
 
-/// The line of a text that is not read.
+/// The line of a text that says no specification.
 fn text_refusal<A: Allocator>(
     alloc: A,
     index: usize,
-    cause: &cmdline::IdMapError<A>,
+    error: &cmdline::IdMapError<A>,
 ) -> Result<String<A>, AllocError>
-    ensures { IfOk result (λ text. (fault : Fault) × (fault_of cause.now ≡ Some fault) × (string_bytes text ≡ refused_line index (specification_fault_text fault))) }
+    ensures { IfOk result (λ text. (fault : SpecificationFault)
+        × (specification_fault_of error.now ≡ Some fault)
+        × (string_bytes text ≡ refusal (at_index index (specification_fault_text fault)))) }
 {
     let mut text = format!(in alloc; "refused: specification {index}: ")?;
-    push_cause(&mut text, cause)?;
+    push_fault(&mut text, error)?;
     text.push('\n')?;
     Ok(text)
 }
 
-/// The line of a fault of the specification at that index.
-fn fault_line<A: Allocator>(
+/// The line of a specification, at that index, of which no map is made.
+fn build_refusal<A: Allocator>(
     alloc: A,
     index: usize,
-    fault: &IdMapBuildError,
+    error: &IdMapBuildError,
 ) -> Result<String<A>, AllocError>
-    ensures { IfOk result (λ text. string_bytes text ≡ refused_line index (build_error_text fault.now)) }
+    ensures { IfOk result (λ text.
+        string_bytes text ≡ refusal (at_index index (build_error_text error.now))) }
 {
     let mut text = format!(in alloc; "refused: specification {index}: ")?;
-    writeln!(text, "{fault}")?;
+    writeln!(text, "{error}")?;
     Ok(text)
 }
 
-/// The line of specifications of which no map is made.
-fn build_refusal<A: Allocator>(alloc: A, fault: &IdMapBuildError) -> Result<String<A>, AllocError>
-    ensures known { OnOk result (fault.now ≢ IdMapBuildError.OutOfMemory) }
-    ensures line { IfOk result (λ text. string_bytes text ≡ refused_line (index_of fault.now) (build_error_text fault.now)) }
+/// The line of texts of which no map is made.
+fn specs_refusal<A: Allocator>(alloc: A, error: &SpecsError<A>) -> Result<String<A>, AllocError>
+    ensures { IfOk result (λ text. (fault : SpecsFault)
+        × (specs_fault_of error.now ≡ Some fault)
+        × (string_bytes text ≡ refusal (specs_fault_text fault))) }
 {
-    match fault {
-        IdMapBuildError::RangeOverflow { index, .. } => fault_line(alloc, *index, fault),
-        IdMapBuildError::Intersects { index, .. } => fault_line(alloc, *index, fault),
-        IdMapBuildError::OutOfMemory => Err(AllocError),
+    match error {
+        SpecsError::Spec { index, cause } => text_refusal(alloc, *index, cause),
+        SpecsError::Build(fault) => match fault {
+            IdMapBuildError::RangeOverflow { index, .. } => build_refusal(alloc, *index, fault),
+            IdMapBuildError::Intersects { index, .. } => build_refusal(alloc, *index, fault),
+            IdMapBuildError::OutOfMemory => Err(AllocError),
+        },
     }
 }
 
-/// What ids become under the specifications of texts, or why no map is made of these.
+/// What ids become under the specifications of texts, or which of these is refused.
 pub(crate) fn answer_ids<A: Allocator + Copy>(
     alloc: A,
     texts: &[&str],
     queries: &[Query],
 ) -> Result<(Answered, String<A>), AllocError>
-    ensures { IfOk result (λ p. AnswersForm (Ids (words_of texts.now) queries.now) p.0 (string_bytes p.1)) }
+    ensures { IfOk result (λ p.
+        AnswersIds (words_of texts.now) queries.now p.0 (string_bytes p.1)) }
 {
     match IdMap::<GuestUid, HostUid, A>::from_specs(alloc, texts) {
         Ok(map) => Ok((Answered::Given, lines_of(alloc, &map, queries)?)),
-        Err(SpecsError::Spec { index, cause }) => {
-            Ok((Answered::Refused, text_refusal(alloc, index, &cause)?))
-        }
-        Err(SpecsError::Build(fault)) => Ok((Answered::Refused, build_refusal(alloc, &fault)?)),
+        Err(error) => Ok((Answered::Refused, specs_refusal(alloc, &error)?)),
     }
 }

@@ -1,7 +1,10 @@
 //! Shows what an id or extended attribute mapping does.
 #![tactic(auto)]
 
-ghost use Rattle.std.specs.Prelude.{◌≡◌, ◌↔◌, IsErrOf};
+ghost use Rattle.std.specs.Prelude.{◌≡◌, ◌↔◌, ℕ, List, IfOk, IsFalse, IsErrOf};
+ghost use Rattle.virtiofs_mapcheck.specs.Answer.{Answers};
+ghost use Rattle.virtiofs_mapcheck.specs.Output.{Writes};
+ghost use Rattle.virtiofs_mapcheck.specs.Words.{words_of};
 
 mod answer;
 mod attributes;
@@ -9,6 +12,7 @@ mod emit;
 mod ids;
 mod namespace;
 mod outcome;
+mod rules;
 mod tally;
 #[cfg(test)]
 mod testing;
@@ -45,7 +49,11 @@ fn main(rt: HostRuntime) -> ExitCode {
 
 fn run(rt: &HostRuntime) -> Result<Answered, AnswerFault> {
     let arguments = arguments(rt)?;
-    print_answer(rt.alloc(), arguments.as_slice(), rt.stdout())
+    let words: Vec<&str> = arguments
+        .iter()
+        .map(|word| word.as_str())
+        .collect(rt.alloc())?;
+    print_answer(rt.alloc(), words.as_slice(), &mut Tally::new(rt.stdout()))
 }
 
 // The arguments after the program's name. Where one is not UTF-8 there are none, so that they are
@@ -60,15 +68,18 @@ fn arguments(rt: &HostRuntime) -> Result<Vec<String>, AnswerFault> {
 
 // Writes what the words come to, and flushes, so that a writer that holds back what it takes
 // cannot hide a failed write.
-fn print_answer<A: Allocator + Copy, W: Write + Drop>(
+fn print_answer<A: Allocator + Copy, W: Write>(
     alloc: A,
-    arguments: &[String<A>],
-    writer: W,
-) -> Result<Answered, AnswerFault> {
-    let words: Vec<&str, A> = arguments.iter().map(|word| word.as_str()).collect(alloc)?;
-    let mut out = Tally::new(writer);
-    let answered = answer(alloc, words.as_slice(), &mut out)?;
-    match out.into_inner().flush() {
+    words: &[&str],
+    out: &mut Tally<W>,
+) -> Result<Answered, AnswerFault>
+    requires { IsFalse out.old.failed }
+    ensures answered { IfOk result (λ answered. (text : List ℕ)
+        × Answers (words_of words.now) answered text × Writes out.old out.new text) }
+    ensures out_of_memory { IsErrOf result AnswerFault.OutOfMemory → out.new ≡ out.old }
+{
+    let answered = answer(alloc, words, out)?;
+    match out.flush() {
         Ok(()) => Ok(answered),
         Err(_) => Err(AnswerFault::Write),
     }
@@ -94,6 +105,7 @@ fn status(ended: Result<Answered, AnswerFault>) -> u8
 mod tests {
     use crate::outcome::{AnswerFault, Answered};
     use crate::print_answer;
+    use crate::tally::Tally;
     use crate::testing::Grudging;
     use std::io::BufWriter;
     use std::test::Fail;
@@ -102,7 +114,7 @@ mod tests {
     fn a_failed_flush_is_a_failed_write(rt: HostRuntime) -> Result<(), Fail> {
         for (most, wanted) in [(16, Ok(Answered::WrongWords)), (0, Err(AnswerFault::Write))] {
             let held_back = BufWriter::new(rt.alloc(), Grudging::new(most, None))?;
-            let ended = print_answer(rt.alloc(), &[], held_back);
+            let ended = print_answer(rt.alloc(), &[], &mut Tally::new(held_back));
             assert_eq!(rt; ended, wanted, "{most} bytes a call");
         }
         Ok(())

@@ -1,18 +1,17 @@
 //! What a text says of a range of a namespace.
 ghost use Rattle.std.specs.Prelude.{IfOk, string_bytes};
-ghost use Rattle.virtiofs_mapcheck.specs.Answer.{AnswersForm};
-ghost use Rattle.virtiofs_mapcheck.specs.Words.{Namespace};
+ghost use Rattle.virtiofs_mapcheck.specs.NamespaceAnswer.{AnswersNamespace};
 
 use crate::outcome::Answered;
 use std::alloc::{AllocError, Allocator};
 use virtiofs_map::idmap::{IdMapError, UidMap};
 
-/// The range that a text says, or why it says none.
+/// The range that a text says, or what is wrong with the text.
 pub(crate) fn answer_namespace<A: Allocator>(
     alloc: A,
     text: &str,
 ) -> Result<(Answered, String<A>), AllocError>
-    ensures { IfOk result (λ p. AnswersForm (Namespace text.now) p.0 (string_bytes p.1)) }
+    ensures { IfOk result (λ p. AnswersNamespace text.now p.0 (string_bytes p.1)) }
 {
     match UidMap::from_str(text) {
         Ok(map) => Ok((Answered::Given, format!(in alloc; "{map}\n")?)),

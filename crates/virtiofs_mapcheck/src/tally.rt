@@ -1,7 +1,8 @@
 //! A writer that remembers whether a write to it failed.
-ghost use Rattle.std.specs.Prelude.{◌≡◌, ◌<◌, ◌≤◌, length, take, IfOk, IsTrue, IsFalse, OnErr};
+ghost use Rattle.std.specs.Prelude.{◌≡◌, ◌<◌, ◌≤◌, length, take, IfOk, IsTrue, IsFalse, OnOk, OnErr};
 ghost use Rattle.std.specs.Io.KnownBytes.{Appends, Keeps};
 
+use std::io;
 use std::io::Write;
 use std::marker::Model;
 
@@ -47,7 +48,8 @@ impl<W: Write> Tally<W> {
         self.has_failed
     }
 
-    /// The writer, with all that was written to it. It takes no memory, and writes and flushes nothing.
+    /// The writer, with all that was written to it. It takes no memory, and writes and flushes
+    /// nothing.
     pub fn into_inner(self) -> W
         ensures { W.contents result ≡ self.bytes }
     {
@@ -60,12 +62,14 @@ impl<W: Write> Tally<W> {
 
     /// Hands `piece` to the writer once, and answers how many of its first bytes were taken: at
     /// least one of a piece that has some. Where the write fails, nothing was taken, and the tally
-    /// has failed from here on.
+    /// has failed from here on. Nothing may be written after that.
     pub(crate) fn write(&mut self, piece: &[u8]) -> Result<usize, WriteFailed>
+        requires { IsFalse self.old.failed }
         ensures bound { IfOk result (λ n. n ≤ length piece.now) }
         ensures progress { IfOk result (λ n. 0 < length piece.now → 0 < n) }
-        ensures taken { IfOk result (λ n. Appends self.old.bytes self.new.bytes (take n piece.now)) }
-        ensures same { IfOk result (λ _. self.new.failed ≡ self.old.failed) }
+        ensures taken { IfOk result (λ n.
+            Appends self.old.bytes self.new.bytes (take n piece.now)) }
+        ensures sound { OnOk result (IsFalse self.new.failed) }
         ensures kept { OnErr result (Keeps self.old.bytes self.new.bytes) }
         ensures fails { OnErr result (IsTrue self.new.failed) }
     {
@@ -76,6 +80,14 @@ impl<W: Write> Tally<W> {
                 Err(WriteFailed)
             }
         }
+    }
+
+    /// Flushes the writer: what it held back is written. A flush that fails makes no tally failed.
+    pub(crate) fn flush(&mut self) -> io::Result<()>
+        ensures kept { Keeps self.old.bytes self.new.bytes }
+        ensures same { self.new.failed ≡ self.old.failed }
+    {
+        self.writer.flush()
     }
 }
 

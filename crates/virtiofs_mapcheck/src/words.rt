@@ -1,13 +1,12 @@
 //! The forms of the program's words.
-ghost use Rattle.std.specs.Prelude.{◌≢◌, ℕ, List, All, codes, IfOk, MatchOption};
+ghost use Rattle.std.specs.Prelude.{◌≢◌, List, All, IfOk, MatchOption};
 ghost use Rattle.std.specs.List.{AllZip};
-ghost use Rattle.std.specs.Str.{chars};
-ghost use Rattle.virtiofs_map.specs.Numeral.{IsNumeral};
-ghost use Rattle.virtiofs_mapcheck.specs.Words.{words_of, ask, Asks, Form, Ids, Namespace, HasForm};
-ghost use Rattle.virtiofs_mapcheck.specs.WordsParts.{IsCutAtAsk, form_of, ReadsBehind};
+ghost use Rattle.virtiofs_mapcheck.specs.Words.{words_of, ask, Asks, IdsKind, NamespaceKind, ClientKind, ServerKind, HasForm, HasNoForm};
+ghost use Rattle.virtiofs_mapcheck.specs.WordsParts.{IsCutAtAsk, form_of, ReadsBody};
 
 use std::alloc::{AllocError, Allocator};
 use virtiofs_map::soft_idmap::Direction;
+use virtiofs_map::text;
 use virtiofs_map::xattrmap::XattrName;
 
 /// A number that is asked for in a direction.
@@ -43,31 +42,23 @@ pub(crate) enum Words<'a, A: Allocator> {
     },
 }
 
-/// Reads the number of a query.
-fn read_number(numeral: &str) -> Option<u32>
-    ensures { MatchOption result
-        ((number : ℕ) → IsNumeral (chars numeral.now) number → ⊥)
-        (IsNumeral (chars numeral.now)) }
-{
-    match numeral.parse() {
-        Ok(number) => Some(number),
-        Err(_) => None,
-    }
-}
-
 /// Reads the query of a word.
 fn read_query(word: &str) -> Option<Query>
     ensures { MatchOption result ((query : _) → Asks word.now query → ⊥) (Asks word.now) }
 {
     if let Some(numeral) = word.strip_prefix("guest=") {
-        let number = read_number(numeral)?;
+        let Ok(number) = text::number(numeral) else {
+            return None;
+        };
         return Some(Query {
             direction: Direction::GuestToHost,
             number,
         });
     }
     let numeral = word.strip_prefix("host=")?;
-    let number = read_number(numeral)?;
+    let Ok(number) = text::number(numeral) else {
+        return None;
+    };
     Some(Query {
         direction: Direction::HostToGuest,
         number,
@@ -104,12 +95,12 @@ fn cut_at_ask<'a>(words: &'a [&'a str]) -> Option<(&'a [&'a str], &'a [&'a str])
     None
 }
 
-/// Reads the words behind `ids`.
+/// Reads the words after `ids`.
 fn read_ids<'a, A: Allocator>(
     alloc: A,
     words: &'a [&'a str],
 ) -> Result<Option<Words<'a, A>>, AllocError>
-    ensures { IfOk result (ReadsBehind (codes "ids") (words_of words.now)) }
+    ensures { IfOk result (ReadsBody IdsKind (words_of words.now)) }
 {
     let Some((specs, asked)) = cut_at_ask(words) else {
         return Ok(None);
@@ -123,9 +114,9 @@ fn read_ids<'a, A: Allocator>(
     Ok(Some(Words::Ids { specs, queries }))
 }
 
-/// Reads the words behind `ns`.
+/// Reads the words after `ns`.
 fn read_namespace<'a, A: Allocator>(words: &'a [&'a str]) -> Option<Words<'a, A>>
-    ensures { ReadsBehind (codes "ns") (words_of words.now) result }
+    ensures { ReadsBody NamespaceKind (words_of words.now) result }
 {
     let (text, others) = words.split_first()?;
     if !others.is_empty() {
@@ -134,9 +125,9 @@ fn read_namespace<'a, A: Allocator>(words: &'a [&'a str]) -> Option<Words<'a, A>
     Some(Words::Namespace { text })
 }
 
-/// Reads the words behind `client`.
+/// Reads the words after `client`.
 fn read_client<'a, A: Allocator>(words: &'a [&'a str]) -> Option<Words<'a, A>>
-    ensures { ReadsBehind (codes "client") (words_of words.now) result }
+    ensures { ReadsBody ClientKind (words_of words.now) result }
 {
     let (rules, others) = words.split_first()?;
     let (name, others) = others.split_first()?;
@@ -147,9 +138,9 @@ fn read_client<'a, A: Allocator>(words: &'a [&'a str]) -> Option<Words<'a, A>>
     Some(Words::Client { rules, name })
 }
 
-/// Reads the words behind `server`.
+/// Reads the words after `server`.
 fn read_server<'a, A: Allocator>(words: &'a [&'a str]) -> Option<Words<'a, A>>
-    ensures { ReadsBehind (codes "server") (words_of words.now) result }
+    ensures { ReadsBody ServerKind (words_of words.now) result }
 {
     let (rules, names) = words.split_first()?;
     Some(Words::Server { rules, names })
@@ -161,7 +152,7 @@ pub(crate) fn read_words<'a, A: Allocator>(
     words: &'a [&'a str],
 ) -> Result<Option<Words<'a, A>>, AllocError>
     ensures { IfOk result (λ o. MatchOption o
-        ((form : Form) → HasForm (words_of words.now) form → ⊥)
+        (HasNoForm (words_of words.now))
         (λ read. HasForm (words_of words.now) (form_of read))) }
 {
     let Some((name, others)) = words.split_first() else {

@@ -1,8 +1,7 @@
 //! How the program writes bytes.
 ghost use Rattle.std.specs.Prelude.{◌≡◌, ◌<◌, ◌++◌, OnOk, string_bytes};
 ghost use Rattle.std.specs.Char.{digit_char};
-ghost use Rattle.virtiofs_mapcheck.specs.Answer.{quoted};
-ghost use Rattle.virtiofs_mapcheck.specs.Written.{written, written_byte};
+ghost use Rattle.virtiofs_mapcheck.specs.Written.{written, written_byte, quoted};
 
 use std::alloc::{AllocError, Allocator};
 
@@ -91,7 +90,7 @@ mod tests {
 
     // Printing bytes of ASCII but the backslash stand for themselves, and the rest for two digits.
     #[test]
-    fn writes_each_byte_behind_the_ones_before(rt: HostRuntime) -> Result<(), Fail> {
+    fn writes_each_byte_after_those_before(rt: HostRuntime) -> Result<(), Fail> {
         let mut text = String::new(rt.alloc());
         let mut wanted = String::new(rt.alloc());
         for byte in 0..=255u8 {

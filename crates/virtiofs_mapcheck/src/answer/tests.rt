@@ -1,4 +1,5 @@
-//! What is answered to known words, and what is left of an answer that cannot be written.
+//! What is answered to known words: a row for each form and each way in which it ends. The other
+//! rows of the program stand in `tests/program.jsonl`, at the top of the repository.
 
 use crate::answer::answer;
 use crate::outcome::Answered::{Given, Refused, WrongWords};
@@ -9,107 +10,147 @@ use std::alloc::Global;
 use std::process::Abort;
 use std::test::Fail;
 
-/// Words with a space between each two, what they come to, and the text.
+/// Words with a bar between each two, what they come to, and the text.
 type Row = (&'static str, Answered, &'static str);
 
-const ROWS: [Row; 35] = [
+const IDS: [Row; 7] = [
     (
-        "ids map:0:1000:10 ask guest=5 host=1005 guest=10 guest=1005",
+        "ids|map:0:1000:10|forbid-guest:20:1|ask|guest=5|host=1005|guest=10|guest=20",
         Given,
-        "1005\n5\n10\n1005\n",
+        "1005\n5\n10\nUse of ID 20 has been configured to fail\n",
     ),
+    ("ids|ask|host=4294967295", Given, "4294967295\n"),
     (
-        "ids host:1000:0:10 guest:0:1000:10 ask guest=5 host=1005 guest=10 guest=1005",
-        Given,
-        "1005\n5\n10\n1005\n",
-    ),
-    (
-        "ids guest:0:1000:10 host:1000:0:10 ask guest=5 host=1005 guest=10 guest=1005",
-        Given,
-        "1005\n5\n10\n1005\n",
-    ),
-    (
-        "ids FORBID-GUEST:7:3 ask guest=8 guest=10",
-        Given,
-        "Use of ID 8 has been configured to fail\n10\n",
-    ),
-    (
-        "ids squash-guest:0:1001:4294967295 host:1001:1000:1 ask guest=0 guest=4294967294 guest=4294967295 host=1001 host=1000",
-        Given,
-        "1001\n1001\n4294967295\n1000\n1000\n",
-    ),
-    (
-        "ids guest:0:100:10 guest:5:200:0 ask guest=5",
-        Given,
-        "105\n",
-    ),
-    ("ids ask guest=0 host=4294967295", Given, "0\n4294967295\n"),
-    ("ids ask guest=+5", Given, "5\n"),
-    ("ns :0:100000:65536:", Given, ":0:100000:65536:\n"),
-    ("ns +1+2+3+", Given, ":1:2:3:\n"),
-    (
-        "ns :4294967295:4294967295:4294967295:",
-        Given,
-        ":4294967295:4294967295:4294967295:\n",
-    ),
-    ("ids forbid-guest:7:3 ask host=8", Given, "8\n"),
-    (
-        "ids map:0:1000:10 ask guest=5 guest=6",
-        Given,
-        "1005\n1006\n",
-    ),
-    (
-        "ids foo:1 ask guest=0",
+        "ids|foo:1|ask|guest=0",
         Refused,
         "refused: specification 0: InvalidPrefix 'foo'\n",
     ),
     (
-        "ids guest:0:100:10 map:1:2 ask guest=0",
+        "ids|guest:0:100:10|map:1:2|ask|guest=0",
         Refused,
         "refused: specification 1: InvalidLength expected 3 seen 2\n",
     ),
     (
-        "ids map:-0:1:2 ask guest=0",
+        "ids|map:-0:1:2|ask|guest=0",
         Refused,
         "refused: specification 0: InvalidValue '-0'\n",
     ),
     (
-        "ids FORBİD-GUEST:1:2 ask guest=0",
-        Refused,
-        "refused: specification 0: InvalidPrefix 'forb\\xc4\\xb0d-guest'\n",
-    ),
-    (
-        "ids guest:0:100:10 guest:5:200:1 ask guest=0",
-        Refused,
-        "refused: specification 1: Guest-to-host mapping 'map [5, 6) to [200, 201)' intersects previously added entry\n",
-    ),
-    (
-        "ids guest:4294967295:0:1 ask guest=0",
+        "ids|guest:4294967295:0:1|ask|guest=0",
         Refused,
         "refused: specification 0: Parameter guest:4294967295:0:1: Range overflow\n",
     ),
-    ("ns ::::", Refused, "refused: InvalidValue\n"),
-    ("ns :4294967296:0:1:", Refused, "refused: InvalidValue\n"),
-    ("ns ", Refused, "refused: IncompleteMap\n"),
-    ("ns 5", Refused, "refused: InvalidDelimiter\n"),
+    (
+        "ids|guest:0:100:10|guest:5:200:1|ask|guest=0",
+        Refused,
+        "refused: specification 1: Guest-to-host mapping 'map [5, 6) to [200, 201)' intersects previously added entry\n",
+    ),
+];
+
+const NAMESPACE: [Row; 4] = [
+    ("ns|+1+2+3+", Given, ":1:2:3:\n"),
+    ("ns|5", Refused, "refused: InvalidDelimiter\n"),
+    ("ns|", Refused, "refused: IncompleteMap\n"),
+    ("ns|::::", Refused, "refused: InvalidValue\n"),
+];
+
+const CLIENT: [Row; 12] = [
+    (
+        "client|:ok:all:é:é: :bad:all:::|éa",
+        Given,
+        "pass \\xc3\\xa9a\n",
+    ),
+    (
+        "client|:map:trusted.:user.virtiofs.:|trusted.a",
+        Given,
+        "pass user.virtiofs.trusted.a\n",
+    ),
+    (
+        "client|:map:trusted.:user.virtiofs.:|user.virtiofs.a",
+        Given,
+        "deny\n",
+    ),
+    (
+        "client|:unsupported:client:a:: :ok:all:::|ab",
+        Given,
+        "unsupported\n",
+    ),
+    (
+        "client|:ok:client:a::|b",
+        Refused,
+        "refused: UnterminatedMapping\n",
+    ),
+    ("client| |a", Refused, "refused: NoRulesProvided\n"),
+    (
+        "client|:Űrefix:all:::|a",
+        Refused,
+        "refused: rule 1: InvalidType '\\xc5\\xb0refix'\n",
+    ),
+    (
+        "client|:ok:all::: :ok:nope:::|a",
+        Refused,
+        "refused: rule 2: InvalidScope 'nope'\n",
+    ),
+    (
+        "client|:prefix:all:a:b|a",
+        Refused,
+        "refused: rule 1: IncompleteRule\n",
+    ),
+    (
+        "client|:bad:all:x:y: :map::P: :ok:all:::|a",
+        Refused,
+        "refused: rule 2: MapRuleViolation\n",
+    ),
+    (
+        "client|:ok:all:a\0:|a",
+        Refused,
+        "refused: rule 1: NulInPattern key\n",
+    ),
+    (
+        "client|:ok:all::: :ok:all:a:b\0:|a",
+        Refused,
+        "refused: rule 2: NulInPattern prepend\n",
+    ),
+];
+
+const SERVER: [Row; 6] = [
+    (
+        "server|:map:trusted.:user.virtiofs.:|user.virtiofs.a|trusted.b|c|user.virtiofs.",
+        Given,
+        "a\\x00c\\x00\\x00\n",
+    ),
+    ("server|:ok:all:::", Given, "\\x00\n"),
+    ("server|:ok:all:::|a\0b", Given, "a\\x00b\\x00\n"),
+    (
+        "server|:ok:server::a:|a1|b|a2",
+        Refused,
+        "refused: UnterminatedMapping\n",
+    ),
+    ("server|", Refused, "refused: NoRulesProvided\n"),
+    (
+        "server|:prefix:client:hi|a",
+        Refused,
+        "refused: rule 1: IncompleteRule\n",
+    ),
+];
+
+const WRONG: [Row; 10] = [
     ("", WrongWords, "wrong words\n"),
-    ("ids", WrongWords, "wrong words\n"),
-    ("ids ask", WrongWords, "wrong words\n"),
-    ("ids map:0:1:1", WrongWords, "wrong words\n"),
-    ("ids foo ask guest=x", WrongWords, "wrong words\n"),
-    ("ids ask ask", WrongWords, "wrong words\n"),
-    ("ids ask guest=4294967296", WrongWords, "wrong words\n"),
-    ("ids ask guest=0 squash=0", WrongWords, "wrong words\n"),
-    ("ids ask GUEST=0", WrongWords, "wrong words\n"),
-    ("ns", WrongWords, "wrong words\n"),
-    ("ns :1:2:3: :1:2:3:", WrongWords, "wrong words\n"),
-    ("map :1:2:3:", WrongWords, "wrong words\n"),
+    ("map|:1:2:3:", WrongWords, "wrong words\n"),
+    ("ids|map:0:1:1", WrongWords, "wrong words\n"),
+    ("ids|ask", WrongWords, "wrong words\n"),
+    ("ids|foo|ask|guest=x", WrongWords, "wrong words\n"),
+    ("ids|ask|guest=4294967296", WrongWords, "wrong words\n"),
+    ("ns|:1:2:3:|:1:2:3:", WrongWords, "wrong words\n"),
+    ("client|:ok:all:::", WrongWords, "wrong words\n"),
+    ("client|x|a\0", WrongWords, "wrong words\n"),
+    ("server", WrongWords, "wrong words\n"),
 ];
 
 /// Answers the words of rows to a writer of memory.
 fn check_rows(rt: &impl Abort, alloc: Global, rows: &[Row]) -> Result<(), Fail> {
     for (line, outcome, text) in rows {
-        let words: Vec<&str> = line.split(' ').collect(alloc)?;
+        let words: Vec<&str> = line.split('|').collect(alloc)?;
         let mut out = Tally::new(Vec::new(alloc));
         let answered = answer(alloc, words.as_slice(), &mut out)?;
         assert_eq!(rt; answered, *outcome, "{line}");
@@ -120,8 +161,21 @@ fn check_rows(rt: &impl Abort, alloc: Global, rows: &[Row]) -> Result<(), Fail> 
 }
 
 #[test]
-fn answers_known_words(rt: HostRuntime) -> Result<(), Fail> {
-    check_rows(&rt, rt.alloc(), &ROWS)
+fn answers_each_form(rt: HostRuntime) -> Result<(), Fail> {
+    check_rows(&rt, rt.alloc(), &IDS)?;
+    check_rows(&rt, rt.alloc(), &NAMESPACE)?;
+    check_rows(&rt, rt.alloc(), &CLIENT)?;
+    check_rows(&rt, rt.alloc(), &SERVER)?;
+    check_rows(&rt, rt.alloc(), &WRONG)
+}
+
+#[test]
+fn no_words_are_wrong_words(rt: HostRuntime) -> Result<(), Fail> {
+    let mut out = Tally::new(Vec::new(rt.alloc()));
+    assert_eq!(rt; answer(rt.alloc(), &[], &mut out)?, WrongWords);
+    let written: Vec<u8> = out.into_inner();
+    assert_eq!(rt; written.as_slice(), b"wrong words\n".as_slice());
+    Ok(())
 }
 
 const TWO_LINES: &[u8; 10] = b"1005\n1006\n";

@@ -1,5 +1,5 @@
 use Rattle.virtiofs_mapcheck.specs.Words.{words_of}
-use Rattle.virtiofs_mapcheck.proofs.OneAnswer.{HasOneAnswer-words}
+use Rattle.virtiofs_mapcheck.proofs.AnswerLemmas.{HasOneAnswer-words}
 use Rattle.virtiofs_mapcheck.proofs.answer.answer.Goals as goal
 
 pub returns-in_err-answered-clause-one_answer : goal.returns-in_err-answered-clause-one_answer
@@ -7,3 +7,6 @@ returns-in_err-answered-clause-one_answer g c = HasOneAnswer-words (words_of c.a
 
 pub returns-clause-one_answer : goal.returns-clause-one_answer
 returns-clause-one_answer g c = HasOneAnswer-words (words_of c.args.words.now)
+
+pub returns-in_err-emit-clause-one_answer : goal.returns-in_err-emit-clause-one_answer
+returns-in_err-emit-clause-one_answer g c = HasOneAnswer-words (words_of c.args.words.now)

@@ -1,5 +1,5 @@
 use Rattle.std.proofs.Common.{◌∙◌}
-use Rattle.virtiofs_mapcheck.proofs.AttributeLemmas.{list_of-all}
+use Rattle.virtiofs_mapcheck.proofs.AttributesAnswerLemmas.{list_of-all}
 use Rattle.virtiofs_mapcheck.proofs.attributes.joined.Goals as goal
 
 pub returns : goal.returns

@@ -11,4 +11,4 @@ pub loop-rest-preserved : goal.loop-rest-preserved
 loop-rest-preserved g c =
     let (done, split, appended, sound) = c.loop-rest.invariant in
     let n = c.in_ok-taken.taken in
-    (done ++ take n c.loop-rest.rest.now, moves_front _ done _ n split, Appends-trans _ _ _ _ _ appended c.in_ok-taken.ensures.taken, c.in_ok-taken.ensures.same ∙ sound)
+    (done ++ take n c.loop-rest.rest.now, moves_front _ done _ n split, Appends-trans _ _ _ _ _ appended c.in_ok-taken.ensures.taken, c.in_ok-taken.ensures.sound)

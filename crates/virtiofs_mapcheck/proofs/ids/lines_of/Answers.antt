@@ -1,4 +1,4 @@
-use Rattle.virtiofs_mapcheck.proofs.LineLemmas.{lines_more}
+use Rattle.virtiofs_mapcheck.proofs.QueryLineLemmas.{lines_more}
 use Rattle.virtiofs_mapcheck.proofs.ids.lines_of.Goals as goal
 
 pub loop-query-preserved : goal.loop-query-preserved

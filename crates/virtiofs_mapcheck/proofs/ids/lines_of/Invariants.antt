@@ -1,6 +1,6 @@
 use Rattle.std.proofs.Common.{◌≡◌, List, ℕ, take, string_bytes}
 use Rattle.std.specs.List.{AllZip, concat}
-use Rattle.virtiofs_mapcheck.specs.Answer.{IsLine}
+use Rattle.virtiofs_mapcheck.specs.IdsAnswer.{IsLine}
 use Rattle.virtiofs_mapcheck.proofs.ids.lines_of.Given as goal
 
 -- a line for each query so far

@@ -1,8 +1,8 @@
 use Rattle.std.proofs.Common.{refl, inl, inr, ◌++◌, ◌∷◌, []}
 use Rattle.std.specs.Fmt.{decimal}
 use Rattle.virtiofs_map.specs.Printed.{forbidden_text}
-use Rattle.virtiofs_mapcheck.specs.Answer.{line}
-use Rattle.virtiofs_mapcheck.proofs.LineLemmas.{line_written}
+use Rattle.virtiofs_mapcheck.specs.Written.{line}
+use Rattle.virtiofs_mapcheck.proofs.QueryLineLemmas.{line_written}
 use Rattle.virtiofs_mapcheck.proofs.ids.push_line.Goals as goal
 
 pub returns-in-Ok : goal.returns-in-Ok
@@ -15,5 +15,4 @@ returns-in-Ok-map_host g c =
 
 pub returns-in-Err : goal.returns-in-Err
 returns-in-Err g c =
-    let (is, fails) = c.in-Err.ensures.fails in
-    line_written _ _ _ _ _ (line (forbidden_text c.args.query.number)) (inr (rw (c.in-GuestToHost.is, ← c.from.ensures) fails, refl)) (rw (is, c.from.ensures) at c.writeln-in-Err.ensures.bytes)
+    line_written _ _ _ _ _ (line (forbidden_text c.args.query.number)) (inr (rw (c.in-GuestToHost.is, ← c.from.ensures) c.in-Err.ensures.fails, refl)) (rw (c.in-Err.ensures.names, c.from.ensures) at c.writeln-in-Err.ensures.bytes)
