@@ -124,7 +124,7 @@ def is_in_cycle(lines, at):
 
 def is_inside(body, line, old, new):
     """Whether a pair on this line of a body changes the body alone. On the line that opens it, that is what is added
-    behind the brace."""
+    after the brace."""
     if line == body.first and old.endswith("{") and new.startswith(old):
         old, new = "", new[len(old) :]
     elif not body.first < line < body.last:
@@ -146,8 +146,8 @@ def bodies_of(edit, folder):
     return found or None
 
 
-def behind_brackets(text):
-    """The text behind the angle brackets that it begins with."""
+def after_brackets(text):
+    """The text after the angle brackets that it begins with."""
     depth = 0
     for at, it in enumerate(text):
         depth += (it == "<") - (it == ">" and text[at - 1] != "-")
@@ -169,7 +169,7 @@ def shallow(text):
 def block_of(head):
     """The prover's word for the impl with this head, and whether it is of a trait: the type, the trait, and the trait's
     own arguments, as GuestUidFromU32."""
-    rest = re.sub(r"\w+::", "", behind_brackets(head[len("impl") :]))
+    rest = re.sub(r"\w+::", "", after_brackets(head[len("impl") :]))
     trait, is_of_trait, of = rest.partition(" for ")
     if not is_of_trait:
         trait, of = "", rest

@@ -29,8 +29,11 @@ from edited_bodies import bodies_of, edits_in, is_body_of, merged
 from running import cores, made_room, run, say, shown
 
 HERE = os.path.dirname(os.path.abspath(__file__))
-# The most edits of one check. A check that changes nothing costs as much as two edits.
-BATCH = 16
+# The most edits of one check. A check that changes nothing costs as much as two edits, so that few large checks cost less
+# than many small ones; but the lanes should end together.
+BATCH = 32
+# What is begun first: what others wait for, and then what takes longest.
+KINDS = ("prove", "batch", "alone", "anew")
 SECONDS_BETWEEN_LINES = 60
 # The exit status of a call of the kit's judge, which says that it came to an answer.
 REFUSED, NOT_REFUSED = 0, 10
@@ -73,7 +76,7 @@ def label(crate, edit):
 
 
 def crates_of(top):
-    """The crates of the repository, each behind those that it uses."""
+    """The crates of the repository, each after those that it uses."""
     uses = {}
     with open(f"{top}/crates.txt", encoding="utf-8") as lines:
         for line in lines:
@@ -199,17 +202,19 @@ class Run:
         """Proves the crates and tries their edits. A lane that dies is a failure of all that it held."""
         self.lay_out()
         first, *later = crates_of(self.top)
+        waiting, running = [Task("prove", first, first.edits, tuple(later))], {}
         with ThreadPoolExecutor(self.lanes) as pool:
-            start = lambda task: (pool.submit(self.in_lane, task), task)
-            running = dict([start(Task("prove", first, first.edits, tuple(later)))])
-            while running:
+            while waiting or running:
+                waiting.sort(key=lambda task: (KINDS.index(task.kind), -len(task.edits)))
+                while waiting and len(running) < self.lanes:
+                    task = waiting.pop(0)
+                    running[pool.submit(self.in_lane, task)] = task
                 ended = wait(running, SECONDS_BETWEEN_LINES, FIRST_COMPLETED).done
                 if not ended:
                     at = [f"{task} for {shown(time.time() - since)}" for task, since in [*self.at.items()]]
                     self.tell(f"{len(self.refused)} edits done. At {'; '.join(at)}")
                 for it in ended:
-                    task = running.pop(it)
-                    running.update(map(start, self.left_to_do(task, it)))
+                    waiting += self.left_to_do(running.pop(it), it)
 
     def in_lane(self, task):
         self.at[task] = time.time()

@@ -15,7 +15,8 @@ import time
 
 WAITED_AT, HELD = os.pipe()
 ENDING = threading.Event()
-GUARDED = 'exec 3<&0 </dev/null; (read -r _ <&3; kill -9 0) >/dev/null 2>&1 & exec "$@" 3<&-'
+# (to the kernel's scheduler a session is one group, outside of which the niceness of a process counts for nothing)
+GUARDED = '{ nice >/proc/self/autogroup; } 2>/dev/null; exec 3<&0 </dev/null; (read -r _ <&3; kill -9 0) >/dev/null 2>&1 & exec "$@" 3<&-'
 
 
 class Ended:
