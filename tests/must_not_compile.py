@@ -1,12 +1,15 @@
 #!/usr/bin/env python3
-"""Sees that programs that mix up ids do not compile.
+"""Sees that programs that mix up ids, or keep a listed name longer than its list, do not compile, nor a library that
+reads its ranges by another way than the one that counts.
 
 The folder must_not_compile has one program that compiles, caller.rt.txt, and edits of it, each of one line: 'old: TEXT'
 (standing once in the program), 'new: TEXT', and 'error: NAME', the name of the error that the edited line must get
-first. The program as it is must compile, or the refusals would show nothing.
+first. An edit with a line 'in: PATH' is one of that file of the library, under the program as it is. The program and the
+library as they are must compile, or the refusals would show nothing.
 
-Each program is a crate of its own in a temporary repository, over a copy of this repository's libraries. `rt try` reads
-all of it from source, and proves nothing. The last line is 'N passed, N failed'.
+Each program is a crate of its own in a temporary repository, over a copy of this repository's libraries; each edit of
+the library has a repository of its own. `rt try` reads all of it from source, and proves nothing. The last line is
+'N passed, N failed'.
 """
 import os
 import re
@@ -35,13 +38,17 @@ def write(file, text):
         it.write(text)
 
 
-def planted(edit, program):
-    """The program with the edit, the number of the edited line, and the name of the error that is wanted."""
-    said = dict(line.split(": ", 1) for line in edit.splitlines() if line)
-    if program.count(said["old"]) != 1:
-        raise ValueError(f"its old text stands in the program {program.count(said['old'])} times, and not once")
-    line = program[: program.index(said["old"])].count("\n") + 1
-    return program.replace(said["old"], said["new"]), line, said["error"]
+def said_by(edit):
+    """The lines of an edit, by the words that they begin with."""
+    return dict(line.split(": ", 1) for line in edit.splitlines() if line)
+
+
+def planted(said, text):
+    """The text with the edit, and the number of the edited line."""
+    if text.count(said["old"]) != 1:
+        raise ValueError(f"its old text stands there {text.count(said['old'])} times, and not once")
+    line = text[: text.index(said["old"])].count("\n") + 1
+    return text.replace(said["old"], said["new"]), line
 
 
 def lay_out(room, programs):
@@ -69,18 +76,33 @@ def first_error(folder):
 
 def main():
     program = text_of(f"{CASES}/caller.rt.txt")
-    programs, wanted = {"caller": program}, {"caller": None}
+    programs, libraries, wanted = {"caller": program}, {}, {"caller": None}
     for file in sorted(os.listdir(CASES)):
         name, ending = os.path.splitext(file)
         if ending == ".edit":
-            programs[name], line, error = planted(text_of(f"{CASES}/{file}"), program)
-            wanted[name] = f"src/main.rt:{line}", error
+            said = said_by(text_of(f"{CASES}/{file}"))
+            path = said.get("in")
+            text, line = planted(said, text_of(f"{TOP}/{path}") if path else program)
+            if path:
+                libraries[name] = path, text
+            else:
+                programs[name] = text
+            wanted[name] = f"{path or 'src/main.rt'}:{line}", said["error"]
     failed = 0
-    with tempfile.TemporaryDirectory(prefix="must-not-compile-") as room:
-        lay_out(room, programs)
+    with tempfile.TemporaryDirectory(prefix="must-not-compile-") as top:
+        folders = {name: f"{top}/programs/crates/{name}" for name in programs}
+        os.mkdir(f"{top}/programs")
+        lay_out(f"{top}/programs", programs)
+        for name, (path, text) in libraries.items():
+            folders[name] = f"{top}/{name}/crates/caller"
+            os.mkdir(f"{top}/{name}")
+            lay_out(f"{top}/{name}", {"caller": program})
+            write(f"{top}/{name}/{path}", text)
         with ThreadPoolExecutor(2) as pool:
-            answers = pool.map(lambda name: first_error(f"{room}/crates/{name}"), programs)
-            for name, (found, said) in zip(programs, answers):
+            answers = pool.map(first_error, folders.values())
+            for name, (found, said) in zip(folders, answers):
+                if found:
+                    found = found[0].removeprefix(f"{top}/{name}/"), found[1]
                 is_well = found == wanted[name]
                 failed += not is_well
                 if is_well:
@@ -88,7 +110,7 @@ def main():
                     print(f"{name}: {told}", flush=True)
                 else:
                     print(f"FAILED {name}: first error {found}, and not {wanted[name]}:\n{said[-2000:]}", flush=True)
-    print(f"{len(programs) - failed} passed, {failed} failed")
+    print(f"{len(folders) - failed} passed, {failed} failed")
     return 1 if failed else 0
 
 

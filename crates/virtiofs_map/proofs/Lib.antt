@@ -4,6 +4,7 @@ mod BuildFaultLemmas
 mod BuildLemmas
 mod CutLemmas
 mod FirstRuleLemmas
+mod FrontLemmas
 mod MadeRuleLemmas
 mod MapRuleLemmas
 mod MappingLawLemmas
@@ -12,6 +13,7 @@ mod NamespacePrintedLemmas
 mod NoZeroLemmas
 mod NumeralLemmas
 mod OrderLemmas
+mod PlacedLemmas
 mod ReadSoFarLemmas
 mod ReaderLemmas
 mod RuleEqualityLemmas
@@ -19,11 +21,13 @@ mod RuleFieldLemmas
 mod RuleReadingLemmas
 mod RuleTextLemmas
 mod RuleWordLemmas
+mod SearchLemmas
 mod ServerListLemmas
 mod SpecificationLawLemmas
 mod SpecificationLemmas
 mod SpecificationPrefixLemmas
 mod SpecificationPrintedLemmas
 mod SpecificationsLemmas
+mod StoredLemmas
 mod TrimLemmas
 mod ZipLemmas

@@ -2,6 +2,7 @@ pub mod Alphanumeric
 pub mod Build
 pub mod BuildParts
 pub mod LookupAnswers
+pub mod LookupSteps
 pub mod MapRule
 pub mod Mapping
 pub mod MappingLaws
@@ -10,6 +11,7 @@ pub mod NamespaceParts
 pub mod NamespaceText
 pub mod Numeral
 pub mod Printed
+pub mod RangeParts
 pub mod Refusal
 pub mod Rule
 pub mod RuleParts
@@ -19,3 +21,4 @@ pub mod Separator
 pub mod SpecificationParts
 pub mod SpecificationText
 pub mod Specifications
+pub mod Steps

@@ -10,5 +10,8 @@ pub mod cmdline;
 pub mod id_types;
 pub mod idmap;
 pub mod soft_idmap;
+mod steps;
 pub mod text;
 pub mod xattrmap;
+
+pub use steps::Steps;

@@ -7,14 +7,18 @@ ghost use Rattle.std.specs.Prelude.{◌≡◌, ℕ, List, [], Some, None, IsOk, 
 ghost use Rattle.virtiofs_map.specs.Build.{Accepted, BuildFault, HasFirstFault, build_fault_of};
 ghost use Rattle.virtiofs_map.specs.Mapping.{Becomes};
 ghost use Rattle.virtiofs_map.specs.MappingLaws.{IsOrderFree, KeepsGreatest, IsMappedBothWays, LeadsBack};
+ghost use Rattle.virtiofs_map.specs.LookupSteps.{least_steps, most_steps};
+ghost use Rattle.virtiofs_map.specs.RangeParts.{Stores};
 ghost use Rattle.virtiofs_map.specs.Refusal.{IsOutOfMemory, OutOfMemoryOr};
 ghost use Rattle.virtiofs_map.specs.Specifications.{texts_of, AllSay, SpecsFault, HasSpecsFault, specs_fault_of, NamesReached};
+ghost use Rattle.virtiofs_map.specs.Steps.{CountsBetween};
 ghost use Rattle.virtiofs_map.specs.declared.cmdline.IdMap.{IdMap as Specification};
 ghost use Rattle.virtiofs_map.specs.declared.soft_idmap.entry.Direction.TheVariants.{GuestToHost, HostToGuest};
 
-use crate::cmdline;
 use crate::id_types::{GuestId, HostId, Id, IdNumber};
-use entry::lookup;
+use crate::{Steps, cmdline};
+use lookup::look_up;
+use ranges::Ranges;
 use std::alloc::{Allocator, Global};
 use std::marker::{Model, PhantomData};
 
@@ -24,6 +28,10 @@ mod errors;
 #[cfg(test)]
 mod example;
 pub mod laws;
+mod lookup;
+mod placed;
+mod ranges;
+mod search;
 #[cfg(test)]
 mod tests;
 mod texts;
@@ -43,6 +51,8 @@ pub struct IdMap<
     A: Allocator = Global,
 > {
     specs: Vec<cmdline::IdMap, A>,
+    from_guest: Ranges<A>,
+    from_host: Ranges<A>,
     guest: PhantomData<Guest>,
     host: PhantomData<Host>,
 }
@@ -51,16 +61,16 @@ impl<Guest: GuestId<HostType = Host>, Host: HostId<GuestType = Guest>, A: Alloca
     for IdMap<Guest, Host, A> {
     ghost use Rattle.std.specs.Prelude.{List};
     ghost use Rattle.virtiofs_map.specs.declared.cmdline.IdMap.{IdMap as Specification};
-    ghost use Rattle.virtiofs_map.specs.Build.{Accepted};
+    ghost use Rattle.virtiofs_map.specs.RangeParts.{IsBuilt};
 
     ghost Value = { List Specification };
 
     ghost view = { λ map. map.specs.items };
 
-    ghost invariant = { λ map. Accepted map.specs.items };
+    ghost invariant = { λ map. IsBuilt map.specs.items map.from_guest map.from_host };
 }
 
-impl<Guest: GuestId<HostType = Host>, Host: HostId<GuestType = Guest>, A: Allocator> IdMap<
+impl<Guest: GuestId<HostType = Host>, Host: HostId<GuestType = Guest>, A: Allocator + Copy> IdMap<
     Guest,
     Host,
     A,
@@ -73,6 +83,8 @@ impl<Guest: GuestId<HostType = Host>, Host: HostId<GuestType = Guest>, A: Alloca
     {
         IdMap {
             specs: Vec::new(alloc),
+            from_guest: Ranges::none(alloc),
+            from_host: Ranges::none(alloc),
             guest: PhantomData,
             host: PhantomData,
         }
@@ -92,7 +104,7 @@ impl<Guest: GuestId<HostType = Host>, Host: HostId<GuestType = Guest>, A: Alloca
     ///
     /// A specification with a count of 0 passes each test. Where a request for memory is refused,
     /// the error is [`IdMapBuildError::OutOfMemory`].
-    pub fn try_from(_alloc: A, specs: Vec<cmdline::IdMap, A>) -> Result<Self, IdMapBuildError>
+    pub fn try_from(alloc: A, specs: Vec<cmdline::IdMap, A>) -> Result<Self, IdMapBuildError>
         ensures read { IfOk result (λ map. map ≡ specs.items) }
         ensures accepted { OnOk result (Accepted specs.items) }
         ensures complete { Accepted specs.items
@@ -106,77 +118,16 @@ impl<Guest: GuestId<HostType = Host>, Host: HostId<GuestType = Guest>, A: Alloca
         ensures order { OnOk result (IsOrderFree specs.items) }
         ensures greatest { OnOk result (KeepsGreatest specs.items) }
     {
-        build::check(&specs)?;
+        let (from_guest, from_host) = build::ranges_of(alloc, &specs)?;
         Ok(IdMap {
             specs,
+            from_guest,
+            from_host,
             guest: PhantomData,
             host: PhantomData,
         })
     }
 
-    /// The host's id for a guest's. It takes no memory.
-    ///
-    /// A specification that covers the number of the id says what it becomes. An id that none
-    /// covers keeps its number, as 4294967295 always does. Where a specification forbids the id,
-    /// the error is [`MapError::ExplicitFailMapping`] with the id.
-    pub fn map_guest(&self, id: Guest) -> Result<Host, MapError<Guest>>
-        ensures accepted { Accepted self.now }
-        ensures value { IfOk result (λ host.
-            Becomes self.now GuestToHost (Guest.number id) (Some (Host.number host))) }
-        ensures complete { (n : ℕ) → Becomes self.now GuestToHost (Guest.number id) (Some n)
-            → IsOkAnd result (λ host. Host.number host ≡ n) }
-        ensures fails { OnErr result (Becomes self.now GuestToHost (Guest.number id) None) }
-        ensures forbidden { Becomes self.now GuestToHost (Guest.number id) None
-            → IsErrAnd result (λ e. e ≡ MapError.ExplicitFailMapping id) }
-        ensures names { IfErr result (λ e. e ≡ MapError.ExplicitFailMapping id) }
-        ensures mapped { IsMappedBothWays self.now GuestToHost (Guest.number id)
-            → IsOk result }
-        ensures leads_back { IsMappedBothWays self.now GuestToHost (Guest.number id)
-            → IfOk result (λ host.
-            LeadsBack self.now GuestToHost (Guest.number id) (Host.number host)) }
-    {
-        let n = id.into_inner().to_u32();
-        match lookup(&self.specs, Direction::GuestToHost, n) {
-            Some(host) => Ok(id_of(host)),
-            None => Err(MapError::ExplicitFailMapping { id }),
-        }
-    }
-
-    /// The guest's id for a host's. It takes no memory.
-    ///
-    /// A specification that covers the number of the id says what it becomes. An id that none
-    /// covers keeps its number, as 4294967295 always does. Where a specification forbids the id,
-    /// the error is [`MapError::ExplicitFailMapping`] with the id; the specifications of today
-    /// forbid guest ids alone.
-    pub fn map_host(&self, id: Host) -> Result<Guest, MapError<Host>>
-        ensures accepted { Accepted self.now }
-        ensures value { IfOk result (λ guest.
-            Becomes self.now HostToGuest (Host.number id) (Some (Guest.number guest))) }
-        ensures complete { (n : ℕ) → Becomes self.now HostToGuest (Host.number id) (Some n)
-            → IsOkAnd result (λ guest. Guest.number guest ≡ n) }
-        ensures fails { OnErr result (Becomes self.now HostToGuest (Host.number id) None) }
-        ensures forbidden { Becomes self.now HostToGuest (Host.number id) None
-            → IsErrAnd result (λ e. e ≡ MapError.ExplicitFailMapping id) }
-        ensures names { IfErr result (λ e. e ≡ MapError.ExplicitFailMapping id) }
-        ensures mapped { IsMappedBothWays self.now HostToGuest (Host.number id)
-            → IsOk result }
-        ensures leads_back { IsMappedBothWays self.now HostToGuest (Host.number id)
-            → IfOk result (λ guest.
-            LeadsBack self.now HostToGuest (Host.number id) (Guest.number guest)) }
-    {
-        let n = id.into_inner().to_u32();
-        match lookup(&self.specs, Direction::HostToGuest, n) {
-            Some(guest) => Ok(id_of(guest)),
-            None => Err(MapError::ExplicitFailMapping { id }),
-        }
-    }
-}
-
-impl<Guest: GuestId<HostType = Host>, Host: HostId<GuestType = Guest>, A: Allocator + Copy> IdMap<
-    Guest,
-    Host,
-    A,
-> {
     /// Makes a map of a list of texts, each of which is read as [`cmdline::IdMap::from_str`] does.
     ///
     /// Every text is read first. The first text that is not read is the error
@@ -205,6 +156,176 @@ impl<Guest: GuestId<HostType = Host>, Host: HostId<GuestType = Guest>, A: Alloca
         let map = IdMap::try_from(alloc, specs)?;
         Ok(map)
     }
+}
+
+impl<Guest: GuestId<HostType = Host>, Host: HostId<GuestType = Guest>, A: Allocator> IdMap<
+    Guest,
+    Host,
+    A,
+> {
+    /// The host's id for a guest's. It takes no memory.
+    ///
+    /// A specification that covers the number of the id says what it becomes. An id that none
+    /// covers keeps its number, as 4294967295 always does. Where a specification forbids the id,
+    /// the error is [`MapError::ExplicitFailMapping`] with the id.
+    pub fn map_guest(&self, id: Guest) -> Result<Host, MapError<Guest>>
+        ensures accepted { Accepted self.now }
+        ensures value { IfOk result (λ host.
+            Becomes self.now GuestToHost (Guest.number id) (Some (Host.number host))) }
+        ensures complete { (n : ℕ) → Becomes self.now GuestToHost (Guest.number id) (Some n)
+            → IsOkAnd result (λ host. Host.number host ≡ n) }
+        ensures fails { OnErr result (Becomes self.now GuestToHost (Guest.number id) None) }
+        ensures forbidden { Becomes self.now GuestToHost (Guest.number id) None
+            → IsErrAnd result (λ e. e ≡ MapError.ExplicitFailMapping id) }
+        ensures names { IfErr result (λ e. e ≡ MapError.ExplicitFailMapping id) }
+        ensures mapped { IsMappedBothWays self.now GuestToHost (Guest.number id)
+            → IsOk result }
+        ensures leads_back { IsMappedBothWays self.now GuestToHost (Guest.number id)
+            → IfOk result (λ host.
+            LeadsBack self.now GuestToHost (Guest.number id) (Host.number host)) }
+    {
+        self.look_up(Direction::GuestToHost, id, &mut Steps::new())
+    }
+
+    /// The host's id for a guest's, as [`IdMap::map_guest`] gives it, and a count of its steps.
+    ///
+    /// A step is a range that is inspected. Where specifications act on guest ids, on one number or
+    /// more each, their number has some binary digits: the lookup takes as many steps at most, and
+    /// one at least. Else it takes none.
+    pub fn map_guest_counted(&self, id: Guest, steps: &mut Steps) -> Result<Host, MapError<Guest>>
+        ensures accepted { Accepted self.now }
+        ensures value { IfOk result (λ host.
+            Becomes self.now GuestToHost (Guest.number id) (Some (Host.number host))) }
+        ensures complete { (n : ℕ) → Becomes self.now GuestToHost (Guest.number id) (Some n)
+            → IsOkAnd result (λ host. Host.number host ≡ n) }
+        ensures fails { OnErr result (Becomes self.now GuestToHost (Guest.number id) None) }
+        ensures forbidden { Becomes self.now GuestToHost (Guest.number id) None
+            → IsErrAnd result (λ e. e ≡ MapError.ExplicitFailMapping id) }
+        ensures names { IfErr result (λ e. e ≡ MapError.ExplicitFailMapping id) }
+        ensures mapped { IsMappedBothWays self.now GuestToHost (Guest.number id)
+            → IsOk result }
+        ensures leads_back { IsMappedBothWays self.now GuestToHost (Guest.number id)
+            → IfOk result (λ host.
+            LeadsBack self.now GuestToHost (Guest.number id) (Host.number host)) }
+        ensures steps { CountsBetween
+            (least_steps self.now GuestToHost) (most_steps self.now GuestToHost)
+            steps.old steps.new }
+    {
+        self.look_up(Direction::GuestToHost, id, steps)
+    }
+
+    /// The guest's id for a host's. It takes no memory.
+    ///
+    /// A specification that covers the number of the id says what it becomes. An id that none
+    /// covers keeps its number, as 4294967295 always does. Where a specification forbids the id,
+    /// the error is [`MapError::ExplicitFailMapping`] with the id; the specifications of today
+    /// forbid guest ids alone.
+    pub fn map_host(&self, id: Host) -> Result<Guest, MapError<Host>>
+        ensures accepted { Accepted self.now }
+        ensures value { IfOk result (λ guest.
+            Becomes self.now HostToGuest (Host.number id) (Some (Guest.number guest))) }
+        ensures complete { (n : ℕ) → Becomes self.now HostToGuest (Host.number id) (Some n)
+            → IsOkAnd result (λ guest. Guest.number guest ≡ n) }
+        ensures fails { OnErr result (Becomes self.now HostToGuest (Host.number id) None) }
+        ensures forbidden { Becomes self.now HostToGuest (Host.number id) None
+            → IsErrAnd result (λ e. e ≡ MapError.ExplicitFailMapping id) }
+        ensures names { IfErr result (λ e. e ≡ MapError.ExplicitFailMapping id) }
+        ensures mapped { IsMappedBothWays self.now HostToGuest (Host.number id)
+            → IsOk result }
+        ensures leads_back { IsMappedBothWays self.now HostToGuest (Host.number id)
+            → IfOk result (λ guest.
+            LeadsBack self.now HostToGuest (Host.number id) (Guest.number guest)) }
+    {
+        self.look_up(Direction::HostToGuest, id, &mut Steps::new())
+    }
+
+    /// The guest's id for a host's, as [`IdMap::map_host`] gives it, and a count of its steps.
+    ///
+    /// A step is a range that is inspected. Where specifications act on host ids, on one number or
+    /// more each, their number has some binary digits: the lookup takes as many steps at most, and
+    /// one at least. Else it takes none.
+    pub fn map_host_counted(&self, id: Host, steps: &mut Steps) -> Result<Guest, MapError<Host>>
+        ensures accepted { Accepted self.now }
+        ensures value { IfOk result (λ guest.
+            Becomes self.now HostToGuest (Host.number id) (Some (Guest.number guest))) }
+        ensures complete { (n : ℕ) → Becomes self.now HostToGuest (Host.number id) (Some n)
+            → IsOkAnd result (λ guest. Guest.number guest ≡ n) }
+        ensures fails { OnErr result (Becomes self.now HostToGuest (Host.number id) None) }
+        ensures forbidden { Becomes self.now HostToGuest (Host.number id) None
+            → IsErrAnd result (λ e. e ≡ MapError.ExplicitFailMapping id) }
+        ensures names { IfErr result (λ e. e ≡ MapError.ExplicitFailMapping id) }
+        ensures mapped { IsMappedBothWays self.now HostToGuest (Host.number id)
+            → IsOk result }
+        ensures leads_back { IsMappedBothWays self.now HostToGuest (Host.number id)
+            → IfOk result (λ guest.
+            LeadsBack self.now HostToGuest (Host.number id) (Guest.number guest)) }
+        ensures steps { CountsBetween
+            (least_steps self.now HostToGuest) (most_steps self.now HostToGuest)
+            steps.old steps.new }
+    {
+        self.look_up(Direction::HostToGuest, id, steps)
+    }
+
+    /// The ranges of a direction.
+    fn ranges(&self, direction: Direction) -> &Ranges<A>
+        ensures accepted { Accepted self.now }
+        ensures stores { Stores self.now direction result.now }
+    {
+        match direction {
+            Direction::GuestToHost => &self.from_guest,
+            Direction::HostToGuest => &self.from_host,
+        }
+    }
+
+    /// What a number becomes in a direction; `None` where its use fails.
+    fn becomes(&self, direction: Direction, n: u32, steps: &mut Steps) -> Option<u32>
+        ensures accepted { Accepted self.now }
+        ensures becomes { Becomes self.now direction n result }
+        ensures steps { CountsBetween
+            (least_steps self.now direction) (most_steps self.now direction)
+            steps.old steps.new }
+    {
+        look_up(self.ranges(direction), n, steps)
+    }
+
+    /// The id of the other side, with a count of the ranges that were inspected.
+    fn look_up<Source: Id, Target: Id>(
+        &self,
+        direction: Direction,
+        id: Source,
+        steps: &mut Steps,
+    ) -> Result<Target, MapError<Source>>
+        ensures accepted { Accepted self.now }
+        ensures value { IfOk result (λ target.
+            Becomes self.now direction (Source.number id) (Some (Target.number target))) }
+        ensures complete { (n : ℕ) → Becomes self.now direction (Source.number id) (Some n)
+            → IsOkAnd result (λ target. Target.number target ≡ n) }
+        ensures fails { OnErr result (Becomes self.now direction (Source.number id) None) }
+        ensures forbidden { Becomes self.now direction (Source.number id) None
+            → IsErrAnd result (λ e. e ≡ MapError.ExplicitFailMapping id) }
+        ensures names { IfErr result (λ e. e ≡ MapError.ExplicitFailMapping id) }
+        ensures mapped { IsMappedBothWays self.now direction (Source.number id)
+            → IsOk result }
+        ensures leads_back { IsMappedBothWays self.now direction (Source.number id)
+            → IfOk result (λ target.
+            LeadsBack self.now direction (Source.number id) (Target.number target)) }
+        ensures steps { CountsBetween
+            (least_steps self.now direction) (most_steps self.now direction)
+            steps.old steps.new }
+    {
+        let n = number_of(id);
+        match self.becomes(direction, n, steps) {
+            Some(target) => Ok(id_of(target)),
+            None => Err(MapError::ExplicitFailMapping { id }),
+        }
+    }
+}
+
+/// The number of an id.
+fn number_of<I: Id>(id: I) -> u32
+    ensures { result ≡ I.number id }
+{
+    id.into_inner().to_u32()
 }
 
 /// The id of a number.

@@ -1,13 +1,18 @@
-//! Whether a map can be made of a list of specifications.
-ghost use Rattle.std.specs.Prelude.{◌↔◌, IsTrue, MatchResult};
+//! The ranges of a map, made of a list of specifications, or the first fault of the list.
+ghost use Rattle.std.specs.Prelude.{◌↔◌, ◌≤◌, All, IsTrue, MatchResult, length, take};
 ghost use Rattle.virtiofs_map.specs.Mapping.{entry_of};
 ghost use Rattle.virtiofs_map.specs.Build.{Accepted, Fits, HasFirstFault, build_fault_of};
 ghost use Rattle.virtiofs_map.specs.BuildParts.{EntryMeets, EntryMeetsEarlier, IsFaultHere};
+ghost use Rattle.virtiofs_map.specs.RangeParts.{PlacesInOrder, HasRoom, HasRoomBothWays, IsLongestAccepted, IsBuilt};
 ghost use Rattle.virtiofs_map.specs.Refusal.{OutOfMemoryOr};
+ghost use Rattle.virtiofs_map.specs.declared.soft_idmap.entry.Direction.TheVariants.{GuestToHost, HostToGuest};
 
 use super::entry::{Entry, entry_of};
+use super::placed::{Placed, keep_apart, place};
+use super::ranges::Ranges;
 use super::{Direction, IdMapBuildError, RangeEnd};
 use crate::cmdline::IdMap;
+use std::alloc::Allocator;
 
 /// Whether an entry covers a number that a specification covers in that direction.
 fn meets(entry: Entry, other: IdMap, direction: Direction) -> bool
@@ -71,16 +76,98 @@ fn check_direction(
     Ok(())
 }
 
+/// Whether no range of the specification is too long in that direction.
+fn has_room(spec: IdMap, direction: Direction) -> bool
+    ensures { IsTrue result ↔ HasRoom spec direction }
+{
+    match entry_of(spec, direction) {
+        Some(entry) => entry.has_source() && entry.has_target(),
+        None => true,
+    }
+}
+
+/// Whether that holds of each specification, in both directions.
+fn have_room(specs: &[IdMap]) -> bool
+    ensures { IsTrue result ↔ All HasRoomBothWays specs.now }
+{
+    for spec in specs {
+        if !has_room(*spec, Direction::GuestToHost) || !has_room(*spec, Direction::HostToGuest) {
+            return false;
+        }
+    }
+    true
+}
+
+/// Whether the front of that length is accepted.
+fn is_accepted(specs: &[IdMap], guests: &[Placed], hosts: &[Placed], count: usize) -> bool
+    requires within { count ≤ length specs.now }
+    requires guests { PlacesInOrder specs.now GuestToHost guests.now }
+    requires hosts { PlacesInOrder specs.now HostToGuest hosts.now }
+    ensures { IsTrue result ↔ Accepted (take count specs.now) }
+{
+    if !have_room(&specs[..count]) {
+        return false;
+    }
+    if !keep_apart(guests, count) {
+        return false;
+    }
+    keep_apart(hosts, count)
+}
+
+/// The length of the longest front that is accepted, where the whole list is not.
+///
+/// The part of the list in which that front ends is halved until it is known.
+fn longest_accepted(specs: &[IdMap], guests: &[Placed], hosts: &[Placed]) -> usize
+    requires refused { ¬ Accepted specs.now }
+    requires guests { PlacesInOrder specs.now GuestToHost guests.now }
+    requires hosts { PlacesInOrder specs.now HostToGuest hosts.now }
+    ensures { IsLongestAccepted specs.now result }
+{
+    let mut low = 0;
+    let mut high = specs.len();
+    while high - low > 1 {
+        let middle = low + (high - low) / 2;
+        if is_accepted(specs, guests, hosts, middle) {
+            low = middle;
+        } else {
+            high = middle;
+        }
+    }
+    low
+}
+
 /// Finds the first fault of a list of specifications.
-pub(crate) fn check(specs: &[IdMap]) -> Result<(), IdMapBuildError>
+fn check(specs: &[IdMap], guests: &[Placed], hosts: &[Placed]) -> Result<(), IdMapBuildError>
+    requires guests { PlacesInOrder specs.now GuestToHost guests.now }
+    requires hosts { PlacesInOrder specs.now HostToGuest hosts.now }
     ensures { MatchResult result
         (λ _. Accepted specs.now)
         (λ e. OutOfMemoryOr (build_fault_of e) (HasFirstFault specs.now)) }
 {
-    for (index, spec) in specs.iter().enumerate() {
-        let earlier = &specs[..index];
-        check_direction(earlier, *spec, index, Direction::GuestToHost)?;
-        check_direction(earlier, *spec, index, Direction::HostToGuest)?;
+    if is_accepted(specs, guests, hosts, specs.len()) {
+        return Ok(());
     }
+    let index = longest_accepted(specs, guests, hosts);
+    let earlier = &specs[..index];
+    let spec = specs[index];
+    check_direction(earlier, spec, index, Direction::GuestToHost)?;
+    check_direction(earlier, spec, index, Direction::HostToGuest)?;
     Ok(())
+}
+
+/// The ranges of both directions, of a list of specifications that is accepted.
+pub(crate) fn ranges_of<A: Allocator + Copy>(
+    alloc: A,
+    specs: &[IdMap],
+) -> Result<(Ranges<A>, Ranges<A>), IdMapBuildError>
+    ensures { MatchResult result
+        (λ both. IsBuilt specs.now both.0 both.1)
+        (λ e. OutOfMemoryOr (build_fault_of e) (HasFirstFault specs.now)) }
+{
+    let guests = place(alloc, specs, Direction::GuestToHost)?;
+    let hosts = place(alloc, specs, Direction::HostToGuest)?;
+    check(specs, &guests, &hosts)?;
+    let from_guest = Ranges::from_placed(alloc, &guests)?;
+    let from_host = Ranges::from_placed(alloc, &hosts)?;
+    Ok((from_guest, from_host))
 }

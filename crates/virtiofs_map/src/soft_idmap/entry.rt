@@ -1,7 +1,7 @@
 //! What a specification sets up in one direction.
 ghost use Rattle.std.specs.Prelude.{◌≡◌, ◌↔◌, ℕ, ◌+◌, ◌<◌, IsTrue};
-ghost use Rattle.virtiofs_map.specs.Mapping.{entry_of, first_of, count_of, EntryCovers, target_of, Becomes};
-ghost use Rattle.virtiofs_map.specs.Build.{HasSource, HasTarget, Accepted};
+ghost use Rattle.virtiofs_map.specs.Mapping.{entry_of, first_of, count_of, EntryCovers, target_of};
+ghost use Rattle.virtiofs_map.specs.Build.{HasSource, HasTarget};
 
 use crate::cmdline::IdMap;
 use std::fmt;
@@ -110,7 +110,7 @@ fn host_entry(spec: IdMap) -> Option<Entry>
 
 impl Entry {
     /// The first number of the range.
-    fn first(self) -> u32
+    pub(crate) fn first(self) -> u32
         ensures { result ≡ first_of self }
     {
         match self {
@@ -129,8 +129,15 @@ impl Entry {
         }
     }
 
+    /// Whether the range has no number.
+    pub(crate) fn is_empty(self) -> bool
+        ensures { IsTrue result ↔ (count_of self ≡ 0) }
+    {
+        self.count() == 0
+    }
+
     /// The end of the range, past its last number.
-    fn end(self) -> u64
+    pub(crate) fn end(self) -> u64
         ensures end { result ≡ first_of self + count_of self }
     {
         u64::from(self.first()) + u64::from(self.count())
@@ -182,19 +189,4 @@ impl Entry {
             Entry::Fail { .. } => None,
         }
     }
-}
-
-/// What the number becomes in that direction; `None` where its use fails.
-pub(crate) fn lookup(specs: &[IdMap], direction: Direction, n: u32) -> Option<u32>
-    requires { Accepted specs.now }
-    ensures { Becomes specs.now direction n result }
-{
-    for spec in specs {
-        if let Some(entry) = entry_of(*spec, direction) {
-            if entry.covers(n) {
-                return entry.target(n);
-            }
-        }
-    }
-    Some(n)
 }

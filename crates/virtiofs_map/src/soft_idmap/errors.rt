@@ -7,7 +7,7 @@ use crate::cmdline;
 use crate::id_types::{Id, IdNumber};
 use crate::soft_idmap::Direction;
 use crate::soft_idmap::entry::entry_of;
-use std::alloc::{AllocFailed, Allocator, Global};
+use std::alloc::{AllocError, AllocFailed, Allocator, Global};
 use std::error::Error;
 use std::fmt;
 
@@ -154,6 +154,16 @@ impl fmt::Display for IdMapBuildError {
 }
 
 impl Error for IdMapBuildError {}
+
+impl From<AllocError> for IdMapBuildError {
+    ghost use Rattle.virtiofs_map.specs.declared.soft_idmap.errors.IdMapBuildError.TheVariants.{OutOfMemory};
+
+    ghost from_gives = { λ _ r. r ≡ OutOfMemory };
+
+    fn from(_error: AllocError) -> IdMapBuildError {
+        IdMapBuildError::OutOfMemory
+    }
+}
 
 /// Why no map is made of a list of texts.
 #[derive(Debug, Drop)]

@@ -1,10 +1,10 @@
 //! Maps of known lists of specifications, built, refused and asked.
 
-use crate::cmdline;
 use crate::cmdline::IdMapError;
 use crate::id_types::projects::{GuestProject, HostProject, ProjectNumber};
 use crate::id_types::{GuestGid, GuestUid, HostGid, HostUid, Id};
 use crate::soft_idmap::{Direction, IdMap, IdMapBuildError, MapError, RangeEnd, SpecsError};
+use crate::{Steps, cmdline};
 use std::alloc::Global;
 use std::process::Abort;
 use std::test::Fail;
@@ -108,7 +108,17 @@ fn maps_known_ids(rt: HostRuntime) -> Result<(), Fail> {
     check_texts(&rt, alloc, &texts, &squashed, &back)?;
 
     let ends = [(5, Some(4294967295))];
-    check_texts(&rt, alloc, &["guest:0:4294967290:6"], &ends, &[])
+    check_texts(&rt, alloc, &["guest:0:4294967290:6"], &ends, &[])?;
+
+    let texts = [
+        "host:4294967294:4294967295:1",
+        "map:4294967295:4294967295:0",
+    ];
+    let greatest = [
+        (4294967294, Some(4294967295)),
+        (4294967295, Some(4294967295)),
+    ];
+    check_texts(&rt, alloc, &texts, &[], &greatest)
 }
 
 #[test]
@@ -297,5 +307,147 @@ fn maps_ids_of_other_kinds(rt: HostRuntime) -> Result<(), Fail> {
     let map: IdMap<GuestGid, HostGid> = IdMap::from_specs(alloc, &texts)?;
     assert_eq!(rt; map.map_guest(GuestGid::from(0))?, HostGid::from(100));
     assert_eq!(rt; map.map_host(HostGid::from(100))?, GuestGid::from(1000));
+    Ok(())
+}
+
+/// Asks a map of users for ids of the host. Each row has a guest id, the host id that is wanted,
+/// and the least and the most steps that it may take.
+fn check_guests_counted(
+    rt: &impl Abort,
+    map: &IdMap<GuestUid, HostUid>,
+    asked: &[(u32, u32, u64, u64)],
+) {
+    for (n, want, least, most) in asked {
+        let mut steps = Steps::new();
+        let got = match map.map_guest_counted(GuestUid::from(*n), &mut steps) {
+            Ok(host) => Some(host.into_inner()),
+            Err(_) => None,
+        };
+        assert_eq!(rt; got, Some(*want), "guest {n}");
+        let taken = steps.count();
+        assert!(rt; *least <= taken && taken <= *most, "guest {n}");
+    }
+}
+
+/// Asks a map of users for ids of the guest, in the same way.
+fn check_hosts_counted(
+    rt: &impl Abort,
+    map: &IdMap<GuestUid, HostUid>,
+    asked: &[(u32, u32, u64, u64)],
+) {
+    for (n, want, least, most) in asked {
+        let mut steps = Steps::new();
+        let got = match map.map_host_counted(HostUid::from(*n), &mut steps) {
+            Ok(guest) => Some(guest.into_inner()),
+            Err(_) => None,
+        };
+        assert_eq!(rt; got, Some(*want), "host {n}");
+        let taken = steps.count();
+        assert!(rt; *least <= taken && taken <= *most, "host {n}");
+    }
+}
+
+/// So many specifications of one guest id each: the place i of them, counted by `stride` round the
+/// list, maps 10 * i to 5000000 + i.
+fn single_ids(alloc: Global, count: u32, stride: u32) -> Result<Vec<cmdline::IdMap>, Fail> {
+    let mut specs = Vec::new(alloc);
+    let mut at: u32 = 0;
+    for _ in 0..count {
+        specs.push(cmdline::IdMap::Guest {
+            from_guest: at.wrapping_mul(10),
+            to_host: at.wrapping_add(5000000),
+            count: 1,
+        })?;
+        at = at.wrapping_add(stride).checked_rem(count).unwrap_or(0);
+    }
+    Ok(specs)
+}
+
+#[test]
+fn asks_a_thousand_ranges_in_ten_steps(rt: HostRuntime) -> Result<(), Fail> {
+    let specs = single_ids(rt.alloc(), 1000, 1)?;
+    let map: IdMap<GuestUid, HostUid> = IdMap::try_from(rt.alloc(), specs)?;
+    let guests = [(9990, 5000999, 1, 10), (9991, 9991, 1, 10)];
+    check_guests_counted(&rt, &map, &guests);
+    check_hosts_counted(&rt, &map, &[(5000999, 5000999, 0, 0)]);
+    Ok(())
+}
+
+#[test]
+fn asks_two_ranges_in_two_steps(rt: HostRuntime) -> Result<(), Fail> {
+    let specs = specs_of(rt.alloc(), &["guest:5:300:5", "guest:0:100:5"])?;
+    let map: IdMap<GuestUid, HostUid> = IdMap::try_from(rt.alloc(), specs)?;
+    let guests = [
+        (4, 104, 1, 2),
+        (5, 300, 1, 2),
+        (9, 304, 1, 2),
+        (10, 10, 1, 2),
+    ];
+    check_guests_counted(&rt, &map, &guests);
+    Ok(())
+}
+
+#[test]
+fn asks_no_range_in_no_step(rt: HostRuntime) -> Result<(), Fail> {
+    let none = [(0, 0, 0, 0)];
+    check_guests_counted(&rt, &IdMap::empty(rt.alloc()), &none);
+    let specs = specs_of(rt.alloc(), &["guest:0:1:0"])?;
+    let map: IdMap<GuestUid, HostUid> = IdMap::try_from(rt.alloc(), specs)?;
+    check_guests_counted(&rt, &map, &none);
+    Ok(())
+}
+
+#[test]
+fn asks_three_ranges_in_two_steps(rt: HostRuntime) -> Result<(), Fail> {
+    let specs = specs_of(
+        rt.alloc(),
+        &["guest:0:10:1", "guest:2:20:1", "guest:4:30:1"],
+    )?;
+    let map: IdMap<GuestUid, HostUid> = IdMap::try_from(rt.alloc(), specs)?;
+    check_guests_counted(&rt, &map, &[(4, 30, 1, 2)]);
+    check_hosts_counted(&rt, &map, &[(4, 4, 0, 0)]);
+    Ok(())
+}
+
+#[test]
+fn builds_a_hundred_thousand_in_every_order(rt: HostRuntime) -> Result<(), Fail> {
+    let guests = [
+        (0, 5000000, 1, 17),
+        (1, 1, 1, 17),
+        (500000, 5050000, 1, 17),
+        (999990, 5099999, 1, 17),
+        (4294967295, 4294967295, 1, 17),
+    ];
+    // Rising, falling, and all over the place.
+    for stride in [1, 99999, 61803] {
+        let specs = single_ids(rt.alloc(), 100000, stride)?;
+        let map: IdMap<GuestUid, HostUid> = IdMap::try_from(rt.alloc(), specs)?;
+        check_guests_counted(&rt, &map, &guests);
+    }
+    Ok(())
+}
+
+#[test]
+fn refuses_the_first_of_many_that_meet(rt: HostRuntime) -> Result<(), Fail> {
+    for stride in [1, 999, 617] {
+        let mut specs = single_ids(rt.alloc(), 1000, stride)?;
+        // Each of these covers 10 * i for an i of the list.
+        for n in [9990, 0, 5000] {
+            specs.push(cmdline::IdMap::SquashGuest {
+                from_guest: n,
+                to_host: 7,
+                count: 1,
+            })?;
+        }
+        let made: Result<IdMap<GuestUid, HostUid>, IdMapBuildError> = IdMap::try_from(
+            rt.alloc(),
+            specs,
+        );
+        let told = match made {
+            Err(IdMapBuildError::Intersects { index, .. }) => Some(index),
+            _ => None,
+        };
+        assert_eq!(rt; told, Some(1000), "{stride}");
+    }
     Ok(())
 }

@@ -1,0 +1,114 @@
+-- What the ranges of a map stand for, and how they are found. Only private functions cite these words.
+use Rattle.std.specs.Prelude.{◌≡◌, ◌≢◌, ◌⊎◌, ℕ, ◌+◌, ◌-◌, ◌^◌, ◌<◌, ◌≤◌, List, length, take, slice_index_or, All, AllPairs, Contains, Option, Some, IfSome, MatchOption}
+use Rattle.std.specs.List.Sorted.{IsNonDecreasingBy}
+use Rattle.virtiofs_map.specs.Mapping.{entry_of, first_of, count_of}
+use Rattle.virtiofs_map.specs.Build.{HasSource, HasTarget, Accepted}
+use Rattle.virtiofs_map.specs.LookupSteps.{acting}
+use Rattle.virtiofs_map.specs.declared.cmdline.IdMap.{IdMap}
+use Rattle.virtiofs_map.specs.declared.soft_idmap.entry.Direction.{Direction}
+use Rattle.virtiofs_map.specs.declared.soft_idmap.entry.Direction.TheVariants.{GuestToHost, HostToGuest}
+use Rattle.virtiofs_map.specs.declared.soft_idmap.entry.Entry.{Entry}
+use Rattle.virtiofs_map.specs.declared.soft_idmap.placed.Placed.{Placed}
+
+-- ---- the ranges of a direction
+
+-- the first range ends before the other one begins
+abbrev pub Precedes : Entry → Entry → Type 0
+Precedes range other = first_of range + count_of range ≤ first_of other
+
+-- the ranges stand in order, and what their numbers become are ids
+pub record AreRanges (ranges : List Entry) : Type 0 where
+  pub target : All HasTarget ranges
+  pub ordered : AllPairs Precedes ranges
+
+-- the range is that of one of the specifications
+abbrev pub IsOfOne : List IdMap → Direction → Entry → Type 0
+IsOfOne specs direction range = (spec : IdMap) × Contains specs spec × (entry_of spec direction ≡ Some range)
+
+-- the ranges are those of the specifications in that direction, but for those that cover no number
+pub record Stores (specs : List IdMap) (direction : Direction) (ranges : List Entry) : Type 0 where
+  pub from : All (IsOfOne specs direction) ranges
+  pub each : (spec : IdMap) (range : Entry) → Contains specs spec → entry_of spec direction ≡ Some range → 1 ≤ count_of range → Contains ranges range
+  pub counted : length ranges ≡ acting specs direction
+
+-- a map of the specifications has these ranges from guest to host, and those from host to guest
+pub record IsBuilt (specs : List IdMap) (from_guest from_host : List Entry) : Type 0 where
+  pub accepted : Accepted specs
+  pub guests : Stores specs GuestToHost from_guest
+  pub hosts : Stores specs HostToGuest from_host
+
+-- ---- a search
+
+-- a search stands between low and high: the range before low, which was found, begins at or below n, and those from
+-- high on begin above it
+pub record Searched (ranges : List Entry) (n low high : ℕ) (found : Option Entry) : Type 0 where
+  pub order : low ≤ high
+  pub within : high ≤ length ranges
+  pub last : MatchOption found (low ≡ 0)
+      (λ range. (1 ≤ low) × (slice_index_or ranges (low - 1) range ≡ range) × (first_of range ≤ n))
+  pub above : (k : ℕ) (d : Entry) → high ≤ k → k < length ranges → n < first_of (slice_index_or ranges k d)
+
+-- after the steps so far there are digits enough for the ranges that are left
+pub record HasDigitsFor (left taken most : ℕ) : Type 0 where
+  pub digits : ℕ
+  pub room : left < 2 ^ digits
+  pub spent : taken + digits ≤ most
+
+-- a step was taken, or the search stands where it began
+abbrev pub HasBegun : ℕ → ℕ → ℕ → ℕ → Type 0
+HasBegun taken low high whole = (1 ≤ taken) ⊎ ((low ≡ 0) × (high ≡ whole))
+
+-- ---- a build
+
+-- the specification stands at that index of the list
+abbrev pub StandsAt : List IdMap → ℕ → IdMap → Type 0
+StandsAt specs index spec = (index < length specs) × (slice_index_or specs index spec ≡ spec)
+
+-- the entry is that of the specification at its index, and covers a number
+pub record IsPlaced (specs : List IdMap) (direction : Direction) (placed : Placed) : Type 0 where
+  pub spec : IdMap
+  pub here : StandsAt specs placed.index spec
+  pub sets_up : entry_of spec direction ≡ Some placed.entry
+  pub counted : 1 ≤ count_of placed.entry
+
+-- the first specifications, up to that number of them: each entry of the direction that covers a number, once, with
+-- the index of its specification
+pub record Places (specs : List IdMap) (direction : Direction) (count : ℕ) (placed : List Placed) : Type 0 where
+  pub from : All (λ one. IsPlaced specs direction one × (one.index < count)) placed
+  pub each : (index : ℕ) (spec : IdMap) (entry : Entry) → index < count → StandsAt specs index spec → entry_of spec direction ≡ Some entry → 1 ≤ count_of entry → Contains placed (record { entry = entry; index = index })
+  pub once : AllPairs (λ one other. one.index ≢ other.index) placed
+  pub counted : length placed ≡ acting (take count specs) direction
+
+-- the same of all of them, in the order of their first numbers
+pub record PlacesInOrder (specs : List IdMap) (direction : Direction) (placed : List Placed) : Type 0 where
+  pub places : Places specs direction (length specs) placed
+  pub rising : IsNonDecreasingBy (λ one. first_of one.entry) placed
+
+-- the entries of the specifications up to that number of them precede one another
+abbrev pub ArePrecedingBelow : ℕ → List Placed → Type 0
+ArePrecedingBelow count placed =
+    AllPairs (λ one other. one.index < count → other.index < count → Precedes one.entry other.entry) placed
+
+-- ---- the test of a front of the list
+
+-- how far the test has come: end is the greatest end so far, and that of an entry
+pub record KeepsApartTo (count end : ℕ) (placed : List Placed) : Type 0 where
+  pub preceding : ArePrecedingBelow count placed
+  pub before : All (λ one. one.index < count → first_of one.entry + count_of one.entry ≤ end) placed
+  pub reached : (end ≡ 0) ⊎ ((one : Placed) × Contains placed one × (one.index < count) × (first_of one.entry + count_of one.entry ≡ end))
+
+-- the ranges of the specification are not too long in that direction
+pub record HasRoom (spec : IdMap) (direction : Direction) : Type 0 where
+  pub source : IfSome (entry_of spec direction) HasSource
+  pub target : IfSome (entry_of spec direction) HasTarget
+
+-- nor in either direction
+pub record HasRoomBothWays (spec : IdMap) : Type 0 where
+  pub guest : HasRoom spec GuestToHost
+  pub host : HasRoom spec HostToGuest
+
+-- the front of that length is accepted, and the one that is longer by one is not
+pub record IsLongestAccepted (specs : List IdMap) (count : ℕ) : Type 0 where
+  pub below : count < length specs
+  pub accepted : Accepted (take count specs)
+  pub refused : ¬ Accepted (take (count + 1) specs)

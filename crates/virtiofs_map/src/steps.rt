@@ -1,0 +1,53 @@
+//! A count of steps, by which a caller sees what a lookup or an audit costs.
+ghost use Rattle.std.specs.Prelude.{◌≡◌};
+ghost use Rattle.virtiofs_map.specs.Steps.{count_after};
+
+use std::marker::Model;
+
+/// How many steps the counted calls took that were handed this counter.
+///
+/// Each step adds one. At 18446744073709551615 the count stays where it is. A contract sees the
+/// counter as its count.
+#[derive(Debug, Drop)]
+pub struct Steps {
+    count: u64,
+}
+
+impl Model for Steps {
+    ghost use Rattle.std.specs.Prelude.{ℕ};
+
+    ghost Value = { ℕ };
+
+    ghost view = { λ steps. steps.count };
+}
+
+impl Steps {
+    /// A counter that stands at 0.
+    pub fn new() -> Steps
+        ensures { result ≡ 0 }
+    {
+        Steps { count: 0 }
+    }
+
+    /// How many steps were counted.
+    pub fn count(&self) -> u64
+        ensures { result ≡ self.now }
+    {
+        let Steps { count } = self;
+        *count
+    }
+
+    /// Counts one step more.
+    pub(crate) fn tick(&mut self)
+        ensures { self.new ≡ count_after self.old 1 }
+    {
+        self.count = self.count.saturating_add(1);
+    }
+
+    /// Counts the steps of another counter.
+    pub(crate) fn add(&mut self, more: &Steps)
+        ensures { self.new ≡ count_after self.old more.now }
+    {
+        self.count = self.count.saturating_add(more.count);
+    }
+}
