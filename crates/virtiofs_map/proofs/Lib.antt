@@ -5,6 +5,7 @@ mod BuildLemmas
 mod CutLemmas
 mod FirstRuleLemmas
 mod FrontLemmas
+mod ListingLemmas
 mod MadeRuleLemmas
 mod MapRuleLemmas
 mod MappingLawLemmas

@@ -1,14 +1,14 @@
 -- The list that the guest gets, name by name.
-use Rattle.std.proofs.Common.{◌≡◌, ℕ, ◌+◌, ◌<◌, ◌≤◌, Bool, true, false, ◌&&◌, not, eqb, ltb, List, [], ◌∷◌, ◌++◌, length, Option, Some, None, IfSome, MatchOption, inl, inr, refl, sym, ap, ◌∙◌, arith, filter}
-use Rattle.std.specs.List.{slice_split, onto_first, cons_option, list_all, filter_map, flat_map, position, position_or_len, before_first, after_first}
+use Rattle.std.proofs.Common.{◌≡◌, ℕ, ◌+◌, ◌<◌, ◌≤◌, Bool, true, false, not, eqb, ltb, List, [], ◌∷◌, ◌++◌, length, Option, Some, None, IfSome, inl, inr, refl, sym, ap, ◌∙◌, arith, filter}
+use Rattle.std.specs.List.{slice_split, onto_first, cons_option, filter_map, flat_map, position, position_or_len, before_first, after_first}
 use Rattle.std.proofs.lemmas.Bool.{cond_both, ltb-true, ltb-false, cases_lt}
-use Rattle.std.proofs.lemmas.List.{take_all, drop_all, append_assoc, append-nil, length-append, length-drop, length_push}
+use Rattle.std.proofs.lemmas.List.{take_all, drop_all, append-nil, length-append, length-drop, length_push}
 use Rattle.std.proofs.lemmas.List.Splits.{slice_split_first, slice_split_none, length-slice_split}
 use Rattle.std.proofs.lemmas.List.Sums.{fails_before_first}
 use Rattle.std.proofs.lemmas.List.Elements.{All-from_get_or, filter-append}
 use Rattle.virtiofs_map.specs.Rule.{RuleType, Prefix, Okay, Bad, Unsupported, MappingRule}
 use Rattle.virtiofs_map.specs.declared.xattrmap.scopes.Side.TheVariants.{Server}
-use Rattle.virtiofs_map.specs.Names.{deciding, IsUndecided, host_answer_by, host_answer, is_decided, listed_name, names, server_answer}
+use Rattle.virtiofs_map.specs.Names.{deciding, IsUndecided, host_answer_by, host_answer, listed_name, names}
 use Rattle.std.specs.Option.{option_map_or}
 
 abbrev pub is_zero : ℕ → Bool
@@ -55,17 +55,13 @@ pub record IsCut (list name rest : List ℕ) : Type 0 where
   pub before : name ≡ before_first is_zero list
   pub after : rest ≡ after_first is_zero list
 
-names_step_name : (list name rest : List ℕ) → IsCut list name rest → is_name name ≡ true → names list ≡ name ∷ names rest
+pub names_step_name : (list name rest : List ℕ) → IsCut list name rest → is_name name ≡ true → names list ≡ name ∷ names rest
 names_step_name list name rest cut e = names_step list ∙ rw (← cut.before, ← cut.after, e) refl
 
-names_step_none : (list name rest : List ℕ) → IsCut list name rest → is_name name ≡ false → names list ≡ names rest
+pub names_step_none : (list name rest : List ℕ) → IsCut list name rest → is_name name ≡ false → names list ≡ names rest
 names_step_none list name rest cut e = names_step list ∙ rw (← cut.before, ← cut.after, e) refl
 
 -- ---- what becomes of them
-
--- some rule decides each name of the list
-abbrev pub decided : List MappingRule → List ℕ → Bool
-decided rules list = list_all (λ name. is_decided (host_answer rules name)) (names list)
 
 -- the names, each followed by a zero
 abbrev pub with_zeros : List (List ℕ) → List ℕ
@@ -77,32 +73,6 @@ shown rules name = listed_name (host_answer rules name)
 
 abbrev pub listed : List MappingRule → List ℕ → List ℕ
 listed rules list = with_zeros (filter_map (shown rules) (names list))
-
-pub decided_more : (rules : List MappingRule) (list name rest : List ℕ) → IsCut list name rest → is_name name ≡ true → is_decided (host_answer rules name) ≡ true → decided rules list ≡ decided rules rest
-decided_more rules list name rest cut e some =
-    rw (names_step_name list name rest cut e) (ap (λ b. b && decided rules rest) some)
-
-pub decided_no_more : (rules : List MappingRule) (list name rest : List ℕ) → IsCut list name rest → is_name name ≡ true → host_answer rules name ≡ IsUndecided → decided rules list ≡ false
-decided_no_more rules list name rest cut e none =
-    rw (names_step_name list name rest cut e) (ap (λ answer. is_decided answer && decided rules rest) none)
-
-pub not_decided : (rules : List MappingRule) (list : List ℕ) → decided rules list ≡ false → server_answer rules list ≡ None
-not_decided rules list e = rw e refl
-
-pub decided_same : (rules : List MappingRule) (list name rest : List ℕ) → IsCut list name rest → is_name name ≡ false → decided rules list ≡ decided rules rest
-decided_same rules list name rest cut e = rw (names_step_none list name rest cut e) refl
-
-pub listed_same : (rules : List MappingRule) (list name rest : List ℕ) → IsCut list name rest → is_name name ≡ false → listed rules list ≡ listed rules rest
-listed_same rules list name rest cut e = rw (names_step_none list name rest cut e) refl
-
--- one more name, listed as o says
-more_by : (o : Option (List ℕ)) (old new : List ℕ) (names : List (List ℕ)) → MatchOption o (new ≡ old) (λ shown. new ≡ old ++ shown ++ 0 ∷ []) → new ++ with_zeros names ≡ old ++ with_zeros (cons_option o names)
-more_by None old new names e = ap (λ list. list ++ with_zeros names) e
-more_by (Some shown) old new names e = ap (λ list. list ++ with_zeros names) e ∙ simp append_assoc
-
-pub listed_more : (rules : List MappingRule) (list name rest old new : List ℕ) → IsCut list name rest → is_name name ≡ true → MatchOption (shown rules name) (new ≡ old) (λ shown. new ≡ old ++ shown ++ 0 ∷ []) → new ++ listed rules rest ≡ old ++ listed rules list
-listed_more rules list name rest old new cut e m =
-    rw (names_step_name list name rest cut e) (more_by (shown rules name) old new (filter_map (shown rules) (names rest)) m)
 
 -- ---- how long the list is
 
@@ -144,9 +114,3 @@ length_parts rules (part ∷ parts) =
 
 pub length-listed : (rules : List MappingRule) (list : List ℕ) → length (listed rules list) ≤ length list + 1
 length-listed rules list = omega (arith, length_parts rules (slice_split is_zero list), total_split list)
-
--- the same of what is listed once nothing is left of the list
-pub length_listed_at : (rules : List MappingRule) (list rest shown : List ℕ) → length rest ≡ 0 → shown ++ listed rules rest ≡ listed rules list → length shown ≤ length list + 1
-length_listed_at rules list [] shown l e =
-    omega (arith, length-listed rules list, ap length (sym (append-nil shown) ∙ e))
-length_listed_at rules list (x ∷ xs) shown l e = absurd (omega arith)

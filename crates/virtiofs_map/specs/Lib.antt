@@ -1,6 +1,7 @@
 pub mod Alphanumeric
 pub mod Build
 pub mod BuildParts
+pub mod Listing
 pub mod LookupAnswers
 pub mod LookupSteps
 pub mod MapRule

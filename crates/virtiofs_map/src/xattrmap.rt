@@ -42,6 +42,7 @@ mod errors;
 #[cfg(test)]
 mod example;
 pub mod laws;
+mod listed;
 mod lookup;
 mod names;
 mod reader;
@@ -53,6 +54,7 @@ mod tests;
 
 pub use client::{AppliedRule, PassedName};
 pub use errors::{Error, ErrorKind, PatternField};
+pub use listed::ListedNames;
 pub use names::{XattrName, XattrNameBuf};
 use reader::read_rules;
 use rules::{Rule, copied_rules};

@@ -20,7 +20,7 @@ fn assert_list(
 
 #[test]
 fn lists_by_the_first_rule(rt: HostRuntime) -> Result<(), Fail> {
-    let cases: [(&str, &[u8], &[u8]); 9] = [
+    let cases: [(&str, &[u8], &[u8]); 10] = [
         (
             ":bad:all:a:a: :ok:all:ab:ab: :ok:all:::",
             b"ab\0b\0",
@@ -29,6 +29,7 @@ fn lists_by_the_first_rule(rt: HostRuntime) -> Result<(), Fail> {
         (":ok:all:::", b"", b"\0"),
         (":ok:all:::", b"\0", b"\0"),
         (":ok:all:::", b"a\0b\0", b"a\0b\0"),
+        (":ok:all:::", b"\xff\xc3\0", b"\xff\xc3\0"),
         (
             ":bad:server::security.: :ok:all:::",
             b"security.secret\0boring_attr",

@@ -1,12 +1,9 @@
-use Rattle.std.proofs.Common.{◌≡◌, ◌++◌, length}
-use Rattle.virtiofs_map.proofs.ServerListLemmas.{decided, listed}
+use Rattle.std.proofs.Common.{length}
+use Rattle.virtiofs_map.proofs.ListingLemmas.{IsSoFar}
 use Rattle.virtiofs_map.proofs.xattrmap.XattrMap.map_server_xattrlist.Given as goal
 
 abbrev pub invariant-names : goal.invariant-names
-invariant-names g l = record {
-  decides : decided l.self l.rest ≡ decided l.self l.fn.names.items;
-  lists : l.listed.items ++ listed l.self l.rest ≡ listed l.self l.fn.names.items;
-}
+invariant-names g l = IsSoFar l.self l.fn.names.items l.listed.items l.name-iterator
 
 abbrev pub decreases-names : goal.decreases-names
-decreases-names g l = length l.rest
+decreases-names g l = length l.name-iterator

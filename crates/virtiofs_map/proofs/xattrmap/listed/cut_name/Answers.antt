@@ -3,7 +3,7 @@ use Rattle.std.proofs.lemmas.Iterator.{YieldsList-from_slice}
 use Rattle.std.proofs.lemmas.Iterator.Search.{position_from_yields_List}
 use Rattle.std.proofs.lemmas.List.{take_rest, take_all, drop_all}
 use Rattle.virtiofs_map.proofs.ServerListLemmas.{is_zero, position-Some_is, position-None_is}
-use Rattle.virtiofs_map.proofs.xattrmap.server.cut_name.Goals as goal
+use Rattle.virtiofs_map.proofs.xattrmap.listed.cut_name.Goals as goal
 
 pub returns-in-Some-clause-name : goal.returns-in-Some-clause-name
 returns-in-Some-clause-name c =

@@ -1,0 +1,57 @@
+use Rattle.std.proofs.Common.{◌≡◌, true, [], ◌∷◌, Err, sym, ap, ◌∙◌, rules}
+use Rattle.virtiofs_map.specs.LookupAnswers.{of_no_rule}
+use Rattle.virtiofs_map.specs.declared.xattrmap.errors.ErrorKind.TheVariants.{UnterminatedMapping}
+use Rattle.virtiofs_map.proofs.ServerListLemmas.{is_name, IsCut}
+use Rattle.virtiofs_map.proofs.ListingLemmas.{listing_shown, listing_hidden, listing_undecided, one_less}
+use Rattle.virtiofs_map.proofs.xattrmap.listed.ListedNamesIterator.next.Goals as goal
+
+pub names-preserved : goal.names-preserved
+names-preserved g c =
+    let by = c.names.self-inside.map.now in
+    let name = c.cut_name.result.0.now in
+    let rest = c.cut_name.result.1.now in
+    let cut : IsCut c.names.self-inside.rest.now name rest = record { before = c.cut_name.ensures.name; after = c.cut_name.ensures.rest } in
+    let named : is_name name ≡ true = search rules in
+    let same = listing_hidden {A = g.row.A.Denot} by _ name rest cut named (rw c.in-Ok-None.field-0-is at c.in-Ok-None.ensures.decided) in
+    sym same ∙ c.names.invariant
+
+-- ---- a name that the guest sees
+
+pub returns-in-Ok-Some-clause-steps : goal.returns-in-Ok-Some-clause-steps
+returns-in-Ok-Some-clause-steps g c =
+    let by = c.names.self-inside.map.now in
+    let name = c.cut_name.result.0.now in
+    let rest = c.cut_name.result.1.now in
+    let cut : IsCut c.names.self-inside.rest.now name rest = record { before = c.cut_name.ensures.name; after = c.cut_name.ensures.rest } in
+    let named : is_name name ≡ true = search rules in
+    let first = listing_shown {A = g.row.A.Denot} by _ name rest c.in-Ok-Some.listed.now cut named (rw c.in-Ok-Some.field-0-is at c.in-Ok-Some.ensures.decided) in
+    sym c.names.invariant ∙ first
+
+pub returns-in-Ok-Some-clause-goes : goal.returns-in-Ok-Some-clause-goes
+returns-in-Ok-Some-clause-goes g c = one_less _ _ _ _ (returns-in-Ok-Some-clause-steps g c)
+
+pub returns-in-Ok-Some-clause-ended : goal.returns-in-Ok-Some-clause-ended
+returns-in-Ok-Some-clause-ended g c = λ none.
+    (let first = sym (returns-in-Ok-Some-clause-steps g c) ∙ none in
+    absurd (cc))
+
+-- ---- a name that no rule decides
+
+pub returns-in-Err-clause-steps : goal.returns-in-Err-clause-steps
+returns-in-Err-clause-steps g c =
+    let by = c.names.self-inside.map.now in
+    let name = c.cut_name.result.0.now in
+    let rest = c.cut_name.result.1.now in
+    let cut : IsCut c.names.self-inside.rest.now name rest = record { before = c.cut_name.ensures.name; after = c.cut_name.ensures.rest } in
+    let named : is_name name ≡ true = search rules in
+    let last = listing_undecided {A = g.row.A.Denot} by _ name rest cut named c.in-Err.ensures.undecided in
+    let told : c.from.result ≡ of_no_rule UnterminatedMapping = c.from.ensures ∙ ap of_no_rule c.in-Err.ensures.error in
+    sym c.names.invariant ∙ last ∙ ap (λ error. Err error ∷ []) (sym told)
+
+pub returns-in-Err-clause-goes : goal.returns-in-Err-clause-goes
+returns-in-Err-clause-goes g c = one_less _ _ _ _ (returns-in-Err-clause-steps g c)
+
+pub returns-in-Err-clause-ended : goal.returns-in-Err-clause-ended
+returns-in-Err-clause-ended g c = λ none.
+    (let last = sym (returns-in-Err-clause-steps g c) ∙ none in
+    absurd (cc))

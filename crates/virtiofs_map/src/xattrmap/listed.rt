@@ -1,0 +1,143 @@
+//! The host's names as the guest sees them, one at a time and where they stand.
+
+ghost use Rattle.std.specs.Prelude.{◌≡◌, ◌==◌, ◌<◌, length, IfOk, IfErr, MatchOption};
+ghost use Rattle.std.specs.List.{before_first, after_first};
+ghost use Rattle.virtiofs_map.specs.Listing.{listing, list_of};
+ghost use Rattle.virtiofs_map.specs.Names.{IsListed, IsHidden, IsUndecided, host_answer, server_answer};
+
+use crate::xattrmap::XattrMap;
+use crate::xattrmap::errors::{Error, ErrorKind};
+use crate::xattrmap::rules::RuleKind;
+use crate::xattrmap::scopes::Side;
+use std::alloc::{Allocator, Global};
+use std::iter::FusedIterator;
+use std::marker::Model;
+
+/// The first name of a list, up to a zero or to the end, and the rest of the list after that zero.
+fn cut_name(list: &[u8]) -> (&[u8], &[u8])
+    ensures name { result.0.now ≡ before_first (λ byte. byte == 0) list.now }
+    ensures rest { result.1.now ≡ after_first (λ byte. byte == 0) list.now }
+    ensures shorter { 0 < length list.now → length result.1.now < length list.now }
+{
+    match list.iter().position(|byte| *byte == 0) {
+        Some(end) => (&list[..end], &list[end + 1..]),
+        None => (list, &[]),
+    }
+}
+
+impl<A: Allocator> XattrMap<A> {
+    /// What the guest sees of one name of the host: `None` where it is hidden.
+    fn listed_as<'n>(&self, name: &'n [u8]) -> Result<Option<&'n [u8]>, ErrorKind<A>>
+        ensures decided { IfOk result (λ shown. MatchOption shown
+            (host_answer self.now name.now ≡ IsHidden)
+            (λ listed. host_answer self.now name.now ≡ IsListed listed.now)) }
+        ensures undecided { IfErr result (λ _. host_answer self.now name.now ≡ IsUndecided) }
+        ensures error { IfErr result (λ cause. cause ≡ ErrorKind.UnterminatedMapping) }
+    {
+        let Some(rule) = self.deciding(Side::Server, name) else {
+            return Err(ErrorKind::UnterminatedMapping);
+        };
+        Ok(match rule.kind {
+            RuleKind::Okay => Some(name),
+            RuleKind::Prefix => Some(&name[rule.prepend.len()..]),
+            RuleKind::Bad | RuleKind::Unsupported => None,
+        })
+    }
+
+    /// The names of the host's list that the guest sees, in order, each under the name that it
+    /// sees and without a zero. The list holds names with a zero after each, where the last needs
+    /// none and an empty name counts for nothing.
+    ///
+    /// Each name is a part of the list handed in, so nothing is copied and no memory is taken. It
+    /// lives as long as that list, and may outlive the iterator and the map.
+    ///
+    /// A name whose whole text is the prepend of its rule is listed as the empty name. With a
+    /// zero after each, the names are the list of [`XattrMap::map_server_xattrlist`], which is one
+    /// zero where there are none.
+    ///
+    /// # Errors
+    ///
+    /// The first name that no rule decides ends the iterator: it gives one `Err` with
+    /// `UnterminatedMapping`, which blames no rule, and then nothing more. No other error is given.
+    pub fn listed_names<'m, 'a>(&'m self, list: &'a [u8]) -> ListedNames<'m, 'a, A>
+        // The names kept before the first that no rule decides, and then the error, if there is one.
+        ensures items { result ≡ listing self.now list.now }
+        // The names, if no error comes, are those of the whole list.
+        ensures whole_list { list_of result ≡ server_answer self.now list.now }
+    {
+        ListedNames {
+            map: self,
+            rest: list,
+        }
+    }
+}
+
+/// The names of a list that the guest sees, as [`XattrMap::listed_names`] gives them. A contract
+/// sees it as the list of the items that are left.
+///
+/// It ends after its first error at the latest, and gives `None` again and again after its end.
+#[derive(Drop)]
+#[derive_where(Debug)]
+pub struct ListedNames<'m, 'a, A: Allocator = Global> {
+    map: &'m XattrMap<A>,
+    rest: &'a [u8],
+}
+
+impl<'m, 'a, A: Allocator> Model for ListedNames<'m, 'a, A> {
+    ghost use Rattle.std.specs.Prelude.{ℕ, List, Result};
+    ghost use Rattle.virtiofs_map.specs.Listing.{listing};
+    ghost use Rattle.virtiofs_map.specs.declared.xattrmap.errors.Error.{Error};
+
+    ghost Value = { List (Result (List ℕ) (Error A)) };
+
+    ghost view = { λ names. listing names.map.now names.rest.now };
+}
+
+impl<'m, 'a, A: Allocator> Iterator for ListedNames<'m, 'a, A> {
+    ghost use Rattle.std.specs.Prelude.{◌≡◌, ⊤, [], None, IfSome, IfErr, OnErr};
+    ghost use Rattle.std.specs.Iterator.{YieldsFirstBy, item_count, MakesProgress};
+    ghost use Rattle.virtiofs_map.specs.Listing.{item_bytes};
+    ghost use Rattle.virtiofs_map.specs.LookupAnswers.{of_no_rule};
+
+    type Item = Result<&'a [u8], Error<A>>;
+
+    ghost next_gives = { YieldsFirstBy (λ item. item_bytes item) (λ left. left) };
+
+    ghost remaining = { item_count (λ left. left) };
+
+    fn next(&mut self) -> Option<Result<&'a [u8], Error<A>>>
+        // It gives the first item that is left, and leaves the others.
+        ensures steps { YieldsFirstBy (λ item. item_bytes item) (λ left. left)
+            self.old result self.new }
+        ensures goes { MakesProgress (λ _. ⊤) (item_count (λ left. left))
+            self.old result self.new }
+        // After an error nothing is left.
+        ensures ends { IfSome result (λ item. OnErr item (self.new ≡ [])) }
+        ensures error { IfSome result (λ item. IfErr item (λ error.
+            error ≡ of_no_rule ErrorKind.UnterminatedMapping)) }
+        // Where nothing is left, nothing is given, and nothing is left again.
+        ensures ended { self.old ≡ [] → (result ≡ None) × (self.new ≡ []) }
+    {
+        'names: while !self.rest.is_empty() {
+            let (name, rest) = cut_name(self.rest);
+            self.rest = rest;
+            if name.is_empty() {
+                continue;
+            }
+            match self.map.listed_as(name) {
+                Ok(Some(listed)) => return Some(Ok(listed)),
+                Ok(None) => {}
+                Err(cause) => {
+                    self.rest = &[];
+                    return Some(Err(Error::from(cause)));
+                }
+            }
+        }
+        None
+    }
+}
+
+impl<'m, 'a, A: Allocator> FusedIterator for ListedNames<'m, 'a, A> {}
+
+#[cfg(test)]
+mod tests;

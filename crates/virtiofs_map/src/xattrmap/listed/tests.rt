@@ -1,0 +1,104 @@
+//! What is given of a list of names, a name at a time.
+
+use crate::xattrmap::{Error, ErrorKind, XattrMap};
+use std::alloc::Global;
+use std::process::Abort;
+use std::test::Fail;
+
+/// How what is given of a list ends.
+#[derive(Clone, Copy, PartialEq, Eq, Debug)]
+enum Ending {
+    /// Each name is decided.
+    Whole,
+    /// No rule decides one of the names.
+    Undecided,
+}
+
+fn assert_given(
+    rt: &impl Abort,
+    alloc: Global,
+    text: &str,
+    list: &[u8],
+    wanted: &[&[u8]],
+    ending: Ending,
+) -> Result<(), Fail> {
+    let map = XattrMap::try_from(alloc, text)?;
+    let mut names = map.listed_names(list);
+    for name in wanted {
+        assert_eq!(rt; names.next(), Some(Ok(*name)), "{list:?} under {text:?}");
+    }
+    if ending == Ending::Undecided {
+        let undecided = Error {
+            cause: ErrorKind::UnterminatedMapping,
+            rule: None,
+        };
+        assert_eq!(rt;
+            names.next(),
+            Some(Err(undecided)),
+            "{list:?} under {text:?}"
+        );
+    }
+    for _ in 0..3 {
+        assert!(rt; names.next().is_none(), "{list:?} under {text:?}");
+    }
+    Ok(())
+}
+
+#[test]
+fn names_are_given_in_order_up_to_the_end(rt: HostRuntime) -> Result<(), Fail> {
+    let both = ":map:trusted.:user.virtiofs.:";
+    let some = ":ok:server::a:";
+    let cases: [(&str, &[u8], &[&[u8]], Ending); 12] = [
+        (
+            both,
+            b"user.virtiofs.a\0trusted.b\0c\0user.virtiofs.",
+            &[b"a", b"c", b""],
+            Ending::Whole,
+        ),
+        (both, b"trusted.b\0", &[], Ending::Whole),
+        (both, b"user.virtiofs.\0\0\0x", &[b"", b"x"], Ending::Whole),
+        (":ok:client:::", b"", &[], Ending::Whole),
+        (":ok:client:::", b"\0\0", &[], Ending::Whole),
+        (":ok:client:::", b"x", &[], Ending::Undecided),
+        (some, b"b\0a", &[], Ending::Undecided),
+        (some, b"a1\0b\0a2\0", &[b"a1"], Ending::Undecided),
+        (some, b"a1\0\0a2", &[b"a1", b"a2"], Ending::Whole),
+        (
+            ":ok:all:::",
+            b"a\0b\0a\0",
+            &[b"a", b"b", b"a"],
+            Ending::Whole,
+        ),
+        (
+            ":unsupported:server::a: :bad:server::b: :ok:server:::",
+            b"ax\0c\0bx\0",
+            &[b"c"],
+            Ending::Whole,
+        ),
+        (
+            ":bad:server::a: :prefix:server::b:",
+            b"a\0bc\0c\0bd",
+            &[b"c"],
+            Ending::Undecided,
+        ),
+    ];
+    for (text, list, wanted, ending) in cases {
+        assert_given(&rt, rt.alloc(), text, list, wanted, ending)?;
+    }
+    Ok(())
+}
+
+#[test]
+fn names_outlive_the_iterator_and_the_map(rt: HostRuntime) -> Result<(), Fail> {
+    let list = b"user.virtiofs.a\0trusted.b\0c\0user.virtiofs.";
+    let map = XattrMap::try_from(rt.alloc(), ":map:trusted.:user.virtiofs.:")?;
+    let mut names = map.listed_names(list);
+    let given = [names.next(), names.next(), names.next()];
+    drop(names);
+    drop(map);
+    let wanted: [&[u8]; 3] = [b"a", b"c", b""];
+    for (item, name) in given.iter().zip(wanted) {
+        assert!(rt; *item == Some(Ok(name)));
+    }
+    Ok(())
+}
