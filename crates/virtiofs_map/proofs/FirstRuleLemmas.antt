@@ -1,11 +1,11 @@
 -- The first rule that fits a name, as what `find` gives.
-use Rattle.std.proofs.Common.{◌≡◌, ℕ, Bool, cond, ltb, List, [], ◌∷◌, length, Option, Some, None, IfSome, Bor, refl, sym, ◌∙◌, subst}
-use Rattle.std.specs.List.{All, slice_get, position, position_or_len, find}
+use Rattle.std.proofs.Common.{◌≡◌, ℕ, Bool, cond, ltb, ◌<◌, ◌≤◌, List, [], ◌∷◌, length, Option, Some, None, IfSome, MatchOption, Bor, refl, sym, ap, ◌∙◌, subst}
+use Rattle.std.specs.List.{All, HoldsAt, slice_get, position, position_or_len, find}
 use Rattle.std.specs.Option.{option_and_then, option_map}
 use Rattle.std.proofs.lemmas.List.Elements.{All-head, All-tail}
 use Rattle.std.proofs.lemmas.List.Folds.{find_at}
 use Rattle.std.proofs.lemmas.Bool.{cond_both, ltb-false}
-use Rattle.std.proofs.lemmas.Option.{slice_get_past}
+use Rattle.std.proofs.lemmas.Option.{slice_get_past, slice_get-get_or}
 use Rattle.virtiofs_map.specs.Rule.{MappingRule}
 use Rattle.virtiofs_map.specs.declared.xattrmap.scopes.Side.{Side}
 use Rattle.virtiofs_map.specs.Names.{fits, deciding}
@@ -34,3 +34,8 @@ found_has P p xs o all e = at_reference o (subst (λ found. IfSome found P) (sym
   at_reference : (o : Option (Bor _)) → IfSome (option_map (λ x. x.now) o) P → IfSome o (λ x. P x.now)
   at_reference None h = tt
   at_reference (Some x) h = h
+
+-- what a slice lends at a place
+pub item_is : {X : Type 0} (xs : List X) (i : ℕ) (r : Option (Bor X)) → MatchOption r (length xs ≤ i) (λ x. (i < length xs) × HoldsAt (λ y. x.now ≡ y) xs i) → option_map (λ x. x.now) r ≡ slice_get xs i
+item_is xs i None past = sym (slice_get_past xs i past)
+item_is xs i (Some x) (within, is) = ap Some (is x.now) ∙ sym (slice_get-get_or xs i x.now within)

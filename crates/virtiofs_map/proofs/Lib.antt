@@ -29,6 +29,11 @@ mod SpecificationLemmas
 mod SpecificationPrefixLemmas
 mod SpecificationPrintedLemmas
 mod SpecificationsLemmas
+mod StandsLemmas
 mod StoredLemmas
+mod TrieLemmas
+mod TrieRuleLemmas
+mod TrieWayLemmas
 mod TrimLemmas
+mod WalkLemmas
 mod ZipLemmas

@@ -1,6 +1,7 @@
 pub mod Alphanumeric
 pub mod Build
 pub mod BuildParts
+pub mod FirstRule
 pub mod Listing
 pub mod LookupAnswers
 pub mod LookupSteps
@@ -23,3 +24,4 @@ pub mod SpecificationParts
 pub mod SpecificationText
 pub mod Specifications
 pub mod Steps
+pub mod TrieParts

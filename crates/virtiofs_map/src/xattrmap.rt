@@ -41,16 +41,19 @@ mod client;
 mod errors;
 #[cfg(test)]
 mod example;
+mod first_rule;
 pub mod laws;
 mod listed;
 mod lookup;
 mod names;
+mod nodes;
 mod reader;
 mod rules;
 mod scopes;
 mod server;
 #[cfg(test)]
 mod tests;
+mod trie;
 
 pub use client::{AppliedRule, PassedName};
 pub use errors::{Error, ErrorKind, PatternField};
@@ -61,6 +64,7 @@ use rules::{Rule, copied_rules};
 pub use scopes::Side;
 use std::alloc::{AllocError, Allocator, Global};
 use std::marker::Model;
+use trie::Trie;
 
 /// The rules by which names cross, in order. A contract sees it as the list of its rules, where
 /// each `map` rule stands as the two or three rules that it means.
@@ -68,17 +72,23 @@ use std::marker::Model;
 #[derive_where(Debug)]
 pub struct XattrMap<A: Allocator = Global> {
     rules: Vec<Rule<A>, A>,
+    client: Trie<A>,
+    server: Trie<A>,
 }
 
 impl<A: Allocator> Model for XattrMap<A> {
     ghost use Rattle.std.specs.Prelude.{List, All};
     ghost use Rattle.virtiofs_map.specs.Rule.{MappingRule, HasNoZero};
+    ghost use Rattle.virtiofs_map.specs.TrieParts.{StandsFor};
+    ghost use Rattle.virtiofs_map.specs.declared.xattrmap.scopes.Side.TheVariants.{Client, Server};
 
     ghost Value = { List MappingRule };
 
     ghost view = { λ map. map.rules.items };
 
-    ghost invariant = { λ map. All HasNoZero map.rules.items };
+    ghost invariant = { λ map. All HasNoZero map.rules.items
+        × StandsFor Client map.rules.items map.client
+        × StandsFor Server map.rules.items map.server };
 }
 
 impl<A: Allocator> PartialEq for XattrMap<A> {
@@ -138,14 +148,26 @@ impl<A: Allocator + Copy> XattrMap<A> {
         ensures map_rule { IfOk result (ReadsMapRule (chars text.now)) }
     {
         let rules = read_rules(alloc, text)?;
-        Ok(XattrMap { rules })
+        let client = Trie::of_rules(alloc, rules.as_slice(), Side::Client)?;
+        let server = Trie::of_rules(alloc, rules.as_slice(), Side::Server)?;
+        Ok(XattrMap {
+            rules,
+            client,
+            server,
+        })
     }
 
     /// The same map, in memory of its own.
     pub fn clone(&self, alloc: A) -> Result<XattrMap<A>, AllocError>
         ensures { IfOk result (λ map. map ≡ self.now) }
     {
-        let rules = copied_rules(alloc, self.rules.as_slice())?;
-        Ok(XattrMap { rules })
+        let copies = copied_rules(alloc, self.rules.as_slice())?;
+        let client = Trie::of_rules(alloc, copies.as_slice(), Side::Client)?;
+        let server = Trie::of_rules(alloc, copies.as_slice(), Side::Server)?;
+        Ok(XattrMap {
+            rules: copies,
+            client,
+            server,
+        })
     }
 }

@@ -2,6 +2,7 @@
 
 ghost use Rattle.std.specs.Prelude.{◌≡◌, ◌++◌, IfOk, OnOk};
 ghost use Rattle.std.specs.Str.{chars, IsUtf8};
+ghost use Rattle.virtiofs_map.specs.FirstRule.{acts, pattern};
 ghost use Rattle.virtiofs_map.specs.RuleParts.{type_of, scope_of, rules_for};
 ghost use Rattle.virtiofs_map.specs.RuleText.{rule_of};
 
@@ -129,6 +130,25 @@ pub(crate) fn push_rules<A: Allocator + Copy>(
         }
     }
     Ok(())
+}
+
+impl<A: Allocator> Rule<A> {
+    /// Whether the rule acts on that side.
+    pub(crate) fn acts_on(&self, side: Side) -> bool
+        ensures { result ≡ acts side self.now }
+    {
+        self.scope.has(side)
+    }
+
+    /// What the rule compares names of that side with.
+    pub(crate) fn pattern(&self, side: Side) -> &[u8]
+        ensures { result.now ≡ pattern side self.now }
+    {
+        match side {
+            Side::Client => self.key.as_slice(),
+            Side::Server => self.prepend.as_slice(),
+        }
+    }
 }
 
 impl<A: Allocator + Copy> Rule<A> {

@@ -79,6 +79,12 @@ fn answers_by_the_first_rule(rt: HostRuntime) -> Result<(), Fail> {
     assert_client(
         &rt,
         alloc,
+        ":ok:all:::",
+        &[(b"\xff\xc3", Wanted::Borrowed(b"\xff\xc3"))],
+    )?;
+    assert_client(
+        &rt,
+        alloc,
         ":ok:all:é:é: :bad:all:::",
         &[
             (b"\xc3\xa9a", Wanted::Borrowed(b"\xc3\xa9a")),

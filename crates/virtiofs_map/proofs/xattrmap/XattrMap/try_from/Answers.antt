@@ -1,8 +1,10 @@
 use Rattle.std.proofs.lemmas.Result.{err_from_is_err_and}
 use Rattle.std.specs.Str.{chars}
-use Rattle.std.proofs.Common.{[], ◌∷◌, ◌∙◌, ap}
+use Rattle.std.proofs.Common.{[], ◌∷◌, ◌∙◌, ap, subst}
 use Rattle.virtiofs_map.specs.RuleText.{expanded}
 use Rattle.virtiofs_map.specs.MapRule.{map_rule}
+use Rattle.virtiofs_map.specs.TrieParts.{StandsFor}
+use Rattle.virtiofs_map.specs.declared.xattrmap.scopes.Side.TheVariants.{Client, Server}
 use Rattle.virtiofs_map.proofs.NoZeroLemmas.{read_no_zero}
 use Rattle.virtiofs_map.proofs.MapRuleLemmas.{map_rule_means}
 use Rattle.virtiofs_map.proofs.ReaderLemmas.{out_of_memory, told_fault}
@@ -10,7 +12,11 @@ use Rattle.virtiofs_map.proofs.RuleTextLemmas.{one_reading, one_value, no_fault,
 use Rattle.virtiofs_map.proofs.xattrmap.XattrMap.try_from.Goals as goal
 
 pub invariant_of-result : goal.invariant_of-result
-invariant_of-result g c = read_no_zero (chars c.args.text.now) c.in_ok-rules.rules.items c.in_ok-rules.ensures.read
+invariant_of-result g c = (
+  read_no_zero (chars c.args.text.now) c.in_ok-rules.rules.items c.in_ok-rules.ensures.read,
+  subst (λ rules. StandsFor Client rules c.in_ok-client.client) c.as_slice.ensures.value c.in_ok-client.ensures,
+  subst (λ rules. StandsFor Server rules c.in_ok-server.server) c.as_slice-2.ensures.value c.in_ok-server.ensures,
+)
 
 pub returns-in_err-rules-clause-complete : goal.returns-in_err-rules-clause-complete
 returns-in_err-rules-clause-complete g c = λ rules says.

@@ -1,0 +1,31 @@
+-- What it costs to find the first rule of a name, in nodes of a trie.
+use Rattle.std.specs.Prelude.{ℕ, Bool, ◌+◌, if◌then◌else◌, List, [], ◌∷◌, length, min, max}
+use Rattle.std.specs.Option.{option_map_or}
+use Rattle.virtiofs_map.specs.Names.{deciding}
+use Rattle.virtiofs_map.specs.Rule.{MappingRule}
+use Rattle.virtiofs_map.specs.Steps.{CountsBetween}
+use Rattle.virtiofs_map.specs.declared.xattrmap.scopes.Side.{Side}
+use Rattle.virtiofs_map.specs.declared.xattrmap.scopes.Side.TheVariants.{Client, Server}
+
+-- whether the rule acts on that side
+abbrev pub acts : Side → MappingRule → Bool
+acts Client rule = rule.client
+acts Server rule = rule.server
+
+-- what the rule compares names of that side with
+abbrev pub pattern : Side → MappingRule → List ℕ
+pattern Client rule = rule.key
+pattern Server rule = rule.prepend
+
+-- the length of the longest pattern of that side; 0 where no rule acts on it
+abbrev pub longest : Side → List MappingRule → ℕ
+longest side [] = 0
+longest side (rule ∷ rules) = if acts side rule then max (length (pattern side rule)) (longest side rules) else longest side rules
+
+-- the length of the pattern that decides the name; 0 where none does
+abbrev pub deciding_length : Side → List MappingRule → List ℕ → ℕ
+deciding_length side rules name = option_map_or (λ rule. length (pattern side rule)) (deciding side rules name) 0
+
+-- a lookup counted one step more than the deciding pattern has bytes, or more, but at most one more than the name and than the longest pattern
+abbrev pub CountsLookup : Side → List MappingRule → List ℕ → ℕ → ℕ → Type 0
+CountsLookup side rules name = CountsBetween (deciding_length side rules name + 1) (min (length name) (longest side rules) + 1)
