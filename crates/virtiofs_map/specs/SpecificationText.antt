@@ -1,8 +1,9 @@
 -- The texts that say a specification, as `map:0:1000:10`, and what is wrong with the others.
-use Rattle.std.specs.Prelude.{◌≡◌, ◌≢◌, ◌⊎◌, ℕ, Bool, false, ◌||◌, ◌==◌, List, [], ◌∷◌, ◌++◌, length, map, codes, string_bytes, Option, Some, None}
+use Rattle.std.specs.Prelude.{◌≡◌, ◌≢◌, ◌⊎◌, ⊤, ℕ, Bool, false, ◌||◌, ◌==◌, List, [], ◌∷◌, ◌++◌, length, map, codes, string_bytes, Option, Some, None, Err}
 use Rattle.std.specs.List.{AllPass, AllZip}
 use Rattle.std.specs.Char.{to_ascii_lowercase}
 use Rattle.std.specs.Str.{chars}
+use Rattle.std.specs.Str.Parse.{ExplainsUnsignedError}
 use Rattle.virtiofs_map.specs.Alphanumeric.{is_alphanumeric}
 use Rattle.virtiofs_map.specs.Numeral.{IsNumeral}
 use Rattle.virtiofs_map.specs.Separator.{split_at_each}
@@ -118,3 +119,10 @@ specification_fault_of (errors.InvalidPrefix prefix) = Some (InvalidPrefix (char
 specification_fault_of (errors.InvalidLength expected seen) = Some (InvalidLength expected seen)
 specification_fault_of (errors.InvalidValue value error) = Some (InvalidValue (chars (string_bytes value)))
 specification_fault_of errors.OutOfMemory = None
+
+-- where an error is about a field, it says of that field what the standard library's `parse` says of it
+abbrev pub IsExplained : {A : Type 0} → IdMapError A → Type 0
+IsExplained (errors.InvalidValue value error) = ExplainsUnsignedError {T = ℕ} 10 (string_bytes value) (Err error)
+IsExplained (errors.InvalidPrefix prefix) = ⊤
+IsExplained (errors.InvalidLength expected seen) = ⊤
+IsExplained errors.OutOfMemory = ⊤

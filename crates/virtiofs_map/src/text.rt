@@ -1,6 +1,7 @@
 //! How the readers of this crate take a text apart, and how they read a number.
 ghost use Rattle.std.specs.Prelude.{◌≡◌, ◌<◌, ℕ, ◌∷◌, ◌++◌, length, IfNone, IfSome, IfOk, IfErr, IsErr, IsOkAnd};
 ghost use Rattle.std.specs.Str.{chars, IsUtf8};
+ghost use Rattle.std.specs.Str.Parse.{ExplainsUnsignedError};
 ghost use Rattle.virtiofs_map.specs.Alphanumeric.{is_alphanumeric};
 ghost use Rattle.virtiofs_map.specs.Numeral.{IsNumeral};
 ghost use Rattle.virtiofs_map.specs.Separator.{Lacks};
@@ -42,6 +43,7 @@ pub fn number(text: &str) -> Result<u32, ParseIntError>
         → IsOkAnd result (λ read. read ≡ value) }
     ensures refused { IfErr result (λ _. (value : ℕ) → ¬ IsNumeral (chars text.now) value) }
     ensures faulty { ((value : ℕ) → ¬ IsNumeral (chars text.now) value) → IsErr result }
+    ensures explained { ExplainsUnsignedError 10 text.now result }
 {
     text.parse()
 }

@@ -6,7 +6,7 @@ ghost use Rattle.virtiofs_map.specs.Numeral.{IsNumeral};
 ghost use Rattle.virtiofs_map.specs.Refusal.{IsOutOfMemory, OutOfMemoryOr};
 ghost use Rattle.virtiofs_map.specs.Separator.{split_at_each};
 ghost use Rattle.virtiofs_map.specs.SpecificationParts.{IsLoweredCut, IsFieldFault, IsFieldsFault, IsCountFault, IsWordFault};
-ghost use Rattle.virtiofs_map.specs.SpecificationText.{is_word_character, word_of, numbers_of, HasNoSeparator, Says, SpecificationFault, HasSpecificationFault, specification_fault_of};
+ghost use Rattle.virtiofs_map.specs.SpecificationText.{is_word_character, word_of, numbers_of, HasNoSeparator, Says, SpecificationFault, HasSpecificationFault, specification_fault_of, IsExplained};
 ghost use Rattle.virtiofs_map.specs.declared.cmdline.IdMap.{IdMap as Specification};
 
 use super::{IdMap, IdMapError};
@@ -54,9 +54,10 @@ fn cut_prefix<A: Allocator>(alloc: A, text: &str) -> Result<Option<Cut<'_, A>>, 
 
 /// Reads one field.
 fn read_field<A: Allocator>(alloc: A, field: &str) -> Result<u32, IdMapError<A>>
-    ensures { MatchResult result
+    ensures answer { MatchResult result
         (λ value. IsNumeral (chars field.now) value)
         (λ e. OutOfMemoryOr (specification_fault_of e) (IsFieldFault (chars field.now))) }
+    ensures explained { IfErr result IsExplained }
 {
     match number(field) {
         Ok(value) => Ok(value),
@@ -77,6 +78,7 @@ fn read_fields<A: Allocator + Copy>(
         AllZip IsNumeral (split_at_each separator (chars fields.now)) v.items) }
     ensures refused { IfErr result (λ e. OutOfMemoryOr (specification_fault_of e)
         (IsFieldsFault (split_at_each separator (chars fields.now)))) }
+    ensures explained { IfErr result IsExplained }
 {
     let mut numbers = Vec::new(alloc);
     let mut rest = fields;
@@ -90,9 +92,10 @@ fn read_fields<A: Allocator + Copy>(
 
 /// The numbers of a word that takes three.
 fn three<A: Allocator>(numbers: &[u32]) -> Result<(u32, u32, u32), IdMapError<A>>
-    ensures { MatchResult result
+    ensures answer { MatchResult result
         (λ n. numbers.now ≡ n.0 ∷ n.1 ∷ n.2 ∷ [])
         (λ e. OutOfMemoryOr (specification_fault_of e) (IsCountFault 3 numbers.now)) }
+    ensures explained { IfErr result IsExplained }
 {
     match numbers {
         [first, second, third] => Ok((*first, *second, *third)),
@@ -105,9 +108,10 @@ fn three<A: Allocator>(numbers: &[u32]) -> Result<(u32, u32, u32), IdMapError<A>
 
 /// The numbers of a word that takes two.
 fn two<A: Allocator>(numbers: &[u32]) -> Result<(u32, u32), IdMapError<A>>
-    ensures { MatchResult result
+    ensures answer { MatchResult result
         (λ n. numbers.now ≡ n.0 ∷ n.1 ∷ [])
         (λ e. OutOfMemoryOr (specification_fault_of e) (IsCountFault 2 numbers.now)) }
+    ensures explained { IfErr result IsExplained }
 {
     match numbers {
         [first, second] => Ok((*first, *second)),
@@ -124,6 +128,7 @@ fn specification<A: Allocator>(word: String<A>, numbers: &[u32]) -> Result<IdMap
     ensures numbers { IfOk result (λ spec. numbers.now ≡ numbers_of spec) }
     ensures refused { IfErr result (λ e. OutOfMemoryOr (specification_fault_of e)
         (IsWordFault (string_bytes word) numbers.now)) }
+    ensures explained { IfErr result IsExplained }
 {
     match word.as_str() {
         "guest" => {
@@ -175,6 +180,7 @@ fn read<A: Allocator + Copy>(alloc: A, text: &str) -> Result<IdMap, IdMapError<A
     ensures read { IfOk result (λ spec. Says (chars text.now) spec) }
     ensures refused { IfErr result (λ e.
         OutOfMemoryOr (specification_fault_of e) (HasSpecificationFault (chars text.now))) }
+    ensures explained { IfErr result IsExplained }
 {
     let Some(cut) = cut_prefix(alloc, text)? else {
         return Err(IdMapError::InvalidLength {
@@ -210,6 +216,8 @@ impl IdMap {
         ensures faulty { (fault : SpecificationFault) → HasSpecificationFault (chars text.now) fault
             → MatchResult result (λ _. ⊥)
             (λ e. OutOfMemoryOr (specification_fault_of e) (λ told. told ≡ fault)) }
+        // Where a field is no number, the error says of it what the standard library says.
+        ensures explained { IfErr result IsExplained }
     {
         read(alloc, text)
     }

@@ -9,7 +9,7 @@ use std::alloc::{AllocError, Global};
 use std::test::Fail;
 
 /// Each text, and the printed form of the specification that it says.
-const PRINTED: [(&str, &str); 8] = [
+const PRINTED: [(&str, &str); 11] = [
     ("FORBID-GUEST/7/3", "forbid-guest:7:3"),
     ("map+00+1000+10", "map:0:1000:10"),
     ("Guest:1:2:3", "guest:1:2:3"),
@@ -24,12 +24,20 @@ const PRINTED: [(&str, &str); 8] = [
         "map:4294967295:4294967295:4294967295",
     ),
     ("forbid-guest:0:1", "forbid-guest:0:1"),
+    ("map:00000000005:1:1", "map:5:1:1"),
+    ("map\u{a0}0\u{a0}1000\u{a0}10", "map:0:1000:10"),
+    ("map\u{0}0\u{0}1000\u{0}10", "map:0:1000:10"),
 ];
 
 /// Each text that says no specification, and the text of its fault.
-const REFUSED: [(&str, &str); 6] = [
+const REFUSED: [(&str, &str); 8] = [
     ("FOO:1", "Invalid ID map prefix foo"),
     (":0:1:2", "Invalid ID map prefix "),
+    ("map\u{660}:0:1:2", "Invalid ID map prefix map\u{660}"),
+    (
+        "FORB\u{130}D-GUEST:1:2",
+        "Invalid ID map prefix forb\u{130}d-guest",
+    ),
     (
         "map:1:2",
         "Invalid ID map length (expected 3 elements, got 2 elements)",
@@ -87,12 +95,16 @@ fn prints_faults(rt: HostRuntime) -> Result<(), Fail> {
 }
 
 /// A text, and the first of its fields that is no number.
-const UNREAD: [(&str, &str); 5] = [
+const UNREAD: [(&str, &str); 9] = [
     ("map:-0:1:2", "-0"),
     ("map:0:4294967296:x", "4294967296"),
     ("map:::x", ""),
     ("map:0:1:+", "+"),
     ("foo:1:x:4294967296", "x"),
+    ("map:4294967296:0:1", "4294967296"),
+    ("map:+:0:1", "+"),
+    ("map++0+1000+10", ""),
+    ("map:５:0:1", "５"),
 ];
 
 #[test]

@@ -12,7 +12,7 @@ returns-in_err-read_field-clause-refused g c =
     let (done, so_far, read) = c.loop-field.invariant.1 in
     let s = c.in-Some.ensures in
     let next = split_at_each-cut c.args.separator _ _ _ s.whole s.first in
-    rw (p.1, p.2) (IsFieldsFault-here _ done _ _ _ _ (so_far ∙ ap (λ (xs : List (List ℕ)). done ++ xs) next) read c.in_err-read_field.ensures)
+    rw (p.1, p.2) (IsFieldsFault-here _ done _ _ _ _ (so_far ∙ ap (λ (xs : List (List ℕ)). done ++ xs) next) read c.in_err-read_field.ensures.answer)
 
 pub loop-field-preserved : goal.loop-field-preserved
 loop-field-preserved g c =
@@ -24,7 +24,7 @@ loop-field-preserved g c =
       (
         done ++ field ∷ [],
         so_far ∙ ap (λ (xs : List (List ℕ)). done ++ xs) next ∙ sym (append_assoc done (field ∷ []) _),
-        rw c.in_ok-push.ensures.items (AllZip-push IsNumeral done _ field _ read c.in_ok-read_field.ensures),
+        rw c.in_ok-push.ensures.items (AllZip-push IsNumeral done _ field _ read c.in_ok-read_field.ensures.answer),
       ),
     )
 
@@ -33,11 +33,11 @@ returns-in_err-read_field-2-clause-refused g c =
     let p = err_from_is_err_and c.from_residual-in_err-read_field-2.result c.from_residual-in_err-read_field-2.ensures.1 in
     let (done, so_far, read) = c.loop-field.invariant.1 in
     let last = split_at_each-last c.args.separator _ c.in_default.ensures.absent in
-    rw (p.1, p.2) (IsFieldsFault-here _ done _ _ _ _ (so_far ∙ ap (λ (xs : List (List ℕ)). done ++ xs) last) read c.in_err-read_field-2.ensures)
+    rw (p.1, p.2) (IsFieldsFault-here _ done _ _ _ _ (so_far ∙ ap (λ (xs : List (List ℕ)). done ++ xs) last) read c.in_err-read_field-2.ensures.answer)
 
 pub returns-clause-read : goal.returns-clause-read
 returns-clause-read g c =
     let (done, so_far, read) = c.loop-field.invariant.1 in
     let last = split_at_each-last c.args.separator _ c.in_default.ensures.absent in
     let whole = so_far ∙ ap (λ (xs : List (List ℕ)). done ++ xs) last in
-    rw (whole, c.in_ok-push-2.ensures.items) (AllZip-push IsNumeral done _ _ _ read c.in_ok-read_field-2.ensures)
+    rw (whole, c.in_ok-push-2.ensures.items) (AllZip-push IsNumeral done _ _ _ read c.in_ok-read_field-2.ensures.answer)
