@@ -1,4 +1,12 @@
 pub mod ForCallers
+mod AuditAlikeLemmas
+mod AuditCountLemmas
+mod AuditFrontLemmas
+mod AuditLeastLemmas
+mod AuditLoopLemmas
+mod AuditLostLemmas
+mod AuditSeenLemmas
+mod AuditStrayLemmas
 mod BeginsLemmas
 mod BuildFaultLemmas
 mod BuildLemmas
@@ -31,6 +39,7 @@ mod SpecificationPrintedLemmas
 mod SpecificationsLemmas
 mod StandsLemmas
 mod StoredLemmas
+mod TerminatedLemmas
 mod TrieLemmas
 mod TrieRuleLemmas
 mod TrieWayLemmas

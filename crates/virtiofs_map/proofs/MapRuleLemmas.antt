@@ -127,11 +127,11 @@ passed_empty {key} {prepend} acts name host e none =
 
 -- ---- the list of one name
 
-names_of_one : (name : List ℕ) → All IsNotZero name → names (name ++ 0 ∷ []) ≡ filter is_name (name ∷ [])
+pub names_of_one : (name : List ℕ) → All IsNotZero name → names (name ++ 0 ∷ []) ≡ filter is_name (name ∷ [])
 names_of_one name no_zero =
     ap (filter is_name) (slice_split_at is_zero name 0 [] (All-weaker IsNotZero (λ byte. is_zero byte ≡ false) (λ byte h. ne_eqb byte 0 h) name no_zero) refl)
 
-some_name : (byte : ℕ) (bytes : List ℕ) → is_name (byte ∷ bytes) ≡ true
+pub some_name : (byte : ℕ) (bytes : List ℕ) → is_name (byte ∷ bytes) ≡ true
 some_name byte bytes = ap not (ne_eqb (length (byte ∷ bytes)) 0 (λ e. absurd (omega arith)))
 
 -- the list of one name that is listed
@@ -141,7 +141,7 @@ lists_one rules [] name all listed empty one =
 lists_one rules (byte ∷ bytes) name all listed empty one =
     server_of rules (host_answer rules) all (λ each. refl) (byte ∷ bytes ++ 0 ∷ []) ∙ rw (one, some_name byte bytes, listed) (ap Some (append-nil (name ++ 0 ∷ [])))
 
-not_zero_name : (name : List ℕ) → IsName name → All IsNotZero name
+pub not_zero_name : (name : List ℕ) → IsName name → All IsNotZero name
 not_zero_name name is = All-weaker (λ byte. (0 < byte) × (byte < 256)) IsNotZero (λ byte h e. absurd (omega (arith, h.0))) name is
 
 -- ---- all that one map rule means

@@ -1,4 +1,6 @@
 pub mod Alphanumeric
+pub mod Audit
+pub mod AuditParts
 pub mod Build
 pub mod BuildParts
 pub mod FirstRule

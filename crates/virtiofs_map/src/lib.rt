@@ -6,6 +6,7 @@
 //! attribute ([`xattrmap`]). Numbers are read by [`text::number`] everywhere.
 #![tactic(auto)]
 
+pub mod audit;
 pub mod cmdline;
 pub mod id_types;
 pub mod idmap;

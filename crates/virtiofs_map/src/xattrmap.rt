@@ -48,7 +48,7 @@ mod lookup;
 mod names;
 mod nodes;
 mod reader;
-mod rules;
+pub(crate) mod rules;
 mod scopes;
 mod server;
 #[cfg(test)]

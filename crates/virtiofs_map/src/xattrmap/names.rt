@@ -67,7 +67,19 @@ impl<A: Allocator> Model for XattrNameBuf<A> {
 }
 
 impl<A: Allocator> XattrNameBuf<A> {
-    ghost use Rattle.std.specs.Prelude.{◌≡◌};
+    ghost use Rattle.std.specs.Prelude.{◌≡◌, ◌≢◌, All, IfOk, OnOk};
+    ghost use Rattle.virtiofs_map.specs.MapRule.{IsName};
+
+    /// The name of these bytes, in memory of its own.
+    pub(crate) fn copy_of(alloc: A, bytes: &[u8]) -> Result<XattrNameBuf<A>, AllocError>
+        requires { All (λ byte. byte ≢ 0) bytes.now }
+        ensures same { IfOk result (λ name. name ≡ bytes.now) }
+        ensures is_name { OnOk result (IsName bytes.now) }
+    {
+        Ok(XattrNameBuf {
+            bytes: Vec::from_slice(alloc, bytes)?,
+        })
+    }
 
     /// The name, borrowed.
     pub fn as_name(&self) -> XattrName<'_>

@@ -1,0 +1,257 @@
+-- Names that fare alike: the longest of some patterns that begins a name is begun by the same patterns as the name.
+use Rattle.std.proofs.Common.{◌≡◌, zero, suc, ◌≢◌, ℕ, ◌+◌, ◌<◌, ◌≤◌, Bool, true, false, ◌&&◌, cond, eqb, List, [], ◌∷◌, ◌++◌, map, length, drop, Option, Some, None, ◌⊎◌, inl, inr, refl, sym, ap, ◌∙◌, subst, arith}
+use Rattle.std.specs.List.{AllByRecursion, cons_option, filter_map, flat_map, find, range_with_len}
+use Rattle.std.specs.Option.{option_map_or, option_and_then}
+use Rattle.std.proofs.lemmas.Bool.{and_parts, and_from, cond_both, cases_Bool, cases_lt, false_from_ne_true, false≢true, eqb-true, eq-eqb}
+use Rattle.std.proofs.lemmas.List.{append_assoc, length-append, drop_at}
+use Rattle.virtiofs_map.specs.AuditParts.{front_of, front, rest_of, rests, guest_names_of, guest_names, whole_of, wholes, host_names_of, host_names, one_byte, one_byte_names}
+use Rattle.virtiofs_map.specs.Names.{begins, fits, deciding}
+use Rattle.virtiofs_map.specs.Rule.{MappingRule}
+use Rattle.virtiofs_map.specs.declared.xattrmap.scopes.Side.TheVariants.{Client, Server}
+use Rattle.virtiofs_map.proofs.BeginsLemmas.{begins_split, begins_from, begins-append, begins_length}
+use Rattle.virtiofs_map.proofs.FirstRuleLemmas.{deciding-find}
+
+-- ---- fronts of a name
+
+pub begins_trans : (p q n : List ℕ) → begins p q ≡ true → begins q n ≡ true → begins p n ≡ true
+begins_trans p q n b d =
+    begins_from p n (drop (length p) q ++ drop (length q) n) (begins_split q n d ∙ ap (λ front. front ++ drop (length q) n) (begins_split p q b) ∙ append_assoc p (drop (length p) q) (drop (length q) n))
+
+-- of two fronts of a name the shorter begins the longer
+pub shorter_begins : (p q n : List ℕ) → begins p n ≡ true → begins q n ≡ true → length p ≤ length q → begins p q ≡ true
+shorter_begins [] q n b d l = refl
+shorter_begins (x ∷ p) [] n b d l = absurd (omega arith)
+shorter_begins (x ∷ p) (y ∷ q) [] b d l = absurd (false≢true b)
+shorter_begins (x ∷ p) (y ∷ q) (z ∷ n) b d l =
+    let one = and_parts (eqb x z) (begins p n) b in
+    let other = and_parts (eqb y z) (begins q n) d in
+    let same : x ≡ y = eqb-true x z one.0 ∙ sym (eqb-true y z other.0) in
+    and_from (eqb x y) (begins p q) (eq-eqb x y same) (shorter_begins p q n one.1 other.1 (omega arith))
+
+pub begins-append_both : (a p n : List ℕ) → begins (a ++ p) (a ++ n) ≡ begins p n
+begins-append_both [] p n = refl
+begins-append_both (x ∷ a) p n = ap (λ b. b && begins (a ++ p) (a ++ n)) (eq-eqb x x refl) ∙ begins-append_both a p n
+
+pub same_tests : (x y : Bool) → (x ≡ true → y ≡ true) → (y ≡ true → x ≡ true) → x ≡ y
+same_tests true true f g = refl
+same_tests true false f g = sym (f refl)
+same_tests false true f g = g refl
+same_tests false false f g = refl
+
+-- a pattern that is no longer than a, or that a does not begin, begins a name after a only where it begins a
+begins_within : (a p n : List ℕ) → begins a p ≡ false → begins p (a ++ n) ≡ true → begins p a ≡ true
+begins_within a p n fails b =
+    elim (cases_lt (length a) (length p)) [
+      | inl l ↦ absurd (false≢true (sym fails ∙ shorter_begins a p (a ++ n) (begins-append a n) b (omega arith)))
+      | inr l ↦ shorter_begins p a (a ++ n) b (begins-append a n) l
+    ]
+
+-- ---- members of a list
+
+abbrev pub Member : {X : Type 0} → X → List X → Type 0
+Member x [] = ⊥
+Member x (y ∷ ys) = (x ≡ y) ⊎ Member x ys
+
+pub all_member : {X : Type 0} (P : X → Type 0) (x : X) (xs : List X) → AllByRecursion P xs → Member x xs → P x
+all_member P x [] all m = absurd m
+all_member P x (y ∷ ys) all (inl e) = subst P (sym e) all.0
+all_member P x (y ∷ ys) all (inr m) = all_member P x ys all.1 m
+
+all_weaker : {X : Type 0} (P Q : X → Type 0) → ((x : X) → P x → Q x) → (xs : List X) → AllByRecursion P xs → AllByRecursion Q xs
+all_weaker P Q f [] all = tt
+all_weaker P Q f (x ∷ xs) all = (f x all.0, all_weaker P Q f xs all.1)
+
+all_first : {X : Type 0} (P : X → Type 0) (xs ys : List X) → AllByRecursion P (xs ++ ys) → AllByRecursion P xs
+all_first P [] ys all = tt
+all_first P (x ∷ xs) ys all = (all.0, all_first P xs ys all.1)
+
+all_second : {X : Type 0} (P : X → Type 0) (xs ys : List X) → AllByRecursion P (xs ++ ys) → AllByRecursion P ys
+all_second P [] ys all = all
+all_second P (x ∷ xs) ys all = all_second P xs ys all.1
+
+-- ---- the longest member that begins a name
+
+-- t begins c, if it begins the name
+abbrev pub Meets : List ℕ → List ℕ → List ℕ → Type 0
+Meets name c t = begins t name ≡ true → begins t c ≡ true
+
+-- c stands for the name: it is among those that are tried, begins the name, and is begun by each pattern that begins the name
+pub record Stands (patterns tried : List (List ℕ)) (name c : List ℕ) : Type 0 where
+  pub not_empty : c ≢ []
+  pub is_front : begins c name ≡ true
+  pub met : AllByRecursion (Meets name c) patterns
+  pub is_tried : Member c tried
+
+pub record Stood (patterns tried : List (List ℕ)) (name : List ℕ) : Type 0 where
+  pub by : List ℕ
+  pub stands : Stands patterns tried name by
+
+one_more : (t : List ℕ) (patterns tried : List (List ℕ)) (name : List ℕ) → Stood patterns tried name → Stood (t ∷ patterns) (t ∷ tried) name
+one_more t patterns tried name stood =
+    elim (cases_Bool (begins t name)) [
+      | inr fails ↦ keep (λ b. absurd (false≢true (sym fails ∙ b)))
+      | inl holds ↦
+          elim (cases_lt (length stood.by) (length t)) [
+            | inr l ↦ keep (λ b. shorter_begins t stood.by name b stood.stands.is_front l)
+            | inl l ↦ take holds l
+          ]
+    ] where
+      keep : Meets name stood.by t → Stood (t ∷ patterns) (t ∷ tried) name
+      keep met = record {
+        by = stood.by;
+        stands = record {
+          not_empty = stood.stands.not_empty;
+          is_front = stood.stands.is_front;
+          met = (met, stood.stands.met);
+          is_tried = inr stood.stands.is_tried;
+        };
+      }
+
+      take : begins t name ≡ true → length stood.by < length t → Stood (t ∷ patterns) (t ∷ tried) name
+      take holds l = record {
+        by = t;
+        stands = record {
+          not_empty = λ none. let e = ap length none in absurd (omega arith);
+          is_front = holds;
+          met = (λ b. shorter_begins t t name holds holds (omega arith), all_weaker (Meets name stood.by) (Meets name t) (λ s met b. begins_trans s stood.by t (met b) (shorter_begins stood.by t name stood.stands.is_front holds (omega arith))) patterns stood.stands.met);
+          is_tried = inl refl;
+        };
+      }
+
+in_range : (a n x : ℕ) → a ≤ x → x < a + n → Member (one_byte x) (map one_byte (range_with_len a n))
+in_range a zero x l u = absurd (omega arith)
+in_range a (suc n) x l u =
+    elim (cases_lt a x) [ inl more ↦ inr (in_range (a + 1) n x (omega arith) (omega arith)) | inr same ↦ inl (let e : x ≡ a = omega arith in ap one_byte e) ]
+
+one_byte_tried : (x : ℕ) → 0 < x → x < 256 → Member (one_byte x) one_byte_names
+unfolding one_byte_names
+one_byte_tried x l u = in_range 1 255 x (omega arith) (omega arith)
+
+-- a name that is not empty has one that stands for it
+pub stood : (patterns : List (List ℕ)) (x : ℕ) (xs : List ℕ) → 0 < x → x < 256 → Stood patterns (patterns ++ one_byte_names) (x ∷ xs)
+stood [] x xs l u = record {
+  by = one_byte x;
+  stands = record {
+    not_empty = λ e. cc;
+    is_front = begins_from (one_byte x) (x ∷ xs) xs refl;
+    met = tt;
+    is_tried = one_byte_tried x l u;
+  };
+}
+stood (t ∷ patterns) x xs l u = one_more t patterns (patterns ++ one_byte_names) (x ∷ xs) (stood patterns x xs l u)
+
+-- ---- the same rule decides
+
+find_same : {X : Type 0} (p q : X → Bool) (xs : List X) → AllByRecursion (λ x. p x ≡ q x) xs → find p xs ≡ find q xs
+find_same p q [] all = refl
+find_same p q (x ∷ xs) all = rw (all.0, find_same p q xs all.1) refl
+
+-- what begins the name begins what stands for it, and the other way round
+met_same : (name c t : List ℕ) → begins c name ≡ true → Meets name c t → begins t name ≡ begins t c
+met_same name c t f met = same_tests (begins t name) (begins t c) met (λ b. begins_trans t c name b f)
+
+-- by the keys of the guest's rules
+keys_same : (others rules : List MappingRule) (name c : List ℕ) → begins c name ≡ true → AllByRecursion (Meets name c) (guest_names others rules) → AllByRecursion (λ rule. fits Client name rule ≡ fits Client c rule) rules
+keys_same others [] name c f all = tt
+keys_same others (rule ∷ rules) name c f all =
+    (key rule.client (all_first (Meets name c) (guest_names_of others rule) (guest_names others rules) all), keys_same others rules name c f (all_second (Meets name c) (guest_names_of others rule) (guest_names others rules) all)) where
+      key : (b : Bool) → AllByRecursion (Meets name c) (cond b (rule.key ∷ option_map_or (rests others) (front_of rule) []) []) → (b && begins rule.key name) ≡ (b && begins rule.key c)
+      key true met = met_same name c rule.key f met.0
+      key false met = refl
+
+-- by the rests of a front
+rest_same : (added prepend name c : List ℕ) → begins c name ≡ true → (b : Bool) → begins added prepend ≡ b → AllByRecursion (Meets name c) (cons_option (cond b (Some (drop (length added) prepend)) None) []) → begins prepend (added ++ name) ≡ begins prepend (added ++ c)
+rest_same added prepend name c f true b met =
+    let rest = drop (length added) prepend in
+    let split = begins_split added prepend b in
+    ap (λ p. begins p (added ++ name)) split ∙ begins-append_both added rest name ∙ met_same name c rest f met.0 ∙ sym (ap (λ p. begins p (added ++ c)) split ∙ begins-append_both added rest c)
+rest_same added prepend name c f false fails met =
+    same_tests (begins prepend (added ++ name)) (begins prepend (added ++ c)) (λ b. begins_trans prepend added (added ++ c) (begins_within added prepend name fails b) (begins-append added c)) (λ b. begins_trans prepend added (added ++ name) (begins_within added prepend c fails b) (begins-append added name))
+
+first_option : {X : Type 0} (P : X → Type 0) (o : Option X) (xs : List X) → AllByRecursion P (cons_option o xs) → AllByRecursion P (cons_option o []) × AllByRecursion P xs
+first_option P None xs all = (tt, all)
+first_option P (Some x) xs all = ((all.0, tt), all.1)
+
+rests_same : (others : List MappingRule) (added name c : List ℕ) → begins c name ≡ true → AllByRecursion (Meets name c) (rests others added) → AllByRecursion (λ rule. fits Server (added ++ name) rule ≡ fits Server (added ++ c) rule) others
+rests_same [] added name c f all = tt
+rests_same (rule ∷ others) added name c f all =
+    let parts = first_option (Meets name c) (rest_of added rule) (rests others added) all in
+    (here rule.server parts.0, rests_same others added name c f parts.1) where
+      here : (b : Bool) → AllByRecursion (Meets name c) (cons_option (cond (b && begins added rule.prepend) (Some (drop (length added) rule.prepend)) None) []) → (b && begins rule.prepend (added ++ name)) ≡ (b && begins rule.prepend (added ++ c))
+      here true met = rest_same added rule.prepend name c f (begins added rule.prepend) refl met
+      here false met = refl
+
+-- the patterns of the rule that decides are among those of all rules
+of_found : (P : List ℕ → Type 0) (others rules : List MappingRule) (name added : List ℕ) → AllByRecursion P (guest_names others rules) → option_and_then front_of (find (fits Client name) rules) ≡ Some added → AllByRecursion P (rests others added)
+of_found P others [] name added all e = cc
+of_found P others (rule ∷ rules) name added all e =
+    let mine = all_first P (guest_names_of others rule) (guest_names others rules) all in
+    let more = all_second P (guest_names_of others rule) (guest_names others rules) all in
+    cond_both (fits Client name rule) (Some rule) (find (fits Client name) rules) (λ o. option_and_then front_of o ≡ Some added → AllByRecursion P (rests others added)) (λ b k. here (and_parts rule.client (begins rule.key name) b).0 mine k) (λ _ k. of_found P others rules name added more k) e where
+      here : rule.client ≡ true → AllByRecursion P (guest_names_of others rule) → front_of rule ≡ Some added → AllByRecursion P (rests others added)
+      here holds mine k =
+          let met = subst (λ b. AllByRecursion P (cond b (rule.key ∷ option_map_or (rests others) (front_of rule) []) [])) holds mine in
+          subst (λ o. AllByRecursion P (option_map_or (rests others) o [])) k met.1
+
+-- the two names meet the same rules, and so does what they become
+pub record FareAlike (rules others : List MappingRule) (name c : List ℕ) : Type 0 where
+  pub client : deciding Client rules name ≡ deciding Client rules c
+  pub server : (added : List ℕ) → front Client rules name ≡ Some added → deciding Server others (added ++ name) ≡ deciding Server others (added ++ c)
+
+pub fare_alike : (rules others : List MappingRule) (tried : List (List ℕ)) (name c : List ℕ) → Stands (guest_names others rules) tried name c → FareAlike rules others name c
+fare_alike rules others tried name c stands = record {
+  client = deciding-find Client rules name ∙ find_same (fits Client name) (fits Client c) rules (keys_same others rules name c stands.is_front stands.met) ∙ sym (deciding-find Client rules c);
+  server = λ added e.
+      (let decides = ap (option_and_then front_of) (sym (deciding-find Client rules name)) ∙ e in
+      let met = of_found (Meets name c) others rules name added stands.met decides in
+      deciding-find Server others (added ++ name) ∙ find_same (fits Server (added ++ name)) (fits Server (added ++ c)) others (rests_same others added name c stands.is_front met) ∙ sym (deciding-find Server others (added ++ c)));
+}
+
+-- ---- the same for names of the host
+
+prepends_same : (others rules : List MappingRule) (host c : List ℕ) → begins c host ≡ true → AllByRecursion (Meets host c) (host_names others rules) → AllByRecursion (λ rule. fits Server host rule ≡ fits Server c rule) rules
+prepends_same others [] host c f all = tt
+prepends_same others (rule ∷ rules) host c f all =
+    (prepend rule.server (all_first (Meets host c) (host_names_of others rule) (host_names others rules) all), prepends_same others rules host c f (all_second (Meets host c) (host_names_of others rule) (host_names others rules) all)) where
+      prepend : (b : Bool) → AllByRecursion (Meets host c) (cond b (rule.prepend ∷ option_map_or (wholes others) (front_of rule) []) []) → (b && begins rule.prepend host) ≡ (b && begins rule.prepend c)
+      prepend true met = met_same host c rule.prepend f met.0
+      prepend false met = refl
+
+whole_same : (cut key name rest : List ℕ) → begins (cut ++ rest) (cut ++ name) ≡ true → Meets (cut ++ name) (cut ++ rest) (cut ++ key) → begins key name ≡ begins key rest
+whole_same cut key name rest f met =
+    sym (begins-append_both cut key name) ∙ met_same (cut ++ name) (cut ++ rest) (cut ++ key) f met ∙ begins-append_both cut key rest
+
+wholes_same : (others : List MappingRule) (cut name rest : List ℕ) → begins (cut ++ rest) (cut ++ name) ≡ true → AllByRecursion (Meets (cut ++ name) (cut ++ rest)) (wholes others cut) → AllByRecursion (λ rule. fits Client name rule ≡ fits Client rest rule) others
+wholes_same [] cut name rest f all = tt
+wholes_same (rule ∷ others) cut name rest f all =
+    let parts = first_option (Meets (cut ++ name) (cut ++ rest)) (whole_of cut rule) (wholes others cut) all in
+    (here rule.client parts.0, wholes_same others cut name rest f parts.1) where
+      here : (b : Bool) → AllByRecursion (Meets (cut ++ name) (cut ++ rest)) (cons_option (cond b (Some (cut ++ rule.key)) None) []) → (b && begins rule.key name) ≡ (b && begins rule.key rest)
+      here true met = whole_same cut rule.key name rest f met.0
+      here false met = refl
+
+of_found_host : (P : List ℕ → Type 0) (others rules : List MappingRule) (host cut : List ℕ) → AllByRecursion P (host_names others rules) → option_and_then front_of (find (fits Server host) rules) ≡ Some cut → AllByRecursion P (wholes others cut)
+of_found_host P others [] host cut all e = cc
+of_found_host P others (rule ∷ rules) host cut all e =
+    let mine = all_first P (host_names_of others rule) (host_names others rules) all in
+    let more = all_second P (host_names_of others rule) (host_names others rules) all in
+    cond_both (fits Server host rule) (Some rule) (find (fits Server host) rules) (λ o. option_and_then front_of o ≡ Some cut → AllByRecursion P (wholes others cut)) (λ b k. here (and_parts rule.server (begins rule.prepend host) b).0 mine k) (λ _ k. of_found_host P others rules host cut more k) e where
+      here : rule.server ≡ true → AllByRecursion P (host_names_of others rule) → front_of rule ≡ Some cut → AllByRecursion P (wholes others cut)
+      here holds mine k =
+          let met = subst (λ b. AllByRecursion P (cond b (rule.prepend ∷ option_map_or (wholes others) (front_of rule) []) [])) holds mine in
+          subst (λ o. AllByRecursion P (option_map_or (wholes others) o [])) k met.1
+
+pub record ListedAlike (rules others : List MappingRule) (host c : List ℕ) : Type 0 where
+  pub server : deciding Server rules host ≡ deciding Server rules c
+  pub client : (cut name rest : List ℕ) → front Server rules host ≡ Some cut → host ≡ cut ++ name → c ≡ cut ++ rest → deciding Client others name ≡ deciding Client others rest
+
+pub listed_alike : (rules others : List MappingRule) (tried : List (List ℕ)) (host c : List ℕ) → Stands (host_names others rules) tried host c → ListedAlike rules others host c
+listed_alike rules others tried host c stands = record {
+  server = deciding-find Server rules host ∙ find_same (fits Server host) (fits Server c) rules (prepends_same others rules host c stands.is_front stands.met) ∙ sym (deciding-find Server rules c);
+  client = λ cut name rest e split other.
+      (let decides = ap (option_and_then front_of) (sym (deciding-find Server rules host)) ∙ e in
+      let met = of_found_host (Meets host c) others rules host cut stands.met decides in
+      let front : begins (cut ++ rest) (cut ++ name) ≡ true = subst (λ n. begins (cut ++ rest) n ≡ true) split (subst (λ p. begins p host ≡ true) other stands.is_front) in
+      let over = subst (λ n. AllByRecursion (Meets n (cut ++ rest)) (wholes others cut)) split (subst (λ p. AllByRecursion (Meets host p) (wholes others cut)) other met) in
+      deciding-find Client others name ∙ find_same (fits Client name) (fits Client rest) others (wholes_same others cut name rest front over) ∙ sym (deciding-find Client others rest));
+}

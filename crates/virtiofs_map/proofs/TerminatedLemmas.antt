@@ -1,0 +1,140 @@
+-- Where a few names are decided, all names are.
+use Rattle.std.proofs.Common.{◌≡◌, zero, suc, ◌≢◌, ℕ, ◌+◌, ◌<◌, Bool, true, false, ◌&&◌, not, cond, eqb, List, [], ◌∷◌, ◌++◌, length, filter, Option, Some, None, is_some, ◌⊎◌, inl, inr, refl, sym, ap, ◌∙◌, subst, arith}
+use Rattle.std.specs.List.{All, AllByRecursion, find, list_all, slice_split, onto_first}
+use Rattle.std.specs.Option.{option_map_or}
+use Rattle.std.proofs.lemmas.Bool.{and_parts, and_from, cond_both, cases_Bool, cases_lt, false≢true, true≢false, eqb-false}
+use Rattle.std.proofs.lemmas.List.Elements.{All-head, All-tail, All-nil, All-cons}
+use Rattle.virtiofs_map.specs.Audit.{IsList, Terminated}
+use Rattle.virtiofs_map.specs.MapRule.{IsName}
+use Rattle.virtiofs_map.specs.Names.{begins, fits, deciding, answer_by, IsUnterminated, client_answer, IsUndecided, host_answer_by, host_answer, is_decided, names, server_answer}
+use Rattle.virtiofs_map.specs.Rule.{RuleType, Prefix, Okay, Bad, Unsupported, MappingRule}
+use Rattle.virtiofs_map.specs.declared.xattrmap.scopes.Side.{Side}
+use Rattle.virtiofs_map.specs.declared.xattrmap.scopes.Side.TheVariants.{Client, Server}
+use Rattle.virtiofs_map.proofs.AuditAlikeLemmas.{begins_trans}
+use Rattle.virtiofs_map.proofs.AuditFrontLemmas.{answer_to_one, server_one}
+use Rattle.virtiofs_map.proofs.BeginsLemmas.{begins_from}
+use Rattle.virtiofs_map.proofs.FirstRuleLemmas.{deciding-find}
+use Rattle.virtiofs_map.proofs.MapRuleLemmas.{not_zero_name, some_name}
+use Rattle.virtiofs_map.proofs.ServerListLemmas.{is_name, is_zero}
+
+-- ---- a rule that fits a name fits what begins with that name
+
+find_more : {X : Type 0} (p q : X → Bool) → ((x : X) → p x ≡ true → q x ≡ true) → (xs : List X) → is_some (find p xs) ≡ true → is_some (find q xs) ≡ true
+find_more p q more [] e = e
+find_more p q more (x ∷ xs) e =
+    cond_both (q x) (Some x) (find q xs) (λ o. is_some o ≡ true) (λ _. refl) (λ fails. find_more p q more xs (cond_both (p x) (Some x) (find p xs) (λ o. is_some o ≡ true → is_some (find p xs) ≡ true) (λ holds _. absurd (false≢true (sym fails ∙ more x holds))) (λ _ k. k) e))
+
+fits_more : (side : Side) (front name : List ℕ) → begins front name ≡ true → (rule : MappingRule) → fits side front rule ≡ true → fits side name rule ≡ true
+fits_more Client front name b rule e =
+    let parts = and_parts rule.client (begins rule.key front) e in
+    and_from rule.client (begins rule.key name) parts.0 (begins_trans rule.key front name parts.1 b)
+fits_more Server front name b rule e =
+    let parts = and_parts rule.server (begins rule.prepend front) e in
+    and_from rule.server (begins rule.prepend name) parts.0 (begins_trans rule.prepend front name parts.1 b)
+
+decided_more : (side : Side) (rules : List MappingRule) (front name : List ℕ) → begins front name ≡ true → is_some (deciding side rules front) ≡ true → is_some (deciding side rules name) ≡ true
+decided_more side rules front name b e =
+    ap is_some (deciding-find side rules name) ∙ find_more (fits side front) (fits side name) (fits_more side front name b) rules (ap is_some (sym (deciding-find side rules front)) ∙ e)
+
+-- ---- names of the guest
+
+answered_by_kind : (kind : RuleType) (prepend name : List ℕ) → answer_by kind prepend name ≢ IsUnterminated
+answered_by_kind Okay prepend name e = cc
+answered_by_kind Prefix prepend name e = cc
+answered_by_kind Bad prepend name e = cc
+answered_by_kind Unsupported prepend name e = cc
+
+answered_by : (o : Option MappingRule) (name : List ℕ) → is_some o ≡ true → option_map_or (λ rule. answer_by rule.kind rule.prepend name) o IsUnterminated ≢ IsUnterminated
+answered_by None name e k = false≢true e
+answered_by (Some rule) name e k = answered_by_kind rule.kind rule.prepend name k
+
+answered_from : (o : Option MappingRule) (name : List ℕ) → option_map_or (λ rule. answer_by rule.kind rule.prepend name) o IsUnterminated ≢ IsUnterminated → is_some o ≡ true
+answered_from None name fails = absurd (fails refl)
+answered_from (Some rule) name fails = refl
+
+-- ---- names of the host
+
+decided_by_kind : (kind : RuleType) (prepend host : List ℕ) → is_decided (host_answer_by kind prepend host) ≡ true
+decided_by_kind Okay prepend host = refl
+decided_by_kind Prefix prepend host = refl
+decided_by_kind Bad prepend host = refl
+decided_by_kind Unsupported prepend host = refl
+
+decided_by : (o : Option MappingRule) (host : List ℕ) → is_some o ≡ true → is_decided (option_map_or (λ rule. host_answer_by rule.kind rule.prepend host) o IsUndecided) ≡ true
+decided_by None host e = absurd (false≢true e)
+decided_by (Some rule) host e = decided_by_kind rule.kind rule.prepend host
+
+-- ---- the names of a list
+
+abbrev IsByteOfName : ℕ → Type 0
+IsByteOfName byte = (0 < byte) × (byte < 256)
+
+abbrev IsPart : List ℕ → Type 0
+IsPart part = AllByRecursion IsByteOfName part
+
+parts_onto : (x : ℕ) → IsByteOfName x → (parts : List (List ℕ)) → AllByRecursion IsPart parts → AllByRecursion IsPart (onto_first x parts)
+parts_onto x is [] all = ((is, tt), tt)
+parts_onto x is (part ∷ parts) all = ((is, all.0), all.1)
+
+positive : (x : ℕ) → (x ≡ 0 → ⊥) → 0 < x
+positive zero some = absurd (some refl)
+positive (suc x) some = omega arith
+
+parts_are : (list : List ℕ) → IsList list → AllByRecursion IsPart (slice_split is_zero list)
+parts_are [] is = (tt, tt)
+parts_are (x ∷ xs) is =
+    let more = parts_are xs (All-tail (λ byte. byte < 256) x xs is) in
+    let below = All-head (λ byte. byte < 256) x xs is in
+    cond_both (is_zero x) ([] ∷ slice_split is_zero xs) (onto_first x (slice_split is_zero xs)) (AllByRecursion IsPart) (λ _. (tt, more)) (λ fails. parts_onto x (positive x (eqb-false x 0 fails), below) (slice_split is_zero xs) more)
+
+-- each name of one byte is decided
+abbrev pub BytesDecided : List MappingRule → ℕ → Type 0
+BytesDecided rules end =
+    (byte : ℕ) → 0 < byte → byte < end → is_some (deciding Server rules (byte ∷ [])) ≡ true
+
+pub bytes_more : (rules : List MappingRule) (byte : ℕ) → BytesDecided rules byte → is_some (deciding Server rules (byte ∷ [])) ≡ true → BytesDecided rules (byte + 1)
+bytes_more rules byte below here other low high =
+    elim (cases_lt other byte) [
+      | inl l ↦ below other low l
+      | inr l ↦ let same : other ≡ byte = omega arith in rw same here
+    ]
+
+all_decided : (rules : List MappingRule) → BytesDecided rules 256 → (parts : List (List ℕ)) → AllByRecursion IsPart parts → list_all (λ name. is_decided (host_answer rules name)) (filter is_name parts) ≡ true
+all_decided rules bytes [] all = refl
+all_decided rules bytes ([] ∷ parts) all = all_decided rules bytes parts all.1
+all_decided rules bytes ((x ∷ xs) ∷ parts) all =
+    let some = decided_more Server rules (x ∷ []) (x ∷ xs) (begins_from (x ∷ []) (x ∷ xs) xs refl) (bytes x all.0.0.0 all.0.0.1) in
+    let first = decided_by (deciding Server rules (x ∷ xs)) (x ∷ xs) some in
+    rw (some_name x xs) (and_from (is_decided (host_answer rules (x ∷ xs))) (list_all (λ name. is_decided (host_answer rules name)) (filter is_name parts)) first (all_decided rules bytes parts all.1))
+
+answered_list : (rules : List MappingRule) (list : List ℕ) → list_all (λ name. is_decided (host_answer rules name)) (names list) ≡ true → server_answer rules list ≢ None
+answered_list rules list e k =
+    let some = rw e at k in cc
+
+-- ---- terminated
+
+pub terminated_from : (rules : List MappingRule) → is_some (deciding Client rules []) ≡ true → BytesDecided rules 256 → Terminated rules
+terminated_from rules empty bytes = record {
+  client = λ name is. answered_by (deciding Client rules name) name (decided_more Client rules [] name refl empty);
+  server = λ list is. answered_list rules list (all_decided rules bytes (slice_split is_zero list) (parts_are list is));
+}
+
+pub empty_from : (rules : List MappingRule) → Terminated rules → is_some (deciding Client rules []) ≡ true
+empty_from rules terminated =
+    answered_from (deciding Client rules []) [] (terminated.client [] (All-nil IsByteOfName))
+
+undecided_one : (rules : List MappingRule) (host : List ℕ) (o : Option MappingRule) → is_some o ≡ false → option_map_or (λ rule. host_answer_by rule.kind rule.prepend host) o IsUndecided ≡ IsUndecided
+undecided_one rules host None e = refl
+undecided_one rules host (Some rule) e = absurd (true≢false e)
+
+pub byte_from : (rules : List MappingRule) → Terminated rules → BytesDecided rules 256
+byte_from rules terminated byte low high =
+    elim (cases_Bool (is_some (deciding Server rules (byte ∷ [])))) [
+      | inl holds ↦ holds
+      | inr fails ↦
+          (let host = byte ∷ [] in
+          let is = All-cons IsByteOfName byte [] (low, high) (All-nil IsByteOfName) in
+          let none = undecided_one rules host (deciding Server rules host) fails in
+          let answer = server_one rules host (λ e. cc) (not_zero_name host is) ∙ ap answer_to_one none in
+          absurd (terminated.server (byte ∷ 0 ∷ []) (All-cons (λ b. b < 256) byte (0 ∷ []) high (All-cons (λ b. b < 256) 0 [] (omega arith) (All-nil (λ b. b < 256)))) answer))
+    ]

@@ -1,0 +1,107 @@
+-- What an audit decides of a map, for all names.
+use Rattle.std.specs.Prelude.{◌≡◌, ◌≢◌, ◌⊎◌, ℕ, ◌+◌, ◌*◌, ◌<◌, List, [], ◌∷◌, ◌++◌, All, count_by, None}
+use Rattle.std.specs.Ordering.{nat_cmp}
+use Rattle.std.specs.declared.cmp.Ordering.TheVariants.{Less}
+use Rattle.std.specs.Cmp.Lexicographic.{slice_cmp}
+use Rattle.virtiofs_map.specs.MapRule.{IsName}
+use Rattle.virtiofs_map.specs.Names.{Passes, IsUnterminated, client_answer, IsListed, IsHidden, host_answer, names, server_answer, ListsBack}
+use Rattle.virtiofs_map.specs.Rule.{MappingRule}
+use Rattle.virtiofs_map.specs.declared.audit.answer.Audit.{Audit}
+use Rattle.virtiofs_map.specs.declared.audit.answer.Audit.TheVariants.{Yes, No}
+
+-- ---- the least name that is bad
+
+-- byte by byte, the name comes before the other; a front of a name comes before it
+abbrev pub IsBefore : List ℕ → List ℕ → Type 0
+IsBefore name other = slice_cmp nat_cmp name other ≡ Less
+
+-- the name is bad, and no bad name comes before it
+pub record IsLeast (bad : List ℕ → Type 0) (name : List ℕ) : Type 0 where
+  pub is_bad : bad name
+  pub none_before : (other : List ℕ) → bad other → ¬ IsBefore other name
+
+-- Yes where no name is bad, and else No with the least name that is
+abbrev pub AnswersLeast : {A : Type 0} → (List ℕ → Type 0) → Audit A → Type 0
+AnswersLeast bad Yes = (name : List ℕ) → ¬ bad name
+AnswersLeast bad (No name) = IsLeast bad name
+
+-- ---- does every name list back
+
+-- each name that passes lists back, the empty one left out
+abbrev pub Sound : List MappingRule → Type 0
+Sound rules = (name host : List ℕ) → IsName name → name ≢ [] → client_answer rules name ≡ Passes host → ListsBack rules name
+
+-- a name, not empty, that passes and does not list back
+pub record IsLost (rules : List MappingRule) (name : List ℕ) : Type 0 where
+  pub is_name : IsName name
+  pub not_empty : name ≢ []
+  pub host : List ℕ
+  pub passes : client_answer rules name ≡ Passes host
+  pub not_back : ¬ ListsBack rules name
+
+-- the most names that are tried: those of one byte, one for each rule of the client's side, and one for each of these with each rule of the server's side
+abbrev pub most_tried : List MappingRule → ℕ
+most_tried rules = 255 + count_by (λ rule. rule.client) rules + count_by (λ rule. rule.client) rules * count_by (λ rule. rule.server) rules
+
+-- ---- does a listed name open its host name
+
+-- each host name that is listed, the empty one left out, is what the name passes as under which it is listed
+abbrev pub OpensListed : List MappingRule → Type 0
+OpensListed rules = (host name : List ℕ) → IsName host → host ≢ [] → host_answer rules host ≡ IsListed name → client_answer rules name ≡ Passes host
+
+-- a host name, not empty, that is listed under a name that does not pass as it
+pub record IsStray (rules : List MappingRule) (host : List ℕ) : Type 0 where
+  pub is_name : IsName host
+  pub not_empty : host ≢ []
+  pub name : List ℕ
+  pub listed : host_answer rules host ≡ IsListed name
+  pub not_opened : client_answer rules name ≢ Passes host
+
+-- ---- are two guests on one host kept apart
+
+-- a host name, not empty, as which some name passes, the empty one too
+pub record Reached (rules : List MappingRule) (host : List ℕ) : Type 0 where
+  pub is_host : IsName host
+  pub not_empty : host ≢ []
+  pub name : List ℕ
+  pub is_name : IsName name
+  pub passes : client_answer rules name ≡ Passes host
+
+-- the second map hides each host name that the first one reaches
+abbrev pub Apart : List MappingRule → List MappingRule → Type 0
+Apart rules others = (host : List ℕ) → Reached rules host → host_answer others host ≡ IsHidden
+
+-- a name that passes as a host name, not empty, which the second map does not hide
+pub record IsSeen (rules others : List MappingRule) (name : List ℕ) : Type 0 where
+  pub is_name : IsName name
+  pub host : List ℕ
+  pub is_host : IsName host
+  pub not_empty : host ≢ []
+  pub passes : client_answer rules name ≡ Passes host
+  pub not_hidden : host_answer others host ≢ IsHidden
+
+-- the rest is the names in their order, those of the set left out
+abbrev pub Leaves : (List ℕ → Type 0) → List (List ℕ) → List (List ℕ) → Type 0
+Leaves set [] rest = rest ≡ []
+Leaves set (name ∷ names) rest =
+    (set name × Leaves set names rest) ⊎ ((¬ set name) × (more : List (List ℕ)) × (rest ≡ name ∷ more) × Leaves set names more)
+
+-- the two lists hold the same names in the same order, once those of the set are left out of both
+abbrev pub AgreeOutside : (List ℕ → Type 0) → List ℕ → List ℕ → Type 0
+AgreeOutside set list other = (rest : List (List ℕ)) × Leaves set (names list) rest × Leaves set (names other) rest
+
+-- a list from the host: bytes, zeros among them
+abbrev pub IsList : List ℕ → Type 0
+IsList list = All (λ byte. byte < 256) list
+
+-- names that the first map reaches make no difference to what the second map answers for a list
+abbrev pub Isolated : List MappingRule → List MappingRule → Type 0
+Isolated rules others =
+    (list other : List ℕ) → IsList list → IsList other → AgreeOutside (Reached rules) list other → server_answer others list ≡ server_answer others other
+
+-- ---- does some rule decide every name
+
+-- neither a name of the guest nor a list of the host is ever without a rule
+pub record Terminated (rules : List MappingRule) : Type 0 where
+  pub client : (name : List ℕ) → IsName name → client_answer rules name ≢ IsUnterminated
+  pub server : (list : List ℕ) → IsList list → server_answer rules list ≢ None

@@ -1,0 +1,146 @@
+-- What the private functions of an audit say: what is asked of a name, which names are tried, and what was found. Only they cite these words.
+use Rattle.std.specs.Prelude.{◌≡◌, ℕ, ◌+◌, Bool, true, false, ◌&&◌, not, ◌==◌, nat_eq, nat_lt, if◌then◌else◌, List, [], ◌∷◌, ◌++◌, map, length, drop, Option, Some, None, is_none, option_and_then}
+use Rattle.std.specs.Cmp.Lexicographic.{pointwise, slice_cmp}
+use Rattle.std.specs.List.{list_all, filter_map, flat_map, range_with_len}
+use Rattle.std.specs.Option.{option_map_or}
+use Rattle.std.specs.Ordering.{nat_cmp, is_lt}
+use Rattle.virtiofs_map.specs.Names.{begins, deciding}
+use Rattle.virtiofs_map.specs.Rule.{RuleType, Prefix, Okay, Bad, Unsupported, MappingRule}
+use Rattle.virtiofs_map.specs.Steps.{count_after}
+use Rattle.virtiofs_map.specs.declared.audit.answer.Audit.{Audit}
+use Rattle.virtiofs_map.specs.declared.audit.answer.Audit.TheVariants.{Yes, No}
+use Rattle.virtiofs_map.specs.declared.audit.questions.Question.{Question}
+use Rattle.virtiofs_map.specs.declared.audit.questions.Question.TheVariants.{Lost, Seen, Stray}
+use Rattle.virtiofs_map.specs.declared.xattrmap.scopes.Side.{Side}
+use Rattle.virtiofs_map.specs.declared.xattrmap.scopes.Side.TheVariants.{Client, Server}
+
+-- ---- how a rule lets a name through
+
+-- what the name of the host has before that of the guest; none where the rule lets no name through
+abbrev pub front_by : RuleType → List ℕ → Option (List ℕ)
+front_by Okay prepend = Some []
+front_by Prefix prepend = Some prepend
+front_by Bad prepend = None
+front_by Unsupported prepend = None
+
+abbrev pub front_of : MappingRule → Option (List ℕ)
+front_of rule = front_by rule.kind rule.prepend
+
+-- the same of the first rule that fits the name on that side
+abbrev pub front : Side → List MappingRule → List ℕ → Option (List ℕ)
+front side rules name = option_and_then front_of (deciding side rules name)
+
+-- ---- what is asked of a name
+
+abbrev pub some_byte : List ℕ → Bool
+some_byte name = not (length name == 0)
+
+-- just as much is taken off as was put before the name
+abbrev pub cuts : List ℕ → Option (List ℕ) → Bool
+cuts added None = false
+cuts added (Some cut) = length cut == length added
+
+-- the name passes and does not list back
+abbrev pub is_lost : List MappingRule → List ℕ → Bool
+is_lost rules name =
+    some_byte name && option_map_or (λ added. not (cuts added (front Server rules (added ++ name)))) (front Client rules name) false
+
+-- a rule decides the host name, and lets it not through
+abbrev pub is_hidden : List MappingRule → List ℕ → Bool
+is_hidden rules host = option_map_or (λ rule. is_none (front_of rule)) (deciding Server rules host) false
+
+abbrev pub all_bytes : List ℕ → Bool
+all_bytes name = list_all (λ byte. nat_lt byte 256) name
+
+-- the name passes as a host name, not empty, that the others do not hide
+abbrev pub is_seen : List MappingRule → List MappingRule → List ℕ → Bool
+is_seen rules others name =
+    option_map_or (λ added. some_byte (added ++ name) && (all_bytes (added ++ name) && not (is_hidden others (added ++ name)))) (front Client rules name) false
+
+-- just that is put before the name which was taken off
+abbrev pub adds : List ℕ → Option (List ℕ) → Bool
+adds cut None = false
+adds cut (Some added) = pointwise nat_eq added cut
+
+-- the host name is listed under a name that does not pass as it
+abbrev pub is_stray : List MappingRule → List ℕ → Bool
+is_stray rules host =
+    some_byte host && option_map_or (λ cut. not (adds cut (front Client rules (drop (length cut) host)))) (front Server rules host) false
+
+-- the answer to the question is yes for this name
+abbrev pub bad : {A : Type 0} → Question A → List ℕ → Bool
+bad (Lost rules) = is_lost rules.now
+bad (Seen rules others) = is_seen rules.now others.now
+bad (Stray rules) = is_stray rules.now
+
+-- ---- what was found
+
+-- the least bad name of those tried, if any is bad, and how many were tried
+pub record TriedSoFar : Type 0 where
+  pub least : Option (List ℕ)
+  pub count : ℕ
+
+abbrev pub none_tried : TriedSoFar
+none_tried = record { least = None; count = 0 }
+
+-- the name comes before the least one so far
+abbrev pub is_first : Option (List ℕ) → List ℕ → Bool
+is_first None name = true
+is_first (Some found) name = is_lt (slice_cmp nat_cmp name found)
+
+-- after one name more
+abbrev pub try_one : (List ℕ → Bool) → TriedSoFar → List ℕ → TriedSoFar
+try_one bad tried name = record {
+  least = if bad name && is_first tried.least name then Some name else tried.least;
+  count = count_after tried.count 1;
+}
+
+-- after these names
+abbrev pub after : (List ℕ → Bool) → TriedSoFar → List (List ℕ) → TriedSoFar
+after bad tried [] = tried
+after bad tried (name ∷ names) = after bad (try_one bad tried name) names
+
+-- the name of a `No`
+abbrev pub told : {A : Type 0} → Audit A → Option (List ℕ)
+told Yes = None
+told (No name) = Some name
+
+-- ---- which names are tried
+
+-- the rest of the rule's prepend after the front, where that begins it
+abbrev pub rest_of : List ℕ → MappingRule → Option (List ℕ)
+rest_of added rule =
+    if rule.server && begins added rule.prepend then Some (drop (length added) rule.prepend) else None
+
+abbrev pub rests : List MappingRule → List ℕ → List (List ℕ)
+rests rules added = filter_map (rest_of added) rules
+
+-- the key of a rule for the client, and the rests of the others' prepends after what it puts before a name
+abbrev pub guest_names_of : List MappingRule → MappingRule → List (List ℕ)
+guest_names_of others rule =
+    if rule.client then rule.key ∷ option_map_or (rests others) (front_of rule) [] else []
+
+abbrev pub guest_names : List MappingRule → List MappingRule → List (List ℕ)
+guest_names others rules = flat_map (guest_names_of others) rules
+
+-- the key of a rule for the client, after what was taken off
+abbrev pub whole_of : List ℕ → MappingRule → Option (List ℕ)
+whole_of cut rule = if rule.client then Some (cut ++ rule.key) else None
+
+abbrev pub wholes : List MappingRule → List ℕ → List (List ℕ)
+wholes rules cut = filter_map (whole_of cut) rules
+
+-- the prepend of a rule for the server, and what it takes off with each key after it
+abbrev pub host_names_of : List MappingRule → MappingRule → List (List ℕ)
+host_names_of others rule =
+    if rule.server then rule.prepend ∷ option_map_or (wholes others) (front_of rule) [] else []
+
+abbrev pub host_names : List MappingRule → List MappingRule → List (List ℕ)
+host_names others rules = flat_map (host_names_of others) rules
+
+abbrev pub one_byte : ℕ → List ℕ
+one_byte byte = byte ∷ []
+
+-- the names of one byte, from 1 to 255
+unfoldable pub one_byte_names : List (List ℕ)
+one_byte_names = map one_byte (range_with_len 1 255)

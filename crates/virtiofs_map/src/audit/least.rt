@@ -1,0 +1,95 @@
+//! The least bad name of those that were tried.
+
+ghost use Rattle.std.specs.Prelude.{◌≡◌, OnOk, All, option_to_list};
+ghost use Rattle.virtiofs_map.specs.AuditParts.{bad, none_tried, is_first, try_one, told};
+ghost use Rattle.virtiofs_map.specs.MapRule.{IsName};
+
+use crate::audit::answer::Audit;
+use crate::audit::questions::Question;
+use crate::steps::Steps;
+use crate::xattrmap::{XattrName, XattrNameBuf};
+use std::alloc::{AllocError, Allocator};
+use std::marker::Model;
+
+/// What came of the names tried so far.
+#[derive(Drop)]
+pub(crate) struct Tried<A: Allocator> {
+    least: Option<XattrNameBuf<A>>,
+    steps: Steps,
+    /// Where names of the host are put together, one after the other.
+    room: Vec<u8, A>,
+}
+
+impl<A: Allocator> Model for Tried<A> {
+    ghost use Rattle.std.specs.Prelude.{All, option_to_list};
+    ghost use Rattle.virtiofs_map.specs.AuditParts.{TriedSoFar};
+    ghost use Rattle.virtiofs_map.specs.MapRule.{IsName};
+
+    ghost Value = { TriedSoFar };
+
+    ghost view = { λ tried. record { least = tried.least; count = tried.steps } };
+
+    ghost invariant = { λ tried. All IsName (option_to_list tried.least) };
+}
+
+impl<A: Allocator + Copy> Tried<A> {
+    /// No name was tried.
+    pub(crate) fn new(alloc: A) -> Tried<A>
+        ensures { result ≡ none_tried }
+    {
+        Tried {
+            least: None,
+            steps: Steps::new(),
+            room: Vec::new(alloc),
+        }
+    }
+
+    /// Tries one name more. Where it is bad, and comes before the least bad name so far, it is kept.
+    pub(crate) fn try_name(
+        &mut self,
+        alloc: A,
+        question: &Question<'_, A>,
+        name: XattrName<'_>,
+    ) -> Result<(), AllocError>
+        ensures { OnOk result (self.new ≡ try_one (bad question.now) self.old name.entry.bytes.now) }
+    {
+        self.steps.tick();
+        if question.is_bad(&mut self.room, name.bytes)? && self.is_first(name) {
+            self.least = Some(XattrNameBuf::copy_of(alloc, name.bytes)?);
+        }
+        Ok(())
+    }
+
+    /// Whether the name comes before the least bad name so far.
+    fn is_first(&self, name: XattrName<'_>) -> bool
+        ensures { result ≡ is_first self.now.least name.entry.bytes.now }
+    {
+        match &self.least {
+            Some(found) => name.bytes.cmp(&found.as_name().bytes).is_lt(),
+            None => true,
+        }
+    }
+
+    /// The names tried, as a count.
+    pub(crate) fn steps(&self) -> &Steps
+        ensures { result.now ≡ self.now.count }
+    {
+        &self.steps
+    }
+
+    /// The answer where no other name needs to be tried.
+    pub(crate) fn into_answer(self) -> Audit<A>
+        ensures found { told result ≡ self.least }
+        ensures name { All IsName (option_to_list self.least) }
+    {
+        let Tried {
+            least,
+            steps: _,
+            room: _,
+        } = self;
+        match least {
+            Some(name) => Audit::No(name),
+            None => Audit::Yes,
+        }
+    }
+}

@@ -1,0 +1,136 @@
+//! What an audit asks of a name.
+
+ghost use Rattle.std.specs.Prelude.{◌≡◌, ◌++◌, Some, None, MatchOption, IfOk, OnOk};
+ghost use Rattle.virtiofs_map.specs.AuditParts.{front_of, front, is_lost, is_hidden, is_seen, is_stray};
+
+use crate::xattrmap::rules::{Rule, RuleKind};
+use crate::xattrmap::{Side, XattrMap};
+use std::alloc::{AllocError, Allocator};
+
+/// What an audit asks of a name. The name is bad where the answer is yes.
+#[derive(Drop)]
+pub(crate) enum Question<'m, A: Allocator> {
+    /// Does the name pass, and not list back?
+    Lost(&'m XattrMap<A>),
+    /// Does the name pass by the first map as a name that the second does not hide?
+    Seen(&'m XattrMap<A>, &'m XattrMap<A>),
+    /// Is this name of the host listed under a name that does not pass as it?
+    Stray(&'m XattrMap<A>),
+}
+
+impl<A: Allocator> Question<'_, A> {
+    ghost use Rattle.virtiofs_map.specs.AuditParts.{bad};
+
+    /// Whether the name is bad. In `room` a name of the host is put together.
+    pub(crate) fn is_bad(&self, room: &mut Vec<u8, A>, name: &[u8]) -> Result<bool, AllocError>
+        ensures { IfOk result (λ answer. answer ≡ bad self.now name.now) }
+    {
+        match self {
+            Question::Lost(map) => is_lost(map, room, name),
+            Question::Seen(map, other) => is_seen(map, other, room, name),
+            Question::Stray(map) => Ok(is_stray(map, name)),
+        }
+    }
+}
+
+impl<A: Allocator> Rule<A> {
+    /// What the name of the host has before that of the guest, where the rule lets names through.
+    pub(crate) fn front(&self) -> Option<&[u8]>
+        ensures { MatchOption result (front_of self.now ≡ None)
+            (λ found. front_of self.now ≡ Some found.now) }
+    {
+        match self.kind {
+            RuleKind::Okay => Some(&[]),
+            RuleKind::Prefix => Some(self.prepend.as_slice()),
+            RuleKind::Bad | RuleKind::Unsupported => None,
+        }
+    }
+}
+
+/// The same of the first rule that fits the name on that side.
+fn front<'m, A: Allocator>(map: &'m XattrMap<A>, side: Side, name: &[u8]) -> Option<&'m [u8]>
+    ensures { MatchOption result (front side map.now name.now ≡ None)
+        (λ found. front side map.now name.now ≡ Some found.now) }
+{
+    match map.deciding(side, name) {
+        Some(rule) => rule.front(),
+        None => None,
+    }
+}
+
+/// Leaves the front and then the name in `room`.
+pub(crate) fn put_together<A: Allocator>(
+    room: &mut Vec<u8, A>,
+    front: &[u8],
+    name: &[u8],
+) -> Result<(), AllocError>
+    ensures { OnOk result (room.new.items ≡ front.now ++ name.now) }
+{
+    room.clear();
+    room.extend_from_slice(front)?;
+    room.extend_from_slice(name)
+}
+
+/// Whether the name passes and does not list back.
+fn is_lost<A: Allocator>(
+    map: &XattrMap<A>,
+    room: &mut Vec<u8, A>,
+    name: &[u8],
+) -> Result<bool, AllocError>
+    ensures { IfOk result (λ answer. answer ≡ is_lost map.now name.now) }
+{
+    if name.is_empty() {
+        return Ok(false);
+    }
+    let Some(added) = front(map, Side::Client, name) else {
+        return Ok(false);
+    };
+    put_together(room, added, name)?;
+    let Some(cut) = front(map, Side::Server, room.as_slice()) else {
+        return Ok(true);
+    };
+    Ok(cut.len() != added.len())
+}
+
+/// Whether a rule decides the name of the host and lets it not through.
+fn is_hidden<A: Allocator>(map: &XattrMap<A>, host: &[u8]) -> bool
+    ensures { result ≡ is_hidden map.now host.now }
+{
+    match map.deciding(Side::Server, host) {
+        Some(rule) => rule.front().is_none(),
+        None => false,
+    }
+}
+
+/// Whether the name passes by the first map as a name, not empty, that the second does not hide.
+fn is_seen<A: Allocator>(
+    map: &XattrMap<A>,
+    other: &XattrMap<A>,
+    room: &mut Vec<u8, A>,
+    name: &[u8],
+) -> Result<bool, AllocError>
+    ensures { IfOk result (λ answer. answer ≡ is_seen map.now other.now name.now) }
+{
+    let Some(added) = front(map, Side::Client, name) else {
+        return Ok(false);
+    };
+    put_together(room, added, name)?;
+    let host = room.as_slice();
+    Ok(!host.is_empty() && !is_hidden(other, host))
+}
+
+/// Whether the name of the host, not empty, is listed under a name that does not pass as it.
+fn is_stray<A: Allocator>(map: &XattrMap<A>, host: &[u8]) -> bool
+    ensures { result ≡ is_stray map.now host.now }
+{
+    if host.is_empty() {
+        return false;
+    }
+    let Some(cut) = front(map, Side::Server, host) else {
+        return false;
+    };
+    let Some(added) = front(map, Side::Client, &host[cut.len()..]) else {
+        return true;
+    };
+    added != cut
+}

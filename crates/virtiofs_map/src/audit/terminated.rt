@@ -1,0 +1,29 @@
+//! Whether each name has a rule.
+
+ghost use Rattle.std.specs.Prelude.{◌↔◌, IsTrue};
+ghost use Rattle.virtiofs_map.specs.Audit.{Terminated};
+
+use crate::xattrmap::{Side, XattrMap};
+use std::alloc::Allocator;
+
+impl<A: Allocator> XattrMap<A> {
+    /// Whether no name is ever left without a rule: neither `map_client_xattr` nor
+    /// `map_server_xattrlist` answers `UnterminatedMapping` for any name or list. It takes no
+    /// memory.
+    ///
+    /// A rule that fits a name fits all names that begin with it. So the empty name decides for
+    /// the guest, and the names of one byte decide for the host, whose names are not empty.
+    pub fn is_terminated(&self) -> bool
+        ensures { IsTrue result ↔ Terminated self.now }
+    {
+        if self.deciding(Side::Client, b"").is_none() {
+            return false;
+        }
+        for byte in 1..=u8::MAX {
+            if self.deciding(Side::Server, &[byte]).is_none() {
+                return false;
+            }
+        }
+        true
+    }
+}
