@@ -2,8 +2,9 @@
 use Rattle.std.proofs.Common.{ℕ, List, inl, inr, sym, ◌∙◌, subst}
 use Rattle.virtiofs_mapcheck.specs.Answer.{AnswersForm, HasOneAnswer}
 use Rattle.virtiofs_mapcheck.specs.Outcome.{AreOne}
-use Rattle.virtiofs_mapcheck.specs.Words.{Form, Ids, Namespace, Client, Server}
+use Rattle.virtiofs_mapcheck.specs.Words.{Form, Ids, Namespace, Client, Server, Terminated, Audit, Apart}
 use Rattle.virtiofs_mapcheck.proofs.AttributesAnswerLemmas.{AnswersClient-one, AnswersServer-one}
+use Rattle.virtiofs_mapcheck.proofs.AuditsAnswerLemmas.{AnswersTerminated-one, AnswersAudit-one, AnswersApart-one}
 use Rattle.virtiofs_mapcheck.proofs.FormLemmas.{HasForm-one}
 use Rattle.virtiofs_mapcheck.proofs.IdsAnswerLemmas.{AnswersIds-one}
 use Rattle.virtiofs_mapcheck.proofs.NamespaceAnswerLemmas.{AnswersNamespace-one}
@@ -13,6 +14,9 @@ AnswersForm-one (Ids texts queries) = AnswersIds-one texts queries
 AnswersForm-one (Namespace text) = AnswersNamespace-one text
 AnswersForm-one (Client rules name) = AnswersClient-one rules name
 AnswersForm-one (Server rules names) = AnswersServer-one rules names
+AnswersForm-one (Terminated rules) = AnswersTerminated-one rules
+AnswersForm-one (Audit rules) = AnswersAudit-one rules
+AnswersForm-one (Apart first second) = AnswersApart-one first second
 
 pub HasOneAnswer-words : (words : List (List ℕ)) → HasOneAnswer words
 HasOneAnswer-words words answered other text another (inl (form, has, one)) (inl (form', had, two)) =

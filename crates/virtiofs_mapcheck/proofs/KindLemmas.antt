@@ -1,11 +1,11 @@
 -- The kinds of forms are told apart by their first words.
 use Rattle.std.proofs.Common.{◌≡◌, List, [], ◌∷◌, ℕ, Option, Some, refl, sym, ap, ◌∙◌}
 use Rattle.std.specs.Prelude.{find, bytes_eq}
-use Rattle.virtiofs_mapcheck.specs.Words.{Kind, IdsKind, NamespaceKind, ClientKind, ServerKind, first_word}
+use Rattle.virtiofs_mapcheck.specs.Words.{Kind, IdsKind, NamespaceKind, ClientKind, ServerKind, TerminatedKind, AuditKind, ApartKind, first_word}
 
 -- all kinds
 abbrev kinds : List Kind
-kinds = IdsKind ∷ NamespaceKind ∷ ClientKind ∷ ServerKind ∷ []
+kinds = IdsKind ∷ NamespaceKind ∷ ClientKind ∷ ServerKind ∷ TerminatedKind ∷ AuditKind ∷ ApartKind ∷ []
 
 -- the kind whose forms begin with that word
 abbrev kind_from : List ℕ → Option Kind
@@ -16,6 +16,9 @@ kind_from-first_word IdsKind = refl
 kind_from-first_word NamespaceKind = refl
 kind_from-first_word ClientKind = refl
 kind_from-first_word ServerKind = refl
+kind_from-first_word TerminatedKind = refl
+kind_from-first_word AuditKind = refl
+kind_from-first_word ApartKind = refl
 
 same_some : (kind other : Kind) → ◌≡◌ {A = Option Kind} (Some kind) (Some other) → kind ≡ other
 same_some kind other same = cc

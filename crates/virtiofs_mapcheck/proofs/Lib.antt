@@ -1,5 +1,6 @@
 mod AnswerLemmas
 mod AttributesAnswerLemmas
+mod AuditsAnswerLemmas
 mod FormLemmas
 mod IdsAnswerLemmas
 mod KindLemmas

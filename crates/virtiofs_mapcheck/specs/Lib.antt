@@ -1,5 +1,7 @@
 pub mod Answer
 pub mod AttributesAnswer
+pub mod AuditsAnswer
+pub mod AuditsParts
 pub mod IdsAnswer
 pub mod NamespaceAnswer
 pub mod Outcome

@@ -33,6 +33,9 @@ pub data Kind : Type 0 where
   NamespaceKind : Kind
   ClientKind : Kind
   ServerKind : Kind
+  TerminatedKind : Kind
+  AuditKind : Kind
+  ApartKind : Kind
 
 -- the first word of a form
 abbrev pub first_word : Kind → List ℕ
@@ -40,19 +43,28 @@ first_word IdsKind = codes "ids"
 first_word NamespaceKind = codes "ns"
 first_word ClientKind = codes "client"
 first_word ServerKind = codes "server"
+first_word TerminatedKind = codes "terminated"
+first_word AuditKind = codes "audit"
+first_word ApartKind = codes "apart"
 
--- what the words ask for: ids under specifications, the meaning of a namespace text, or what becomes of a guest's name or of a host's names under rules
+-- what the words ask for: ids under specifications, the meaning of a namespace text, what becomes of a guest's name or of a host's names under rules, or what holds of all names under rules or under two texts of them
 pub data Form : Type 0 where
   Ids : List (List ℕ) → List Query → Form
   Namespace : List ℕ → Form
   Client : List ℕ → List ℕ → Form
   Server : List ℕ → List (List ℕ) → Form
+  Terminated : List ℕ → Form
+  Audit : List ℕ → Form
+  Apart : List ℕ → List ℕ → Form
 
 abbrev pub kind_of : Form → Kind
 kind_of (Ids specs queries) = IdsKind
 kind_of (Namespace text) = NamespaceKind
 kind_of (Client rules name) = ClientKind
 kind_of (Server rules names) = ServerKind
+kind_of (Terminated rules) = TerminatedKind
+kind_of (Audit rules) = AuditKind
+kind_of (Apart first second) = ApartKind
 
 -- the words after `ids` are specifications, the first `ask`, and then one query or more
 pub record IsIds (words specs : List (List ℕ)) (queries : List Query) : Type 0 where
@@ -68,6 +80,9 @@ HasBody words (Ids specs queries) = IsIds words specs queries
 HasBody words (Namespace text) = words ≡ text ∷ []
 HasBody words (Client rules name) = (words ≡ rules ∷ name ∷ []) × All (λ byte. byte ≢ 0) name
 HasBody words (Server rules names) = words ≡ rules ∷ names
+HasBody words (Terminated rules) = words ≡ rules ∷ []
+HasBody words (Audit rules) = words ≡ rules ∷ []
+HasBody words (Apart first second) = words ≡ first ∷ second ∷ []
 
 -- the words have that form
 abbrev pub HasForm : List (List ℕ) → Form → Type 0

@@ -1,6 +1,6 @@
 -- What the parts of the reader of words answer. Only private functions cite these words.
 use Rattle.std.specs.Prelude.{◌≡◌, ◌≢◌, ℕ, List, ◌∷◌, ◌++◌, All, Option, MatchOption}
-use Rattle.virtiofs_mapcheck.specs.Words.{words_of, ask, Kind, Form, Ids, Namespace, Client, Server, kind_of, HasBody}
+use Rattle.virtiofs_mapcheck.specs.Words.{words_of, ask, Kind, Form, Ids, Namespace, Client, Server, Terminated, Audit, Apart, kind_of, HasBody}
 use Rattle.virtiofs_mapcheck.specs.declared.words.Words.{Words}
 use Rattle.virtiofs_mapcheck.specs.declared.words.Words.TheVariants as read
 
@@ -15,6 +15,9 @@ form_of (read.Ids specs queries) = Ids (words_of specs.now) queries.items
 form_of (read.Namespace text) = Namespace text.now
 form_of (read.Client rules name) = Client rules.now name.bytes.now
 form_of (read.Server rules names) = Server rules.now (words_of names.now)
+form_of (read.Terminated rules) = Terminated rules.now
+form_of (read.Audit rules) = Audit rules.now
+form_of (read.Apart first second) = Apart first.now second.now
 
 -- no form of that kind has these words after its first
 abbrev pub HasNoBody : Kind → List (List ℕ) → Type 0

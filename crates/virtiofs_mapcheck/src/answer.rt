@@ -5,6 +5,7 @@ ghost use Rattle.virtiofs_mapcheck.specs.Output.{Writes, WritesFrontOf};
 ghost use Rattle.virtiofs_mapcheck.specs.Words.{words_of};
 
 use crate::attributes::{answer_client, answer_server};
+use crate::audits::{answer_apart, answer_audit, answer_terminated};
 use crate::emit::emit;
 use crate::ids::answer_ids;
 use crate::namespace::answer_namespace;
@@ -30,6 +31,9 @@ fn text_of<A: Allocator + Copy>(
         Some(Words::Namespace { text }) => answer_namespace(alloc, text),
         Some(Words::Client { rules, name }) => answer_client(alloc, rules, name),
         Some(Words::Server { rules, names }) => answer_server(alloc, rules, names),
+        Some(Words::Terminated { rules }) => answer_terminated(alloc, rules),
+        Some(Words::Audit { rules }) => answer_audit(alloc, rules),
+        Some(Words::Apart { first, second }) => answer_apart(alloc, first, second),
     }
 }
 
@@ -61,5 +65,7 @@ pub fn answer<A: Allocator + Copy, W: Write>(
     Ok(answered)
 }
 
+#[cfg(test)]
+mod refused;
 #[cfg(test)]
 mod tests;

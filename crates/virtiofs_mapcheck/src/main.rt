@@ -8,6 +8,7 @@ ghost use Rattle.virtiofs_mapcheck.specs.Words.{words_of};
 
 mod answer;
 mod attributes;
+mod audits;
 mod emit;
 mod ids;
 mod namespace;
@@ -31,6 +32,9 @@ const USAGE: &str = "usage: virtiofs_mapcheck ids SPEC.. ask QUERY..
        virtiofs_mapcheck ns TEXT
        virtiofs_mapcheck client RULES NAME
        virtiofs_mapcheck server RULES NAME..
+       virtiofs_mapcheck terminated RULES
+       virtiofs_mapcheck audit RULES
+       virtiofs_mapcheck apart RULES RULES
 README.md, at the top of the repository, says what each form answers.
 ";
 

@@ -1,7 +1,7 @@
 //! The forms of the program's words.
 ghost use Rattle.std.specs.Prelude.{◌≢◌, List, All, IfOk, MatchOption};
 ghost use Rattle.std.specs.List.{AllZip};
-ghost use Rattle.virtiofs_mapcheck.specs.Words.{words_of, ask, Asks, IdsKind, NamespaceKind, ClientKind, ServerKind, HasForm, HasNoForm};
+ghost use Rattle.virtiofs_mapcheck.specs.Words.{words_of, ask, Asks, IdsKind, NamespaceKind, ClientKind, ServerKind, TerminatedKind, AuditKind, ApartKind, HasForm, HasNoForm};
 ghost use Rattle.virtiofs_mapcheck.specs.WordsParts.{IsCutAtAsk, form_of, ReadsBody};
 
 use std::alloc::{AllocError, Allocator};
@@ -39,6 +39,19 @@ pub(crate) enum Words<'a, A: Allocator> {
     Server {
         rules: &'a str,
         names: &'a [&'a str],
+    },
+    /// Whether some rule of a text decides every name.
+    Terminated {
+        rules: &'a str,
+    },
+    /// Whether every name that passes under a text of rules is listed back.
+    Audit {
+        rules: &'a str,
+    },
+    /// Whether what the guest of one text of rules reaches is hidden under another.
+    Apart {
+        first: &'a str,
+        second: &'a str,
     },
 }
 
@@ -146,6 +159,40 @@ fn read_server<'a, A: Allocator>(words: &'a [&'a str]) -> Option<Words<'a, A>>
     Some(Words::Server { rules, names })
 }
 
+/// Reads the words after `terminated`.
+fn read_terminated<'a, A: Allocator>(words: &'a [&'a str]) -> Option<Words<'a, A>>
+    ensures { ReadsBody TerminatedKind (words_of words.now) result }
+{
+    let (rules, others) = words.split_first()?;
+    if !others.is_empty() {
+        return None;
+    }
+    Some(Words::Terminated { rules })
+}
+
+/// Reads the words after `audit`.
+fn read_audit<'a, A: Allocator>(words: &'a [&'a str]) -> Option<Words<'a, A>>
+    ensures { ReadsBody AuditKind (words_of words.now) result }
+{
+    let (rules, others) = words.split_first()?;
+    if !others.is_empty() {
+        return None;
+    }
+    Some(Words::Audit { rules })
+}
+
+/// Reads the words after `apart`.
+fn read_apart<'a, A: Allocator>(words: &'a [&'a str]) -> Option<Words<'a, A>>
+    ensures { ReadsBody ApartKind (words_of words.now) result }
+{
+    let (first, others) = words.split_first()?;
+    let (second, others) = others.split_first()?;
+    if !others.is_empty() {
+        return None;
+    }
+    Some(Words::Apart { first, second })
+}
+
 /// Reads the words' form, where they have one.
 pub(crate) fn read_words<'a, A: Allocator>(
     alloc: A,
@@ -169,6 +216,15 @@ pub(crate) fn read_words<'a, A: Allocator>(
     }
     if *name == "server" {
         return Ok(read_server(others));
+    }
+    if *name == "terminated" {
+        return Ok(read_terminated(others));
+    }
+    if *name == "audit" {
+        return Ok(read_audit(others));
+    }
+    if *name == "apart" {
+        return Ok(read_apart(others));
     }
     Ok(None)
 }

@@ -134,7 +134,41 @@ const SERVER: [Row; 6] = [
     ),
 ];
 
-const WRONG: [Row; 10] = [
+const AUDITS: [Row; 11] = [
+    ("terminated|:ok:all:::", Given, "yes\n"),
+    ("terminated|:ok:client:::", Given, "no\n"),
+    (
+        "terminated|:ok:all:a\0:",
+        Refused,
+        "refused: rule 1: NulInPattern key\n",
+    ),
+    ("audit|:map:trusted.:user.virtiofs.:", Given, "yes\n"),
+    (
+        "audit|:bad:server::u.xy: :prefix:all::u.:",
+        Given,
+        "no xy\n",
+    ),
+    (
+        "audit|:ok:all::: :ok:all:a:b\0:",
+        Refused,
+        "refused: rule 2: NulInPattern prepend\n",
+    ),
+    ("apart|:map::a.:|:map::b.:", Given, "yes\n"),
+    ("apart|:map::a.:|:map::a.b.:", Given, "no b.\n"),
+    ("apart|:map::a.b.:|:map::a.:", Given, "no \n"),
+    (
+        "apart|:map:a\0:b:|x",
+        Refused,
+        "refused: first: rule 1: NulInPattern key\n",
+    ),
+    (
+        "apart|:map::a.:|x",
+        Refused,
+        "refused: second: rule 1: IncompleteRule\n",
+    ),
+];
+
+const WRONG: [Row; 13] = [
     ("", WrongWords, "wrong words\n"),
     ("map|:1:2:3:", WrongWords, "wrong words\n"),
     ("ids|map:0:1:1", WrongWords, "wrong words\n"),
@@ -145,6 +179,9 @@ const WRONG: [Row; 10] = [
     ("client|:ok:all:::", WrongWords, "wrong words\n"),
     ("client|x|a\0", WrongWords, "wrong words\n"),
     ("server", WrongWords, "wrong words\n"),
+    ("terminated", WrongWords, "wrong words\n"),
+    ("audit|x|y", WrongWords, "wrong words\n"),
+    ("apart|x", WrongWords, "wrong words\n"),
 ];
 
 /// Answers the words of rows to a writer of memory.
@@ -166,6 +203,7 @@ fn answers_each_form(rt: HostRuntime) -> Result<(), Fail> {
     check_rows(&rt, rt.alloc(), &NAMESPACE)?;
     check_rows(&rt, rt.alloc(), &CLIENT)?;
     check_rows(&rt, rt.alloc(), &SERVER)?;
+    check_rows(&rt, rt.alloc(), &AUDITS)?;
     check_rows(&rt, rt.alloc(), &WRONG)
 }
 
