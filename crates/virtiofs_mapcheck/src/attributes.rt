@@ -1,7 +1,8 @@
 //! What becomes of the names of attributes under a text of rules.
 ghost use Rattle.std.specs.Prelude.{◌≡◌, OnOk, IfOk, string_bytes};
 ghost use Rattle.virtiofs_map.specs.LookupAnswers.{meaning};
-ghost use Rattle.virtiofs_mapcheck.specs.AttributesAnswer.{undecided, AnswersName, list_of, AnswersClient, AnswersServer};
+ghost use Rattle.virtiofs_map.specs.Names.{client_answer, server_answer};
+ghost use Rattle.virtiofs_mapcheck.specs.AttributesAnswer.{undecided, AnswersName, AnswersList, list_of, AnswersClient, AnswersServer};
 ghost use Rattle.virtiofs_mapcheck.specs.Words.{words_of};
 ghost use Rattle.virtiofs_mapcheck.specs.Written.{written, line, refusal};
 ghost use Rattle.virtiofs_mapcheck.specs.declared.outcome.Answered.TheVariants.{Given};
@@ -10,7 +11,7 @@ use crate::outcome::Answered;
 use crate::rules::read_rules;
 use crate::written::push_written;
 use std::alloc::{AllocError, Allocator};
-use virtiofs_map::xattrmap::{AppliedRule, Error, ErrorKind, XattrName};
+use virtiofs_map::xattrmap::{AppliedRule, Error, ErrorKind, XattrMap, XattrName};
 
 /// The line of names that no rule decides. Any other error of a lookup is want of memory.
 fn undecided_line<A: Allocator>(alloc: A, error: &Error<A>) -> Result<String<A>, AllocError>
@@ -44,6 +45,21 @@ fn client_line<A: Allocator>(
     }
 }
 
+/// What becomes of a guest's name under a map.
+fn say_name<A: Allocator + Copy>(
+    alloc: A,
+    map: &XattrMap<A>,
+    name: XattrName<'_>,
+) -> Result<(Answered, String<A>), AllocError>
+    ensures { IfOk result (λ p.
+        AnswersName (client_answer map.now name.entry.bytes.now) p.0 (string_bytes p.1)) }
+{
+    match map.map_client_xattr(alloc, name) {
+        Ok(applied) => Ok((Answered::Given, client_line(alloc, &applied)?)),
+        Err(error) => Ok((Answered::Refused, undecided_line(alloc, &error)?)),
+    }
+}
+
 /// What becomes of a guest's name under the rules of a text, or how the text is refused.
 pub(crate) fn answer_client<A: Allocator + Copy>(
     alloc: A,
@@ -53,13 +69,9 @@ pub(crate) fn answer_client<A: Allocator + Copy>(
     ensures { IfOk result (λ p.
         AnswersClient rules.now name.entry.bytes.now p.0 (string_bytes p.1)) }
 {
-    let map = match read_rules(alloc, "", rules)? {
-        Ok(map) => map,
-        Err(refused) => return Ok((Answered::Refused, refused)),
-    };
-    match map.map_client_xattr(alloc, name) {
-        Ok(applied) => Ok((Answered::Given, client_line(alloc, &applied)?)),
-        Err(error) => Ok((Answered::Refused, undecided_line(alloc, &error)?)),
+    match read_rules(alloc, "", rules)? {
+        Ok(map) => say_name(alloc, &map, name),
+        Err(refused) => Ok((Answered::Refused, refused)),
     }
 }
 
@@ -85,6 +97,21 @@ fn server_line<A: Allocator>(alloc: A, listed: &[u8]) -> Result<String<A>, Alloc
     Ok(text)
 }
 
+/// What the guest sees of a host's names under a map.
+fn say_list<A: Allocator + Copy>(
+    alloc: A,
+    map: &XattrMap<A>,
+    names: &[&str],
+) -> Result<(Answered, String<A>), AllocError>
+    ensures { IfOk result (λ p. AnswersList
+        (server_answer map.now (list_of (words_of names.now))) p.0 (string_bytes p.1)) }
+{
+    match map.map_server_xattrlist(alloc, joined(alloc, names)?) {
+        Ok(listed) => Ok((Answered::Given, server_line(alloc, listed.as_slice())?)),
+        Err(error) => Ok((Answered::Refused, undecided_line(alloc, &error)?)),
+    }
+}
+
 /// What the guest sees of a host's names under the rules of a text, or how the text is refused.
 pub(crate) fn answer_server<A: Allocator + Copy>(
     alloc: A,
@@ -94,12 +121,8 @@ pub(crate) fn answer_server<A: Allocator + Copy>(
     ensures { IfOk result (λ p.
         AnswersServer rules.now (words_of names.now) p.0 (string_bytes p.1)) }
 {
-    let map = match read_rules(alloc, "", rules)? {
-        Ok(map) => map,
-        Err(refused) => return Ok((Answered::Refused, refused)),
-    };
-    match map.map_server_xattrlist(alloc, joined(alloc, names)?) {
-        Ok(listed) => Ok((Answered::Given, server_line(alloc, listed.as_slice())?)),
-        Err(error) => Ok((Answered::Refused, undecided_line(alloc, &error)?)),
+    match read_rules(alloc, "", rules)? {
+        Ok(map) => say_list(alloc, &map, names),
+        Err(refused) => Ok((Answered::Refused, refused)),
     }
 }
