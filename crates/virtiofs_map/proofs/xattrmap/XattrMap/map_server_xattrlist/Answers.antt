@@ -11,8 +11,8 @@ names-init g c =
 
 pub names-preserved : goal.names-preserved
 names-preserved g c =
-    let left = rw c.in_ok-name.was at c.in-Some.ensures.steps in
-    IsSoFar-name c.args.self.now c.args.names.items _ _ c.in_ok-name.field-0.now _ _ c.names.invariant left c.in_ok-push_name.ensures.pushed
+    let left = rw c.in-Ok.is at c.in-Some.ensures.steps in
+    IsSoFar-name c.args.self.now c.args.names.items _ _ c.in-Ok.name.now _ _ c.names.invariant left c.in_ok-push_name.ensures.pushed
 
 pub returns-clause-size : goal.returns-clause-size
 returns-clause-size g c =
@@ -22,8 +22,8 @@ returns-clause-size g c =
 pub returns-in_err-listed-clause-guests_apart : goal.returns-in_err-listed-clause-guests_apart
 returns-in_err-listed-clause-guests_apart g c = guests_apart c.args.self.now c.args.names.items
 
-pub returns-in_err-name-clause-guests_apart : goal.returns-in_err-name-clause-guests_apart
-returns-in_err-name-clause-guests_apart g c = guests_apart c.args.self.now c.args.names.items
+pub returns-in_default-clause-guests_apart : goal.returns-in_default-clause-guests_apart
+returns-in_default-clause-guests_apart g c = guests_apart c.args.self.now c.args.names.items
 
 pub returns-in_err-push_name-clause-guests_apart : goal.returns-in_err-push_name-clause-guests_apart
 returns-in_err-push_name-clause-guests_apart g c = guests_apart c.args.self.now c.args.names.items

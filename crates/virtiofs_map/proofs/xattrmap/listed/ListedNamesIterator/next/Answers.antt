@@ -30,11 +30,6 @@ returns-in-Ok-Some-clause-steps g c =
 pub returns-in-Ok-Some-clause-goes : goal.returns-in-Ok-Some-clause-goes
 returns-in-Ok-Some-clause-goes g c = one_less _ _ _ _ (returns-in-Ok-Some-clause-steps g c)
 
-pub returns-in-Ok-Some-clause-ended : goal.returns-in-Ok-Some-clause-ended
-returns-in-Ok-Some-clause-ended g c = λ none.
-    (let first = sym (returns-in-Ok-Some-clause-steps g c) ∙ none in
-    absurd (cc))
-
 -- ---- a name that no rule decides
 
 pub returns-in-Err-clause-steps : goal.returns-in-Err-clause-steps
@@ -50,8 +45,3 @@ returns-in-Err-clause-steps g c =
 
 pub returns-in-Err-clause-goes : goal.returns-in-Err-clause-goes
 returns-in-Err-clause-goes g c = one_less _ _ _ _ (returns-in-Err-clause-steps g c)
-
-pub returns-in-Err-clause-ended : goal.returns-in-Err-clause-ended
-returns-in-Err-clause-ended g c = λ none.
-    (let last = sym (returns-in-Err-clause-steps g c) ∙ none in
-    absurd (cc))

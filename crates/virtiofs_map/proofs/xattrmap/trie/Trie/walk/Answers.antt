@@ -1,5 +1,5 @@
 use Rattle.std.proofs.Common.{◌≡◌, ◌+◌, ap, Some, sym, ◌∙◌, option_and_then, get_or, take, reverse, arith}
-use Rattle.virtiofs_map.specs.TrieParts.{child, child_of, reach}
+use Rattle.virtiofs_map.specs.TrieParts.{child_of, reach}
 use Rattle.virtiofs_map.proofs.TrieLemmas.{walk_on, walk_met}
 use Rattle.virtiofs_map.proofs.xattrmap.trie.Trie.walk.Goals as goal
 
