@@ -30,8 +30,7 @@ impl<A: Allocator> XattrMap<A> {
         ensures first { result ≡ first side self.now name.now }
         ensures steps { CountsLookup side self.now name.now steps.old steps.new }
     {
-        let mut counted = Steps::new();
-        let least = self.patterns(side).walk(name, &mut counted);
+        let (least, counted) = self.patterns(side).walk(name);
         steps.add(&counted);
         if least == NO_RULE { None } else { Some(least) }
     }

@@ -43,23 +43,25 @@ impl<A: Allocator> Trie<A> {
     }
 
     /// Goes from the root along the bytes of a name, as far as there are nodes. Gives the least
-    /// position at any node on the way, the root's too.
-    pub(crate) fn walk(&self, name: &[u8], counted: &mut Steps) -> usize
+    /// position at any node on the way, the root's too, and how many nodes those are.
+    // (a counter of its own stays in a register)
+    pub(crate) fn walk(&self, name: &[u8]) -> (usize, Steps)
         requires { IsTree self.now }
-        ensures { Walks self.now name.now result counted.old counted.new }
+        ensures { Walks self.now name.now result.0 0 result.1 }
     {
+        let mut counted = Steps::new();
         let mut at = 0;
-        let mut node = self.nodes.visit(at, counted);
+        let mut node = self.nodes.visit(at, &mut counted);
         let mut least = node.least;
         for byte in name {
             let Some(next) = self.child(at, node, *byte) else {
-                return least;
+                return (least, counted);
             };
             at = next;
-            node = self.nodes.visit(at, counted);
+            node = self.nodes.visit(at, &mut counted);
             least = least.min(node.least);
         }
-        least
+        (least, counted)
     }
 }
 

@@ -11,5 +11,5 @@ invariant-loop-byte g l = record {
   node : slice_get l.self.nodes l.at ≡ Some l.node;
   place : l.at < no_rule;
   met : l.least ≡ least_so_far l.self l.name l.byte-index;
-  counted : l.counted ≡ count_after l.fn.counted (suc l.byte-index);
+  counted : l.counted ≡ count_after 0 (suc l.byte-index);
 }
