@@ -4,7 +4,6 @@ use crate::audit::{Audit, audit, audit_counted, audit_listed, keeps_apart};
 use crate::steps::Steps;
 use crate::xattrmap::XattrMap;
 use std::alloc::Global;
-use std::process::Abort;
 use std::test::Fail;
 
 /// The name of a `No`.
@@ -15,86 +14,122 @@ fn told(answer: &Audit) -> Option<&[u8]> {
     }
 }
 
-fn assert_audit(
-    rt: &impl Abort,
-    alloc: Global,
-    text: &str,
-    wanted: Option<&[u8]>,
-    most: u64,
-) -> Result<(), Fail> {
+/// A text of rules, the least name that passes and does not come back, and the most names that an
+/// audit may try.
+const LOST: [(&str, Option<&[u8]>, u64); 13] = [
+    (":map:trusted.:user.virtiofs.:", None, 267),
+    (":bad:all:::", None, 257),
+    (
+        ":prefix:client:trusted.:user.: :ok:all:::",
+        Some(b"trusted."),
+        259,
+    ),
+    (":bad:server::u.xy: :prefix:all::u.:", Some(b"xy"), 258),
+    (":ok:client:::", Some(b"\x01"), 256),
+    (":prefix:all:a:b: :ok:all:::", Some(b"b"), 261),
+    (
+        ":ok:client::: :bad:server::secret.: :ok:server:::",
+        Some(b"secret."),
+        258,
+    ),
+    (
+        ":bad:client:secret.:: :ok:client::: :bad:server::secret.: :ok:server:::",
+        None,
+        261,
+    ),
+    (
+        ":bad:server::b: :bad:server::ab: :ok:all:::",
+        Some(b"ab"),
+        259,
+    ),
+    (
+        ":ok:client::: :bad:server::é: :ok:server:::",
+        Some(b"\xc3\xa9"),
+        258,
+    ),
+    (
+        ":prefix:client:a:u.: :prefix:server::u.: :ok:all:::",
+        Some(b"u."),
+        261,
+    ),
+    (
+        ":bad:server::u.: :ok:server::: :prefix:client::u.:",
+        Some(b"\x01"),
+        258,
+    ),
+    (":ok:client:a:: :ok:server::a:", None, 257),
+];
+
+/// A text of rules, and the least listed name that does not lead back to the host's.
+const STRAY: [(&str, Option<&[u8]>); 4] = [
+    (":map:trusted.:user.virtiofs.:", Some(b"user.virtiofs.")),
+    (":map::a.:", None),
+    (":bad:client:xy:: :prefix:all::u.:", Some(b"u.xy")),
+    (":ok:server:::", Some(b"\x01")),
+];
+
+/// The rules of a guest, those of another, and the least name of the first that the other sees.
+const SEEN: [(&str, &str, Option<&[u8]>); 11] = [
+    (":map::a.:", ":map::b.:", None),
+    (":map::a.b.:", ":map::a.:", Some(b"")),
+    (":map::a.:", ":map::a.b.:", Some(b"b.")),
+    (":map:trusted.:a.:", ":map::b.:", Some(b"b.")),
+    (":bad:all:::", ":ok:all:::", None),
+    (":ok:all:::", ":bad:all:::", None),
+    (":ok:all:::", ":ok:all:::", Some(b"\x01")),
+    (":map::a.:", ":bad:server::b.:", Some(b"")),
+    (":map::a.:", ":unsupported:server::a.: :ok:all:::", None),
+    (":prefix:all:x:a.: :bad:all:::", ":map::a.:", Some(b"x")),
+    (":map:::", ":map::a.:", Some(b"a.")),
+];
+
+fn lost(alloc: Global, text: &str) -> Result<Audit, Fail> {
     let map = XattrMap::try_from(alloc, text)?;
-    let answer = audit(alloc, &map)?;
-    assert_eq!(rt; told(&answer), wanted, "of {text:?}");
+    Ok(audit(alloc, &map)?)
+}
+
+/// The answer of the call that counts, and the names that it tried.
+fn lost_counted(alloc: Global, text: &str) -> Result<(Audit, u64), Fail> {
+    let map = XattrMap::try_from(alloc, text)?;
     let mut steps = Steps::new();
-    let counted = audit_counted(alloc, &map, &mut steps)?;
-    assert!(rt; counted == answer, "of {text:?}");
-    assert!(rt; 1 <= steps.count(), "no step for {text:?}");
-    assert!(rt; steps.count() <= most, "too many steps for {text:?}");
-    Ok(())
+    let answer = audit_counted(alloc, &map, &mut steps)?;
+    Ok((answer, steps.count()))
+}
+
+fn stray(alloc: Global, text: &str) -> Result<Audit, Fail> {
+    let map = XattrMap::try_from(alloc, text)?;
+    Ok(audit_listed(alloc, &map)?)
+}
+
+fn seen(alloc: Global, text: &str, other: &str) -> Result<Audit, Fail> {
+    let map = XattrMap::try_from(alloc, text)?;
+    let others = XattrMap::try_from(alloc, other)?;
+    Ok(keeps_apart(alloc, &map, &others)?)
 }
 
 #[test]
 fn finds_the_least_name_that_is_lost(rt: HostRuntime) -> Result<(), Fail> {
-    let cases: [(&str, Option<&[u8]>, u64); 13] = [
-        (":map:trusted.:user.virtiofs.:", None, 267),
-        (":bad:all:::", None, 257),
-        (
-            ":prefix:client:trusted.:user.: :ok:all:::",
-            Some(b"trusted."),
-            259,
-        ),
-        (":bad:server::u.xy: :prefix:all::u.:", Some(b"xy"), 258),
-        (":ok:client:::", Some(b"\x01"), 256),
-        (":prefix:all:a:b: :ok:all:::", Some(b"b"), 261),
-        (
-            ":ok:client::: :bad:server::secret.: :ok:server:::",
-            Some(b"secret."),
-            258,
-        ),
-        (
-            ":bad:client:secret.:: :ok:client::: :bad:server::secret.: :ok:server:::",
-            None,
-            261,
-        ),
-        (
-            ":bad:server::b: :bad:server::ab: :ok:all:::",
-            Some(b"ab"),
-            259,
-        ),
-        (
-            ":ok:client::: :bad:server::é: :ok:server:::",
-            Some(b"\xc3\xa9"),
-            258,
-        ),
-        (
-            ":prefix:client:a:u.: :prefix:server::u.: :ok:all:::",
-            Some(b"u."),
-            261,
-        ),
-        (
-            ":bad:server::u.: :ok:server::: :prefix:client::u.:",
-            Some(b"\x01"),
-            258,
-        ),
-        (":ok:client:a:: :ok:server::a:", None, 257),
-    ];
-    for (text, wanted, most) in cases {
-        assert_audit(&rt, rt.alloc(), text, wanted, most)?;
+    for (text, wanted, _most) in LOST {
+        let answer = lost(rt.alloc(), text)?;
+        assert_eq!(rt; told(&answer), wanted, "of {text:?}");
+    }
+    Ok(())
+}
+
+#[test]
+fn counts_the_names_that_it_tries(rt: HostRuntime) -> Result<(), Fail> {
+    for (text, wanted, most) in LOST {
+        let (answer, steps) = lost_counted(rt.alloc(), text)?;
+        assert_eq!(rt; told(&answer), wanted, "of {text:?}");
+        assert!(rt; 1 <= steps && steps <= most, "{steps} for {text:?}");
     }
     Ok(())
 }
 
 #[test]
 fn finds_the_least_listed_name_that_is_not_opened(rt: HostRuntime) -> Result<(), Fail> {
-    let cases: [(&str, Option<&[u8]>); 4] = [
-        (":map:trusted.:user.virtiofs.:", Some(b"user.virtiofs.")),
-        (":map::a.:", None),
-        (":bad:client:xy:: :prefix:all::u.:", Some(b"u.xy")),
-        (":ok:server:::", Some(b"\x01")),
-    ];
-    for (text, wanted) in cases {
-        let map = XattrMap::try_from(rt.alloc(), text)?;
-        let answer = audit_listed(rt.alloc(), &map)?;
+    for (text, wanted) in STRAY {
+        let answer = stray(rt.alloc(), text)?;
         assert_eq!(rt; told(&answer), wanted, "of {text:?}");
     }
     Ok(())
@@ -102,52 +137,9 @@ fn finds_the_least_listed_name_that_is_not_opened(rt: HostRuntime) -> Result<(),
 
 #[test]
 fn finds_the_least_name_that_another_guest_sees(rt: HostRuntime) -> Result<(), Fail> {
-    let cases: [(&str, &str, Option<&[u8]>); 11] = [
-        (":map::a.:", ":map::b.:", None),
-        (":map::a.b.:", ":map::a.:", Some(b"")),
-        (":map::a.:", ":map::a.b.:", Some(b"b.")),
-        (":map:trusted.:a.:", ":map::b.:", Some(b"b.")),
-        (":bad:all:::", ":ok:all:::", None),
-        (":ok:all:::", ":bad:all:::", None),
-        (":ok:all:::", ":ok:all:::", Some(b"\x01")),
-        (":map::a.:", ":bad:server::b.:", Some(b"")),
-        (":map::a.:", ":unsupported:server::a.: :ok:all:::", None),
-        (":prefix:all:x:a.: :bad:all:::", ":map::a.:", Some(b"x")),
-        (":map:::", ":map::a.:", Some(b"a.")),
-    ];
-    for (text, other, wanted) in cases {
-        let map = XattrMap::try_from(rt.alloc(), text)?;
-        let others = XattrMap::try_from(rt.alloc(), other)?;
-        let answer = keeps_apart(rt.alloc(), &map, &others)?;
+    for (text, other, wanted) in SEEN {
+        let answer = seen(rt.alloc(), text, other)?;
         assert_eq!(rt; told(&answer), wanted, "of {text:?} and {other:?}");
-    }
-    Ok(())
-}
-
-fn listed(
-    rt: &impl Abort,
-    alloc: Global,
-    text: &str,
-    names: &[u8],
-    wanted: &[u8],
-) -> Result<(), Fail> {
-    let map = XattrMap::try_from(alloc, text)?;
-    let list = map.map_server_xattrlist(alloc, names.to_vec(alloc)?)?;
-    assert_eq!(rt; list.as_slice(), wanted, "{names:?} under {text:?}");
-    Ok(())
-}
-
-#[test]
-fn lists_show_whether_guests_are_apart(rt: HostRuntime) -> Result<(), Fail> {
-    let cases: [(&str, &[u8], &[u8]); 5] = [
-        (":map::b.:", b"a.one\0b.two\0", b"two\0"),
-        (":map::b.:", b"b.two\0", b"two\0"),
-        (":map::b.:", b"a.three\0b.two\0a.one\0", b"two\0"),
-        (":map::a.b.:", b"", b"\0"),
-        (":map::a.b.:", b"a.b.\0a.b.\0", b"\0\0"),
-    ];
-    for (text, names, wanted) in cases {
-        listed(&rt, rt.alloc(), text, names, wanted)?;
     }
     Ok(())
 }

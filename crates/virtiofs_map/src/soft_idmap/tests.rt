@@ -2,7 +2,7 @@
 
 use crate::cmdline::IdMapError;
 use crate::id_types::projects::{GuestProject, HostProject, ProjectNumber};
-use crate::id_types::{GuestGid, GuestUid, HostGid, HostUid, Id};
+use crate::id_types::{GuestGid, GuestId, GuestUid, HostGid, HostId, HostUid, Id};
 use crate::soft_idmap::{Direction, IdMap, IdMapBuildError, MapError, RangeEnd, SpecsError};
 use crate::{Steps, cmdline};
 use std::alloc::Global;
@@ -286,27 +286,65 @@ fn reads_every_text_before_it_builds(rt: HostRuntime) -> Result<(), Fail> {
     Ok(())
 }
 
+/// What becomes of a guest's id under these texts: the id of the host, or the id that is forbidden.
+fn host_of<Guest, Host>(
+    alloc: Global,
+    texts: &[&str],
+    id: Guest,
+) -> Result<Result<Host, Guest>, SpecsError>
+where
+    Guest: GuestId<HostType = Host>,
+    Host: HostId<GuestType = Guest>,
+{
+    let map = IdMap::from_specs(alloc, texts)?;
+    match map.map_guest(id) {
+        Ok(host) => Ok(Ok(host)),
+        Err(MapError::ExplicitFailMapping { id }) => Ok(Err(id)),
+    }
+}
+
+/// What becomes of a host's id, in the same way.
+fn guest_of<Guest, Host>(
+    alloc: Global,
+    texts: &[&str],
+    id: Host,
+) -> Result<Result<Guest, Host>, SpecsError>
+where
+    Guest: GuestId<HostType = Host>,
+    Host: HostId<GuestType = Guest>,
+{
+    let map = IdMap::from_specs(alloc, texts)?;
+    match map.map_host(id) {
+        Ok(guest) => Ok(Ok(guest)),
+        Err(MapError::ExplicitFailMapping { id }) => Ok(Err(id)),
+    }
+}
+
 #[test]
-fn maps_ids_of_other_kinds(rt: HostRuntime) -> Result<(), Fail> {
-    let alloc = rt.alloc();
-    let map: IdMap<GuestProject, HostProject> = IdMap::from_specs(alloc, &["map:0:1000:10"])?;
+fn maps_ids_of_projects(rt: HostRuntime) -> Result<(), Fail> {
+    let texts = ["map:0:1000:10"];
     let guest = GuestProject::from(ProjectNumber(5));
     let host = HostProject::from(ProjectNumber(1005));
-    assert_eq!(rt; map.map_guest(guest)?, host);
-    assert_eq!(rt; map.map_host(host)?, guest);
+    assert!(rt; host_of(rt.alloc(), &texts, guest)? == Ok(host));
+    assert!(rt; guest_of(rt.alloc(), &texts, host)? == Ok(guest));
+    Ok(())
+}
 
-    let map: IdMap<GuestProject, HostProject> = IdMap::from_specs(alloc, &["forbid-guest:7:3"])?;
+#[test]
+fn forbids_an_id_of_a_project(rt: HostRuntime) -> Result<(), Fail> {
     let forbidden = GuestProject::from(ProjectNumber(8));
-    let told = match map.map_guest(forbidden) {
-        Err(MapError::ExplicitFailMapping { id }) => Some(id),
-        Ok(_host) => None,
-    };
-    assert_eq!(rt; told, Some(forbidden));
+    let told = host_of(rt.alloc(), &["forbid-guest:7:3"], forbidden)?;
+    assert!(rt; told == Err(forbidden));
+    Ok(())
+}
 
+#[test]
+fn maps_ids_of_groups(rt: HostRuntime) -> Result<(), Fail> {
     let texts = ["squash-guest:0:100:4294967295", "host:100:1000:1"];
-    let map: IdMap<GuestGid, HostGid> = IdMap::from_specs(alloc, &texts)?;
-    assert_eq!(rt; map.map_guest(GuestGid::from(0))?, HostGid::from(100));
-    assert_eq!(rt; map.map_host(HostGid::from(100))?, GuestGid::from(1000));
+    let root = GuestGid::from(0);
+    let group = HostGid::from(100);
+    assert!(rt; host_of(rt.alloc(), &texts, root)? == Ok(group));
+    assert!(rt; guest_of(rt.alloc(), &texts, group)? == Ok(GuestGid::from(1000)));
     Ok(())
 }
 

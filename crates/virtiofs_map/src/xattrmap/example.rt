@@ -41,17 +41,30 @@ fn say_the_same(one: &str, other: &str) -> bool
     one == other
 }
 
+/// The bytes of the host's name; `None` where the guest may not use the name.
+#[cfg(test)]
+fn host_bytes(alloc: Global, text: &str, name: &[u8]) -> Result<Option<Vec<u8>>, Fail> {
+    let map = names(alloc, text)?;
+    let name = XattrName::new(name).ok_or("a name holds a zero")?;
+    match host_name(alloc, &map, name)? {
+        Some(passed) => Ok(Some(passed.as_bytes().to_vec(alloc)?)),
+        None => Ok(None),
+    }
+}
+
+#[cfg(test)]
+const LABELS: &str = ":map:trusted.:user.virtiofs.:";
+
 #[test]
 fn a_guest_has_names_of_its_own(rt: HostRuntime) -> Result<(), Fail> {
-    let alloc = rt.alloc();
-    let text = ":map:trusted.:user.virtiofs.:";
-    let map = names(alloc, text)?;
-    let trusted = XattrName::new(b"trusted.a").ok_or("a name holds a zero")?;
-    let passed = host_name(alloc, &map, trusted)?.ok_or("the name does not pass")?;
-    assert_eq!(rt; passed.as_bytes(), b"user.virtiofs.trusted.a".as_slice());
-    let hidden = XattrName::new(b"user.virtiofs.a").ok_or("a name holds a zero")?;
-    assert!(rt; host_name(alloc, &map, hidden)?.is_none());
-    assert!(rt; say_the_same(text, ":map:trusted.:user.virtiofs.:"));
-    assert!(rt; !say_the_same(text, ":ok:all:::"));
+    let passed = host_bytes(rt.alloc(), LABELS, b"trusted.a")?;
+    assert!(rt; passed.as_deref() == Some(b"user.virtiofs.trusted.a".as_slice()));
+    assert!(rt; host_bytes(rt.alloc(), LABELS, b"user.virtiofs.a")?.is_none());
     Ok(())
+}
+
+#[test]
+fn one_text_is_one_setting(rt: HostRuntime) {
+    assert!(rt; say_the_same(LABELS, ":map:trusted.:user.virtiofs.:"));
+    assert!(rt; !say_the_same(LABELS, ":ok:all:::"));
 }

@@ -129,14 +129,23 @@ fn text_of<Source: Id>(alloc: Global, fault: &MapError<Source>) -> Result<String
     fault.to_string(alloc)
 }
 
-/// Guest id 8 is forbidden, and its fault says its number, whatever its printed form.
-fn check_forbidden<Guest, Host>(rt: &impl Abort, alloc: Global, id: Guest) -> Result<(), Fail>
+/// What a map that forbids guest id 8 says of it.
+fn forbidden<Guest, Host>(alloc: Global, id: Guest) -> Result<MapError<Guest>, Fail>
 where
     Guest: GuestId<HostType = Host>,
     Host: HostId<GuestType = Guest>,
 {
     let map: IdMap<Guest, Host> = built(alloc, &["FORBID-GUEST:7:3"])?.map_err(|_| "refused")?;
-    let fault = map.map_guest(id).err().ok_or("mapped")?;
+    Ok(map.map_guest(id).err().ok_or("mapped")?)
+}
+
+/// The fault of guest id 8 says its number, whatever its printed form.
+fn check_forbidden<Guest, Host>(rt: &impl Abort, alloc: Global, id: Guest) -> Result<(), Fail>
+where
+    Guest: GuestId<HostType = Host>,
+    Host: HostId<GuestType = Guest>,
+{
+    let fault = forbidden(alloc, id)?;
     assert_eq!(rt;
         text_of(alloc, &fault)?.as_str(),
         "Use of ID 8 has been configured to fail"

@@ -80,23 +80,41 @@ fn lists_by_a_map_rule(rt: HostRuntime) -> Result<(), Fail> {
     Ok(())
 }
 
+/// The rules of a guest, what the host lists, and what the guest is shown, whatever names another
+/// guest has in the list.
+const APART: [(&str, &[u8], &[u8]); 8] = [
+    (":map::a.:", b"a.x\0b.y\0a.z\0", b"x\0z\0"),
+    (":map::a.:", b"a.x\0a.z\0", b"x\0z\0"),
+    (":map::a.:", b"b.w\0a.x\0b.y\0a.z\0", b"x\0z\0"),
+    (":map::b.:", b"a.one\0b.two\0", b"two\0"),
+    (":map::b.:", b"b.two\0", b"two\0"),
+    (":map::b.:", b"a.three\0b.two\0a.one\0", b"two\0"),
+    (":map::a.b.:", b"", b"\0"),
+    (":map::a.b.:", b"a.b.\0a.b.\0", b"\0\0"),
+];
+
 #[test]
 fn other_guests_change_no_list(rt: HostRuntime) -> Result<(), Fail> {
-    let lists: [&[u8]; 3] = [b"a.x\0b.y\0a.z\0", b"a.x\0a.z\0", b"b.w\0a.x\0b.y\0a.z\0"];
-    for names in lists {
-        assert_list(&rt, rt.alloc(), ":map::a.:", names, b"x\0z\0")?;
+    for (text, names, wanted) in APART {
+        assert_list(&rt, rt.alloc(), text, names, wanted)?;
     }
     Ok(())
 }
 
+/// The list that the guest is shown.
+fn shown(alloc: Global, text: &str, names: &[u8]) -> Result<Vec<u8>, Error> {
+    let map = XattrMap::try_from(alloc, text)?;
+    map.map_server_xattrlist(alloc, names.to_vec(alloc)?)
+}
+
 #[test]
-fn one_name_without_a_rule_refuses_the_list(rt: HostRuntime) -> Result<(), Fail> {
-    let alloc = rt.alloc();
-    let map = XattrMap::try_from(alloc, ":ok:server::a:")?;
+fn one_name_without_a_rule_refuses_the_list(rt: HostRuntime) {
+    let answer = shown(rt.alloc(), ":ok:server::a:", b"a1\0b\0a2\0");
     let unterminated = Error::from(ErrorKind::UnterminatedMapping);
-    let answer = map.map_server_xattrlist(alloc, b"a1\0b\0a2\0".to_vec(alloc)?);
     assert_eq!(rt; answer.err(), Some(unterminated));
-    let list = map.map_server_xattrlist(alloc, b"a1\0a2\0".to_vec(alloc)?)?;
-    assert_eq!(rt; list.as_slice(), b"a1\0a2\0".as_slice());
-    Ok(())
+}
+
+#[test]
+fn the_same_list_without_that_name_is_shown(rt: HostRuntime) -> Result<(), Fail> {
+    assert_list(&rt, rt.alloc(), ":ok:server::a:", b"a1\0a2\0", b"a1\0a2\0")
 }
