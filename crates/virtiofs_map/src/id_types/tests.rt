@@ -124,6 +124,70 @@ where
     back == id
 }
 
+/// Ids are made of numbers, and tell them.
+fn check_numbers<G, H>(rt: &impl Abort, n: u32)
+where
+    G: GuestId<HostType = H>,
+    H: HostId<GuestType = G>,
+{
+    let guest: G = made(n);
+    let host: H = made(n);
+    assert_eq!(rt; number_of(guest), n);
+    assert_eq!(rt; number_of(host), n);
+    assert_eq!(rt; guest.is_root(), n == 0);
+    assert_eq!(rt; host.is_root(), n == 0);
+    assert_eq!(rt; counted_again(guest.into_inner()).to_u32(), n);
+}
+
+/// The way to the other side leads to the same number.
+fn check_mapped<G, H>(rt: &impl Abort, n: u32)
+where
+    G: GuestId<HostType = H>,
+    H: HostId<GuestType = G>,
+{
+    let guest: G = made(n);
+    let host: H = made(n);
+    assert!(rt; guest.id_mapped() == host, "at {n}");
+    assert!(rt; host.id_mapped() == guest, "at {n}");
+    assert!(rt; is_mapped_back(guest), "at {n}");
+}
+
+/// Ids that are taken apart and made again are the same.
+fn check_again<G, H>(rt: &impl Abort, n: u32)
+where
+    G: GuestId<HostType = H>,
+    H: HostId<GuestType = G>,
+{
+    let guest: G = made(n);
+    let inner = made::<H>(n).into_inner();
+    assert!(rt; made_again(guest) == guest, "at {n}");
+    assert!(rt; taken_again::<H>(inner) == inner, "at {n}");
+}
+
+/// Ids stand in the order of their numbers.
+fn check_order<G, H>(rt: &impl Abort, n: u32)
+where
+    G: GuestId<HostType = H>,
+    H: HostId<GuestType = G>,
+{
+    let guest: G = made(n);
+    assert!(rt; is_within(guest, made(0), guest) == false, "at {n}");
+    assert!(rt; is_same(guest, made(n)), "at {n}");
+    assert_eq!(rt; guest.cmp(&made(1000)), n.cmp(&1000));
+    assert_eq!(rt; made::<H>(n) < made(1000), n < 1000);
+}
+
+/// Each end of the ids is moved as far as it can be.
+fn check_moved<G, H>(rt: &impl Abort)
+where
+    G: GuestId<HostType = H>,
+    H: HostId<GuestType = G>,
+{
+    assert!(rt; moved::<G, H>(made(4294967295), made(0), made(0)) == made(4294967295));
+    assert!(rt; moved::<G, H>(made(7), made(7), made(4294967295)) == made(4294967295));
+    assert!(rt; moved_back::<G, H>(made(4294967295), made(4294967290), made(10)) == made(15));
+}
+
 /// Runs each public call at one pair of types.
 fn check_pair<G, H>(rt: &impl Abort)
 where
@@ -131,31 +195,12 @@ where
     H: HostId<GuestType = G>,
 {
     for n in [0, 1, 1000, 4294967294, 4294967295] {
-        let guest: G = made(n);
-        let host: H = made(n);
-        assert_eq!(rt; number_of(guest), n);
-        assert_eq!(rt; number_of(host), n);
-        assert_eq!(rt; guest.is_root(), n == 0);
-        assert_eq!(rt; host.is_root(), n == 0);
-        assert!(rt; guest.id_mapped() == host, "at {n}");
-        assert!(rt; host.id_mapped() == guest, "at {n}");
-        assert!(rt; is_mapped_back(guest), "at {n}");
-        assert!(rt; made_again(guest) == guest, "at {n}");
-        assert!(rt;
-            taken_again::<H>(host.into_inner()) == host.into_inner(),
-            "at {n}"
-        );
-        assert_eq!(rt; counted_again(guest.into_inner()).to_u32(), n);
-        assert!(rt; is_within(guest, made(0), guest) == false, "at {n}");
-        assert!(rt; is_same(guest, made(n)), "at {n}");
-        assert_eq!(rt; guest.cmp(&made(1000)), n.cmp(&1000));
-        assert_eq!(rt; host < made(1000), n < 1000);
+        check_numbers::<G, H>(rt, n);
+        check_mapped::<G, H>(rt, n);
+        check_again::<G, H>(rt, n);
+        check_order::<G, H>(rt, n);
     }
-
-    // Each end of the ids, moved as far as it can be.
-    assert!(rt; moved::<G, H>(made(4294967295), made(0), made(0)) == made(4294967295));
-    assert!(rt; moved::<G, H>(made(7), made(7), made(4294967295)) == made(4294967295));
-    assert!(rt; moved_back::<G, H>(made(4294967295), made(4294967290), made(10)) == made(15));
+    check_moved::<G, H>(rt);
 }
 
 #[test]

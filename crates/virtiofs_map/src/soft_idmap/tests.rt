@@ -19,33 +19,57 @@ fn specs_of(alloc: Global, texts: &[&str]) -> Result<Vec<cmdline::IdMap>, Fail> 
     Ok(specs)
 }
 
-/// Asks a map of users; `None` stands where the use of an id fails.
+/// What becomes of a guest's id: the id of the host, or the id that is forbidden.
+fn host_of<Guest, Host>(map: &IdMap<Guest, Host>, id: Guest) -> Result<Host, Guest>
+where
+    Guest: GuestId<HostType = Host>,
+    Host: HostId<GuestType = Guest>,
+{
+    match map.map_guest(id) {
+        Ok(host) => Ok(host),
+        Err(MapError::ExplicitFailMapping { id }) => Err(id),
+    }
+}
+
+/// What becomes of a host's id, in the same way.
+fn guest_of<Guest, Host>(map: &IdMap<Guest, Host>, id: Host) -> Result<Guest, Host>
+where
+    Guest: GuestId<HostType = Host>,
+    Host: HostId<GuestType = Guest>,
+{
+    match map.map_host(id) {
+        Ok(guest) => Ok(guest),
+        Err(MapError::ExplicitFailMapping { id }) => Err(id),
+    }
+}
+
+/// Asks a map of users for ids of the host; `None` stands where the use of an id fails.
+fn check_guests(rt: &impl Abort, map: &IdMap<GuestUid, HostUid>, asked: &[(u32, Option<u32>)]) {
+    for (n, want) in asked {
+        let id = GuestUid::from(*n);
+        let wanted = want.map(HostUid::from).ok_or(id);
+        assert!(rt; host_of(map, id) == wanted, "guest {n}");
+    }
+}
+
+/// Asks a map of users for ids of the guest, in the same way.
+fn check_hosts(rt: &impl Abort, map: &IdMap<GuestUid, HostUid>, asked: &[(u32, Option<u32>)]) {
+    for (n, want) in asked {
+        let id = HostUid::from(*n);
+        let wanted = want.map(GuestUid::from).ok_or(id);
+        assert!(rt; guest_of(map, id) == wanted, "host {n}");
+    }
+}
+
+/// Asks a map of users in both directions.
 fn check_map(
     rt: &impl Abort,
     map: &IdMap<GuestUid, HostUid>,
     guests: &[(u32, Option<u32>)],
     hosts: &[(u32, Option<u32>)],
 ) {
-    for (n, want) in guests {
-        let got = match map.map_guest(GuestUid::from(*n)) {
-            Ok(host) => Some(host.into_inner()),
-            Err(MapError::ExplicitFailMapping { id }) => {
-                assert_eq!(rt; id.into_inner(), *n);
-                None
-            }
-        };
-        assert_eq!(rt; got, *want, "guest {n}");
-    }
-    for (n, want) in hosts {
-        let got = match map.map_host(HostUid::from(*n)) {
-            Ok(guest) => Some(guest.into_inner()),
-            Err(MapError::ExplicitFailMapping { id }) => {
-                assert_eq!(rt; id.into_inner(), *n);
-                None
-            }
-        };
-        assert_eq!(rt; got, *want, "host {n}");
-    }
+    check_guests(rt, map, guests);
+    check_hosts(rt, map, hosts);
 }
 
 /// Asks the maps that either call makes of the texts.
@@ -68,10 +92,7 @@ fn check_texts(
 fn refusal(alloc: Global, texts: &[&str]) -> Result<Option<IdMapBuildError>, Fail> {
     let specs = specs_of(alloc, texts)?;
     let made: Result<IdMap<GuestUid, HostUid>, IdMapBuildError> = IdMap::try_from(alloc, specs);
-    match made {
-        Ok(_map) => Ok(None),
-        Err(error) => Ok(Some(error)),
-    }
+    Ok(made.err())
 }
 
 #[test]
@@ -261,12 +282,10 @@ fn refuses_ranges_that_go_too_far(rt: HostRuntime) -> Result<(), Fail> {
     Ok(())
 }
 
-#[test]
-fn reads_every_text_before_it_builds(rt: HostRuntime) -> Result<(), Fail> {
-    let alloc = rt.alloc();
-    let texts = ["guest:0:100:10", "guest:5:200:1", "map:1:2"];
-    let made: Result<IdMap<GuestUid, HostUid>, SpecsError> = IdMap::from_specs(alloc, &texts);
-    let told = match made {
+/// The place and the two counts of a text that has another count of numbers.
+fn length_told(alloc: Global, texts: &[&str]) -> Option<(usize, usize, usize)> {
+    let made: Result<IdMap<GuestUid, HostUid>, SpecsError> = IdMap::from_specs(alloc, texts);
+    match made {
         Err(
             SpecsError::Spec {
                 index,
@@ -274,115 +293,116 @@ fn reads_every_text_before_it_builds(rt: HostRuntime) -> Result<(), Fail> {
             },
         ) => Some((index, expected, seen)),
         _ => None,
-    };
-    assert_eq!(rt; told, Some((2, 3, 2)));
-
-    let made: Result<IdMap<GuestUid, HostUid>, SpecsError> = IdMap::from_specs(alloc, &texts[..2]);
-    let told = match made {
-        Err(SpecsError::Build(IdMapBuildError::Intersects { index, .. })) => Some(index),
-        _ => None,
-    };
-    assert_eq!(rt; told, Some(1));
-    Ok(())
-}
-
-/// What becomes of a guest's id under these texts: the id of the host, or the id that is forbidden.
-fn host_of<Guest, Host>(
-    alloc: Global,
-    texts: &[&str],
-    id: Guest,
-) -> Result<Result<Host, Guest>, SpecsError>
-where
-    Guest: GuestId<HostType = Host>,
-    Host: HostId<GuestType = Guest>,
-{
-    let map = IdMap::from_specs(alloc, texts)?;
-    match map.map_guest(id) {
-        Ok(host) => Ok(Ok(host)),
-        Err(MapError::ExplicitFailMapping { id }) => Ok(Err(id)),
     }
 }
 
-/// What becomes of a host's id, in the same way.
-fn guest_of<Guest, Host>(
-    alloc: Global,
-    texts: &[&str],
-    id: Host,
-) -> Result<Result<Guest, Host>, SpecsError>
-where
-    Guest: GuestId<HostType = Host>,
-    Host: HostId<GuestType = Guest>,
-{
-    let map = IdMap::from_specs(alloc, texts)?;
-    match map.map_host(id) {
-        Ok(guest) => Ok(Ok(guest)),
-        Err(MapError::ExplicitFailMapping { id }) => Ok(Err(id)),
+/// The place of a text that meets an earlier one.
+fn meeting_told(alloc: Global, texts: &[&str]) -> Option<usize> {
+    let made: Result<IdMap<GuestUid, HostUid>, SpecsError> = IdMap::from_specs(alloc, texts);
+    match made {
+        Err(SpecsError::Build(IdMapBuildError::Intersects { index, .. })) => Some(index),
+        _ => None,
     }
 }
 
 #[test]
+fn reads_every_text_before_it_builds(rt: HostRuntime) {
+    let texts = ["guest:0:100:10", "guest:5:200:1", "map:1:2"];
+    assert_eq!(rt; length_told(rt.alloc(), &texts), Some((2, 3, 2)));
+    assert_eq!(rt; meeting_told(rt.alloc(), &texts[..2]), Some(1));
+}
+
+#[test]
 fn maps_ids_of_projects(rt: HostRuntime) -> Result<(), Fail> {
-    let texts = ["map:0:1000:10"];
+    let map: IdMap<GuestProject, HostProject> = IdMap::from_specs(rt.alloc(), &["map:0:1000:10"])?;
     let guest = GuestProject::from(ProjectNumber(5));
     let host = HostProject::from(ProjectNumber(1005));
-    assert!(rt; host_of(rt.alloc(), &texts, guest)? == Ok(host));
-    assert!(rt; guest_of(rt.alloc(), &texts, host)? == Ok(guest));
+    assert!(rt; host_of(&map, guest) == Ok(host));
+    assert!(rt; guest_of(&map, host) == Ok(guest));
     Ok(())
 }
 
 #[test]
 fn forbids_an_id_of_a_project(rt: HostRuntime) -> Result<(), Fail> {
+    let texts = ["forbid-guest:7:3"];
+    let map: IdMap<GuestProject, HostProject> = IdMap::from_specs(rt.alloc(), &texts)?;
     let forbidden = GuestProject::from(ProjectNumber(8));
-    let told = host_of(rt.alloc(), &["forbid-guest:7:3"], forbidden)?;
-    assert!(rt; told == Err(forbidden));
+    assert!(rt; host_of(&map, forbidden) == Err(forbidden));
     Ok(())
 }
 
 #[test]
 fn maps_ids_of_groups(rt: HostRuntime) -> Result<(), Fail> {
     let texts = ["squash-guest:0:100:4294967295", "host:100:1000:1"];
-    let root = GuestGid::from(0);
+    let map: IdMap<GuestGid, HostGid> = IdMap::from_specs(rt.alloc(), &texts)?;
     let group = HostGid::from(100);
-    assert!(rt; host_of(rt.alloc(), &texts, root)? == Ok(group));
-    assert!(rt; guest_of(rt.alloc(), &texts, group)? == Ok(GuestGid::from(1000)));
+    assert!(rt; host_of(&map, GuestGid::from(0)) == Ok(group));
+    assert!(rt; guest_of(&map, group) == Ok(GuestGid::from(1000)));
     Ok(())
 }
 
-/// Asks a map of users for ids of the host. Each row has a guest id, the host id that is wanted,
-/// and the least and the most steps that it may take.
-fn check_guests_counted(
-    rt: &impl Abort,
-    map: &IdMap<GuestUid, HostUid>,
-    asked: &[(u32, u32, u64, u64)],
-) {
+/// An id, what it becomes, and the least and the most steps that this may take.
+type Counted = (u32, u32, u64, u64);
+
+/// The host id with this number, and the steps that it took to find it.
+fn host_counted(map: &IdMap<GuestUid, HostUid>, n: u32) -> (Option<HostUid>, u64) {
+    let mut steps = Steps::new();
+    let host = map.map_guest_counted(GuestUid::from(n), &mut steps).ok();
+    (host, steps.count())
+}
+
+/// The guest id with this number, in the same way.
+fn guest_counted(map: &IdMap<GuestUid, HostUid>, n: u32) -> (Option<GuestUid>, u64) {
+    let mut steps = Steps::new();
+    let guest = map.map_host_counted(HostUid::from(n), &mut steps).ok();
+    (guest, steps.count())
+}
+
+/// Asks a map of users for ids of the host, and counts.
+fn check_guests_counted(rt: &impl Abort, map: &IdMap<GuestUid, HostUid>, asked: &[Counted]) {
     for (n, want, least, most) in asked {
-        let mut steps = Steps::new();
-        let got = match map.map_guest_counted(GuestUid::from(*n), &mut steps) {
-            Ok(host) => Some(host.into_inner()),
-            Err(_) => None,
-        };
-        assert_eq!(rt; got, Some(*want), "guest {n}");
-        let taken = steps.count();
+        let (host, taken) = host_counted(map, *n);
+        assert!(rt; host == Some(HostUid::from(*want)), "guest {n}");
         assert!(rt; *least <= taken && taken <= *most, "guest {n}");
     }
 }
 
-/// Asks a map of users for ids of the guest, in the same way.
-fn check_hosts_counted(
-    rt: &impl Abort,
-    map: &IdMap<GuestUid, HostUid>,
-    asked: &[(u32, u32, u64, u64)],
-) {
+/// Asks a map of users for ids of the guest, and counts.
+fn check_hosts_counted(rt: &impl Abort, map: &IdMap<GuestUid, HostUid>, asked: &[Counted]) {
     for (n, want, least, most) in asked {
-        let mut steps = Steps::new();
-        let got = match map.map_host_counted(HostUid::from(*n), &mut steps) {
-            Ok(guest) => Some(guest.into_inner()),
-            Err(_) => None,
-        };
-        assert_eq!(rt; got, Some(*want), "host {n}");
-        let taken = steps.count();
+        let (guest, taken) = guest_counted(map, *n);
+        assert!(rt; guest == Some(GuestUid::from(*want)), "host {n}");
         assert!(rt; *least <= taken && taken <= *most, "host {n}");
     }
+}
+
+/// Asks the map of these texts, and counts.
+fn check_texts_counted(
+    rt: &impl Abort,
+    alloc: Global,
+    texts: &[&str],
+    guests: &[Counted],
+    hosts: &[Counted],
+) -> Result<(), Fail> {
+    let specs = specs_of(alloc, texts)?;
+    let map: IdMap<GuestUid, HostUid> = IdMap::try_from(alloc, specs)?;
+    check_guests_counted(rt, &map, guests);
+    check_hosts_counted(rt, &map, hosts);
+    Ok(())
+}
+
+/// The specification at this place.
+fn single_id(at: u32) -> cmdline::IdMap {
+    cmdline::IdMap::Guest {
+        from_guest: at.wrapping_mul(10),
+        to_host: at.wrapping_add(5000000),
+        count: 1,
+    }
+}
+
+/// The place that follows this one.
+fn place_after(at: u32, stride: u32, count: u32) -> u32 {
+    at.wrapping_add(stride).checked_rem(count).unwrap_or(0)
 }
 
 /// So many specifications of one guest id each: the place i of them, counted by `stride` round the
@@ -391,12 +411,8 @@ fn single_ids(alloc: Global, count: u32, stride: u32) -> Result<Vec<cmdline::IdM
     let mut specs = Vec::new(alloc);
     let mut at: u32 = 0;
     for _ in 0..count {
-        specs.push(cmdline::IdMap::Guest {
-            from_guest: at.wrapping_mul(10),
-            to_host: at.wrapping_add(5000000),
-            count: 1,
-        })?;
-        at = at.wrapping_add(stride).checked_rem(count).unwrap_or(0);
+        specs.push(single_id(at))?;
+        at = place_after(at, stride, count);
     }
     Ok(specs)
 }
@@ -413,38 +429,27 @@ fn asks_a_thousand_ranges_in_ten_steps(rt: HostRuntime) -> Result<(), Fail> {
 
 #[test]
 fn asks_two_ranges_in_two_steps(rt: HostRuntime) -> Result<(), Fail> {
-    let specs = specs_of(rt.alloc(), &["guest:5:300:5", "guest:0:100:5"])?;
-    let map: IdMap<GuestUid, HostUid> = IdMap::try_from(rt.alloc(), specs)?;
     let guests = [
         (4, 104, 1, 2),
         (5, 300, 1, 2),
         (9, 304, 1, 2),
         (10, 10, 1, 2),
     ];
-    check_guests_counted(&rt, &map, &guests);
-    Ok(())
+    let texts = ["guest:5:300:5", "guest:0:100:5"];
+    check_texts_counted(&rt, rt.alloc(), &texts, &guests, &[])
 }
 
 #[test]
 fn asks_no_range_in_no_step(rt: HostRuntime) -> Result<(), Fail> {
     let none = [(0, 0, 0, 0)];
     check_guests_counted(&rt, &IdMap::empty(rt.alloc()), &none);
-    let specs = specs_of(rt.alloc(), &["guest:0:1:0"])?;
-    let map: IdMap<GuestUid, HostUid> = IdMap::try_from(rt.alloc(), specs)?;
-    check_guests_counted(&rt, &map, &none);
-    Ok(())
+    check_texts_counted(&rt, rt.alloc(), &["guest:0:1:0"], &none, &[])
 }
 
 #[test]
 fn asks_three_ranges_in_two_steps(rt: HostRuntime) -> Result<(), Fail> {
-    let specs = specs_of(
-        rt.alloc(),
-        &["guest:0:10:1", "guest:2:20:1", "guest:4:30:1"],
-    )?;
-    let map: IdMap<GuestUid, HostUid> = IdMap::try_from(rt.alloc(), specs)?;
-    check_guests_counted(&rt, &map, &[(4, 30, 1, 2)]);
-    check_hosts_counted(&rt, &map, &[(4, 4, 0, 0)]);
-    Ok(())
+    let texts = ["guest:0:10:1", "guest:2:20:1", "guest:4:30:1"];
+    check_texts_counted(&rt, rt.alloc(), &texts, &[(4, 30, 1, 2)], &[(4, 4, 0, 0)])
 }
 
 #[test]
@@ -465,27 +470,33 @@ fn builds_a_hundred_thousand_in_every_order(rt: HostRuntime) -> Result<(), Fail>
     Ok(())
 }
 
+/// Adds specifications of which each covers 10 * i for an i of the list.
+fn add_meeting(specs: &mut Vec<cmdline::IdMap>) -> Result<(), Fail> {
+    for from_guest in [9990, 0, 5000] {
+        specs.push(cmdline::IdMap::SquashGuest {
+            from_guest,
+            to_host: 7,
+            count: 1,
+        })?;
+    }
+    Ok(())
+}
+
+/// The place of the first of a thousand and three that meets another.
+fn first_meeting(alloc: Global, stride: u32) -> Result<Option<usize>, Fail> {
+    let mut specs = single_ids(alloc, 1000, stride)?;
+    add_meeting(&mut specs)?;
+    let made: Result<IdMap<GuestUid, HostUid>, IdMapBuildError> = IdMap::try_from(alloc, specs);
+    Ok(match made {
+        Err(IdMapBuildError::Intersects { index, .. }) => Some(index),
+        _ => None,
+    })
+}
+
 #[test]
 fn refuses_the_first_of_many_that_meet(rt: HostRuntime) -> Result<(), Fail> {
     for stride in [1, 999, 617] {
-        let mut specs = single_ids(rt.alloc(), 1000, stride)?;
-        // Each of these covers 10 * i for an i of the list.
-        for n in [9990, 0, 5000] {
-            specs.push(cmdline::IdMap::SquashGuest {
-                from_guest: n,
-                to_host: 7,
-                count: 1,
-            })?;
-        }
-        let made: Result<IdMap<GuestUid, HostUid>, IdMapBuildError> = IdMap::try_from(
-            rt.alloc(),
-            specs,
-        );
-        let told = match made {
-            Err(IdMapBuildError::Intersects { index, .. }) => Some(index),
-            _ => None,
-        };
-        assert_eq!(rt; told, Some(1000), "{stride}");
+        assert_eq!(rt; first_meeting(rt.alloc(), stride)?, Some(1000), "{stride}");
     }
     Ok(())
 }

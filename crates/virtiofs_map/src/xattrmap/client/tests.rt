@@ -32,17 +32,26 @@ fn given<'n>(answer: &'n Result<AppliedRule<'n>, Error>) -> Wanted<'n> {
     }
 }
 
-fn assert_client(
+/// What a map of this text is to make of one name.
+type Case = (&'static str, &'static [u8], Wanted<'static>);
+
+fn assert_name(
     rt: &impl Abort,
     alloc: Global,
-    text: &str,
-    cases: &[(&[u8], Wanted<'_>)],
+    map: &XattrMap,
+    bytes: &[u8],
+    wanted: Wanted<'_>,
 ) -> Result<(), Fail> {
-    let map = XattrMap::try_from(alloc, text)?;
-    for (bytes, wanted) in cases {
-        let name = XattrName::new(bytes).ok_or("a name holds a zero")?;
-        let answer = map.map_client_xattr(alloc, name);
-        assert_eq!(rt; given(&answer), *wanted, "{bytes:?} under {text:?}");
+    let name = XattrName::new(bytes).ok_or("a name holds a zero")?;
+    let answer = map.map_client_xattr(alloc, name);
+    assert_eq!(rt; given(&answer), wanted, "{bytes:?}");
+    Ok(())
+}
+
+fn assert_clients(rt: &impl Abort, alloc: Global, cases: &[Case]) -> Result<(), Fail> {
+    for (text, bytes, wanted) in cases {
+        let map = XattrMap::try_from(alloc, text)?;
+        assert_name(rt, alloc, &map, bytes, *wanted)?;
     }
     Ok(())
 }
@@ -61,114 +70,103 @@ fn makes_names_of_bytes(rt: HostRuntime) {
     assert!(rt; XattrName::new(b"\0a").is_none());
 }
 
+const FIRST: [Case; 10] = [
+    (
+        ":bad:all:a:a: :ok:all:ab:ab: :ok:all:::",
+        b"abc",
+        Wanted::Denied,
+    ),
+    (
+        ":bad:all:a:a: :ok:all:ab:ab: :ok:all:::",
+        b"b",
+        Wanted::Borrowed(b"b"),
+    ),
+    (":ok:server::a:", b"a1", Wanted::Unterminated),
+    (":ok:all:::", b"\xff\xc3", Wanted::Borrowed(b"\xff\xc3")),
+    (
+        ":ok:all:é:é: :bad:all:::",
+        b"\xc3\xa9a",
+        Wanted::Borrowed(b"\xc3\xa9a"),
+    ),
+    (":ok:all:é:é: :bad:all:::", b"\xe9", Wanted::Denied),
+    (
+        ":unsupported:client:a:: :ok:all:::",
+        b"ab",
+        Wanted::Unsupported,
+    ),
+    (
+        ":unsupported:client:a:: :ok:all:::",
+        b"b",
+        Wanted::Borrowed(b"b"),
+    ),
+    (":ok:client:a::", b"b", Wanted::Unterminated),
+    (
+        ":prefix:all:é:ü.:",
+        b"\xc3\xa9",
+        Wanted::Owned(b"\xc3\xbc.\xc3\xa9"),
+    ),
+];
+
 #[test]
 fn answers_by_the_first_rule(rt: HostRuntime) -> Result<(), Fail> {
-    let alloc = rt.alloc();
-    assert_client(
-        &rt,
-        alloc,
-        ":bad:all:a:a: :ok:all:ab:ab: :ok:all:::",
-        &[(b"abc", Wanted::Denied), (b"b", Wanted::Borrowed(b"b"))],
-    )?;
-    assert_client(
-        &rt,
-        alloc,
-        ":ok:server::a:",
-        &[(b"a1", Wanted::Unterminated)],
-    )?;
-    assert_client(
-        &rt,
-        alloc,
-        ":ok:all:::",
-        &[(b"\xff\xc3", Wanted::Borrowed(b"\xff\xc3"))],
-    )?;
-    assert_client(
-        &rt,
-        alloc,
-        ":ok:all:é:é: :bad:all:::",
-        &[
-            (b"\xc3\xa9a", Wanted::Borrowed(b"\xc3\xa9a")),
-            (b"\xe9", Wanted::Denied),
-        ],
-    )?;
-    assert_client(
-        &rt,
-        alloc,
-        ":unsupported:client:a:: :ok:all:::",
-        &[(b"ab", Wanted::Unsupported), (b"b", Wanted::Borrowed(b"b"))],
-    )?;
-    assert_client(
-        &rt,
-        alloc,
-        ":ok:client:a::",
-        &[(b"b", Wanted::Unterminated)],
-    )?;
-    assert_client(
-        &rt,
-        alloc,
-        ":prefix:all:é:ü.:",
-        &[(b"\xc3\xa9", Wanted::Owned(b"\xc3\xbc.\xc3\xa9"))],
-    )
+    assert_clients(&rt, rt.alloc(), &FIRST)
 }
+
+const TYPES: [Case; 6] = [
+    (
+        ":ok:all:::",
+        b"user.virtiofs.potato",
+        Wanted::Borrowed(b"user.virtiofs.potato"),
+    ),
+    (":bad:client:::", b"virtiofs.", Wanted::Denied),
+    (":unsupported:client:::", b"virtiofs.", Wanted::Unsupported),
+    (
+        ":prefix:all:trusted.:virtiofs.user.:",
+        b"trusted.secret_thing",
+        Wanted::Owned(b"virtiofs.user.trusted.secret_thing"),
+    ),
+    (
+        ":ok:all:allow.:allow.:",
+        b"allow.y",
+        Wanted::Borrowed(b"allow.y"),
+    ),
+    (":prefix:client::allow.:", b"y", Wanted::Owned(b"allow.y")),
+];
 
 #[test]
 fn answers_by_each_type(rt: HostRuntime) -> Result<(), Fail> {
-    let alloc = rt.alloc();
-    let potato = b"user.virtiofs.potato";
-    let secret = b"trusted.secret_thing";
-    let cases = [
-        (":ok:all:::", potato.as_slice(), Wanted::Borrowed(potato)),
-        (":bad:client:::", b"virtiofs.", Wanted::Denied),
-        (":unsupported:client:::", b"virtiofs.", Wanted::Unsupported),
-        (
-            ":prefix:all:trusted.:virtiofs.user.:",
-            secret,
-            Wanted::Owned(b"virtiofs.user.trusted.secret_thing"),
-        ),
-        (
-            ":ok:all:allow.:allow.:",
-            b"allow.y",
-            Wanted::Borrowed(b"allow.y"),
-        ),
-        (":prefix:client::allow.:", b"y", Wanted::Owned(b"allow.y")),
-    ];
-    for (text, bytes, wanted) in cases {
-        assert_client(&rt, alloc, text, &[(bytes, wanted)])?;
-    }
-    Ok(())
+    assert_clients(&rt, rt.alloc(), &TYPES)
 }
+
+const MAP_RULES: [Case; 11] = [
+    (
+        ":map:trusted.:user.virtiofs.:",
+        b"user.virtiofs.a",
+        Wanted::Denied,
+    ),
+    (
+        ":map:trusted.:user.virtiofs.:",
+        b"trusted.a",
+        Wanted::Owned(b"user.virtiofs.trusted.a"),
+    ),
+    (
+        ":map::user.virtiofs.:",
+        b"",
+        Wanted::Owned(b"user.virtiofs."),
+    ),
+    (":map:a:ab:", b"abx", Wanted::Owned(b"ababx")),
+    (":map:ab:a:", b"abx", Wanted::Owned(b"aabx")),
+    (":map:ab:a:", b"ax", Wanted::Denied),
+    (":map:a::", b"ax", Wanted::Owned(b"ax")),
+    (":map:a::", b"b", Wanted::Denied),
+    (":map:::", b"x", Wanted::Owned(b"x")),
+    (":map:a:b:", b"", Wanted::Borrowed(b"")),
+    (":map:a:b:", b"c", Wanted::Borrowed(b"c")),
+];
 
 #[test]
 fn answers_by_a_map_rule(rt: HostRuntime) -> Result<(), Fail> {
-    let alloc = rt.alloc();
-    assert_client(
-        &rt,
-        alloc,
-        ":map:trusted.:user.virtiofs.:",
-        &[
-            (b"user.virtiofs.a", Wanted::Denied),
-            (b"trusted.a", Wanted::Owned(b"user.virtiofs.trusted.a")),
-        ],
-    )?;
-    let cases: [(&str, &[u8], Wanted<'_>); 9] = [
-        (
-            ":map::user.virtiofs.:",
-            b"",
-            Wanted::Owned(b"user.virtiofs."),
-        ),
-        (":map:a:ab:", b"abx", Wanted::Owned(b"ababx")),
-        (":map:ab:a:", b"abx", Wanted::Owned(b"aabx")),
-        (":map:ab:a:", b"ax", Wanted::Denied),
-        (":map:a::", b"ax", Wanted::Owned(b"ax")),
-        (":map:a::", b"b", Wanted::Denied),
-        (":map:::", b"x", Wanted::Owned(b"x")),
-        (":map:a:b:", b"", Wanted::Borrowed(b"")),
-        (":map:a:b:", b"c", Wanted::Borrowed(b"c")),
-    ];
-    for (text, bytes, wanted) in cases {
-        assert_client(&rt, alloc, text, &[(bytes, wanted)])?;
-    }
-    Ok(())
+    assert_clients(&rt, rt.alloc(), &MAP_RULES)
 }
 
 fn passed<'n>(alloc: Global, text: &str, name: XattrName<'n>) -> Result<PassedName<'n>, Fail> {

@@ -1,6 +1,6 @@
 //! What is given of a list of names, a name at a time.
 
-use crate::xattrmap::{Error, ErrorKind, XattrMap};
+use crate::xattrmap::{Error, ErrorKind, ListedNames, XattrMap};
 use std::alloc::Global;
 use std::process::Abort;
 use std::test::Fail;
@@ -14,6 +14,25 @@ enum Ending {
     Undecided,
 }
 
+fn assert_names(rt: &impl Abort, names: &mut ListedNames<'_, '_>, text: &str, wanted: &[&[u8]]) {
+    for name in wanted {
+        assert_eq!(rt; names.next(), Some(Ok(*name)), "under {text:?}");
+    }
+}
+
+/// One of the names that are left has no rule.
+fn assert_undecided(rt: &impl Abort, names: &mut ListedNames<'_, '_>, text: &str) {
+    let undecided = Error::from(ErrorKind::UnterminatedMapping);
+    assert_eq!(rt; names.next(), Some(Err(undecided)), "under {text:?}");
+}
+
+/// There is nothing more, however often it is asked for.
+fn assert_ended(rt: &impl Abort, names: &mut ListedNames<'_, '_>, text: &str) {
+    for _ in 0..3 {
+        assert!(rt; names.next().is_none(), "under {text:?}");
+    }
+}
+
 fn assert_given(
     rt: &impl Abort,
     alloc: Global,
@@ -24,23 +43,11 @@ fn assert_given(
 ) -> Result<(), Fail> {
     let map = XattrMap::try_from(alloc, text)?;
     let mut names = map.listed_names(list);
-    for name in wanted {
-        assert_eq!(rt; names.next(), Some(Ok(*name)), "{list:?} under {text:?}");
-    }
+    assert_names(rt, &mut names, text, wanted);
     if ending == Ending::Undecided {
-        let undecided = Error {
-            cause: ErrorKind::UnterminatedMapping,
-            rule: None,
-        };
-        assert_eq!(rt;
-            names.next(),
-            Some(Err(undecided)),
-            "{list:?} under {text:?}"
-        );
+        assert_undecided(rt, &mut names, text);
     }
-    for _ in 0..3 {
-        assert!(rt; names.next().is_none(), "{list:?} under {text:?}");
-    }
+    assert_ended(rt, &mut names, text);
     Ok(())
 }
 

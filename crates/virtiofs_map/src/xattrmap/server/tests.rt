@@ -5,6 +5,12 @@ use std::alloc::Global;
 use std::process::Abort;
 use std::test::Fail;
 
+/// The list that the guest is shown.
+fn shown(alloc: Global, text: &str, names: &[u8]) -> Result<Vec<u8>, Error> {
+    let map = XattrMap::try_from(alloc, text)?;
+    map.map_server_xattrlist(alloc, names.to_vec(alloc)?)
+}
+
 fn assert_list(
     rt: &impl Abort,
     alloc: Global,
@@ -12,8 +18,7 @@ fn assert_list(
     names: &[u8],
     wanted: &[u8],
 ) -> Result<(), Fail> {
-    let map = XattrMap::try_from(alloc, text)?;
-    let list = map.map_server_xattrlist(alloc, names.to_vec(alloc)?)?;
+    let list = shown(alloc, text, names)?;
     assert_eq!(rt; list.as_slice(), wanted, "{names:?} under {text:?}");
     Ok(())
 }
@@ -99,12 +104,6 @@ fn other_guests_change_no_list(rt: HostRuntime) -> Result<(), Fail> {
         assert_list(&rt, rt.alloc(), text, names, wanted)?;
     }
     Ok(())
-}
-
-/// The list that the guest is shown.
-fn shown(alloc: Global, text: &str, names: &[u8]) -> Result<Vec<u8>, Error> {
-    let map = XattrMap::try_from(alloc, text)?;
-    map.map_server_xattrlist(alloc, names.to_vec(alloc)?)
 }
 
 #[test]
