@@ -40,7 +40,23 @@ fn assert_rules(
     for (rule, wanted) in map.rules.iter().zip(expected) {
         assert_rule(rt, rule, wanted);
     }
-    assert_eq!(rt; map.clone(alloc)?, map, "the clone of {text:?}");
+    Ok(())
+}
+
+/// Whether the map of a text equals its clone.
+fn equals_its_clone(alloc: Global, text: &str) -> Result<bool, Fail> {
+    let map = XattrMap::try_from(alloc, text)?;
+    Ok(map.clone(alloc)? == map)
+}
+
+/// A text, and the rules that it stands for.
+type Read = (&'static str, &'static [Expected]);
+
+fn assert_read(rt: &impl Abort, alloc: Global, texts: &[Read]) -> Result<(), Fail> {
+    for (text, expected) in texts {
+        assert_rules(rt, alloc, text, expected)?;
+        assert!(rt; equals_its_clone(alloc, text)?, "the clone of {text:?}");
+    }
     Ok(())
 }
 
@@ -85,167 +101,215 @@ fn assert_fault(
     Ok(())
 }
 
+const OKAY: Expected = (RuleKind::Okay, BOTH, "", "");
+
+const BAD: Expected = (RuleKind::Bad, BOTH, "", "");
+
+const TRUSTED: Expected = (RuleKind::Prefix, BOTH, "trusted.", "user.virtiofs.");
+
+const READ: [Read; 11] = [
+    ("xokxallxxx", &[OKAY]),
+    ("obadoallooo", &[BAD]),
+    (
+        ":ok:all:::\u{a0}ok\u{a0}all\u{a0}\u{a0}\u{a0}:ok:all:::",
+        &[OKAY, OKAY, OKAY],
+    ),
+    (
+        ":ok:all:::\u{b}ok\u{b}all\u{b}\u{b}\u{b}:ok:all:::",
+        &[OKAY, OKAY, OKAY],
+    ),
+    ("\0ok\0all\0\0\0", &[OKAY]),
+    (
+        ":prefix:client:trusted.:user.virtiofs.:",
+        &[(RuleKind::Prefix, CLIENT, "trusted.", "user.virtiofs.")],
+    ),
+    (
+        ":prefix:all::user.virtiofs.::bad:all:::",
+        &[(RuleKind::Prefix, BOTH, "", "user.virtiofs."), BAD],
+    ),
+    (
+        "\n        /prefix/all/trusted./user.virtiofs./\n        /bad/server//trusted./\n        /bad/client/user.virtiofs.//\n        /ok/all///\n        ",
+        &[
+            TRUSTED,
+            (RuleKind::Bad, SERVER, "", "trusted."),
+            (RuleKind::Bad, CLIENT, "user.virtiofs.", ""),
+            OKAY,
+        ],
+    ),
+    (
+        ":prefix:all:trusted.:user.virtiofs.: /prefix/all/trusted./user.virtiofs./",
+        &[TRUSTED, TRUSTED],
+    ),
+    (
+        ":unsupported:server::security.:",
+        &[(RuleKind::Unsupported, SERVER, "", "security.")],
+    ),
+    (":ok:all:é:ü.:", &[(RuleKind::Okay, BOTH, "é", "ü.")]),
+];
+
 #[test]
 fn reads_rules(rt: HostRuntime) -> Result<(), Fail> {
-    const OKAY: Expected = (RuleKind::Okay, BOTH, "", "");
-    const BAD: Expected = (RuleKind::Bad, BOTH, "", "");
-    const TRUSTED: Expected = (RuleKind::Prefix, BOTH, "trusted.", "user.virtiofs.");
-
-    let alloc = rt.alloc();
-    assert_rules(&rt, alloc, "xokxallxxx", &[OKAY])?;
-    assert_rules(&rt, alloc, "obadoallooo", &[BAD])?;
-    let by_no_break_spaces = ":ok:all:::\u{a0}ok\u{a0}all\u{a0}\u{a0}\u{a0}:ok:all:::";
-    assert_rules(&rt, alloc, by_no_break_spaces, &[OKAY, OKAY, OKAY])?;
-    let by_vertical_tabs = ":ok:all:::\u{b}ok\u{b}all\u{b}\u{b}\u{b}:ok:all:::";
-    assert_rules(&rt, alloc, by_vertical_tabs, &[OKAY, OKAY, OKAY])?;
-    assert_rules(&rt, alloc, "\0ok\0all\0\0\0", &[OKAY])?;
-    let client = (RuleKind::Prefix, CLIENT, "trusted.", "user.virtiofs.");
-    assert_rules(
-        &rt,
-        alloc,
-        ":prefix:client:trusted.:user.virtiofs.:",
-        &[client],
-    )?;
-    let whole = (RuleKind::Prefix, BOTH, "", "user.virtiofs.");
-    assert_rules(
-        &rt,
-        alloc,
-        ":prefix:all::user.virtiofs.::bad:all:::",
-        &[whole, BAD],
-    )?;
-    let lines =
-        "\n        /prefix/all/trusted./user.virtiofs./\n        /bad/server//trusted./\n        /bad/client/user.virtiofs.//\n        /ok/all///\n        ";
-    let hides = (RuleKind::Bad, SERVER, "", "trusted.");
-    let denies = (RuleKind::Bad, CLIENT, "user.virtiofs.", "");
-    assert_rules(&rt, alloc, lines, &[TRUSTED, hides, denies, OKAY])?;
-    let two = ":prefix:all:trusted.:user.virtiofs.: /prefix/all/trusted./user.virtiofs./";
-    assert_rules(&rt, alloc, two, &[TRUSTED, TRUSTED])?;
-    let refuses = (RuleKind::Unsupported, SERVER, "", "security.");
-    assert_rules(&rt, alloc, ":unsupported:server::security.:", &[refuses])?;
-    let wide = (RuleKind::Okay, BOTH, "é", "ü.");
-    assert_rules(&rt, alloc, ":ok:all:é:ü.:", &[wide])
+    assert_read(&rt, rt.alloc(), &READ)
 }
+
+const EXPANDED: [Read; 2] = [
+    (":map::P:   ", &[(RuleKind::Prefix, BOTH, "", "P"), BAD]),
+    (
+        ":map:trusted.:user.virtiofs.:",
+        &[
+            TRUSTED,
+            (RuleKind::Bad, BOTH, "user.virtiofs.", "trusted."),
+            OKAY,
+        ],
+    ),
+];
 
 #[test]
 fn expands_map_rules(rt: HostRuntime) -> Result<(), Fail> {
-    let alloc = rt.alloc();
-    let prefix = (RuleKind::Prefix, BOTH, "", "P");
-    let nothing_else = (RuleKind::Bad, BOTH, "", "");
-    assert_rules(&rt, alloc, ":map::P:   ", &[prefix, nothing_else])?;
-    let keyed = (RuleKind::Prefix, BOTH, "trusted.", "user.virtiofs.");
-    let apart = (RuleKind::Bad, BOTH, "user.virtiofs.", "trusted.");
-    let others = (RuleKind::Okay, BOTH, "", "");
-    assert_rules(
-        &rt,
-        alloc,
-        ":map:trusted.:user.virtiofs.:",
-        &[keyed, apart, others],
-    )
+    assert_read(&rt, rt.alloc(), &EXPANDED)
 }
+
+/// A text, what is wrong with it, and the number of the rule at fault.
+const FAULTS: [(&str, Wrong, Option<usize>); 24] = [
+    (" ", Wrong::Nothing, None),
+    (":", Wrong::Incomplete, Some(1)),
+    (
+        ":ok:all:::\u{a0}ok\u{a0}all\u{a0}\u{a0}\u{a0}",
+        Wrong::Incomplete,
+        Some(2),
+    ),
+    (
+        ":ok:all:::\u{b}ok\u{b}all\u{b}\u{b}\u{b}",
+        Wrong::Incomplete,
+        Some(2),
+    ),
+    (":ok:all:::\u{feff}", Wrong::Incomplete, Some(2)),
+    ("\u{feff}:ok:all:::", Wrong::Incomplete, Some(1)),
+    (":map::P:\u{200b}", Wrong::AfterMap, Some(1)),
+    (":prefix:all:a:b", Wrong::Incomplete, Some(1)),
+    (":prefix:client:hi", Wrong::Incomplete, Some(1)),
+    (
+        ":map:trusted.:virtiofs.user.::map:trusted.:virtiofs.user.:",
+        Wrong::AfterMap,
+        Some(1),
+    ),
+    (
+        ":bad:all:x:y: :map::P: :ok:all:::",
+        Wrong::AfterMap,
+        Some(2),
+    ),
+    (":map::P: x", Wrong::AfterMap, Some(1)),
+    (":map:all:x:y:", Wrong::AfterMap, Some(1)),
+    (":ok:all:a\0:", Wrong::Nul(PatternField::Key), Some(1)),
+    (":ok:all:a\0", Wrong::Incomplete, Some(1)),
+    (":map:a\0:b\0:", Wrong::Nul(PatternField::Key), Some(1)),
+    (":map:a:b\0:", Wrong::Nul(PatternField::Prepend), Some(1)),
+    (":prefix:all:a:b\0", Wrong::Incomplete, Some(1)),
+    (":\u{170}refix:all:::", Wrong::Type("\u{170}refix"), Some(1)),
+    ("ookoallooo", Wrong::Type(""), Some(1)),
+    (
+        ":TOMATOPIRATE:trusted.:virtiofs.user.:",
+        Wrong::Type("TOMATOPIRATE"),
+        Some(1),
+    ),
+    (":ok:all::::bad:nope:::", Wrong::Scope("nope"), Some(2)),
+    (":ok:all::: :bad:nope\0:::", Wrong::Scope("nope\0"), Some(2)),
+    ("/prefix/helloworld///", Wrong::Scope("helloworld"), Some(1)),
+];
 
 #[test]
 fn tells_the_first_fault(rt: HostRuntime) -> Result<(), Fail> {
-    let alloc = rt.alloc();
-    let cases = [
-        (" ", Wrong::Nothing, None),
-        (":", Wrong::Incomplete, Some(1)),
-        (
-            ":ok:all:::\u{a0}ok\u{a0}all\u{a0}\u{a0}\u{a0}",
-            Wrong::Incomplete,
-            Some(2),
-        ),
-        (
-            ":ok:all:::\u{b}ok\u{b}all\u{b}\u{b}\u{b}",
-            Wrong::Incomplete,
-            Some(2),
-        ),
-        (":ok:all:::\u{feff}", Wrong::Incomplete, Some(2)),
-        ("\u{feff}:ok:all:::", Wrong::Incomplete, Some(1)),
-        (":map::P:\u{200b}", Wrong::AfterMap, Some(1)),
-        (":prefix:all:a:b", Wrong::Incomplete, Some(1)),
-        (":prefix:client:hi", Wrong::Incomplete, Some(1)),
-        (
-            ":map:trusted.:virtiofs.user.::map:trusted.:virtiofs.user.:",
-            Wrong::AfterMap,
-            Some(1),
-        ),
-        (
-            ":bad:all:x:y: :map::P: :ok:all:::",
-            Wrong::AfterMap,
-            Some(2),
-        ),
-        (":map::P: x", Wrong::AfterMap, Some(1)),
-        (":map:all:x:y:", Wrong::AfterMap, Some(1)),
-        (":ok:all:a\0:", Wrong::Nul(PatternField::Key), Some(1)),
-        (":ok:all:a\0", Wrong::Incomplete, Some(1)),
-        (":map:a\0:b\0:", Wrong::Nul(PatternField::Key), Some(1)),
-        (":map:a:b\0:", Wrong::Nul(PatternField::Prepend), Some(1)),
-        (":prefix:all:a:b\0", Wrong::Incomplete, Some(1)),
-        (":\u{170}refix:all:::", Wrong::Type("\u{170}refix"), Some(1)),
-        ("ookoallooo", Wrong::Type(""), Some(1)),
-        (
-            ":TOMATOPIRATE:trusted.:virtiofs.user.:",
-            Wrong::Type("TOMATOPIRATE"),
-            Some(1),
-        ),
-        (":ok:all::::bad:nope:::", Wrong::Scope("nope"), Some(2)),
-        (":ok:all::: :bad:nope\0:::", Wrong::Scope("nope\0"), Some(2)),
-        ("/prefix/helloworld///", Wrong::Scope("helloworld"), Some(1)),
-    ];
-    for (text, wrong, rule) in cases {
-        assert_fault(&rt, alloc, text, wrong, rule)?;
+    for (text, wrong, rule) in FAULTS {
+        assert_fault(&rt, rt.alloc(), text, wrong, rule)?;
     }
     Ok(())
 }
+
+/// Whether the maps of two texts are equal.
+fn mean_the_same(alloc: Global, one: &str, other: &str) -> Result<bool, Fail> {
+    let map = XattrMap::try_from(alloc, one)?;
+    Ok(map == XattrMap::try_from(alloc, other)?)
+}
+
+/// Two texts, and whether they mean the same.
+const COMPARED: [(&str, &str, bool); 3] = [
+    (
+        ":map::user.virtiofs.:",
+        ":prefix:all::user.virtiofs.::bad:all:::",
+        true,
+    ),
+    (
+        ":map:trusted.:user.virtiofs.:",
+        ":prefix:all::user.virtiofs.::bad:all:::",
+        false,
+    ),
+    (
+        ":map:trusted.:user.virtiofs.:",
+        ":prefix:all:trusted.:user.virtiofs.: :bad:all:user.virtiofs.:trusted.: :ok:all:::",
+        true,
+    ),
+];
 
 #[test]
 fn compares_by_what_rules_mean(rt: HostRuntime) -> Result<(), Fail> {
-    let alloc = rt.alloc();
-    let short = XattrMap::try_from(alloc, ":map::user.virtiofs.:")?;
-    let long = XattrMap::try_from(alloc, ":prefix:all::user.virtiofs.::bad:all:::")?;
-    assert_eq!(rt; short, long);
-    let short = XattrMap::try_from(alloc, ":map:trusted.:user.virtiofs.:")?;
-    assert_ne!(rt; short, long);
-    let long = XattrMap::try_from(
-        alloc,
-        ":prefix:all:trusted.:user.virtiofs.: :bad:all:user.virtiofs.:trusted.: :ok:all:::",
-    )?;
-    assert_eq!(rt; short, long);
+    for (one, other, wanted) in COMPARED {
+        assert_eq!(rt;
+            mean_the_same(rt.alloc(), one, other)?,
+            wanted,
+            "{one:?} {other:?}"
+        );
+    }
+    Ok(())
+}
+
+/// The text of what is wrong with a text.
+fn message_of(alloc: Global, text: &str) -> Result<String, Fail> {
+    let error = XattrMap::try_from(alloc, text).err().ok_or("read")?;
+    Ok(error.to_string(alloc)?)
+}
+
+/// A text of no map, and what is printed of it.
+const MESSAGES: [(&str, &str); 7] = [
+    (" ", "there are no rules"),
+    (
+        ":ok:nope:::",
+        "rule 1: invalid scope 'nope', expected one of: all, client, server",
+    ),
+    (
+        ":nope:all:::",
+        "rule 1: invalid type 'nope', expected one of: prefix, ok, bad, map",
+    ),
+    (":ok:all::: :", "rule 2: the rule is incomplete"),
+    (":map::: x", "rule 1: a map rule has to stand last"),
+    (":ok:all:\0::", "rule 1: Key holds NUL"),
+    (":ok:all::\0:", "rule 1: Prepend holds NUL"),
+];
+
+#[test]
+fn prints_errors_of_texts(rt: HostRuntime) -> Result<(), Fail> {
+    for (text, message) in MESSAGES {
+        assert_eq!(rt; message_of(rt.alloc(), text)?.as_str(), message);
+    }
     Ok(())
 }
 
 #[test]
-fn prints_errors(rt: HostRuntime) -> Result<(), Fail> {
-    let alloc = rt.alloc();
-    let cases = [
-        (" ", "there are no rules"),
-        (
-            ":ok:nope:::",
-            "rule 1: invalid scope 'nope', expected one of: all, client, server",
-        ),
-        (
-            ":nope:all:::",
-            "rule 1: invalid type 'nope', expected one of: prefix, ok, bad, map",
-        ),
-        (":ok:all::: :", "rule 2: the rule is incomplete"),
-        (":map::: x", "rule 1: a map rule has to stand last"),
-        (":ok:all:\0::", "rule 1: Key holds NUL"),
-        (":ok:all::\0:", "rule 1: Prepend holds NUL"),
-    ];
-    for (text, message) in cases {
-        if let Err(error) = XattrMap::try_from(alloc, text) {
-            assert_eq!(rt; error.to_string(alloc)?.as_str(), message);
-        } else {
-            panic!(rt; "{text:?} is read");
-        }
-    }
+fn prints_other_errors(rt: HostRuntime) -> Result<(), Fail> {
     let error = Error::from(ErrorKind::<Global>::UnterminatedMapping);
-    assert_eq!(rt; error.to_string(alloc)?.as_str(), "no rule fits the name");
+    assert_eq!(rt;
+        error.to_string(rt.alloc())?.as_str(),
+        "no rule fits the name"
+    );
     let error = Error::<Global>::from(AllocError);
-    assert_eq!(rt; error.to_string(alloc)?.as_str(), "out of memory");
+    assert_eq!(rt; error.to_string(rt.alloc())?.as_str(), "out of memory");
+    Ok(())
+}
+
+#[test]
+fn prints_a_kind_of_error(rt: HostRuntime) -> Result<(), Fail> {
     let error = ErrorKind::<Global>::InvalidDelimiter;
     assert_eq!(rt;
-        error.to_string(alloc)?.as_str(),
+        error.to_string(rt.alloc())?.as_str(),
         "the delimiter is not the rule's first"
     );
     Ok(())
@@ -255,93 +319,110 @@ fn prints_errors(rt: HostRuntime) -> Result<(), Fail> {
 /// fewest and the most steps.
 type Asked = (Side, &'static str, Option<usize>, (u64, u64));
 
-fn assert_first(
-    rt: &impl Abort,
-    map: &XattrMap,
-    side: Side,
-    name: &[u8],
-    expected: Option<usize>,
-    counted: (u64, u64),
-) -> Result<(), Fail> {
+/// The first rule of a name, and the steps that it took to find it.
+fn first(map: &XattrMap, side: Side, name: &[u8]) -> Result<(Option<usize>, u64), Fail> {
     let name = XattrName::new(name).ok_or("a name holds a zero")?;
     let mut steps = Steps::new();
-    assert_eq!(rt; map.first_rule(side, name, &mut steps), expected);
-    let (least, most) = counted;
-    assert!(rt; least <= steps.count());
-    assert!(rt; steps.count() <= most);
+    let found = map.first_rule(side, name, &mut steps);
+    Ok((found, steps.count()))
+}
+
+fn assert_first(rt: &impl Abort, map: &XattrMap, asked: &Asked) -> Result<(), Fail> {
+    let (side, name, expected, (least, most)) = *asked;
+    let (found, steps) = first(map, side, name.as_bytes())?;
+    assert_eq!(rt; found, expected, "of {name:?}");
+    assert!(rt; least <= steps && steps <= most, "{steps} for {name:?}");
     Ok(())
 }
 
-fn assert_asked(rt: &impl Abort, alloc: Global, text: &str, asked: &[Asked]) -> Result<(), Fail> {
-    let map = XattrMap::try_from(alloc, text)?;
-    let copy = map.clone(alloc)?;
-    for (side, name, expected, counted) in asked {
-        assert_first(rt, &map, *side, name.as_bytes(), *expected, *counted)?;
-        assert_first(rt, &copy, *side, name.as_bytes(), *expected, *counted)?;
+fn assert_all(rt: &impl Abort, map: &XattrMap, asked: &[Asked]) -> Result<(), Fail> {
+    for one in asked {
+        assert_first(rt, map, one)?;
     }
     Ok(())
 }
 
+/// A map and its clone find the same.
+fn assert_asked(rt: &impl Abort, alloc: Global, text: &str, asked: &[Asked]) -> Result<(), Fail> {
+    let map = XattrMap::try_from(alloc, text)?;
+    assert_all(rt, &map, asked)?;
+    assert_all(rt, &map.clone(alloc)?, asked)
+}
+
+/// Texts, each with names that are asked for.
+const ASKED: [(&str, &[Asked]); 5] = [
+    (
+        ":ok:all:a:a: :bad:all:a:a: :ok:all:::",
+        &[
+            (Side::Client, "abc", Some(0), (2, 2)),
+            (Side::Client, "", Some(2), (1, 1)),
+        ],
+    ),
+    (
+        ":bad:server:zzz:a: :ok:all:b:b:",
+        &[
+            (Side::Client, "zzzz", None, (1, 2)),
+            (Side::Client, "b", Some(1), (2, 2)),
+            (Side::Server, "ab", Some(0), (2, 3)),
+            (Side::Server, "c", None, (1, 2)),
+        ],
+    ),
+    (
+        ":map:trusted.:user.virtiofs.:",
+        &[
+            (Side::Client, "trusted.a", Some(0), (9, 10)),
+            (Side::Client, "user.virtiofs.a", Some(1), (15, 15)),
+            (Side::Client, "x", Some(2), (1, 2)),
+            (Side::Server, "user.virtiofs.a", Some(0), (15, 15)),
+            (Side::Server, "trusted.a", Some(1), (9, 10)),
+            (Side::Server, "x", Some(2), (1, 2)),
+        ],
+    ),
+    (":ok:server::a:", &[(Side::Client, "abc", None, (1, 1))]),
+    (
+        ":ok:all:a:a: :bad:all:abc:abc: :bad:all:::",
+        &[(Side::Client, "abcd", Some(0), (2, 4))],
+    ),
+];
+
 #[test]
 fn finds_the_first_rule(rt: HostRuntime) -> Result<(), Fail> {
-    use Side::{Client, Server};
-    let alloc = rt.alloc();
-    let one_pattern = [
-        (Client, "abc", Some(0), (2, 2)),
-        (Client, "", Some(2), (1, 1)),
-    ];
-    assert_asked(
-        &rt,
-        alloc,
-        ":ok:all:a:a: :bad:all:a:a: :ok:all:::",
-        &one_pattern,
-    )?;
-    let sides = [
-        (Client, "zzzz", None, (1, 2)),
-        (Client, "b", Some(1), (2, 2)),
-        (Server, "ab", Some(0), (2, 3)),
-        (Server, "c", None, (1, 2)),
-    ];
-    assert_asked(&rt, alloc, ":bad:server:zzz:a: :ok:all:b:b:", &sides)?;
-    let map_rule = [
-        (Client, "trusted.a", Some(0), (9, 10)),
-        (Client, "user.virtiofs.a", Some(1), (15, 15)),
-        (Client, "x", Some(2), (1, 2)),
-        (Server, "user.virtiofs.a", Some(0), (15, 15)),
-        (Server, "trusted.a", Some(1), (9, 10)),
-        (Server, "x", Some(2), (1, 2)),
-    ];
-    assert_asked(&rt, alloc, ":map:trusted.:user.virtiofs.:", &map_rule)?;
-    let no_rule = [(Client, "abc", None, (1, 1))];
-    assert_asked(&rt, alloc, ":ok:server::a:", &no_rule)?;
-    let shorter = [(Client, "abcd", Some(0), (2, 4))];
-    assert_asked(
-        &rt,
-        alloc,
-        ":ok:all:a:a: :bad:all:abc:abc: :bad:all:::",
-        &shorter,
-    )
+    for (text, asked) in ASKED {
+        assert_asked(&rt, rt.alloc(), text, asked)?;
+    }
+    Ok(())
+}
+
+/// A text of so many letters.
+fn letters(alloc: Global, count: usize) -> Result<String, AllocError> {
+    let mut text = String::new(alloc);
+    for _ in 0..count {
+        text.push('a')?;
+    }
+    Ok(text)
+}
+
+/// A map with a pattern of 20000 letters.
+fn long_pattern(alloc: Global) -> Result<XattrMap, Fail> {
+    let key = letters(alloc, 20000)?;
+    let text = format!(in alloc; ":bad:all:{key}:{key}: :ok:all:::")?;
+    Ok(XattrMap::try_from(alloc, text.as_str())?)
+}
+
+/// Asks for a name of so many letters.
+fn first_of_letters(alloc: Global, count: usize) -> Result<(Option<usize>, u64), Fail> {
+    let map = long_pattern(alloc)?;
+    let name = letters(alloc, count)?;
+    first(&map, Side::Client, name.as_bytes())
 }
 
 #[test]
 fn counts_along_a_long_pattern(rt: HostRuntime) -> Result<(), Fail> {
-    let alloc = rt.alloc();
-    let mut key = String::new(alloc);
-    for _ in 0..20000 {
-        key.push('a')?;
-    }
-    let text = format!(in alloc; ":bad:all:{key}:{key}: :ok:all:::")?;
-    let map = XattrMap::try_from(alloc, text.as_str())?;
-    let mut name = Vec::new(alloc);
-    for _ in 0..19999 {
-        name.push(b'a')?;
-    }
-    let shorter = name.as_slice();
-    assert_first(&rt, &map, Side::Client, shorter, Some(1), (1, 20000))?;
-    name.push(b'a')?;
-    name.push(b'a')?;
-    let longer = name.as_slice();
-    assert_first(&rt, &map, Side::Client, longer, Some(0), (20001, 20001))
+    let (found, steps) = first_of_letters(rt.alloc(), 19999)?;
+    assert_eq!(rt; found, Some(1));
+    assert!(rt; 1 <= steps && steps <= 20000);
+    assert_eq!(rt; first_of_letters(rt.alloc(), 20001)?, (Some(0), 20001));
+    Ok(())
 }
 
 /// How many rules `many_rules` has.
