@@ -6,6 +6,7 @@ use crate::id_types::projects::{GuestProject, HostProject, ProjectNumber};
 use crate::id_types::{
     GuestGid, GuestId, GuestUid, HostGid, HostId, HostUid, Id, IdNumber, IdOffset,
 };
+use std::alloc::Global;
 use std::process::Abort;
 use std::test::Fail;
 
@@ -253,24 +254,24 @@ fn defaults_to_root(rt: HostRuntime) {
     assert!(rt; HostGid::default().is_root());
 }
 
+/// An id is printed so.
+fn check_printed<I: Id>(rt: &impl Abort, alloc: Global, id: I, text: &str) -> Result<(), Fail> {
+    assert_eq!(rt; id.to_string(alloc)?.as_str(), text);
+    Ok(())
+}
+
 #[test]
 fn prints_numbers(rt: HostRuntime) -> Result<(), Fail> {
-    let alloc = rt.alloc();
-    assert_eq!(rt; format!(in alloc; "{}", GuestUid::from(0))?.as_str(), "0");
-    assert_eq!(rt;
-        format!(in alloc; "{}", HostUid::from(1000))?.as_str(),
-        "1000"
-    );
-    assert_eq!(rt;
-        format!(in alloc; "{}", GuestGid::from(65534))?.as_str(),
-        "65534"
-    );
-    assert_eq!(rt;
-        format!(in alloc; "{}", HostGid::from(4294967295))?.as_str(),
-        "4294967295"
-    );
+    check_printed(&rt, rt.alloc(), GuestUid::from(0), "0")?;
+    check_printed(&rt, rt.alloc(), HostUid::from(1000), "1000")?;
+    check_printed(&rt, rt.alloc(), GuestGid::from(65534), "65534")?;
+    check_printed(&rt, rt.alloc(), HostGid::from(4294967295), "4294967295")?;
     let project = GuestProject::from(ProjectNumber(7));
-    assert_eq!(rt; format!(in alloc; "{project}")?.as_str(), "project 7");
-    assert!(rt; !format!(in alloc; "{:?}", HostUid::from(3))?.is_empty());
+    check_printed(&rt, rt.alloc(), project, "project 7")
+}
+
+#[test]
+fn prints_for_a_programmer(rt: HostRuntime) -> Result<(), Fail> {
+    assert!(rt; !format!(in rt.alloc(); "{:?}", HostUid::from(3))?.is_empty());
     Ok(())
 }

@@ -152,18 +152,28 @@ fn tells_maps_apart(rt: HostRuntime) -> Result<(), Fail> {
     Ok(())
 }
 
+/// A fault that holds no other error, and its text.
+const SAID: [(IdMapError, &str); 2] = [
+    (
+        IdMapError::InvalidDelimiter,
+        "A delimiter has been found that does not match the delimiter the map started with",
+    ),
+    (
+        IdMapError::IncompleteMap,
+        "The map is empty or incorrect number of values are provided",
+    ),
+];
+
 #[test]
 fn says_what_is_wrong(rt: HostRuntime) -> Result<(), Fail> {
-    let fault = IdMapError::InvalidDelimiter.to_string(rt.alloc())?;
-    assert_eq!(rt;
-        fault.as_str(),
-        "A delimiter has been found that does not match the delimiter the map started with"
-    );
-    let fault = IdMapError::IncompleteMap.to_string(rt.alloc())?;
-    assert_eq!(rt;
-        fault.as_str(),
-        "The map is empty or incorrect number of values are provided"
-    );
+    for (fault, text) in SAID {
+        assert_eq!(rt; fault.to_string(rt.alloc())?.as_str(), text);
+    }
+    Ok(())
+}
+
+#[test]
+fn says_what_is_wrong_with_a_number(rt: HostRuntime) -> Result<(), Fail> {
     for text in ["", "-1", "4294967296"] {
         let error = text.parse::<u32>().err().ok_or("a number")?;
         let number_fault = error.to_string(rt.alloc())?;

@@ -10,7 +10,7 @@ use std::process::Abort;
 use std::test::Fail;
 
 /// The specifications that the texts say.
-fn specs_of(alloc: Global, texts: &[&str]) -> Result<Vec<cmdline::IdMap>, Fail> {
+pub(super) fn specs_of(alloc: Global, texts: &[&str]) -> Result<Vec<cmdline::IdMap>, Fail> {
     let mut specs = Vec::new(alloc);
     for text in texts {
         let spec = cmdline::IdMap::from_str(alloc, text)?;

@@ -225,10 +225,16 @@ fn tells_the_first_fault(rt: HostRuntime) -> Result<(), Fail> {
     Ok(())
 }
 
+/// Whether a map equals the map of a text.
+fn is_map_of(alloc: Global, map: &XattrMap, text: &str) -> Result<bool, Fail> {
+    let other = XattrMap::try_from(alloc, text)?;
+    Ok(*map == other)
+}
+
 /// Whether the maps of two texts are equal.
 fn mean_the_same(alloc: Global, one: &str, other: &str) -> Result<bool, Fail> {
     let map = XattrMap::try_from(alloc, one)?;
-    Ok(map == XattrMap::try_from(alloc, other)?)
+    is_map_of(alloc, &map, other)
 }
 
 /// Two texts, and whether they mean the same.
@@ -428,12 +434,16 @@ fn counts_along_a_long_pattern(rt: HostRuntime) -> Result<(), Fail> {
 /// How many rules `many_rules` has.
 const MANY: usize = 100;
 
-/// A text of many rules, each with a key and a prepend of its own.
+/// The rule at that place, with a key and a prepend of its own.
+fn line_of(alloc: Global, n: usize) -> Result<String, AllocError> {
+    format!(in alloc; ":prefix:all:key{n}.:host{n}.:\n")
+}
+
+/// A text of many rules.
 fn many_rules(alloc: Global) -> Result<String, AllocError> {
     let mut text = String::new(alloc);
     for n in 0..MANY {
-        let line = format!(in alloc; ":prefix:all:key{n}.:host{n}.:\n")?;
-        text.push_str(line.as_str())?;
+        text.push_str(line_of(alloc, n)?.as_str())?;
     }
     Ok(text)
 }

@@ -2,9 +2,9 @@
 ghost use Rattle.std.specs.Prelude.{◌≡◌, IfOk, string_bytes};
 ghost use Rattle.virtiofs_map.specs.Printed.{map_error_text};
 
-use crate::cmdline;
 use crate::id_types::projects::{GuestProject, ProjectNumber};
 use crate::id_types::{GuestId, GuestUid, HostId, HostUid, Id};
+use crate::soft_idmap::tests::specs_of;
 use crate::soft_idmap::{FaultKind, IdMap, IdMapBuildError, MapError};
 use std::alloc::{AllocError, Global};
 use std::process::Abort;
@@ -78,10 +78,7 @@ where
     Guest: GuestId<HostType = Host>,
     Host: HostId<GuestType = Guest>,
 {
-    let mut specs = Vec::new(alloc);
-    for text in texts {
-        specs.push(cmdline::IdMap::from_str(alloc, text)?)?;
-    }
+    let specs = specs_of(alloc, texts)?;
     Ok(IdMap::try_from(alloc, specs))
 }
 
@@ -94,12 +91,24 @@ fn fault_of(alloc: Global, texts: &[&str]) -> Result<IdMapBuildError, Fail> {
     )
 }
 
+/// The fault of these texts has this text and this kind.
+fn check_fault(
+    rt: &impl Abort,
+    alloc: Global,
+    texts: &[&str],
+    text: &str,
+    kind: FaultKind,
+) -> Result<(), Fail> {
+    let fault = fault_of(alloc, texts)?;
+    assert_eq!(rt; fault.to_string(alloc)?.as_str(), text);
+    assert_eq!(rt; fault.kind(), kind);
+    Ok(())
+}
+
 #[test]
 fn prints_meeting_ranges(rt: HostRuntime) -> Result<(), Fail> {
     for (first, second, text) in MEETING {
-        let fault = fault_of(rt.alloc(), &[first, second])?;
-        assert_eq!(rt; fault.to_string(rt.alloc())?.as_str(), text);
-        assert_eq!(rt; fault.kind(), FaultKind::Other);
+        check_fault(&rt, rt.alloc(), &[first, second], text, FaultKind::Other)?;
     }
     Ok(())
 }
@@ -107,9 +116,7 @@ fn prints_meeting_ranges(rt: HostRuntime) -> Result<(), Fail> {
 #[test]
 fn prints_overflowing_ranges(rt: HostRuntime) -> Result<(), Fail> {
     for (spec, text) in OVERFLOWING {
-        let fault = fault_of(rt.alloc(), &[spec])?;
-        assert_eq!(rt; fault.to_string(rt.alloc())?.as_str(), text);
-        assert_eq!(rt; fault.kind(), FaultKind::InvalidInput);
+        check_fault(&rt, rt.alloc(), &[spec], text, FaultKind::InvalidInput)?;
     }
     Ok(())
 }

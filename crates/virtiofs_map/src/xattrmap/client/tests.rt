@@ -16,19 +16,29 @@ enum Wanted<'n> {
     AnotherFault,
 }
 
+fn passing<'n>(passed: &'n PassedName<'n>) -> Wanted<'n> {
+    match passed {
+        PassedName::Borrowed(name) => Wanted::Borrowed(name.as_bytes()),
+        PassedName::Owned(name) => Wanted::Owned(name.as_name().as_bytes()),
+    }
+}
+
+fn failing(error: &Error) -> Wanted<'static> {
+    match error {
+        Error {
+            cause: ErrorKind::UnterminatedMapping,
+            rule: None,
+        } => Wanted::Unterminated,
+        _ => Wanted::AnotherFault,
+    }
+}
+
 fn given<'n>(answer: &'n Result<AppliedRule<'n>, Error>) -> Wanted<'n> {
     match answer {
-        Ok(AppliedRule::Pass(PassedName::Borrowed(name))) => Wanted::Borrowed(name.as_bytes()),
-        Ok(AppliedRule::Pass(PassedName::Owned(name))) => Wanted::Owned(name.as_name().as_bytes()),
+        Ok(AppliedRule::Pass(passed)) => passing(passed),
         Ok(AppliedRule::Deny) => Wanted::Denied,
         Ok(AppliedRule::Unsupported) => Wanted::Unsupported,
-        Err(
-            Error {
-                cause: ErrorKind::UnterminatedMapping,
-                rule: None,
-            },
-        ) => Wanted::Unterminated,
-        Err(_) => Wanted::AnotherFault,
+        Err(error) => failing(error),
     }
 }
 
