@@ -1,5 +1,5 @@
 //! How the text of a specification is read.
-ghost use Rattle.std.specs.Prelude.{◌≡◌, [], ◌∷◌, MatchResult, IfOk, IfErr, IfSome, IfNone, string_bytes};
+ghost use Rattle.std.specs.Prelude.{◌≡◌, ◌≢◌, [], ◌∷◌, MatchResult, IfOk, IfErr, IfSome, IfNone, string_bytes};
 ghost use Rattle.std.specs.List.{AllZip};
 ghost use Rattle.std.specs.Str.{chars};
 ghost use Rattle.virtiofs_map.specs.Numeral.{IsNumeral};
@@ -8,6 +8,7 @@ ghost use Rattle.virtiofs_map.specs.Separator.{split_at_each};
 ghost use Rattle.virtiofs_map.specs.SpecificationParts.{IsLoweredCut, IsFieldFault, IsFieldsFault, IsCountFault, IsWordFault};
 ghost use Rattle.virtiofs_map.specs.SpecificationText.{is_word_character, word_of, numbers_of, HasNoSeparator, Says, SpecificationFault, HasSpecificationFault, specification_fault_of, IsExplained};
 ghost use Rattle.virtiofs_map.specs.declared.cmdline.IdMap.{IdMap as Specification};
+ghost use Rattle.virtiofs_map.specs.declared.cmdline.IdMap.TheVariants.{Bidirectional, ForbidGuest};
 
 use super::{IdMap, IdMapError};
 use crate::text::{cut_at, is_alphanumeric, number};
@@ -122,8 +123,10 @@ fn two<A: Allocator>(numbers: &[u32]) -> Result<(u32, u32), IdMapError<A>>
     }
 }
 
-/// The specification that a word and its numbers say.
-fn specification<A: Allocator>(word: String<A>, numbers: &[u32]) -> Result<IdMap, IdMapError<A>>
+/// The specification of one of the four words that map or squash in one direction.
+fn one_way<A: Allocator>(word: String<A>, numbers: &[u32]) -> Result<IdMap, IdMapError<A>>
+    requires map { string_bytes word ≢ word_of (Bidirectional 0 0 0) }
+    requires forbid_guest { string_bytes word ≢ word_of (ForbidGuest 0 0) }
     ensures word { IfOk result (λ spec. string_bytes word ≡ word_of spec) }
     ensures numbers { IfOk result (λ spec. numbers.now ≡ numbers_of spec) }
     ensures refused { IfErr result (λ e. OutOfMemoryOr (specification_fault_of e)
@@ -163,6 +166,19 @@ fn specification<A: Allocator>(word: String<A>, numbers: &[u32]) -> Result<IdMap
                 count,
             })
         }
+        _ => Err(IdMapError::InvalidPrefix(word)),
+    }
+}
+
+/// The specification that a word and its numbers say.
+fn specification<A: Allocator>(word: String<A>, numbers: &[u32]) -> Result<IdMap, IdMapError<A>>
+    ensures word { IfOk result (λ spec. string_bytes word ≡ word_of spec) }
+    ensures numbers { IfOk result (λ spec. numbers.now ≡ numbers_of spec) }
+    ensures refused { IfErr result (λ e. OutOfMemoryOr (specification_fault_of e)
+        (IsWordFault (string_bytes word) numbers.now)) }
+    ensures explained { IfErr result IsExplained }
+{
+    match word.as_str() {
         "map" => {
             let (guest, host, count) = three(numbers)?;
             Ok(IdMap::Bidirectional { guest, host, count })
@@ -171,7 +187,7 @@ fn specification<A: Allocator>(word: String<A>, numbers: &[u32]) -> Result<IdMap
             let (from_guest, count) = two(numbers)?;
             Ok(IdMap::ForbidGuest { from_guest, count })
         }
-        _ => Err(IdMapError::InvalidPrefix(word)),
+        _ => one_way(word, numbers),
     }
 }
 
