@@ -44,14 +44,15 @@ impl<A: Allocator + Copy> Tried<A> {
         }
     }
 
-    /// Tries one name more. Where it is bad, and comes before the least bad name so far, it is kept.
+    /// Tries one name more. It is kept where it is bad and comes before the least bad name so far.
     pub(crate) fn try_name(
         &mut self,
         alloc: A,
         question: &Question<'_, A>,
         name: XattrName<'_>,
     ) -> Result<(), AllocError>
-        ensures { OnOk result (self.new ≡ try_one (bad question.now) self.old name.entry.bytes.now) }
+        ensures { OnOk result
+            (self.new ≡ try_one (bad question.now) self.old name.entry.bytes.now) }
     {
         self.steps.tick();
         if question.is_bad(&mut self.room, name.bytes)? && self.is_first(name) {
