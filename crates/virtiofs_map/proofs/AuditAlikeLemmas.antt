@@ -182,16 +182,17 @@ rests_same (rule ∷ others) added name c f all =
       here false met = refl
 
 -- the patterns of the rule that decides are among those of all rules
-of_found : (P : List ℕ → Type 0) (others rules : List MappingRule) (name added : List ℕ) → AllByRecursion P (guest_names others rules) → option_and_then front_of (find (fits Client name) rules) ≡ Some added → AllByRecursion P (rests others added)
-of_found P others [] name added all e = cc
-of_found P others (rule ∷ rules) name added all e =
-    let mine = all_first P (guest_names_of others rule) (guest_names others rules) all in
-    let more = all_second P (guest_names_of others rule) (guest_names others rules) all in
-    cond_both (fits Client name rule) (Some rule) (find (fits Client name) rules) (λ o. option_and_then front_of o ≡ Some added → AllByRecursion P (rests others added)) (λ b k. here (and_parts rule.client (begins rule.key name) b).0 mine k) (λ _ k. of_found P others rules name added more k) e where
-      here : rule.client ≡ true → AllByRecursion P (guest_names_of others rule) → front_of rule ≡ Some added → AllByRecursion P (rests others added)
+of_found : (P : List ℕ → Type 0) (fit acts : MappingRule → Bool) (pattern : MappingRule → List ℕ) (more : List ℕ → List (List ℕ)) → ((rule : MappingRule) → fit rule ≡ true → acts rule ≡ true) → (rules : List MappingRule) (cut : List ℕ) → AllByRecursion P (flat_map (λ rule. cond (acts rule) (pattern rule ∷ option_map_or more (front_of rule) []) []) rules) → option_and_then front_of (find fit rules) ≡ Some cut → AllByRecursion P (more cut)
+of_found P fit acts pattern more on [] cut all e = cc
+of_found P fit acts pattern more on (rule ∷ rules) cut all e =
+    let names : MappingRule → List (List ℕ) = λ rule. cond (acts rule) (pattern rule ∷ option_map_or more (front_of rule) []) [] in
+    let mine = all_first P (names rule) (flat_map names rules) all in
+    let others = all_second P (names rule) (flat_map names rules) all in
+    cond_both (fit rule) (Some rule) (find fit rules) (λ o. option_and_then front_of o ≡ Some cut → AllByRecursion P (more cut)) (λ b k. here (on rule b) mine k) (λ _ k. of_found P fit acts pattern more on rules cut others k) e where
+      here : acts rule ≡ true → AllByRecursion P (cond (acts rule) (pattern rule ∷ option_map_or more (front_of rule) []) []) → front_of rule ≡ Some cut → AllByRecursion P (more cut)
       here holds mine k =
-          let met = subst (λ b. AllByRecursion P (cond b (rule.key ∷ option_map_or (rests others) (front_of rule) []) [])) holds mine in
-          subst (λ o. AllByRecursion P (option_map_or (rests others) o [])) k met.1
+          let met = subst (λ b. AllByRecursion P (cond b (pattern rule ∷ option_map_or more (front_of rule) []) [])) holds mine in
+          subst (λ o. AllByRecursion P (option_map_or more o [])) k met.1
 
 -- the two names meet the same rules, and so does what they become
 pub record FareAlike (rules others : List MappingRule) (name c : List ℕ) : Type 0 where
@@ -203,7 +204,7 @@ fare_alike rules others tried name c stands = record {
   client = deciding-find Client rules name ∙ find_same (fits Client name) (fits Client c) rules (keys_same others rules name c stands.is_front stands.met) ∙ sym (deciding-find Client rules c);
   server = λ added e.
       (let decides = ap (option_and_then front_of) (sym (deciding-find Client rules name)) ∙ e in
-      let met = of_found (Meets name c) others rules name added stands.met decides in
+      let met = of_found (Meets name c) (fits Client name) (λ rule. rule.client) (λ rule. rule.key) (rests others) (λ rule b. (and_parts rule.client (begins rule.key name) b).0) rules added stands.met decides in
       deciding-find Server others (added ++ name) ∙ find_same (fits Server (added ++ name)) (fits Server (added ++ c)) others (rests_same others added name c stands.is_front met) ∙ sym (deciding-find Server others (added ++ c)));
 }
 
@@ -230,17 +231,6 @@ wholes_same (rule ∷ others) cut name rest f all =
       here true met = whole_same cut rule.key name rest f met.0
       here false met = refl
 
-of_found_host : (P : List ℕ → Type 0) (others rules : List MappingRule) (host cut : List ℕ) → AllByRecursion P (host_names others rules) → option_and_then front_of (find (fits Server host) rules) ≡ Some cut → AllByRecursion P (wholes others cut)
-of_found_host P others [] host cut all e = cc
-of_found_host P others (rule ∷ rules) host cut all e =
-    let mine = all_first P (host_names_of others rule) (host_names others rules) all in
-    let more = all_second P (host_names_of others rule) (host_names others rules) all in
-    cond_both (fits Server host rule) (Some rule) (find (fits Server host) rules) (λ o. option_and_then front_of o ≡ Some cut → AllByRecursion P (wholes others cut)) (λ b k. here (and_parts rule.server (begins rule.prepend host) b).0 mine k) (λ _ k. of_found_host P others rules host cut more k) e where
-      here : rule.server ≡ true → AllByRecursion P (host_names_of others rule) → front_of rule ≡ Some cut → AllByRecursion P (wholes others cut)
-      here holds mine k =
-          let met = subst (λ b. AllByRecursion P (cond b (rule.prepend ∷ option_map_or (wholes others) (front_of rule) []) [])) holds mine in
-          subst (λ o. AllByRecursion P (option_map_or (wholes others) o [])) k met.1
-
 pub record ListedAlike (rules others : List MappingRule) (host c : List ℕ) : Type 0 where
   pub server : deciding Server rules host ≡ deciding Server rules c
   pub client : (cut name rest : List ℕ) → front Server rules host ≡ Some cut → host ≡ cut ++ name → c ≡ cut ++ rest → deciding Client others name ≡ deciding Client others rest
@@ -250,7 +240,7 @@ listed_alike rules others tried host c stands = record {
   server = deciding-find Server rules host ∙ find_same (fits Server host) (fits Server c) rules (prepends_same others rules host c stands.is_front stands.met) ∙ sym (deciding-find Server rules c);
   client = λ cut name rest e split other.
       (let decides = ap (option_and_then front_of) (sym (deciding-find Server rules host)) ∙ e in
-      let met = of_found_host (Meets host c) others rules host cut stands.met decides in
+      let met = of_found (Meets host c) (fits Server host) (λ rule. rule.server) (λ rule. rule.prepend) (wholes others) (λ rule b. (and_parts rule.server (begins rule.prepend host) b).0) rules cut stands.met decides in
       let front : begins (cut ++ rest) (cut ++ name) ≡ true = subst (λ n. begins (cut ++ rest) n ≡ true) split (subst (λ p. begins p host ≡ true) other stands.is_front) in
       let over = subst (λ n. AllByRecursion (Meets n (cut ++ rest)) (wholes others cut)) split (subst (λ p. AllByRecursion (Meets host p) (wholes others cut)) other met) in
       deciding-find Client others name ∙ find_same (fits Client name) (fits Client rest) others (wholes_same others cut name rest front over) ∙ sym (deciding-find Client others rest));

@@ -1,5 +1,5 @@
 //! The forms of the program's words.
-ghost use Rattle.std.specs.Prelude.{◌≢◌, List, All, IfOk, MatchOption};
+ghost use Rattle.std.specs.Prelude.{◌≡◌, ◌≢◌, ℕ, List, [], ◌∷◌, All, IfOk, MatchOption};
 ghost use Rattle.std.specs.List.{AllZip};
 ghost use Rattle.virtiofs_mapcheck.specs.Words.{words_of, ask, Asks, IdsKind, NamespaceKind, ClientKind, ServerKind, TerminatedKind, AuditKind, ApartKind, HasForm, HasNoForm};
 ghost use Rattle.virtiofs_mapcheck.specs.WordsParts.{IsCutAtAsk, form_of, ReadsBody};
@@ -127,14 +127,24 @@ fn read_ids<'a, A: Allocator>(
     Ok(Some(Words::Ids { specs, queries }))
 }
 
+/// The only word, where there is one and no other.
+fn only_word<'a>(words: &'a [&'a str]) -> Option<&'a str>
+    ensures { MatchOption result
+        ((word : List ℕ) → words_of words.now ≢ word ∷ [])
+        (λ word. words_of words.now ≡ word.now ∷ []) }
+{
+    let (word, others) = words.split_first()?;
+    if !others.is_empty() {
+        return None;
+    }
+    Some(word)
+}
+
 /// Reads the words after `ns`.
 fn read_namespace<'a, A: Allocator>(words: &'a [&'a str]) -> Option<Words<'a, A>>
     ensures { ReadsBody NamespaceKind (words_of words.now) result }
 {
-    let (text, others) = words.split_first()?;
-    if !others.is_empty() {
-        return None;
-    }
+    let text = only_word(words)?;
     Some(Words::Namespace { text })
 }
 
@@ -163,10 +173,7 @@ fn read_server<'a, A: Allocator>(words: &'a [&'a str]) -> Option<Words<'a, A>>
 fn read_terminated<'a, A: Allocator>(words: &'a [&'a str]) -> Option<Words<'a, A>>
     ensures { ReadsBody TerminatedKind (words_of words.now) result }
 {
-    let (rules, others) = words.split_first()?;
-    if !others.is_empty() {
-        return None;
-    }
+    let rules = only_word(words)?;
     Some(Words::Terminated { rules })
 }
 
@@ -174,10 +181,7 @@ fn read_terminated<'a, A: Allocator>(words: &'a [&'a str]) -> Option<Words<'a, A
 fn read_audit<'a, A: Allocator>(words: &'a [&'a str]) -> Option<Words<'a, A>>
     ensures { ReadsBody AuditKind (words_of words.now) result }
 {
-    let (rules, others) = words.split_first()?;
-    if !others.is_empty() {
-        return None;
-    }
+    let rules = only_word(words)?;
     Some(Words::Audit { rules })
 }
 
