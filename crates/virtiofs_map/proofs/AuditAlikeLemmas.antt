@@ -1,14 +1,14 @@
 -- Names that fare alike: the longest of some patterns that begins a name is begun by the same patterns as the name.
 use Rattle.std.proofs.Common.{◌≡◌, zero, suc, ◌≢◌, ℕ, ◌+◌, ◌<◌, ◌≤◌, Bool, true, false, ◌&&◌, cond, eqb, List, [], ◌∷◌, ◌++◌, map, length, drop, Option, Some, None, ◌⊎◌, inl, inr, refl, sym, ap, ◌∙◌, subst, arith}
-use Rattle.std.specs.List.{AllByRecursion, cons_option, filter_map, flat_map, find, range_with_len}
+use Rattle.std.specs.List.{AllByRecursion, cons_option, flat_map, find, range_with_len}
 use Rattle.std.specs.Option.{option_map_or, option_and_then}
-use Rattle.std.proofs.lemmas.Bool.{and_parts, and_from, cond_both, cases_Bool, cases_lt, false_from_ne_true, false≢true, eqb-true, eq-eqb}
-use Rattle.std.proofs.lemmas.List.{append_assoc, length-append, drop_at}
+use Rattle.std.proofs.lemmas.Bool.{and_parts, and_from, cond_both, cases_Bool, cases_lt, false≢true, eqb-true, eq-eqb}
+use Rattle.std.proofs.lemmas.List.{append_assoc}
 use Rattle.virtiofs_map.specs.AuditParts.{front_of, front, rest_of, rests, guest_names_of, guest_names, whole_of, wholes, host_names_of, host_names, one_byte, one_byte_names}
 use Rattle.virtiofs_map.specs.Names.{begins, fits, deciding}
 use Rattle.virtiofs_map.specs.Rule.{MappingRule}
 use Rattle.virtiofs_map.specs.declared.xattrmap.scopes.Side.TheVariants.{Client, Server}
-use Rattle.virtiofs_map.proofs.BeginsLemmas.{begins_split, begins_from, begins-append, begins_length}
+use Rattle.virtiofs_map.proofs.BeginsLemmas.{begins_split, begins_from, begins-append}
 use Rattle.virtiofs_map.proofs.FirstRuleLemmas.{deciding-find}
 
 -- ---- fronts of a name

@@ -1,21 +1,20 @@
 -- What a map makes of a name, by the front that is put before it or taken off it.
-use Rattle.std.proofs.Common.{◌≡◌, zero, suc, get_or, ◌≢◌, ℕ, ◌+◌, ◌<◌, ◌≤◌, Bool, true, false, List, [], ◌∷◌, ◌++◌, length, drop, filter, Option, Some, None, refl, sym, ap, ◌∙◌, subst, arith, cond, ◌&&◌}
-use Rattle.std.specs.List.{All, cons_option, filter_map, find}
+use Rattle.std.proofs.Common.{◌≡◌, zero, suc, get_or, ◌≢◌, ℕ, ◌<◌, Bool, true, false, List, [], ◌∷◌, ◌++◌, length, drop, Option, Some, None, refl, sym, ap, ◌∙◌, subst, arith, cond, ◌&&◌}
+use Rattle.std.specs.List.{All, cons_option, find}
 use Rattle.std.specs.Option.{option_map_or, option_and_then, is_none}
 use Rattle.std.proofs.lemmas.Bool.{and_parts, cond_both, false≢true}
-use Rattle.std.proofs.lemmas.List.{append-nil, length-drop}
+use Rattle.std.proofs.lemmas.List.{append-nil}
 use Rattle.std.proofs.lemmas.List.Elements.{All-nil, All-head, All-tail, All-from_get_or}
 use Rattle.virtiofs_map.specs.AuditParts.{front_by, front_of, front, is_hidden}
 use Rattle.virtiofs_map.specs.MapRule.{IsName}
-use Rattle.virtiofs_map.specs.Names.{begins, fits, deciding, ClientAnswer, Passes, IsDenied, IsUnsupported, IsUnterminated, answer_by, client_answer, HostAnswer, IsListed, IsHidden, IsUndecided, host_answer_by, host_answer, is_decided, listed_name, names, as_list, server_answer}
+use Rattle.virtiofs_map.specs.Names.{begins, fits, deciding, Passes, IsUnterminated, answer_by, client_answer, HostAnswer, IsListed, IsHidden, IsUndecided, host_answer_by, host_answer, is_decided, listed_name, names, as_list, server_answer}
 use Rattle.virtiofs_map.specs.Rule.{RuleType, Prefix, Okay, Bad, Unsupported, MappingRule, HasNoZero}
 use Rattle.virtiofs_map.specs.declared.xattrmap.scopes.Side.{Side}
 use Rattle.virtiofs_map.specs.declared.xattrmap.scopes.Side.TheVariants.{Client, Server}
-use Rattle.virtiofs_map.proofs.BeginsLemmas.{begins_split, deciding_fits}
+use Rattle.virtiofs_map.proofs.BeginsLemmas.{deciding_fits}
 use Rattle.virtiofs_map.proofs.FirstRuleLemmas.{deciding-find}
 use Rattle.virtiofs_map.proofs.MapRuleLemmas.{names_of_one, some_name}
 use Rattle.virtiofs_map.proofs.NoZeroLemmas.{IsNotZero}
-use Rattle.virtiofs_map.proofs.ServerListLemmas.{is_name}
 
 -- ---- names of the guest
 

@@ -1,18 +1,18 @@
 -- Names that pass and do not list back: what the test says of them, and that the names tried decide.
-use Rattle.std.proofs.Common.{◌≡◌, ◌≢◌, ℕ, ◌+◌, ◌<◌, ◌≤◌, Bool, true, false, ◌&&◌, not, cond, eqb, List, [], ◌∷◌, ◌++◌, length, drop, Option, Some, None, ◌⊎◌, inl, inr, refl, sym, ap, ◌∙◌, subst, arith}
+use Rattle.std.proofs.Common.{◌≡◌, ◌≢◌, ℕ, ◌<◌, Bool, true, false, not, List, [], ◌∷◌, ◌++◌, length, drop, Option, Some, None, inl, inr, refl, sym, ap, ◌∙◌, subst, arith}
 use Rattle.std.specs.List.{All}
 use Rattle.std.specs.Option.{option_map_or, option_and_then}
-use Rattle.std.proofs.lemmas.Bool.{and_parts, and_from, cases_Bool, false≢true, true≢false, not-true, not_from_false, eqb-true, eq-eqb, ne_eqb, false_from_ne_true}
+use Rattle.std.proofs.lemmas.Bool.{and_parts, cases_Bool, false≢true, true≢false, not-true, not_from_false, eqb-true, eq-eqb, ne_eqb, false_from_ne_true}
 use Rattle.std.proofs.lemmas.List.{length-append, length-drop, drop_at}
-use Rattle.std.proofs.lemmas.List.Elements.{All-append, All-weaker, All-head}
+use Rattle.std.proofs.lemmas.List.Elements.{All-append, All-head}
 use Rattle.virtiofs_map.specs.Audit.{Sound, IsLost}
 use Rattle.virtiofs_map.specs.AuditParts.{front_of, front, some_byte, cuts, is_lost, guest_names, one_byte_names}
 use Rattle.virtiofs_map.specs.MapRule.{IsName}
-use Rattle.virtiofs_map.specs.Names.{begins, deciding, Passes, client_answer, HostAnswer, IsListed, IsHidden, IsUndecided, host_answer, server_answer, ListsBack}
+use Rattle.virtiofs_map.specs.Names.{HostAnswer, IsListed, IsHidden, IsUndecided, host_answer, server_answer, ListsBack}
 use Rattle.virtiofs_map.specs.Rule.{MappingRule, HasNoZero}
 use Rattle.virtiofs_map.specs.declared.xattrmap.scopes.Side.TheVariants.{Client, Server}
-use Rattle.virtiofs_map.proofs.AuditAlikeLemmas.{Stands, Stood, stood, FareAlike, fare_alike}
-use Rattle.virtiofs_map.proofs.AuditFrontLemmas.{PassesBy, passes_front, front_passes, ListedBy, listed_front, front_listed, answer_to_one, server_one, front_no_zero}
+use Rattle.virtiofs_map.proofs.AuditAlikeLemmas.{stood, FareAlike, fare_alike}
+use Rattle.virtiofs_map.proofs.AuditFrontLemmas.{passes_front, front_passes, listed_front, front_listed, answer_to_one, server_one, front_no_zero}
 use Rattle.virtiofs_map.proofs.AuditLeastLemmas.{Decide, HasBadFront}
 use Rattle.virtiofs_map.proofs.MapRuleLemmas.{not_zero_name}
 use Rattle.virtiofs_map.proofs.NoZeroLemmas.{IsNotZero}

@@ -1,19 +1,19 @@
 -- Names whose host name another map does not hide: what the test says of them, that the names tried decide, and what they mean for lists.
-use Rattle.std.proofs.Common.{◌≡◌, zero, suc, ◌≢◌, ℕ, ◌+◌, ◌<◌, ◌≤◌, Bool, true, false, ◌&&◌, not, cond, ltb, List, [], ◌∷◌, ◌++◌, length, drop, filter, Option, Some, None, ◌⊎◌, inl, inr, refl, sym, ap, ◌∙◌, subst, arith}
-use Rattle.std.specs.List.{All, cons_option, list_all, filter_map, flat_map, slice_split}
+use Rattle.std.proofs.Common.{◌≡◌, zero, suc, ◌≢◌, ℕ, ◌<◌, Bool, true, false, ◌&&◌, not, cond, ltb, List, [], ◌∷◌, ◌++◌, length, drop, filter, Option, Some, None, inl, inr, refl, sym, ap, ◌∙◌, subst, arith}
+use Rattle.std.specs.List.{All, cons_option, list_all, filter_map}
 use Rattle.std.specs.Option.{option_map_or, option_and_then, is_none}
 use Rattle.std.proofs.lemmas.Bool.{and_parts, and_from, cases_Bool, false≢true, true≢false, not-true, not_from_false, false_from_ne_true, lt-ltb, ltb-true, ne_eqb}
 use Rattle.std.proofs.lemmas.List.{length-append, append_assoc}
 use Rattle.std.proofs.lemmas.List.Elements.{All-head, All-tail, All-nil, All-cons, All-append, All-weaker}
 use Rattle.std.proofs.lemmas.List.Splits.{slice_split_at}
-use Rattle.virtiofs_map.specs.Audit.{Reached, Apart, IsSeen, Leaves, AgreeOutside, IsList, Isolated}
+use Rattle.virtiofs_map.specs.Audit.{Reached, Apart, IsSeen, Leaves, IsList, Isolated}
 use Rattle.virtiofs_map.specs.AuditParts.{front_of, front, some_byte, is_hidden, all_bytes, is_seen, guest_names, one_byte_names}
 use Rattle.virtiofs_map.specs.MapRule.{IsName}
-use Rattle.virtiofs_map.specs.Names.{begins, deciding, Passes, client_answer, HostAnswer, IsListed, IsHidden, IsUndecided, host_answer, is_decided, listed_name, names, as_list, server_answer}
+use Rattle.virtiofs_map.specs.Names.{begins, HostAnswer, IsListed, IsHidden, IsUndecided, host_answer, is_decided, listed_name, names, as_list, server_answer}
 use Rattle.virtiofs_map.specs.Rule.{MappingRule, HasNoZero}
-use Rattle.virtiofs_map.specs.declared.xattrmap.scopes.Side.TheVariants.{Client, Server}
-use Rattle.virtiofs_map.proofs.AuditAlikeLemmas.{Stands, Stood, stood, FareAlike, fare_alike}
-use Rattle.virtiofs_map.proofs.AuditFrontLemmas.{PassesBy, passes_front, front_passes, hidden_test, test_hidden}
+use Rattle.virtiofs_map.specs.declared.xattrmap.scopes.Side.TheVariants.{Client}
+use Rattle.virtiofs_map.proofs.AuditAlikeLemmas.{stood, FareAlike, fare_alike}
+use Rattle.virtiofs_map.proofs.AuditFrontLemmas.{passes_front, front_passes, hidden_test, test_hidden}
 use Rattle.virtiofs_map.proofs.AuditLeastLemmas.{Decide, HasBadFront}
 use Rattle.virtiofs_map.proofs.AuditLostLemmas.{some_byte_from, some_byte_is, host_no_zero, host_not_empty}
 use Rattle.virtiofs_map.proofs.BeginsLemmas.{begins_split}

@@ -1,20 +1,19 @@
 -- Host names that are listed under a name that does not pass as them: what the test says of them, and that the names tried decide.
-use Rattle.std.proofs.Common.{◌≡◌, ◌≢◌, ℕ, ◌+◌, ◌<◌, ◌≤◌, Bool, true, false, ◌&&◌, not, cond, eqb, List, [], ◌∷◌, ◌++◌, length, drop, Option, Some, None, ◌⊎◌, inl, inr, refl, sym, ap, ◌∙◌, subst, arith}
+use Rattle.std.proofs.Common.{◌≡◌, ◌≢◌, ℕ, ◌<◌, ◌≤◌, Bool, true, false, ◌&&◌, not, eqb, List, [], ◌∷◌, ◌++◌, length, drop, Option, Some, None, inl, inr, refl, sym, ap, ◌∙◌, arith}
 use Rattle.std.specs.Bool.{nat_eq}
-use Rattle.std.specs.Cmp.Lexicographic.{pointwise, pointwise_decides}
-use Rattle.std.specs.List.{All}
+use Rattle.std.specs.Cmp.Lexicographic.{pointwise}
 use Rattle.std.specs.Option.{option_map_or, option_and_then}
 use Rattle.std.proofs.lemmas.Bool.{and_parts, cases_Bool, false≢true, true≢false, not-true, not_from_false, false_from_ne_true, eq-eqb, eqb-true}
-use Rattle.std.proofs.lemmas.List.{length-append, drop_at, append-nil}
+use Rattle.std.proofs.lemmas.List.{length-append}
 use Rattle.std.proofs.lemmas.List.Elements.{All-head}
 use Rattle.virtiofs_map.specs.Audit.{OpensListed, IsStray}
 use Rattle.virtiofs_map.specs.AuditParts.{front_of, front, some_byte, adds, is_stray, host_names, one_byte_names}
 use Rattle.virtiofs_map.specs.MapRule.{IsName}
-use Rattle.virtiofs_map.specs.Names.{begins, deciding, Passes, client_answer, IsListed, host_answer}
+use Rattle.virtiofs_map.specs.Names.{Passes, client_answer}
 use Rattle.virtiofs_map.specs.Rule.{MappingRule}
 use Rattle.virtiofs_map.specs.declared.xattrmap.scopes.Side.TheVariants.{Client, Server}
-use Rattle.virtiofs_map.proofs.AuditAlikeLemmas.{Stands, Stood, stood, ListedAlike, listed_alike}
-use Rattle.virtiofs_map.proofs.AuditFrontLemmas.{PassesBy, passes_front, front_passes, ListedBy, listed_front, front_listed, front_begins}
+use Rattle.virtiofs_map.proofs.AuditAlikeLemmas.{stood, ListedAlike, listed_alike}
+use Rattle.virtiofs_map.proofs.AuditFrontLemmas.{passes_front, front_passes, listed_front, front_listed, front_begins}
 use Rattle.virtiofs_map.proofs.AuditLeastLemmas.{Decide, HasBadFront}
 use Rattle.virtiofs_map.proofs.AuditLostLemmas.{some_byte_from, some_byte_is}
 use Rattle.virtiofs_map.proofs.BeginsLemmas.{begins_split, begins_length}

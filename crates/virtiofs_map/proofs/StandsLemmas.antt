@@ -3,7 +3,7 @@ use Rattle.std.proofs.Common.{◌≡◌, ℕ, ◌+◌, ◌<◌, ◌≤◌, Bool,
 use Rattle.std.specs.List.{list_any}
 use Rattle.std.specs.Option.{is_some}
 use Rattle.std.proofs.lemmas.Bool.{and_left}
-use Rattle.std.proofs.lemmas.List.{take_more, take_all, length_push, length-take-le, length-reverse}
+use Rattle.std.proofs.lemmas.List.{take_more, length_push, length-take-le, length-reverse}
 use Rattle.virtiofs_map.specs.FirstRule.{acts, pattern}
 use Rattle.virtiofs_map.specs.Names.{begins, fits}
 use Rattle.virtiofs_map.specs.Rule.{MappingRule}

@@ -1,4 +1,4 @@
-use Rattle.std.proofs.Common.{◌≡◌, ◌++◌, OnOk, sym, ap, ◌∙◌, subst, arith, rules}
+use Rattle.std.proofs.Common.{sym, ap, ◌∙◌, subst}
 use Rattle.std.proofs.lemmas.Result.{on_ok_weaker}
 use Rattle.virtiofs_map.specs.AuditParts.{bad, after, host_names_of, host_names, one_byte_names}
 use Rattle.virtiofs_map.specs.Rule.{HasNoZero}

@@ -1,8 +1,8 @@
-use Rattle.std.proofs.Common.{◌≡◌, ℕ, ◌+◌, ◌<◌, length, cond, true, Some, refl, sym, ap, subst, ◌∙◌, set, arith}
+use Rattle.std.proofs.Common.{◌≡◌, ℕ, ◌+◌, length, cond, true, Some, refl, sym, ap, subst, ◌∙◌, set, arith}
 use Rattle.std.specs.BTreeMap.{get, is_at}
 use Rattle.std.proofs.lemmas.List.{length_push}
 use Rattle.std.proofs.lemmas.Option.{slice_get_within}
-use Rattle.virtiofs_map.specs.TrieParts.{plain, reach, pair_cmp, LeadsOn}
+use Rattle.virtiofs_map.specs.TrieParts.{plain, pair_cmp, LeadsOn}
 use Rattle.virtiofs_map.proofs.TrieLemmas.{first_more, first_bare, other_more, other_bare, added}
 use Rattle.virtiofs_map.proofs.xattrmap.trie.Trie.add_child.Goals as goal
 

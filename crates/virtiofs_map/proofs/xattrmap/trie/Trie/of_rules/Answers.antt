@@ -1,4 +1,4 @@
-use Rattle.std.proofs.Common.{◌≡◌, ◌<◌, sym, subst, ◌∙◌, arith}
+use Rattle.std.proofs.Common.{◌<◌, sym, subst, ◌∙◌, arith}
 use Rattle.std.proofs.lemmas.List.{take_all}
 use Rattle.virtiofs_map.specs.TrieParts.{no_rule, StandsFor}
 use Rattle.virtiofs_map.proofs.StandsLemmas.{stands_past, stands_with, stands_none}
