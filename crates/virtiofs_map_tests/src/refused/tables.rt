@@ -1,0 +1,92 @@
+//! The calls that are run, with their words.
+
+use crate::refused::asked::Asked;
+use crate::refused::questions::Question;
+use Asked::{Build, Of, Rules, Specification, Texts};
+use Question::{Apart, Audit, AuditCounted, AuditListed, Client, Clone, Server};
+
+/// Calls that cannot do without memory.
+pub(super) const TAKE: [Asked; 51] = [
+    Specification("foo:x"),
+    Specification("foo:1"),
+    Specification("foo"),
+    Specification(":0:1:2"),
+    Specification("map-0:1"),
+    Specification("map:1:2"),
+    Specification("forbid-guest:1:2:3"),
+    Specification("map:0:1000:10"),
+    Specification("map:-0:1:2"),
+    Build("guest:0:100:10|guest:5:200:1"),
+    Build("squash-guest:20:7:5|map:0:1000:10|host:5000:1:2"),
+    Build("host:5000:1:2|squash-guest:20:7:5|map:0:1000:10"),
+    Texts("guest:0:100:10|guest:5:200:1"),
+    Texts("squash-guest:20:7:5|map:0:1000:10|host:5000:1:2"),
+    Texts("squash-guest:20:7:5|host:5000:1:2|map:0:1000:10"),
+    Texts("map:0:1000:10|squash-guest:20:7:5|host:5000:1:2"),
+    Texts("map:0:1000:10|host:5000:1:2|squash-guest:20:7:5"),
+    Texts("host:5000:1:2|squash-guest:20:7:5|map:0:1000:10"),
+    Texts("host:5000:1:2|map:0:1000:10|squash-guest:20:7:5"),
+    Texts("guest:0:100:10|guest:5:200:1|map:1:2"),
+    Rules("xokxallxxx"),
+    Rules(":ok:all:::\u{a0}ok\u{a0}all\u{a0}\u{a0}\u{a0}:ok:all:::"),
+    Rules(":ok:all:::\u{a0}ok\u{a0}all\u{a0}\u{a0}\u{a0}"),
+    Rules(":bad:all:x:y: :map::P: :ok:all:::"),
+    Rules(":\u{170}refix:all:::"),
+    Rules(":ok:nope:::"),
+    Rules(":map:trusted.:user.virtiofs.:"),
+    Rules(":map::user.virtiofs.:"),
+    Rules(":TOMATOPIRATE:trusted.:virtiofs.user.:"),
+    Of("xokxallxxx", Clone),
+    Of(
+        ":ok:all:::\u{a0}ok\u{a0}all\u{a0}\u{a0}\u{a0}:ok:all:::",
+        Clone,
+    ),
+    Of(":map:trusted.:user.virtiofs.:", Clone),
+    Of(":map:trusted.:user.virtiofs.:", Client("trusted.a")),
+    Of(":map::user.virtiofs.:", Client("")),
+    Of(":map:trusted.:user.virtiofs.:", Server("trusted.b\0")),
+    Of(
+        ":map:trusted.:user.virtiofs.:",
+        Server("user.virtiofs.foo\0"),
+    ),
+    Of(
+        ":map:trusted.:user.virtiofs.:",
+        Server("user.virtiofs.a\0trusted.b\0c\0user.virtiofs."),
+    ),
+    Of(":map:trusted.:user.virtiofs.:", Server("")),
+    Of(":ok:server::a:", Server("a1\0b\0a2\0")),
+    Of(":map:trusted.:user.virtiofs.:", Audit),
+    Of(":prefix:client:trusted.:user.: :ok:all:::", Audit),
+    Of(":bad:server::u.xy: :prefix:all::u.:", Audit),
+    Of(":ok:client:::", Audit),
+    Of(":map:trusted.:user.virtiofs.:", AuditCounted),
+    Of(":prefix:client:trusted.:user.: :ok:all:::", AuditCounted),
+    Of(":map:trusted.:user.virtiofs.:", AuditListed),
+    Of(":map::a.:", AuditListed),
+    Of(":bad:client:xy:: :prefix:all::u.:", AuditListed),
+    Of(":ok:server:::", AuditListed),
+    Of(":map::a.:", Apart(":map::b.:")),
+    Of(":map::a.:", Apart(":map::a.b.:")),
+];
+
+/// Calls that may take memory or not.
+pub(super) const MAY_TAKE: [Asked; 10] = [
+    Specification(""),
+    Build("guest:0:1:0"),
+    Rules(" "),
+    Rules(":"),
+    Rules(":prefix:all:a:b"),
+    Rules(":ok:all:a\0:"),
+    Rules(":ok:all:a\0"),
+    Of(":bad:all:::", Audit),
+    Of(":bad:all:::", AuditCounted),
+    Rules(":map:trusted.:virtiofs.user.::map:trusted.:virtiofs.user.:"),
+];
+
+/// Calls that take no memory, though they are handed an allocator.
+pub(super) const TAKE_NONE: [Asked; 4] = [
+    Of(":map:trusted.:user.virtiofs.:", Client("user.virtiofs.a")),
+    Of(":map:trusted.:user.virtiofs.:", Client("c")),
+    Of(":unsupported:client:a:: :ok:all:::", Client("ab")),
+    Of(":ok:server::a:", Client("a1")),
+];
