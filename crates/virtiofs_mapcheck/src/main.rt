@@ -35,7 +35,7 @@ const USAGE: &str = "usage: virtiofs_mapcheck ids SPEC.. ask QUERY..
        virtiofs_mapcheck terminated RULES
        virtiofs_mapcheck audit RULES
        virtiofs_mapcheck apart RULES RULES
-README.md, at the top of the repository, says what each form answers.
+virtiofs_mapcheck(1) says what each form answers: man -l docs/virtiofs_mapcheck.1
 ";
 
 /// Answers the program's arguments on standard output.
