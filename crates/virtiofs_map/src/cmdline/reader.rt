@@ -229,7 +229,8 @@ impl IdMap {
             → MatchResult result (λ r. r ≡ spec) (λ e. IsOutOfMemory (specification_fault_of e)) }
         ensures refused { IfErr result (λ e.
             OutOfMemoryOr (specification_fault_of e) (HasSpecificationFault (chars text.now))) }
-        ensures faulty { (fault : SpecificationFault) → HasSpecificationFault (chars text.now) fault
+        ensures faulty { (fault : SpecificationFault)
+            → HasSpecificationFault (chars text.now) fault
             → MatchResult result (λ _. ⊥)
             (λ e. OutOfMemoryOr (specification_fault_of e) (λ told. told ≡ fault)) }
         // Where a field is no number, the error says of it what the standard library says.

@@ -28,6 +28,7 @@ pub fn one_fault()
 /// The printed form of three numbers below 2^32, as those of every range are, is a text that says
 /// the range of these numbers.
 pub fn reads_back()
-    ensures { (inside outside count : ℕ) → inside < 2 ^ 32 → outside < 2 ^ 32 → count < 2 ^ 32
+    ensures { (inside outside count : ℕ)
+        → inside < 2 ^ 32 → outside < 2 ^ 32 → count < 2 ^ 32
         → SaysNamespace (chars (namespace_text inside outside count)) inside outside count }
 {}

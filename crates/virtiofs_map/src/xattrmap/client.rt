@@ -56,7 +56,8 @@ impl<A: Allocator> PartialEq for PassedName<'_, A> {
     ghost laws = { on_per passed_bytes (partial_equiv_from_equiv nat_list_eq_equiv) };
 
     fn eq(&self, other: &Self) -> bool
-        ensures value { result ≡ pointwise nat_eq (passed_bytes self.now) (passed_bytes other.now) }
+        ensures value { result ≡
+            pointwise nat_eq (passed_bytes self.now) (passed_bytes other.now) }
         // Names are equal where their bytes are.
         ensures equal { IsTrue result ↔ (passed_bytes self.now ≡ passed_bytes other.now) }
     {
@@ -108,7 +109,8 @@ impl<A: Allocator + Copy> XattrMap<A> {
             → result ≡ Ok (AppliedRule.Pass (PassedName.Borrowed name.entry)) }
         ensures prefix { IsDecidedBy Prefix self.now name.entry.bytes.now → IfOk result IsOwned }
 
-        ensures errors { IfErr result (λ error. (error ≡ of_no_rule ErrorKind.UnterminatedMapping)
+        ensures errors { IfErr result (λ error.
+            (error ≡ of_no_rule ErrorKind.UnterminatedMapping)
             ⊎ (error ≡ of_no_rule ErrorKind.OutOfMemory)) }
         // Memory is wanted only where a name passes with something before it.
         ensures memory { result ≡ Err (of_no_rule ErrorKind.OutOfMemory)

@@ -49,7 +49,8 @@ impl<A: Allocator + Copy> XattrMap<A> {
         ensures undecided { server_answer self.now names.items ≡ None → IsErr result }
         ensures unterminated { result ≡ Err (of_no_rule ErrorKind.UnterminatedMapping)
             → server_answer self.now names.items ≡ None }
-        ensures errors { IfErr result (λ error. (error ≡ of_no_rule ErrorKind.UnterminatedMapping)
+        ensures errors { IfErr result (λ error.
+            (error ≡ of_no_rule ErrorKind.UnterminatedMapping)
             ⊎ (error ≡ of_no_rule ErrorKind.OutOfMemory)) }
         ensures not_empty { IfOk result (λ list. 0 < vec_len list) }
         ensures size { IfOk result (λ list. vec_len list ≤ vec_len names + 1) }
