@@ -95,51 +95,59 @@ fn refusal(alloc: Global, texts: &[&str]) -> Result<Option<IdMapBuildError>, Fai
     Ok(made.err())
 }
 
+/// Texts of specifications, what guest's numbers become under them, and host's; `None` where the use
+/// of a number fails.
+type Known = (
+    &'static [&'static str],
+    &'static [(u32, Option<u32>)],
+    &'static [(u32, Option<u32>)],
+);
+
+/// What `map:0:1000:10` makes of guest's numbers.
+const TEN: &[(u32, Option<u32>)] = &[(5, Some(1005)), (10, Some(10)), (1005, Some(1005))];
+
+const KNOWN: [Known; 7] = [
+    (&["map:0:1000:10"], TEN, &[(1005, Some(5))]),
+    (
+        &["host:1000:0:10", "guest:0:1000:10"],
+        TEN,
+        &[(1005, Some(5))],
+    ),
+    (
+        &["guest:0:1000:10", "host:1000:0:10"],
+        TEN,
+        &[(1005, Some(5))],
+    ),
+    (&["FORBID-GUEST:7:3"], &[(8, None), (10, Some(10))], &[]),
+    (
+        &["squash-guest:0:1001:4294967295", "host:1001:1000:1"],
+        &[
+            (0, Some(1001)),
+            (4294967294, Some(1001)),
+            (4294967295, Some(4294967295)),
+        ],
+        &[(1001, Some(1000)), (1000, Some(1000))],
+    ),
+    (&["guest:0:4294967290:6"], &[(5, Some(4294967295))], &[]),
+    (
+        &[
+            "host:4294967294:4294967295:1",
+            "map:4294967295:4294967295:0",
+        ],
+        &[],
+        &[
+            (4294967294, Some(4294967295)),
+            (4294967295, Some(4294967295)),
+        ],
+    ),
+];
+
 #[test]
 fn maps_known_ids(rt: HostRuntime) -> Result<(), Fail> {
-    let alloc = rt.alloc();
-    let guests = [(5, Some(1005)), (10, Some(10)), (1005, Some(1005))];
-    let hosts = [(1005, Some(5))];
-    check_texts(&rt, alloc, &["map:0:1000:10"], &guests, &hosts)?;
-    check_texts(
-        &rt,
-        alloc,
-        &["host:1000:0:10", "guest:0:1000:10"],
-        &guests,
-        &hosts,
-    )?;
-    check_texts(
-        &rt,
-        alloc,
-        &["guest:0:1000:10", "host:1000:0:10"],
-        &guests,
-        &hosts,
-    )?;
-
-    let forbidden = [(8, None), (10, Some(10))];
-    check_texts(&rt, alloc, &["FORBID-GUEST:7:3"], &forbidden, &[])?;
-
-    let squashed = [
-        (0, Some(1001)),
-        (4294967294, Some(1001)),
-        (4294967295, Some(4294967295)),
-    ];
-    let back = [(1001, Some(1000)), (1000, Some(1000))];
-    let texts = ["squash-guest:0:1001:4294967295", "host:1001:1000:1"];
-    check_texts(&rt, alloc, &texts, &squashed, &back)?;
-
-    let ends = [(5, Some(4294967295))];
-    check_texts(&rt, alloc, &["guest:0:4294967290:6"], &ends, &[])?;
-
-    let texts = [
-        "host:4294967294:4294967295:1",
-        "map:4294967295:4294967295:0",
-    ];
-    let greatest = [
-        (4294967294, Some(4294967295)),
-        (4294967295, Some(4294967295)),
-    ];
-    check_texts(&rt, alloc, &texts, &[], &greatest)
+    for (texts, guests, hosts) in &KNOWN {
+        check_texts(&rt, rt.alloc(), texts, guests, hosts)?;
+    }
+    Ok(())
 }
 
 #[test]

@@ -51,45 +51,56 @@ fn assert_given(
     Ok(())
 }
 
+const BOTH: &str = ":map:trusted.:user.virtiofs.:";
+
+const SOME: &str = ":ok:server::a:";
+
+/// Rules, a list of the host, the names that are given, and how they end.
+type Given = (
+    &'static str,
+    &'static [u8],
+    &'static [&'static [u8]],
+    Ending,
+);
+
+const GIVEN: [Given; 12] = [
+    (
+        BOTH,
+        b"user.virtiofs.a\0trusted.b\0c\0user.virtiofs.",
+        &[b"a", b"c", b""],
+        Ending::Whole,
+    ),
+    (BOTH, b"trusted.b\0", &[], Ending::Whole),
+    (BOTH, b"user.virtiofs.\0\0\0x", &[b"", b"x"], Ending::Whole),
+    (":ok:client:::", b"", &[], Ending::Whole),
+    (":ok:client:::", b"\0\0", &[], Ending::Whole),
+    (":ok:client:::", b"x", &[], Ending::Undecided),
+    (SOME, b"b\0a", &[], Ending::Undecided),
+    (SOME, b"a1\0b\0a2\0", &[b"a1"], Ending::Undecided),
+    (SOME, b"a1\0\0a2", &[b"a1", b"a2"], Ending::Whole),
+    (
+        ":ok:all:::",
+        b"a\0b\0a\0",
+        &[b"a", b"b", b"a"],
+        Ending::Whole,
+    ),
+    (
+        ":unsupported:server::a: :bad:server::b: :ok:server:::",
+        b"ax\0c\0bx\0",
+        &[b"c"],
+        Ending::Whole,
+    ),
+    (
+        ":bad:server::a: :prefix:server::b:",
+        b"a\0bc\0c\0bd",
+        &[b"c"],
+        Ending::Undecided,
+    ),
+];
+
 #[test]
 fn names_are_given_in_order_up_to_the_end(rt: HostRuntime) -> Result<(), Fail> {
-    let both = ":map:trusted.:user.virtiofs.:";
-    let some = ":ok:server::a:";
-    let cases: [(&str, &[u8], &[&[u8]], Ending); 12] = [
-        (
-            both,
-            b"user.virtiofs.a\0trusted.b\0c\0user.virtiofs.",
-            &[b"a", b"c", b""],
-            Ending::Whole,
-        ),
-        (both, b"trusted.b\0", &[], Ending::Whole),
-        (both, b"user.virtiofs.\0\0\0x", &[b"", b"x"], Ending::Whole),
-        (":ok:client:::", b"", &[], Ending::Whole),
-        (":ok:client:::", b"\0\0", &[], Ending::Whole),
-        (":ok:client:::", b"x", &[], Ending::Undecided),
-        (some, b"b\0a", &[], Ending::Undecided),
-        (some, b"a1\0b\0a2\0", &[b"a1"], Ending::Undecided),
-        (some, b"a1\0\0a2", &[b"a1", b"a2"], Ending::Whole),
-        (
-            ":ok:all:::",
-            b"a\0b\0a\0",
-            &[b"a", b"b", b"a"],
-            Ending::Whole,
-        ),
-        (
-            ":unsupported:server::a: :bad:server::b: :ok:server:::",
-            b"ax\0c\0bx\0",
-            &[b"c"],
-            Ending::Whole,
-        ),
-        (
-            ":bad:server::a: :prefix:server::b:",
-            b"a\0bc\0c\0bd",
-            &[b"c"],
-            Ending::Undecided,
-        ),
-    ];
-    for (text, list, wanted, ending) in cases {
+    for (text, list, wanted, ending) in GIVEN {
         assert_given(&rt, rt.alloc(), text, list, wanted, ending)?;
     }
     Ok(())
