@@ -7,14 +7,14 @@ import os
 import re
 from typing import NamedTuple
 
-FUNCTION = re.compile(r"( *)(?:pub(?:\([^)]*\))? )?(?:unsafe )?fn (\w+)")
+FUNCTION = re.compile(r'( *)(?:pub(?:\([^)]*\))? )?(?:unsafe )?(?:extern "C" )?fn (\w+)')
 # What may stand in a body and yet state something, or end the body.
 STATES = re.compile(r"\b(?:fn|impl|trait|struct|enum|mod|use|macro_rules|ensures|requires|ghost)\b|#!?\[")
 
 
 class Body(NamedTuple):
-    """A function's body: its file, the lines, from 0, of the function's head and of the body's braces, the function's name,
-    and the head of the block that it is in."""
+    """A function's body: its file, the lines, from 0, of the function's attributes or head and of the body's braces, the
+    function's name, and the head of the block that it is in."""
 
     path: str
     at: int
@@ -95,7 +95,7 @@ def bodies(path, text):
             first = opening(lines, at, indent)
             last = first and next((it for it in range(first, len(lines)) if lines[it] == f"{indent}}}"), None)
             if last and not is_in_cycle(lines, at):
-                found.append(Body(path, at, first, last, name, head if indent else ""))
+                found.append(Body(path, attributed(lines, at), first, last, name, head if indent else ""))
     return found
 
 
@@ -111,6 +111,13 @@ def opening(lines, at, indent):
         if is_head and text.endswith(";") or text == f"{indent}{{}}":
             return None
     return None
+
+
+def attributed(lines, at):
+    """The line of the first attribute right above a function's head. The prover may say that a goal is there."""
+    while at and lines[at - 1].lstrip().startswith("#["):
+        at -= 1
+    return at
 
 
 def is_in_cycle(lines, at):

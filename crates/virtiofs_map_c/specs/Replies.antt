@@ -1,0 +1,15 @@
+-- How an answer in bytes comes to the caller's buffer.
+use Rattle.std.specs.Prelude.{◌≡◌, ℕ, ◌<◌, ◌≤◌, List, ◌++◌, length, drop}
+use Rattle.virtiofs_map_c.specs.Codes.{no_room}
+
+-- The length is told. Where the bytes fit they are the front of the buffer, and the rest of it is as it was; else all of it is.
+pub record TellsBytes (bytes : List ℕ) (done : ℕ) (old : List ℕ) (code len : ℕ) (new : List ℕ) : Type 0 where
+  pub length_told : len ≡ length bytes
+  pub fits : length bytes ≤ length old → (code ≡ done) × (new ≡ bytes ++ drop (length bytes) old)
+  pub does_not_fit : length old < length bytes → (code ≡ no_room) × (new ≡ old)
+
+-- a code that comes with no bytes
+pub record TellsCode (told : ℕ) (old : List ℕ) (code len : ℕ) (new : List ℕ) : Type 0 where
+  pub code_told : code ≡ told
+  pub no_length : len ≡ 0
+  pub untouched : new ≡ old

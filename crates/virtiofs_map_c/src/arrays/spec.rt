@@ -1,0 +1,15 @@
+//! One specification, as C has it.
+
+/// C's `struct virtiofs_spec`.
+#[repr(C)]
+#[derive(Clone, Copy)]
+pub struct Spec {
+    /// Which of the six kinds it is.
+    pub kind: u32,
+    /// The first id that it covers.
+    pub first: u32,
+    /// What that id becomes.
+    pub to: u32,
+    /// How many ids it covers.
+    pub count: u32,
+}

@@ -1,0 +1,40 @@
+//! What a call answers, as a number. The header has the same numbers under the same names.
+
+/// Done: the answer is where the call says.
+pub const OK: u32 = 0;
+
+/// The name passes as it is; nothing is written.
+pub const AS_IT_IS: u32 = 1;
+
+/// A specification forbids the use of the id.
+pub const FORBIDDEN: u32 = 2;
+
+/// The guest may not use the name.
+pub const DENIED: u32 = 3;
+
+/// The name is refused as unsupported.
+pub const UNSUPPORTED: u32 = 4;
+
+/// No rule decides the name, or one of the list.
+pub const UNTERMINATED: u32 = 5;
+
+/// What was asked holds of all names.
+pub const YES: u32 = 6;
+
+/// What was asked does not hold of all names.
+pub const NO: u32 = 7;
+
+/// The buffer is too short.
+pub const NO_ROOM: u32 = 8;
+
+/// A request for memory was refused.
+pub const NO_MEMORY: u32 = 9;
+
+/// The handle holds no map.
+pub const NO_MAP: u32 = 10;
+
+/// The bytes are no name.
+pub const NO_NAME: u32 = 11;
+
+/// No map is made of the specifications.
+pub const NOT_ACCEPTED: u32 = 12;

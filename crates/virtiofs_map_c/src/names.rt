@@ -1,0 +1,216 @@
+//! Maps of attribute names, for C.
+ghost use Rattle.std.specs.Prelude.{◌≡◌, Some, None, IsTrue, IsSomeAnd};
+ghost use Rattle.std.specs.Str.{chars};
+ghost use Rattle.virtiofs_map.specs.RuleText.{SaysRules};
+ghost use Rattle.virtiofs_map_c.specs.Faults.{no_fault};
+ghost use Rattle.virtiofs_map_c.specs.Handles.{rules_of};
+ghost use Rattle.virtiofs_map_c.specs.Kinds.{only_names, rules_in};
+ghost use Rattle.virtiofs_map_c.specs.Makes.{Shares};
+ghost use Rattle.virtiofs_map_c.specs.Names.{AnswersClient, AnswersServer, AnswersAudit, AnswersApart, AnswersTerminated};
+ghost use Rattle.virtiofs_map_c.specs.Rules.{TellsBytesFault};
+ghost use Rattle.virtiofs_map.specs.Audit.{IsLost, IsStray, IsSeen};
+
+mod handle;
+mod lookups;
+mod made;
+mod reading;
+
+use crate::buffer::nothing;
+use crate::codes::{NO_MAP, NO_MEMORY, OK};
+use crate::fault::Fault;
+use crate::slot::{Kept, share};
+pub use handle::Names;
+use lookups::{client, server, tell, tell_terminated};
+use made::{boxed, told};
+use std::alloc::Global;
+use virtiofs_map::audit::{audit, audit_listed, keeps_apart};
+use virtiofs_map::xattrmap::XattrMap;
+
+/// The map that a handle of attribute names leads to.
+fn map_of(kept: &Kept) -> &XattrMap
+    requires { IsTrue (only_names (Some kept.now)) }
+    ensures { Some result.now ≡ rules_in (Some kept.now) }
+{
+    match kept {
+        Kept::Names(map) => map,
+        _ => unreachable!(),
+    }
+}
+
+/// Makes a map of a text of rules.
+#[unsafe(no_mangle)]
+pub extern "C" fn virtiofs_names_make(
+    alloc: Global,
+    text: &[u8],
+    map: &mut Names,
+    fault: &mut Fault,
+    quoted: &mut [u8],
+) -> bool
+    ensures made { IsTrue result →
+        IsSomeAnd (rules_of map.new) (SaysRules (chars text.now)) }
+    ensures no_fault { IsTrue result → fault.new ≡ no_fault }
+    ensures keeps { (¬ IsTrue result) → rules_of map.new ≡ rules_of map.old }
+    ensures refused { (¬ IsTrue result) → TellsBytesFault text.now fault.new.kind }
+{
+    match boxed(alloc, text) {
+        Ok(kept) => {
+            drop(map.take(alloc));
+            map.put(kept);
+            *fault = Fault::none();
+            true
+        }
+        Err(error) => {
+            *fault = told(&error, quoted);
+            false
+        }
+    }
+}
+
+/// Has another handle hold the same map.
+#[unsafe(no_mangle)]
+pub extern "C" fn virtiofs_names_share(alloc: Global, map: &mut Names, other: &mut Names) -> u32
+    ensures keeps { rules_of map.new ≡ rules_of map.old }
+    ensures shares { Shares (rules_of map.old) (rules_of other.old) result (rules_of other.new) }
+{
+    let Some(kept) = map.take(alloc) else {
+        return NO_MAP;
+    };
+    let shared = share(alloc, &kept);
+    map.put(kept);
+    let Some(shared) = shared else {
+        return NO_MEMORY;
+    };
+    drop(other.take(alloc));
+    other.put(shared);
+    OK
+}
+
+/// Lets the map of a handle go.
+#[unsafe(no_mangle)]
+pub extern "C" fn virtiofs_names_free(alloc: Global, map: &mut Names)
+    ensures { rules_of map.new ≡ None }
+{
+    let gone = map.take(alloc);
+    drop(gone);
+}
+
+/// As what a name of the guest goes to the host.
+#[unsafe(no_mangle)]
+pub extern "C" fn virtiofs_names_client(
+    alloc: Global,
+    map: &mut Names,
+    name: &[u8],
+    out: &mut [u8],
+    len: &mut usize,
+) -> u32
+    ensures keeps { rules_of map.new ≡ rules_of map.old }
+    ensures answer { AnswersClient
+        (rules_of map.old) name.now out.old result len.new out.new }
+{
+    let Some(kept) = map.take(alloc) else {
+        return nothing(NO_MAP, len);
+    };
+    let code = client(alloc, map_of(&kept), name, out, len);
+    map.put(kept);
+    code
+}
+
+/// The list that the guest gets for the host's.
+#[unsafe(no_mangle)]
+pub extern "C" fn virtiofs_names_server(
+    alloc: Global,
+    map: &mut Names,
+    list: &[u8],
+    out: &mut [u8],
+    len: &mut usize,
+) -> u32
+    ensures keeps { rules_of map.new ≡ rules_of map.old }
+    ensures answer { AnswersServer
+        (rules_of map.old) list.now out.old result len.new out.new }
+{
+    let Some(kept) = map.take(alloc) else {
+        return nothing(NO_MAP, len);
+    };
+    let code = server(alloc, map_of(&kept), list, out, len);
+    map.put(kept);
+    code
+}
+
+/// Whether no name is ever left without a rule.
+#[unsafe(no_mangle)]
+pub extern "C" fn virtiofs_names_terminated(alloc: Global, map: &mut Names) -> u32
+    ensures keeps { rules_of map.new ≡ rules_of map.old }
+    ensures answer { AnswersTerminated (rules_of map.old) result }
+{
+    let Some(kept) = map.take(alloc) else {
+        return NO_MAP;
+    };
+    let code = tell_terminated(map_of(&kept));
+    map.put(kept);
+    code
+}
+
+/// Whether each name that passes lists back.
+#[unsafe(no_mangle)]
+pub extern "C" fn virtiofs_names_audit(
+    alloc: Global,
+    map: &mut Names,
+    out: &mut [u8],
+    len: &mut usize,
+) -> u32
+    ensures keeps { rules_of map.new ≡ rules_of map.old }
+    ensures answer { AnswersAudit IsLost (rules_of map.old) out.old result len.new out.new }
+{
+    let Some(kept) = map.take(alloc) else {
+        return nothing(NO_MAP, len);
+    };
+    let code = tell(audit(alloc, map_of(&kept)), out, len);
+    map.put(kept);
+    code
+}
+
+/// Whether each name of the host that is listed is opened by the name under which it is.
+#[unsafe(no_mangle)]
+pub extern "C" fn virtiofs_names_audit_listed(
+    alloc: Global,
+    map: &mut Names,
+    out: &mut [u8],
+    len: &mut usize,
+) -> u32
+    ensures keeps { rules_of map.new ≡ rules_of map.old }
+    ensures answer { AnswersAudit IsStray (rules_of map.old) out.old result len.new out.new }
+{
+    let Some(kept) = map.take(alloc) else {
+        return nothing(NO_MAP, len);
+    };
+    let code = tell(audit_listed(alloc, map_of(&kept)), out, len);
+    map.put(kept);
+    code
+}
+
+/// Whether a guest of the first map is kept apart from one that is shown names by the second.
+#[unsafe(no_mangle)]
+pub extern "C" fn virtiofs_names_apart(
+    alloc: Global,
+    first: &mut Names,
+    second: &mut Names,
+    out: &mut [u8],
+    len: &mut usize,
+) -> u32
+    ensures keeps_first { rules_of first.new ≡ rules_of first.old }
+    ensures keeps_second { rules_of second.new ≡ rules_of second.old }
+    ensures answer { AnswersApart IsSeen
+        (rules_of first.old) (rules_of second.old) out.old result len.new out.new }
+{
+    let Some(kept) = first.take(alloc) else {
+        return nothing(NO_MAP, len);
+    };
+    let Some(other) = second.take(alloc) else {
+        first.put(kept);
+        return nothing(NO_MAP, len);
+    };
+    let code = tell(keeps_apart(alloc, map_of(&kept), map_of(&other)), out, len);
+    first.put(kept);
+    second.put(other);
+    code
+}

@@ -1,0 +1,19 @@
+//! The map of a text of rules in bytes.
+ghost use Rattle.std.specs.Prelude.{◌≡◌, IfOk, IfErr};
+ghost use Rattle.std.specs.Str.{chars};
+ghost use Rattle.virtiofs_map.specs.Refusal.{OutOfMemoryOr};
+ghost use Rattle.virtiofs_map.specs.RuleText.{SaysRules};
+
+use std::alloc::Global;
+use virtiofs_map::xattrmap::{Error, XattrMap};
+
+/// Why no map is made of a text: the first fault, or want of memory.
+#[derive(Drop)]
+pub enum ReadError {
+    /// The bytes are no text.
+    NotUtf8,
+    /// A request for memory was refused.
+    OutOfMemory,
+    /// The text is no text of rules, or a request for memory was refused.
+    Rules(Error),
+}

@@ -1,0 +1,197 @@
+//! Maps of user ids, for C.
+ghost use Rattle.std.specs.Prelude.{◌≡◌, Some, None, IsTrue, IfOk, IfErr, IsSomeAnd};
+ghost use Rattle.virtiofs_map.specs.Build.{Accepted};
+ghost use Rattle.virtiofs_map.specs.Refusal.{OutOfMemoryOr};
+ghost use Rattle.virtiofs_map.specs.Specifications.{texts_of, AllSay};
+ghost use Rattle.virtiofs_map.specs.declared.soft_idmap.entry.Direction.TheVariants.{GuestToHost, HostToGuest};
+ghost use Rattle.virtiofs_map_c.specs.Arrays.{AreSaid, HasArrayFault, array_fault_of};
+ghost use Rattle.virtiofs_map_c.specs.Faults.{no_fault};
+ghost use Rattle.virtiofs_map_c.specs.Handles.{specs_of_uids};
+ghost use Rattle.virtiofs_map_c.specs.Ids.{AnswersId, LeadsBackIfMapped};
+ghost use Rattle.virtiofs_map_c.specs.Kinds.{only_uids, uids_in};
+ghost use Rattle.virtiofs_map_c.specs.Makes.{TellsArrayFault, Shares};
+
+mod handle;
+
+use crate::arrays::{ArrayError, Spec, map_from, told};
+use crate::codes::{NO_MAP, NO_MEMORY, OK};
+use crate::fault::Fault;
+use crate::ids::{guest_of, host_of};
+use crate::slot::{Kept, share};
+use crate::texts::map_from_texts;
+pub use handle::Uids;
+use std::alloc::Global;
+use std::sync::Arc;
+use virtiofs_map::id_types::{GuestUid, HostUid};
+use virtiofs_map::soft_idmap::IdMap;
+
+/// The map that a handle of user ids leads to.
+fn map_of(kept: &Kept) -> &IdMap<GuestUid, HostUid>
+    requires { IsTrue (only_uids (Some kept.now)) }
+    ensures { Some result.now ≡ uids_in (Some kept.now) }
+{
+    match kept {
+        Kept::Uids(map) => map,
+        _ => unreachable!(),
+    }
+}
+
+/// The map of an array of specifications, in a box.
+fn boxed(alloc: Global, specs: &[Spec]) -> Result<Box<Kept>, ArrayError>
+    ensures kind { IfOk result (λ kept. IsTrue (only_uids (Some kept.value))) }
+    ensures read { IfOk result (λ kept.
+        IsSomeAnd (uids_in (Some kept.value)) (AreSaid specs.now)) }
+    ensures accepted { IfOk result (λ kept. IsSomeAnd (uids_in (Some kept.value)) Accepted) }
+    ensures refused { IfErr result (λ e.
+        OutOfMemoryOr (array_fault_of e) (HasArrayFault specs.now)) }
+{
+    let ids: IdMap<GuestUid, HostUid> = map_from(alloc, specs)?;
+    let shared = Arc::new(alloc, ids)?;
+    let kept = Box::new(alloc, Kept::Uids(shared))?;
+    Ok(kept)
+}
+
+/// Makes a map of an array of specifications.
+#[unsafe(no_mangle)]
+pub extern "C" fn virtiofs_uids_make(
+    alloc: Global,
+    specs: &[Spec],
+    map: &mut Uids,
+    fault: &mut Fault,
+) -> bool
+    ensures made { IsTrue result → IsSomeAnd (specs_of_uids map.new) (AreSaid specs.now) }
+    ensures accepted { IsTrue result → IsSomeAnd (specs_of_uids map.new) Accepted }
+    ensures no_fault { IsTrue result → fault.new ≡ no_fault }
+    ensures keeps { (¬ IsTrue result) → specs_of_uids map.new ≡ specs_of_uids map.old }
+    ensures refused { (¬ IsTrue result) → TellsArrayFault specs.now fault.new }
+{
+    match boxed(alloc, specs) {
+        Ok(kept) => {
+            drop(map.take(alloc));
+            map.put(kept);
+            *fault = Fault::none();
+            true
+        }
+        Err(error) => {
+            *fault = told(&error);
+            false
+        }
+    }
+}
+
+/// The map of texts, in a box, or what C is told.
+fn boxed_texts(alloc: Global, texts: &[&[u8]], quoted: &mut [u8]) -> Result<Box<Kept>, Fault>
+    ensures kind { IfOk result (λ kept. IsTrue (only_uids (Some kept.value))) }
+    ensures read { IfOk result (λ kept.
+        IsSomeAnd (uids_in (Some kept.value)) (AllSay (texts_of texts.now))) }
+    ensures accepted { IfOk result (λ kept. IsSomeAnd (uids_in (Some kept.value)) Accepted) }
+{
+    let ids: IdMap<GuestUid, HostUid> = map_from_texts(alloc, texts, quoted)?;
+    let Ok(shared) = Arc::new(alloc, ids) else {
+        return Err(Fault::of_kind(1));
+    };
+    let Ok(kept) = Box::new(alloc, Kept::Uids(shared)) else {
+        return Err(Fault::of_kind(1));
+    };
+    Ok(kept)
+}
+
+/// Makes a map of an array of texts.
+#[unsafe(no_mangle)]
+pub extern "C" fn virtiofs_uids_make_texts(
+    alloc: Global,
+    texts: &[&[u8]],
+    map: &mut Uids,
+    fault: &mut Fault,
+    quoted: &mut [u8],
+) -> bool
+    ensures made { IsTrue result →
+        IsSomeAnd (specs_of_uids map.new) (AllSay (texts_of texts.now)) }
+    ensures accepted { IsTrue result → IsSomeAnd (specs_of_uids map.new) Accepted }
+    ensures no_fault { IsTrue result → fault.new ≡ no_fault }
+    ensures keeps { (¬ IsTrue result) → specs_of_uids map.new ≡ specs_of_uids map.old }
+{
+    match boxed_texts(alloc, texts, quoted) {
+        Ok(kept) => {
+            drop(map.take(alloc));
+            map.put(kept);
+            *fault = Fault::none();
+            true
+        }
+        Err(told) => {
+            *fault = told;
+            false
+        }
+    }
+}
+
+/// Has another handle hold the same map.
+#[unsafe(no_mangle)]
+pub extern "C" fn virtiofs_uids_share(alloc: Global, map: &mut Uids, other: &mut Uids) -> u32
+    ensures keeps { specs_of_uids map.new ≡ specs_of_uids map.old }
+    ensures shares { Shares
+        (specs_of_uids map.old) (specs_of_uids other.old) result (specs_of_uids other.new) }
+{
+    let Some(kept) = map.take(alloc) else {
+        return NO_MAP;
+    };
+    let shared = share(alloc, &kept);
+    map.put(kept);
+    let Some(shared) = shared else {
+        return NO_MEMORY;
+    };
+    drop(other.take(alloc));
+    other.put(shared);
+    OK
+}
+
+/// Lets the map of a handle go.
+#[unsafe(no_mangle)]
+pub extern "C" fn virtiofs_uids_free(alloc: Global, map: &mut Uids)
+    ensures { specs_of_uids map.new ≡ None }
+{
+    let gone = map.take(alloc);
+    drop(gone);
+}
+
+/// The host's id for a guest's.
+#[unsafe(no_mangle)]
+pub extern "C" fn virtiofs_uids_guest(
+    alloc: Global,
+    map: &mut Uids,
+    guest: u32,
+    host: &mut u32,
+) -> u32
+    ensures keeps { specs_of_uids map.new ≡ specs_of_uids map.old }
+    ensures answer { AnswersId (specs_of_uids map.old) GuestToHost guest host.old result host.new }
+    ensures leads_back { LeadsBackIfMapped
+        (specs_of_uids map.old) GuestToHost guest result host.new }
+{
+    let Some(kept) = map.take(alloc) else {
+        return NO_MAP;
+    };
+    let code = guest_of(map_of(&kept), GuestUid::from(guest), host);
+    map.put(kept);
+    code
+}
+
+/// The guest's id for a host's.
+#[unsafe(no_mangle)]
+pub extern "C" fn virtiofs_uids_host(
+    alloc: Global,
+    map: &mut Uids,
+    host: u32,
+    guest: &mut u32,
+) -> u32
+    ensures keeps { specs_of_uids map.new ≡ specs_of_uids map.old }
+    ensures answer { AnswersId (specs_of_uids map.old) HostToGuest host guest.old result guest.new }
+    ensures leads_back { LeadsBackIfMapped
+        (specs_of_uids map.old) HostToGuest host result guest.new }
+{
+    let Some(kept) = map.take(alloc) else {
+        return NO_MAP;
+    };
+    let code = host_of(map_of(&kept), HostUid::from(host), guest);
+    map.put(kept);
+    code
+}
