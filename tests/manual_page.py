@@ -47,6 +47,13 @@ def run(program, words):
     return subprocess.run([program, *words], **how)
 
 
+def has_man():
+    """Whether there is the `man` that knows the options below. Some systems have a stand-in of that name."""
+    if not shutil.which("man"):
+        return False
+    return subprocess.run(["man", "--version"], capture_output=True, text=True).stdout.startswith("man ")
+
+
 def shown():
     """What `man` complains of."""
     how = {"capture_output": True, "text": True, "env": {**os.environ, "LC_ALL": "C.UTF-8", "MANPAGER": "cat"}}
@@ -58,10 +65,10 @@ def main(programs):
     with open(PAGE, encoding="utf-8") as it:
         page = it.read()
     found = {"examples": "" if len(examples(page)) > 3 else "the page has hardly any"}
-    if shutil.which("man"):
+    if has_man():
         found["man shows the page"] = shown()
     else:
-        print("LEFT OUT: whether the page can be shown: there is no man")
+        print("LEFT OUT: whether the page can be shown: there is no man, or another one")
     for program in programs:
         by = os.path.basename(program)
         usage = run(program, []).stderr

@@ -1,0 +1,64 @@
+//! What a daemon in Rust does with the static library, by virtiofsd's own names: it makes its maps once, and any number
+//! of threads ask them. docs/EMBEDDING.md has the commands that build and run it.
+
+#[path = "../bindings/rust/virtiofs_map.rs"]
+mod virtiofs_map;
+
+use std::convert::TryFrom;
+use std::error::Error;
+use std::ffi::CStr;
+use std::thread;
+use virtiofs_map::soft_idmap::{cmdline, GuestUid, HostUid, IdMap};
+use virtiofs_map::xattrmap::{AppliedRule, XattrMap};
+
+/// The maps of a share.
+struct Maps {
+    users: IdMap<GuestUid, HostUid>,
+    names: XattrMap,
+}
+
+impl Maps {
+    fn new(settings: &[&str], rules: &str) -> Result<Maps, Box<dyn Error>> {
+        let specs = settings.iter().map(|text| text.parse::<cmdline::IdMap>()).collect::<Result<Vec<_>, _>>()?;
+        Ok(Maps { users: IdMap::try_from(specs)?, names: XattrMap::try_from(rules)? })
+    }
+
+    /// Who owns a file on the host that the guest gave to this user.
+    fn show_owner(&self, user: u32) {
+        match self.users.map_guest(GuestUid::from(user)) {
+            Ok(owner) => println!("user {user} of the guest is user {owner} of the host"),
+            Err(_) => println!("user {user} of the guest is forbidden"),
+        }
+    }
+
+    /// As what the guest's attribute goes to the host.
+    fn show_name(&self, name: &CStr) -> Result<(), Box<dyn Error>> {
+        let asked = name.to_string_lossy();
+        match self.names.map_client_xattr(name)? {
+            AppliedRule::Pass(passed) if *passed == *name => println!("{asked} goes to the host as it is"),
+            AppliedRule::Pass(passed) => println!("{asked} goes to the host as {}", passed.to_string_lossy()),
+            AppliedRule::Deny => println!("{asked} is denied"),
+            AppliedRule::Unsupported => println!("{asked} cannot be used"),
+        }
+        Ok(())
+    }
+
+    /// Which names the guest gets to see, where the host lists these.
+    fn show_list(&self, list: &[u8]) -> Result<(), Box<dyn Error>> {
+        let seen = self.names.map_server_xattrlist(list.to_vec())?;
+        println!("the guest sees {}", String::from_utf8_lossy(&seen).trim_end_matches('\0').replace('\0', " "));
+        Ok(())
+    }
+}
+
+fn main() -> Result<(), Box<dyn Error>> {
+    let settings = ["map:0:1000:10", "forbid-guest:10:4294967284"];
+    let maps = Maps::new(&settings, ":map:security.selinux:trusted.virtiofs.:")?;
+
+    // Any number of threads would do so at once.
+    thread::scope(|scope| scope.spawn(|| [5, 10].map(|user| maps.show_owner(user))).join().map(drop)).expect("it ends");
+    maps.show_name(c"security.selinux")?;
+    maps.show_name(c"trusted.virtiofs.x")?;
+    maps.show_name(c"user.note")?;
+    maps.show_list(b"trusted.virtiofs.security.selinux\0security.selinux\0user.note\0")
+}

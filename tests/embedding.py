@@ -1,0 +1,293 @@
+#!/usr/bin/env python3
+"""Sees what programs in C and in Rust make of the static library, and that its header says what it exports.
+
+usage: embedding.py [--build-in FOLDER | --as-it-is]
+
+It builds the archive over the checked work of a checkout (`rt lib` in crates/virtiofs_map_c; FOLDER is another checkout
+of the same commit, whose archive is then kept in this one), or takes the one that is there. Then it compiles the tests
+of tests/embedding and the examples, in C and in Rust, and runs them. CC, CXX and RUSTC may name the compilers. What
+there is no compiler for is left out, and a line says so. README.md has what each test is. The last line is
+'N passed, N failed'.
+"""
+import json
+import os
+import re
+import shutil
+import subprocess
+import sys
+import tempfile
+
+HERE = os.path.dirname(os.path.abspath(__file__))
+TOP = os.path.dirname(HERE)
+sys.dont_write_bytecode = True
+sys.path.insert(0, f"{HERE}/embedding")
+from declared import compared
+
+TESTS, EXAMPLES, BINDING = f"{HERE}/embedding", f"{TOP}/examples", f"{TOP}/bindings/rust/virtiofs_map.rs"
+CRATE = "crates/virtiofs_map_c"
+ARCHIVE = f"{TOP}/{CRATE}/out/libvirtiofs_map_c.a"
+TABLES = ("program.jsonl", "upstream_sample.jsonl")
+FORMS_IN_RUST = ("ids", "ns", "client", "server")
+SECONDS, SECONDS_OF_A_BUILD = 600, 7200
+C_FLAGS = ["-std=c99", "-Wall", "-Wextra", "-pedantic", "-Werror", "-O2", f"-I{TOP}/include"]
+SANITIZED = ["-fsanitize=address", "-g"]
+PROBE_C = """#include <stdbool.h>
+#include <stddef.h>
+#include <stdint.h>
+#include <stdio.h>
+int main(void) { return puts("") < 0; }
+"""
+
+
+class Tally:
+    """What passed, what failed, and the room for what is built."""
+
+    def __init__(self, room):
+        self.room, self.passed, self.failed = room, 0, 0
+
+    def see(self, name, found, said=""):
+        """Counts one thing that was seen: it passed where nothing was found."""
+        self.passed, self.failed = self.passed + (not found), self.failed + bool(found)
+        print(f"FAILED {name}: {found}\n{said[-3000:]}".rstrip() if found else f"{name}: as it must be", flush=True)
+        return not found
+
+    def add(self, name, status, said):
+        """Counts what a program of tests counted."""
+        counted = re.search(r"(?:\A|\n)(?:test result: \w+\. )?(\d+) passed[,;] (\d+) failed[^\n]*\n*\Z", said)
+        if not counted or not int(counted[1]) + int(counted[2]) or (status and not int(counted[2])):
+            self.see(name, f"status {status}, and no count", said)
+            return
+        passed, failed = map(int, counted.groups())
+        self.passed, self.failed = self.passed + passed, self.failed + failed
+        lines = "\n".join(line for line in said.splitlines() if "FAILED" in line or "panicked" in line)
+        print(f"{name}: {passed} passed, {failed} failed\n{lines[-3000:]}".rstrip(), flush=True)
+
+
+def left_out(what, why):
+    print(f"LEFT OUT: {what}: {why}", flush=True)
+
+
+def run(words, seconds=SECONDS, **how):
+    """The status of a command, and what it said."""
+    to = {"stdin": subprocess.DEVNULL, "stdout": subprocess.PIPE, "stderr": subprocess.STDOUT, "errors": "replace"}
+    try:
+        ended = subprocess.run(words, timeout=seconds, **to, **how)
+    except (OSError, subprocess.TimeoutExpired) as error:
+        return 1, str(error)
+    return ended.returncode, ended.stdout
+
+
+def kit():
+    """The folder of the kit, which `rt` stands in."""
+    found = shutil.which("rt")
+    return os.path.dirname(os.path.dirname(os.path.realpath(found))) if found else None
+
+
+def build(checkout):
+    """Builds the archive in a checkout, and keeps it in this one. Tells what went wrong."""
+    jobs = ["--jobs", os.environ["RT_JOBS"]] if os.environ.get("RT_JOBS") else []
+    made = f"{checkout}/{CRATE}/out/libvirtiofs_map_c.a"
+    if os.path.lexists(made):
+        os.remove(made)
+    status, said = run(["rt", "lib", *jobs], SECONDS_OF_A_BUILD, cwd=f"{checkout}/{CRATE}")
+    if status or not os.path.isfile(made):
+        return f"no archive, status {status}", said
+    if os.path.realpath(made) != os.path.realpath(ARCHIVE):
+        os.makedirs(os.path.dirname(ARCHIVE), exist_ok=True)
+        shutil.copy2(made, ARCHIVE)
+    return None, said
+
+
+# ---- compilers ----
+
+
+def compiler(room, named, names, probe, *flags):
+    """The first of these compilers that makes a program of the probe which runs, or None."""
+    for it in [os.environ.get(named), *names]:
+        if it and (shutil.which(it) or os.access(it, os.X_OK)):
+            made = f"{room}/probe"
+            if run([it, *flags, probe, "-o", made])[0] == 0 and run([made])[0] == 0:
+                return it
+    return None
+
+
+def written(room, name, text):
+    with open(f"{room}/{name}", "w", encoding="utf-8") as it:
+        it.write(text)
+    return f"{room}/{name}"
+
+
+class Compilers:
+    """The compilers that are there; None for each that is not. `sanitizing` is a C compiler with AddressSanitizer."""
+
+    def __init__(self, room):
+        probe = written(room, "probe.c", PROBE_C)
+        names = ["cc", "clang", "gcc", f"{kit()}/toolchain/bin/clang"]
+        self.c = compiler(room, "CC", names, probe)
+        self.sanitizing = compiler(room, "CC", names, probe, *SANITIZED)
+        self.cxx = compiler(room, "CXX", ["c++", "clang++", "g++"], written(room, "probe.cc", PROBE_C))
+        self.rust = compiler(room, "RUSTC", ["rustc"], written(room, "probe.rs", "fn main() {}\n"))
+
+
+def made_program(tally, name, words):
+    """Compiles a program. Tells its path, or None where that failed, which is counted."""
+    program = f"{tally.room}/{name.replace(' ', '-')}"
+    status, said = run([*words, "-o", program])
+    if status:
+        tally.see(name, f"it does not compile: status {status}", said)
+    return None if status else program
+
+
+# ---- tables of the program ----
+
+
+def is_row_for(row, forms):
+    """Whether a row can be asked of a stand-in for the program: its words are UTF-8, and it ends by itself."""
+    if "stdout" in row or "memory" in row or row["status"] > 2:
+        return False
+    try:
+        json.dumps(row["words"], ensure_ascii=False).encode()
+    except UnicodeEncodeError:
+        return False
+    return forms is None or (row["words"] and row["words"][0] in forms)
+
+
+def run_tables(tally, name, program, forms=None):
+    tables = []
+    for table in TABLES:
+        with open(f"{HERE}/{table}", encoding="utf-8") as lines:
+            kept = [line for line in lines if line.strip() and is_row_for(json.loads(line), forms)]
+        tables.append(written(tally.room, table, "".join(kept)))
+    tally.add(name, *run([sys.executable, f"{HERE}/end_to_end.py", program, "--", *tables], SECONDS_OF_A_BUILD))
+
+
+def run_example(tally, name, program):
+    status, said = run([program])
+    with open(f"{EXAMPLES}/expected.txt", encoding="utf-8") as it:
+        found = "" if not status and said == it.read() else f"status {status}, or other lines than expected.txt"
+    tally.see(name, found, said)
+
+
+# ---- C ----
+
+
+def in_c(tally, with_, linked):
+    if not with_.c:
+        left_out("the tests and the example in C", "there is no C compiler with its headers")
+        return
+    header = written(tally.room, "header.c", '#include "virtiofs_map.h"\nint main(void) { return VIRTIOFS_OK; }\n')
+    status, said = run([with_.c, *C_FLAGS, header, "-o", f"{tally.room}/header"])
+    tally.see("the header in C99", status and f"status {status}", said)
+    made = lambda name, file, *flags: made_program(tally, name, [with_.c, *C_FLAGS, *flags, file, *linked, "-pthread"])
+    program = made("the tests in C", f"{TESTS}/test.c")
+    if program:
+        tally.add("the tests in C", *run([program]))
+    program = made("refused memory in C", f"{TESTS}/refused.c", "-Wl,--wrap=malloc,--wrap=realloc")
+    if program:
+        tally.add("refused memory in C", *run([program]))
+    made("the speed in C", f"{TESTS}/speed.c")
+    program = made("the tables in C", f"{TESTS}/mapcheck.c")
+    if program:
+        run_tables(tally, "the tables in C", program)
+    program = made("the example in C", f"{EXAMPLES}/owners.c")
+    if program:
+        run_example(tally, "the example in C", program)
+
+
+def in_cxx(tally, with_, linked):
+    if not with_.cxx:
+        left_out("the header in C++", "there is no C++ compiler")
+        return
+    text = '#include "virtiofs_map.h"\nint main() { virtiofs_uids map = VIRTIOFS_NONE; virtiofs_uids_free(&map); }\n'
+    header = written(tally.room, "header.cc", text)
+    words = [with_.cxx, "-std=c++11", *C_FLAGS[1:], header, *linked, "-o", f"{tally.room}/header-cxx"]
+    status, said = run(words)
+    tally.see("the header in C++", status and f"status {status}", said)
+
+
+# ---- Rust ----
+
+
+def rust_words(with_, linked):
+    words = [with_.rust, "--edition", "2021", "-O", "-D", "warnings"]
+    for it in linked:
+        folder, file = os.path.split(it)
+        words += ["-L", f"native={folder}", "-l", f"static={file[len('lib') : -len('.a')]}"]
+    return words
+
+
+def in_rust(tally, with_, linked):
+    if not with_.rust:
+        left_out("the tests and the example in Rust", "there is no rustc")
+        return
+    for edition in ("2018", "2021", "2024"):
+        words = [with_.rust, "--edition", edition, "--crate-type", "rlib", "-D", "warnings", BINDING]
+        status, said = run([*words, "-o", f"{tally.room}/binding.rlib"])
+        tally.see(f"the Rust file in edition {edition}", status and f"status {status}", said)
+    made = lambda name, file, *flags: made_program(tally, name, [*rust_words(with_, linked), *flags, file])
+    program = made("the tests in Rust", f"{TESTS}/test.rs", "--test")
+    if program:
+        tally.add("the tests in Rust", *run([program]))
+    program = made("calls as virtiofsd makes them", f"{TESTS}/calls.rs")
+    if program:
+        status, said = run([program])
+        tally.see("calls as virtiofsd makes them", status and f"status {status}", said)
+    made("the speed in Rust", f"{TESTS}/speed.rs")
+    program = made("the tables in Rust", f"{TESTS}/mapcheck.rs")
+    if program:
+        run_tables(tally, "the tables in Rust", program, FORMS_IN_RUST)
+    program = made("the example in Rust", f"{EXAMPLES}/owners.rs")
+    if program:
+        run_example(tally, "the example in Rust", program)
+
+
+# ---- AddressSanitizer ----
+
+
+def under_sanitizer(tally, with_, linked):
+    if not with_.sanitizing:
+        left_out("the tests under AddressSanitizer", "no C compiler has it")
+        return
+    leaks = {"env": {**os.environ, "ASAN_OPTIONS": "detect_leaks=1"}}
+    words = [with_.sanitizing, *C_FLAGS, *SANITIZED]
+    name = "the tests in C under AddressSanitizer"
+    program = made_program(tally, name, [*words, f"{TESTS}/test.c", *linked, "-pthread"])
+    if program:
+        tally.add(name, *run([program], **leaks))
+    # (a program that lets a map leak has to be found out, or the run before shows nothing of that)
+    name = "a leak under AddressSanitizer"
+    program = made_program(tally, name, [*words, f"{TESTS}/leak.c", *linked])
+    if program:
+        status, said = run([program], **leaks)
+        tally.see(name, "" if status and "LeakSanitizer: detected memory leaks" in said else "it is not found", said)
+    if with_.rust:
+        name = "the tests in Rust under AddressSanitizer"
+        # (what rustc compiles is not instrumented; each request for memory goes by the sanitizer all the same)
+        flags = ["-C", f"linker={with_.sanitizing}", "-C", f"link-arg={SANITIZED[0]}", "--test", f"{TESTS}/test.rs"]
+        program = made_program(tally, name, [*rust_words(with_, linked), *flags])
+        if program:
+            tally.add(name, *run([program], **leaks))
+
+
+def main(words):
+    if words not in ([], ["--as-it-is"]) and (len(words) != 2 or words[0] != "--build-in"):
+        print(__doc__, end="", file=sys.stderr)
+        return 2
+    with tempfile.TemporaryDirectory(prefix="embedding-") as room:
+        tally = Tally(room)
+        for name, found in compared(TOP):
+            tally.see(name, "\n".join(found))
+        found, said = (None, "") if words == ["--as-it-is"] else build(os.path.abspath(words[1]) if words else TOP)
+        if not found and not os.path.isfile(ARCHIVE):
+            found = f"there is no {ARCHIVE}"
+        if tally.see("the archive", found, said):
+            linked = [ARCHIVE, f"{kit()}/c/liblibc_c.a"]
+            with_ = Compilers(room)
+            for part in (in_c, in_cxx, in_rust, under_sanitizer):
+                part(tally, with_, linked)
+    print(f"{tally.passed} passed, {tally.failed} failed")
+    return 1 if tally.failed or not tally.passed else 0
+
+
+if __name__ == "__main__":
+    sys.exit(main(sys.argv[1:]))
