@@ -13,6 +13,7 @@ mod BuildLemmas
 mod CutLemmas
 mod FirstRuleLemmas
 mod FrontLemmas
+mod KnownWayLemmas
 mod ListingLemmas
 mod MadeRuleLemmas
 mod MapRuleLemmas
@@ -22,6 +23,7 @@ mod NamespacePrintedLemmas
 mod NoZeroLemmas
 mod NumeralLemmas
 mod OrderLemmas
+mod OthersLemmas
 mod PlacedLemmas
 mod ReadSoFarLemmas
 mod ReaderLemmas

@@ -1,15 +1,15 @@
 -- What the changes of a trie do to the ways in it.
 use Rattle.std.proofs.Common.{◌≡◌, ℕ, zero, suc, ◌+◌, ◌<◌, ◌≤◌, ◌⊎◌, Bool, true, false, ◌&&◌, ◌||◌, cond, eqb, List, [], ◌∷◌, ◌++◌, length, take, get_or, min, reverse, set, Option, Some, None, inl, inr, refl, sym, ap, subst, ◌∙◌, arith, option_and_then}
-use Rattle.std.specs.BTreeMap.{BTreeMap, get, is_at}
+use Rattle.std.specs.BTreeMap.{is_at}
 use Rattle.std.specs.List.{slice_get}
-use Rattle.std.specs.Map.{lookup}
 use Rattle.std.specs.Option.{is_some, option_map_or}
 use Rattle.std.proofs.lemmas.Bool.{cases_eq, cases_order, cases_Bool, or_right, ne_eqb, eq-eqb, eqb-true, and_from, and_parts, false_from_ne_true}
 use Rattle.std.proofs.lemmas.Bool.Decides.{nat_tests}
 use Rattle.std.proofs.lemmas.List.{length-set, length_push, append-nil, reverse-reverse, reverse-append, length-reverse, take_more, drop_all}
 use Rattle.std.proofs.lemmas.Option.{slice_get_past, slice_get_within, option_and_then_some}
 use Rattle.virtiofs_map.specs.Names.{begins}
-use Rattle.virtiofs_map.specs.TrieParts.{plain, no_rule, pair_cmp, is_byte, child_of, child, reach_by, reach, least_at, lead, least_so_far, branches_at, IsTree, LeadsOn}
+use Rattle.virtiofs_map.specs.ChildrenParts.{Children, other_at, pair_cmp}
+use Rattle.virtiofs_map.specs.TrieParts.{plain, no_byte, no_rule, is_byte, child_of, child, reach_by, reach, least_at, lead, least_so_far, branches_at, IsTree, LeadsOn}
 use Rattle.virtiofs_map.specs.declared.xattrmap.nodes.Node.{Node}
 use Rattle.virtiofs_map.specs.declared.xattrmap.trie.Trie.{Trie}
 use Rattle.virtiofs_map.proofs.BeginsLemmas.{begins_from, begins_split}
@@ -30,12 +30,12 @@ get_other (x ∷ xs) zero (suc j) y ne = refl
 get_other (x ∷ xs) (suc i) zero y ne = refl
 get_other (x ∷ xs) (suc i) (suc j) y ne = get_other xs i j y (λ e. ne (ap suc e))
 
-get_front : {X : Type 0} (xs : List X) (x : X) (i : ℕ) → i < length xs → slice_get (xs ++ x ∷ []) i ≡ slice_get xs i
+pub get_front : {X : Type 0} (xs : List X) (x : X) (i : ℕ) → i < length xs → slice_get (xs ++ x ∷ []) i ≡ slice_get xs i
 get_front [] x i l = absurd (omega arith)
 get_front (y ∷ ys) x zero l = refl
 get_front (y ∷ ys) x (suc i) l = get_front ys x i (omega (arith, l))
 
-get_last : {X : Type 0} (xs : List X) (x : X) → slice_get (xs ++ x ∷ []) (length xs) ≡ Some x
+pub get_last : {X : Type 0} (xs : List X) (x : X) → slice_get (xs ++ x ∷ []) (length xs) ≡ Some x
 get_last [] x = refl
 get_last (y ∷ ys) x = get_last ys x
 
@@ -43,9 +43,17 @@ cases_below : (i n : ℕ) → (i ≡ n → ⊥) → (i < n) ⊎ (n < i)
 cases_below i n ne =
     elim (cases_order i n) [ inl e ↦ absurd (ne e) | inr o ↦ elim o [ inl l ↦ inl l | inr g ↦ inr g ] ]
 
+-- ---- the code of a byte
+
+is_byte_itself : (code byte : ℕ) → code ≡ byte → byte < no_byte → is_byte code byte ≡ true
+is_byte_itself code byte is below = grind (arith, nat_tests)
+
+is_byte_other : (code byte other : ℕ) → code ≡ byte → (other ≡ byte → ⊥) → is_byte code other ≡ false
+is_byte_other code byte other is ne = grind (arith, nat_tests)
+
 -- ---- the step from a node
 
-abbrev pub step : List Node → BTreeMap (ℕ × ℕ) ℕ → ℕ → ℕ → Option ℕ
+abbrev pub step : List Node → Children → ℕ → ℕ → Option ℕ
 step nodes others at byte = option_and_then (child_of others at byte) (slice_get nodes at)
 
 abbrev pub lead_by : List Node → (ℕ → ℕ → Option ℕ) → List ℕ → ℕ
@@ -78,7 +86,7 @@ module _ (nodes : List Node) (at : ℕ) (node new : Node) (is : slice_get nodes 
       ]
 
   -- the steps from other nodes stay
-  step_other : (others more : BTreeMap (ℕ × ℕ) ℕ) (i b : ℕ) → (i ≡ at → ⊥) → get pair_cmp more (i, b) ≡ get pair_cmp others (i, b) → step (grown nodes at new) more i b ≡ step nodes others i b
+  step_other : (others more : Children) (i b : ℕ) → (i ≡ at → ⊥) → other_at more (i, b) ≡ other_at others (i, b) → step (grown nodes at new) more i b ≡ step nodes others i b
   step_other others more i b ne same =
       elim (cases_eq i (length nodes)) [
         | inl e ↦
@@ -112,7 +120,7 @@ pair_apart at byte i b ne = elim (cases_eq i at) [ inl e ↦ elim (cases_eq b by
 pair_same : (at byte : ℕ) → is_at (pair_cmp (at, byte)) (at, byte) ≡ true
 pair_same at byte = grind (arith, nat_tests)
 
-module _ (nodes : List Node) (others : BTreeMap (ℕ × ℕ) ℕ) (at byte : ℕ) (node : Node) (is : slice_get nodes at ≡ Some node) (free : child_of others at byte node ≡ None) (inside : (i b j : ℕ) → step nodes others i b ≡ Some j → j < length nodes) (bare : (i b : ℕ) → branches_at nodes i ≡ false → get pair_cmp others (i, b) ≡ None) where
+module _ (nodes : List Node) (others : Children) (at byte : ℕ) (node : Node) (is : slice_get nodes at ≡ Some node) (free : child_of others at byte node ≡ None) (inside : (i b j : ℕ) → step nodes others i b ≡ Some j → j < length nodes) (bare : (i b : ℕ) → branches_at nodes i ≡ false → other_at others (i, b) ≡ None) where
   none_yet : step nodes others at byte ≡ None
   none_yet = ap (option_and_then (child_of others at byte)) is ∙ free
 
@@ -127,24 +135,24 @@ module _ (nodes : List Node) (others : BTreeMap (ℕ × ℕ) ℕ) (at byte : ℕ
   no_first last b =
       elim (cases_Bool (is_byte node.first b)) [
         | inl e ↦
-            absurd (let low = inside at b (at + 1) (ap (option_and_then (child_of others at b)) is ∙ ap (λ t. cond t (Some (at + 1)) (cond node.branches (get pair_cmp others (at, b)) None)) e) in omega (arith, low, last))
+            absurd (let low = inside at b (at + 1) (ap (option_and_then (child_of others at b)) is ∙ ap (λ t. cond t (Some (at + 1)) (cond node.branches (other_at others (at, b)) None)) e) in omega (arith, low, last))
         | inr e ↦ e
       ]
 
   not_first : is_byte node.first byte ≡ false
   not_first =
       elim (cases_Bool (is_byte node.first byte)) [
-        | inl e ↦ absurd (let f = sym free ∙ ap (λ t. cond t (Some (at + 1)) (cond node.branches (get pair_cmp others (at, byte)) None)) e in cc)
+        | inl e ↦ absurd (let f = sym free ∙ ap (λ t. cond t (Some (at + 1)) (cond node.branches (other_at others (at, byte)) None)) e in cc)
         | inr e ↦ e
       ]
 
-  module _ (last : at + 1 ≡ length nodes) where
+  module _ (last : at + 1 ≡ length nodes) (code : ℕ) (is_code : code ≡ byte) (below : byte < no_byte) where
     abbrev pub first_written : Node
-    first_written = record node { first = Some byte }
+    first_written = record node { first = code }
 
     pub first_more : IsChildMore (step nodes others) (step (grown nodes at first_written) others) at byte (length nodes)
     first_more = record {
-      here = ap (option_and_then (child_of others at byte)) (grown_here nodes at node first_written is) ∙ ap (λ t. cond t (Some (at + 1)) (cond node.branches (get pair_cmp others (at, byte)) None)) (eq-eqb byte byte refl) ∙ ap Some last;
+      here = ap (option_and_then (child_of others at byte)) (grown_here nodes at node first_written is) ∙ ap (λ t. cond t (Some (at + 1)) (cond node.branches (other_at others (at, byte)) None)) (is_byte_itself code byte is_code below) ∙ ap Some last;
       elsewhere = λ i b ne. elim (cases_eq i at) [
         | inl e ↦ subst (λ k. step (grown nodes at first_written) others k b ≡ step nodes others k b) (sym e) (at_here b (λ f. ne e f))
         | inr e ↦ step_other nodes at node first_written is others others i b e refl
@@ -158,10 +166,10 @@ module _ (nodes : List Node) (others : BTreeMap (ℕ × ℕ) ℕ) (at byte : ℕ
       at_here : (b : ℕ) → (b ≡ byte → ⊥) → step (grown nodes at first_written) others at b ≡ step nodes others at b
       at_here b ne =
           ap (option_and_then (child_of others at b)) (grown_here nodes at node first_written is)
-          ∙ ap (λ t. cond t (Some (at + 1)) (cond node.branches (get pair_cmp others (at, b)) None)) (ne_eqb byte b (λ e. ne (sym e)) ∙ sym (no_first last b))
+          ∙ ap (λ t. cond t (Some (at + 1)) (cond node.branches (other_at others (at, b)) None)) (is_byte_other code byte b is_code ne ∙ sym (no_first last b))
           ∙ sym (ap (option_and_then (child_of others at b)) is)
 
-    pub first_bare : (i b : ℕ) → branches_at (grown nodes at first_written) i ≡ false → get pair_cmp others (i, b) ≡ None
+    pub first_bare : (i b : ℕ) → branches_at (grown nodes at first_written) i ≡ false → other_at others (i, b) ≡ None
     first_bare i b f =
         elim (cases_eq i at) [
           | inl e ↦
@@ -169,19 +177,19 @@ module _ (nodes : List Node) (others : BTreeMap (ℕ × ℕ) ℕ) (at byte : ℕ
           | inr e ↦ bare i b (still nodes at node first_written is i e f)
         ]
 
-  module _ (more : BTreeMap (ℕ × ℕ) ℕ) (put : (q : ℕ × ℕ) → get pair_cmp more q ≡ cond (is_at (pair_cmp (at, byte)) q) (Some (length nodes)) (get pair_cmp others q)) where
+  module _ (more : Children) (put : (q : ℕ × ℕ) → other_at more q ≡ cond (is_at (pair_cmp (at, byte)) q) (Some (length nodes)) (other_at others q)) where
     abbrev pub other_written : Node
     other_written = record node { branches = true }
 
-    put_other : (i b : ℕ) → (i ≡ at → b ≡ byte → ⊥) → get pair_cmp more (i, b) ≡ get pair_cmp others (i, b)
-    put_other i b ne = put (i, b) ∙ ap (λ t. cond t (Some (length nodes)) (get pair_cmp others (i, b))) (pair_apart at byte i b ne)
+    put_other : (i b : ℕ) → (i ≡ at → b ≡ byte → ⊥) → other_at more (i, b) ≡ other_at others (i, b)
+    put_other i b ne = put (i, b) ∙ ap (λ t. cond t (Some (length nodes)) (other_at others (i, b))) (pair_apart at byte i b ne)
 
-    put_here : get pair_cmp more (at, byte) ≡ Some (length nodes)
-    put_here = put (at, byte) ∙ ap (λ t. cond t (Some (length nodes)) (get pair_cmp others (at, byte))) (pair_same at byte)
+    put_here : other_at more (at, byte) ≡ Some (length nodes)
+    put_here = put (at, byte) ∙ ap (λ t. cond t (Some (length nodes)) (other_at others (at, byte))) (pair_same at byte)
 
     pub other_more : IsChildMore (step nodes others) (step (grown nodes at other_written) more) at byte (length nodes)
     other_more = record {
-      here = ap (option_and_then (child_of more at byte)) (grown_here nodes at node other_written is) ∙ ap (λ t. cond t (Some (at + 1)) (get pair_cmp more (at, byte))) not_first ∙ put_here;
+      here = ap (option_and_then (child_of more at byte)) (grown_here nodes at node other_written is) ∙ ap (λ t. cond t (Some (at + 1)) (other_at more (at, byte))) not_first ∙ put_here;
       elsewhere = λ i b ne. elim (cases_eq i at) [
         | inl e ↦ subst (λ k. step (grown nodes at other_written) more k b ≡ step nodes others k b) (sym e) (at_here b (λ f. ne e f))
         | inr e ↦ step_other nodes at node other_written is others more i b e (put_other i b ne)
@@ -192,7 +200,7 @@ module _ (nodes : List Node) (others : BTreeMap (ℕ × ℕ) ℕ) (at byte : ℕ
       within = within;
       root = let w = within in omega (arith, w);
     } where
-      found : (b : ℕ) → (t : Bool) → node.branches ≡ t → get pair_cmp others (at, b) ≡ cond t (get pair_cmp others (at, b)) None
+      found : (b : ℕ) → (t : Bool) → node.branches ≡ t → other_at others (at, b) ≡ cond t (other_at others (at, b)) None
       found b true e = refl
       found b false e = bare at b (ap has_others is ∙ e)
 
@@ -202,7 +210,7 @@ module _ (nodes : List Node) (others : BTreeMap (ℕ × ℕ) ℕ) (at byte : ℕ
           ∙ ap (λ o. cond (is_byte node.first b) (Some (at + 1)) o) (put_other at b (λ _ f. ne f) ∙ found b node.branches refl)
           ∙ sym (ap (option_and_then (child_of others at b)) is)
 
-    pub other_bare : (i b : ℕ) → branches_at (grown nodes at other_written) i ≡ false → get pair_cmp more (i, b) ≡ None
+    pub other_bare : (i b : ℕ) → branches_at (grown nodes at other_written) i ≡ false → other_at more (i, b) ≡ None
     other_bare i b f =
         elim (cases_eq i at) [
           | inl e ↦
@@ -239,7 +247,7 @@ module _ (nodes : List Node) (at byte : ℕ) (node new : Node) (is : slice_get n
 
 -- ---- a lesser position at a node
 
-module _ (nodes : List Node) (others : BTreeMap (ℕ × ℕ) ℕ) (at least : ℕ) (node : Node) (is : slice_get nodes at ≡ Some node) where
+module _ (nodes : List Node) (others : Children) (at least : ℕ) (node : Node) (is : slice_get nodes at ≡ Some node) where
   abbrev pub lowered : Node
   lowered = record node { least = least }
 
@@ -291,7 +299,7 @@ module _ {A : Type 0} (trie : Trie A) (tree : IsTree trie) where
   reach_within [] i e = let z : 0 ≡ i = cc in let r = tree.root in omega (arith, r, z)
   reach_within (b ∷ bs) i e = option_and_then_some (λ k. child trie k b) (reach trie bs) i e (λ k p q. tree.inside k b i q)
 
-  pub added : (others : BTreeMap (ℕ × ℕ) ℕ) (nodes : List Node) (at byte : ℕ) (node new : Node) → slice_get trie.nodes at ≡ Some node → new.least ≡ node.least → nodes ≡ grown trie.nodes at new → IsChildMore (step trie.nodes trie.others) (step (grown trie.nodes at new) others) at byte (length trie.nodes) → ((i b : ℕ) → branches_at (grown trie.nodes at new) i ≡ false → get pair_cmp others (i, b) ≡ None) → (way : List ℕ) → reach trie way ≡ Some at → LeadsOn trie way byte (record { nodes = nodes; others = others }) (length trie.nodes)
+  pub added : (others : Children) (nodes : List Node) (at byte : ℕ) (node new : Node) → slice_get trie.nodes at ≡ Some node → new.least ≡ node.least → nodes ≡ grown trie.nodes at new → IsChildMore (step trie.nodes trie.others) (step (grown trie.nodes at new) others) at byte (length trie.nodes) → ((i b : ℕ) → branches_at (grown trie.nodes at new) i ≡ false → other_at others (i, b) ≡ None) → (way : List ℕ) → reach trie way ≡ Some at → LeadsOn trie way byte (record { nodes = nodes; others = others }) (length trie.nodes)
   added others nodes at byte node new is kept written more bare way leads =
       subst (λ ns. LeadsOn trie way byte (record { nodes = ns; others = others }) (length trie.nodes)) (sym written) (record {
         tree = record {
@@ -392,11 +400,11 @@ walk_met trie name k next least node met leads is =
 
 -- ---- a root alone
 
-no_step : (others : BTreeMap (ℕ × ℕ) ℕ) (at b : ℕ) → step (plain ∷ []) others at b ≡ None
+no_step : (others : Children) (at b : ℕ) → step (plain ∷ []) others at b ≡ None
 no_step others zero b = refl
 no_step others (suc at) b = refl
 
-module _ (A : Type 0) (others : BTreeMap (ℕ × ℕ) ℕ) (empty : others.entries ≡ []) where
+module _ (A : Type 0) (others : Children) (empty : others ≡ []) where
   abbrev pub alone : List Node → Trie A
   alone nodes = record { nodes = nodes; others = others }
 
@@ -416,7 +424,7 @@ module _ (A : Type 0) (others : BTreeMap (ℕ × ℕ) ℕ) (empty : others.entri
     root = omega arith;
     inside = λ at b next e. absurd (let n = no_step others at b in cc);
     apart = one_way;
-    bare = λ at b e. ap (lookup (is_at (pair_cmp (at, b)))) empty;
+    bare = λ at b e. ap (λ os. other_at os (at, b)) empty;
   })
 
   pub alone_fronts : (nodes : List Node) → nodes ≡ plain ∷ [] → (bytes : List ℕ) → is_some (reach (alone nodes) bytes) ≡ eqb (length bytes) 0

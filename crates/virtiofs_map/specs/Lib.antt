@@ -3,6 +3,7 @@ pub mod Audit
 pub mod AuditParts
 pub mod Build
 pub mod BuildParts
+pub mod ChildrenParts
 pub mod FirstRule
 pub mod Listing
 pub mod LookupAnswers

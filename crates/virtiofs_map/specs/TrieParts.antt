@@ -1,40 +1,42 @@
 -- What the nodes of a trie stand for. Only private functions cite these words.
-use Rattle.std.specs.Prelude.{◌≡◌, ℕ, zero, suc, ◌+◌, ◌<◌, ◌≤◌, Bool, true, false, ◌&&◌, ◌||◌, ◌==◌, if◌then◌else◌, List, [], ◌∷◌, length, reverse, take, min, position, Option, Some, None, option_and_then}
-use Rattle.std.specs.BTreeMap.{BTreeMap, get}
+use Rattle.std.specs.Prelude.{◌≡◌, ℕ, zero, suc, ◌+◌, ◌<◌, ◌≤◌, Bool, true, false, ◌&&◌, ◌||◌, ◌==◌, not, if◌then◌else◌, List, [], ◌∷◌, length, reverse, take, min, position, Option, Some, None, option_and_then}
 use Rattle.std.specs.List.{slice_get, list_any}
 use Rattle.std.specs.Option.{is_some, option_map_or, unwrap_or}
-use Rattle.std.specs.Ordering.{nat_cmp, ordering_then}
-use Rattle.std.specs.declared.cmp.Ordering.{Ordering}
+use Rattle.virtiofs_map.specs.ChildrenParts.{Children, other_at}
 use Rattle.virtiofs_map.specs.FirstRule.{acts, pattern}
 use Rattle.virtiofs_map.specs.Names.{begins, fits}
 use Rattle.virtiofs_map.specs.Rule.{MappingRule}
 use Rattle.virtiofs_map.specs.Steps.{count_after}
 use Rattle.virtiofs_map.specs.declared.xattrmap.nodes.Node.{Node}
 use Rattle.virtiofs_map.specs.declared.xattrmap.trie.Trie.{Trie}
+use Rattle.virtiofs_map.specs.declared.xattrmap.trie_builder.TrieBuilder.{TrieBuilder}
 use Rattle.virtiofs_map.specs.declared.xattrmap.scopes.Side.{Side}
 
 -- the number that stands for no rule
 abbrev pub no_rule : ℕ
 no_rule = 18446744073709551615
 
+-- the number that stands for no byte
+abbrev pub no_byte : ℕ
+no_byte = 256
+
 -- a node without a rule and without children
 abbrev pub plain : Node
-plain = record { least = no_rule; first = None; branches = false }
+plain = record { least = no_rule; first = no_byte; branches = false }
+
+-- what has grown so far, as a trie
+abbrev pub as_trie : {A : Type 0} → TrieBuilder A → Trie A
+as_trie builder = record { nodes = builder.nodes; others = builder.others.entries }
 
 -- ---- the nodes: which is reached by a name, read backwards
 
--- the order of pairs of a node and a byte
-abbrev pub pair_cmp : ℕ × ℕ → ℕ × ℕ → Ordering
-pair_cmp one other = ordering_then (nat_cmp one.0 other.0) (nat_cmp one.1 other.1)
-
--- whether it is that byte
-abbrev pub is_byte : Option ℕ → ℕ → Bool
-is_byte None byte = false
-is_byte (Some other) byte = other == byte
+-- whether the code is that of the byte
+abbrev pub is_byte : ℕ → ℕ → Bool
+is_byte code byte = not (code == no_byte) && (code == byte)
 
 -- the child of a node: the next one, or one of the others
-abbrev pub child_of : BTreeMap (ℕ × ℕ) ℕ → ℕ → ℕ → Node → Option ℕ
-child_of others at byte node = if is_byte node.first byte then Some (at + 1) else (if node.branches then get pair_cmp others (at, byte) else None)
+abbrev pub child_of : Children → ℕ → ℕ → Node → Option ℕ
+child_of others at byte node = if is_byte node.first byte then Some (at + 1) else (if node.branches then other_at others (at, byte) else None)
 
 -- the child of the node of that number
 abbrev pub child : {A : Type 0} → Trie A → ℕ → ℕ → Option ℕ
@@ -66,7 +68,7 @@ pub record IsTree {A : Type 0} (trie : Trie A) : Type 0 where
   pub root : 0 < length trie.nodes
   pub inside : (at byte next : ℕ) → child trie at byte ≡ Some next → next < length trie.nodes
   pub apart : (one other : List ℕ) (at : ℕ) → reach trie one ≡ Some at → reach trie other ≡ Some at → one ≡ other
-  pub bare : (at byte : ℕ) → branches_at trie.nodes at ≡ false → get pair_cmp trie.others (at, byte) ≡ None
+  pub bare : (at byte : ℕ) → branches_at trie.nodes at ≡ false → other_at trie.others (at, byte) ≡ None
 
 -- in the new nodes the byte leads on to a node from where the way ends, and no other way and no least position has changed
 pub record LeadsOn {A : Type 0} (old : Trie A) (way : List ℕ) (byte : ℕ) (new : Trie A) (next : ℕ) : Type 0 where
@@ -74,6 +76,12 @@ pub record LeadsOn {A : Type 0} (old : Trie A) (way : List ℕ) (byte : ℕ) (ne
   pub reached : reach new (byte ∷ way) ≡ Some next
   pub others : (bytes : List ℕ) → (bytes ≡ byte ∷ way → ⊥) → reach new bytes ≡ reach old bytes
   pub leasts : (bytes : List ℕ) → lead new bytes ≡ lead old bytes
+
+-- the first nodes on the way of a pattern, where each row of bytes leads to that node
+pub record IsWay (pattern : List ℕ) (to : List ℕ → Option ℕ) (nodes : List ℕ) : Type 0 where
+  pub begun : 0 < length nodes
+  pub few : length nodes ≤ length pattern + 1
+  pub reached : (k : ℕ) → k < length nodes → to (reverse (take k pattern)) ≡ slice_get nodes k
 
 -- ---- the rules
 

@@ -47,6 +47,7 @@ mod listed;
 mod lookup;
 mod names;
 mod nodes;
+mod others;
 mod reader;
 pub(crate) mod rules;
 mod scopes;
@@ -54,6 +55,7 @@ mod server;
 #[cfg(test)]
 mod tests;
 mod trie;
+mod trie_builder;
 
 pub use client::{AppliedRule, PassedName};
 pub use errors::{Error, ErrorKind, PatternField};

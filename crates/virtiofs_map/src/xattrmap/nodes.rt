@@ -11,13 +11,17 @@ use std::marker::Model;
 /// The position that stands for no rule.
 pub(crate) const NO_RULE: usize = usize::MAX;
 
+/// The code that stands for no byte.
+pub(crate) const NO_BYTE: u16 = 256;
+
 /// A node of a trie.
 #[derive(Clone, Copy, Debug)]
 pub(crate) struct Node {
     /// The least position of a rule whose pattern ends here, or `NO_RULE`.
     pub(crate) least: usize,
-    /// The byte that leads to the node at the next number, where that is a child of this one.
-    pub(crate) first: Option<u8>,
+    /// The byte that leads to the node at the next number, where that is a child of this one, or
+    /// `NO_BYTE`.
+    pub(crate) first: u16,
     /// Whether the node has other children.
     pub(crate) branches: bool,
 }
@@ -26,7 +30,7 @@ pub(crate) struct Node {
 const _: () = prove!(size_of::<Node>() <= 16);
 
 impl Node {
-    ghost use Rattle.virtiofs_map.specs.TrieParts.{plain};
+    ghost use Rattle.virtiofs_map.specs.TrieParts.{plain, is_byte};
 
     /// A node without a rule and without children.
     fn plain() -> Node
@@ -34,9 +38,16 @@ impl Node {
     {
         Node {
             least: NO_RULE,
-            first: None,
+            first: NO_BYTE,
             branches: false,
         }
+    }
+
+    /// Whether the byte leads to the node at the next number.
+    pub(crate) fn leads_to_next(self, byte: u8) -> bool
+        ensures { result ≡ is_byte self.first byte }
+    {
+        self.first == u16::from(byte)
     }
 }
 
