@@ -1,17 +1,38 @@
 #!/usr/bin/env python3
 """Sees that what the library does for users and what it does for groups differ in names alone.
 
-Each pair is a file on users and a file on groups. The words of users in the first are replaced by those of groups, and
-then the two must be the same, byte for byte. A file in which no word is replaced fails, since it is not on users. The
-last line is 'N passed, N failed'.
+Each pair is a file on users and a file on groups, whose path is the same but for these words. The words of users in the
+first are replaced by those of groups, and then the two must be the same, byte for byte. A file in which no word is
+replaced fails, since it is not on users, and so does a file on users or on groups that has no other. The last line is
+'N passed, N failed'.
 """
 import difflib
+import glob
 import os
 import sys
 
 TOP = os.path.dirname(os.path.dirname(os.path.abspath(__file__)))
-PAIRS = [("crates/virtiofs_map/src/id_types/uids.rt", "crates/virtiofs_map/src/id_types/gids.rt")]
+# The files on users: of the library, and of the library for C with their proofs and the edits that must fail.
+ON_USERS = [
+    "crates/virtiofs_map/src/id_types/uids.rt",
+    "crates/virtiofs_map_c/src/uids.rt",
+    "crates/virtiofs_map_c/src/uids/**/*.rt",
+    "crates/virtiofs_map_c/proofs/uids/**/*.antt",
+    "crates/virtiofs_map_c/must-fail/uids_*.edit",
+]
 WORDS = [("Uid", "Gid"), ("uid", "gid"), ("user", "group")]
+
+
+def found(pattern):
+    """The files that are there, from the top of the repository on."""
+    return [os.path.relpath(it, TOP) for it in glob.glob(f"{TOP}/{pattern}", recursive=True)]
+
+
+def pairs():
+    """The files on users, each with its file on groups, in order. One of a pair may not be there."""
+    users = {it for pattern in ON_USERS for it in found(pattern)}
+    groups = {it for pattern in ON_USERS for it in found(pattern.replace("uids", "gids"))}
+    return sorted((it, it.replace("uids", "gids")) for it in users | {it.replace("gids", "uids") for it in groups})
 
 
 def text_of(file):
@@ -28,6 +49,9 @@ def of_groups(text):
 
 def difference(users, groups):
     """How the two files differ but for names; nothing where they don't."""
+    missing = [f"there is no {it}" for it in (users, groups) if not os.path.isfile(f"{TOP}/{it}")]
+    if missing:
+        return missing
     old, new = text_of(users), text_of(groups)
     named = of_groups(old)
     if named == old:
@@ -36,12 +60,13 @@ def difference(users, groups):
 
 
 def main():
-    failed = 0
-    for users, groups in PAIRS:
-        found = difference(users, groups)
-        failed += bool(found)
-        print("\n".join(["FAILED", *found]) if found else f"{users} and {groups}: the same but for names", flush=True)
-    print(f"{len(PAIRS) - failed} passed, {failed} failed")
+    empty = [it for it in ON_USERS if not found(it)]
+    seen = {f"{users} and {groups}": difference(users, groups) for users, groups in pairs()}
+    seen.update({it: ["there is no such file"] for it in empty})
+    for name, wrong in seen.items():
+        print("\n".join([f"FAILED {name}", *wrong]) if wrong else f"{name}: the same but for names", flush=True)
+    failed = sum(map(bool, seen.values()))
+    print(f"{len(seen) - failed} passed, {failed} failed")
     return 1 if failed else 0
 
 
