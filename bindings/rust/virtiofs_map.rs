@@ -185,17 +185,23 @@ mod ffi {
 /// One map for any number of threads.
 ///
 /// A handle serves one call at a time, so each thread asks by a handle of its own, which it gets by share at its first
-/// lookup and finds again in a list of the thread's. The handles belong to the map: they go with it, and a thread that
-/// ends leaves its own to the next one.
+/// lookup and finds again at a place of the map's number, or in a list of the thread's where another map took that place.
+/// The handles belong to the map: they go with it, and a thread that ends leaves its own to the next one.
 mod shared {
     use super::ffi;
-    use std::cell::RefCell;
+    use std::cell::{Cell, RefCell};
     use std::sync::atomic::{AtomicU64, Ordering};
     use std::sync::{Arc, Mutex, MutexGuard, PoisonError, Weak};
     use std::thread::LocalKey;
 
     /// The handles that a thread has.
     pub type Seats<H> = RefCell<Vec<Seat<H>>>;
+
+    /// Some of them at once: a handle, with the number of its map, at the place of that number; 0 and null where there
+    /// is none. They are never dropped, so that they can be read until the very end of the thread.
+    pub type Places<H> = [Cell<(u64, *mut Apart<H>)>; PLACES];
+
+    const PLACES: usize = 8;
 
     /// A handle of the library.
     pub trait Handle: Sized + Send + 'static {
@@ -207,11 +213,23 @@ mod shared {
 
         /// The handles of this thread.
         fn seats() -> &'static LocalKey<Seats<Self>>;
+
+        /// Some of them at once.
+        fn places() -> &'static LocalKey<Places<Self>>;
+
+        /// The place for a map of that number.
+        #[inline]
+        fn place_of<T>(number: u64, see: impl FnOnce(&Cell<(u64, *mut Apart<Self>)>) -> T) -> T {
+            Self::places().with(|places| see(&places[number as usize % PLACES]))
+        }
     }
 
     macro_rules! handle {
-        ($type:ident, $share:ident, $seats:ident) => {
-            thread_local! { static $seats: Seats<ffi::$type> = const { RefCell::new(Vec::new()) } }
+        ($type:ident, $share:ident, $seats:ident, $places:ident) => {
+            thread_local! {
+                static $seats: Seats<ffi::$type> = const { RefCell::new(Vec::new()) };
+                static $places: Places<ffi::$type> = const { [const { Cell::new((0, std::ptr::null_mut())) }; PLACES] };
+            }
 
             impl Handle for ffi::$type {
                 const NONE: Self = ffi::$type::NONE;
@@ -223,16 +241,21 @@ mod shared {
                 fn seats() -> &'static LocalKey<Seats<Self>> {
                     &$seats
                 }
+
+                #[inline]
+                fn places() -> &'static LocalKey<Places<Self>> {
+                    &$places
+                }
             }
         };
     }
 
-    handle!(Uids, virtiofs_uids_share, SEATS_OF_IDS);
-    handle!(Names, virtiofs_names_share, SEATS_OF_NAMES);
+    handle!(Uids, virtiofs_uids_share, SEATS_OF_IDS, PLACES_OF_IDS);
+    handle!(Names, virtiofs_names_share, SEATS_OF_NAMES, PLACES_OF_NAMES);
 
     /// A handle in cache lines of its own, since each lookup writes to its handle.
     #[repr(align(128))]
-    struct Apart<H>(H);
+    pub struct Apart<H>(H);
 
     /// The handle of one thread for one map.
     pub struct Seat<H: Handle> {
@@ -243,6 +266,12 @@ mod shared {
 
     impl<H: Handle> Drop for Seat<H> {
         fn drop(&mut self) {
+            // (from here on the handle may be another thread's)
+            H::place_of(self.number, |place| {
+                if place.get().0 == self.number {
+                    place.set((0, std::ptr::null_mut()));
+                }
+            });
             if let Some(home) = self.home.upgrade() {
                 home.lock().idle.push(self.handle);
             }
@@ -268,9 +297,8 @@ mod shared {
         }
     }
 
-    /// Where the handles of a map are at home. No two maps of a process have one number.
+    /// Where the handles of a map are at home.
     struct Home<H: Handle> {
-        number: u64,
         handles: Mutex<Handles<H>>,
     }
 
@@ -280,64 +308,79 @@ mod shared {
         }
     }
 
-    /// A map of the library, for any number of threads. A clone is the same map.
-    pub struct Shared<H: Handle>(Arc<Home<H>>);
+    /// A map of the library, for any number of threads. A clone is the same map. No two maps of a process have one
+    /// number, and none has 0.
+    pub struct Shared<H: Handle> {
+        number: u64,
+        home: Arc<Home<H>>,
+    }
 
     impl<H: Handle> Clone for Shared<H> {
         fn clone(&self) -> Self {
-            Shared(Arc::clone(&self.0))
+            Shared {
+                number: self.number,
+                home: Arc::clone(&self.home),
+            }
         }
     }
 
     impl<H: Handle> Shared<H> {
         /// The map that a handle holds.
         pub fn new(first: H) -> Self {
-            static NUMBERS: AtomicU64 = AtomicU64::new(0);
-            Shared(Arc::new(Home {
+            static NUMBERS: AtomicU64 = AtomicU64::new(1);
+            Shared {
                 number: NUMBERS.fetch_add(1, Ordering::Relaxed),
-                handles: Mutex::new(Handles {
-                    first,
-                    all: Vec::new(),
-                    idle: Vec::new(),
+                home: Arc::new(Home {
+                    handles: Mutex::new(Handles {
+                        first,
+                        all: Vec::new(),
+                        idle: Vec::new(),
+                    }),
                 }),
-            }))
+            }
         }
 
         /// Makes one call with a handle that is this thread's alone. `call` may not ask a map itself.
         #[inline]
         pub fn ask<T>(&self, call: impl FnOnce(&mut H) -> T) -> T {
-            match H::seats().try_with(|seats| self.handle(seats)) {
-                // The handle is this thread's until its seat is dropped, and lives as long as the map.
-                Ok(Some(handle)) => call(unsafe { &mut (*handle).0 }),
+            let (number, handle) = H::place_of(self.number, Cell::get);
+            match if number == self.number { Some(handle) } else { self.seated() } {
+                // The handle is this thread's until its seat is dropped, which takes it out of its place, and lives as
+                // long as the map.
+                Some(handle) => call(unsafe { &mut (*handle).0 }),
                 // The thread is about to end, or there was no handle to be had.
-                _ => call(&mut self.0.lock().first),
+                None => call(&mut self.home.lock().first),
             }
-        }
-
-        #[inline]
-        fn handle(&self, seats: &Seats<H>) -> Option<*mut Apart<H>> {
-            let number = self.0.number;
-            if let Some(seat) = seats.borrow().iter().find(|seat| seat.number == number) {
-                return Some(seat.handle);
-            }
-            self.sit_down(seats)
         }
 
         #[cold]
+        #[inline(never)]
+        fn seated(&self) -> Option<*mut Apart<H>> {
+            H::seats().try_with(|seats| self.handle(seats)).ok().flatten()
+        }
+
+        fn handle(&self, seats: &Seats<H>) -> Option<*mut Apart<H>> {
+            let number = self.number;
+            let seated = seats.borrow().iter().find(|seat| seat.number == number).map(|seat| seat.handle);
+            let handle = seated.or_else(|| self.sit_down(seats))?;
+            H::place_of(number, |place| place.set((number, handle)));
+            Some(handle)
+        }
+
         fn sit_down(&self, seats: &Seats<H>) -> Option<*mut Apart<H>> {
             // (maps that are gone)
             seats.borrow_mut().retain(|seat| seat.home.strong_count() > 0);
             let handle = self.free_handle()?;
             seats.borrow_mut().push(Seat {
-                number: self.0.number,
+                number: self.number,
                 handle,
-                home: Arc::downgrade(&self.0),
+                home: Arc::downgrade(&self.home),
             });
             Some(handle)
         }
 
         fn free_handle(&self) -> Option<*mut Apart<H>> {
-            let mut handles = self.0.lock();
+            let mut handles = self.home.lock();
             if let Some(handle) = handles.idle.pop() {
                 return Some(handle);
             }
@@ -1146,6 +1189,7 @@ pub mod xattrmap {
             }
         }
 
+        #[inline]
         fn client(&self, name: &[u8], out: *mut u8, room: usize) -> (u32, usize) {
             let mut len = 0;
             let code = self.map.ask(|map| unsafe {
@@ -1157,7 +1201,8 @@ pub mod xattrmap {
         /// The list that the guest gets for the host's: each name with a zero after it, and one zero where none is left.
         pub fn map_server_xattrlist(&self, xattr_names: Vec<u8>) -> Result<Vec<u8>, Error> {
             // (an answer is at most one byte longer)
-            let mut out = vec![0; xattr_names.len() + 1];
+            let room = xattr_names.len() + 1;
+            let mut out = Vec::with_capacity(room);
             let mut len = 0;
             let code = self.map.ask(|map| unsafe {
                 ffi::virtiofs_names_server(
@@ -1165,13 +1210,14 @@ pub mod xattrmap {
                     xattr_names.as_ptr(),
                     xattr_names.len(),
                     out.as_mut_ptr(),
-                    out.len(),
+                    room,
                     &mut len,
                 )
             });
             match code {
                 ffi::OK => {
-                    out.truncate(len);
+                    // The call wrote so many bytes.
+                    unsafe { out.set_len(len) };
                     Ok(out)
                 }
                 ffi::UNTERMINATED => Err(ErrorKind::UnterminatedMapping.into()),
@@ -1183,7 +1229,8 @@ pub mod xattrmap {
     fn passed<'a>(name: &[u8]) -> AppliedRule<'a> {
         let mut owned = Vec::with_capacity(name.len() + 1);
         owned.extend_from_slice(name);
-        let owned = CString::new(owned).expect("a name holds no zero");
+        // The library proves that no byte of it is a zero.
+        let owned = unsafe { CString::from_vec_unchecked(owned) };
         AppliedRule::Pass(Cow::Owned(owned))
     }
 }

@@ -518,6 +518,24 @@ fn maps_come_and_go() {
 
 /// A lookup in the last moments of a thread finds that the thread's list of handles is gone.
 #[test]
+fn more_maps_than_places_are_asked_in_turns() {
+    let mut maps: Vec<XattrMap> = (0..30).map(|i| rules(&format!(":map::user.{i}.:"))).collect();
+    let ask_all = |maps: &[XattrMap], step: usize| {
+        maps.iter().enumerate().all(|(i, map)| client(map, c"x") == pass(format!("user.{}.x", step * i).as_bytes()))
+    };
+    assert!((0..3).all(|_| ask_all(&maps, 1)));
+    thread::scope(|scope| {
+        let others: Vec<_> = (0..4).map(|_| scope.spawn(|| (0..100).all(|_| ask_all(&maps, 1)))).collect();
+        assert!(others.into_iter().all(|other| other.join().unwrap()));
+    });
+    // (every other one goes, and new ones come, whose numbers have the same places)
+    let mut i = 0;
+    maps.retain(|_| (i % 2 == 0, i += 1).0);
+    let fresh: Vec<XattrMap> = (0..30).map(|i| rules(&format!(":map::user.{i}.:"))).collect();
+    assert!((0..3).all(|_| ask_all(&maps, 2) && ask_all(&fresh, 1)));
+}
+
+#[test]
 fn a_thread_that_ends_may_still_ask() {
     struct AtTheEnd(XattrMap);
     impl Drop for AtTheEnd {
