@@ -1,14 +1,18 @@
--- The array is read one specification after the other.
-use Rattle.std.proofs.Common.{◌≡◌, ℕ, ◌+◌, ◌<◌, List, [], ◌∷◌, ◌++◌, length, take, get_or, Option, Some, None, IsSomeAnd, sym, subst}
+-- The array is read one specification after the other; it says one list at most, and has one fault at most.
+use Rattle.std.proofs.Common.{◌≡◌, ℕ, ◌+◌, ◌<◌, List, [], ◌∷◌, ◌++◌, length, take, get_or, Option, Some, None, IsSomeAnd, false, sym, ap, subst}
 use Rattle.std.proofs.lemmas.Option.{slice_get-get_or}
-use Rattle.virtiofs_map.specs.Build.{BuildFault, HasFirstFault}
+use Rattle.virtiofs_map.specs.Build.{Accepted, BuildFault, HasFirstFault}
 use Rattle.virtiofs_map.specs.Refusal.{OutOfMemoryOr}
 use Rattle.virtiofs_map.specs.declared.cmdline.IdMap.{IdMap as Specification}
-use Rattle.virtiofs_map.proofs.ForCallers.{AllZip-push}
-use Rattle.virtiofs_map_c.specs.Arrays.{said, AreSaid, HasFirstUnknown, HasArrayFault, UnbuiltArray}
+use Rattle.virtiofs_map.proofs.ForCallers.{AllZip-push, AllZip-one, build_no_fault, build_one_fault}
+use Rattle.virtiofs_map_c.specs.Arrays.{said, AreSaid, HasFirstUnknown, ArrayFault, HasArrayFault, UnknownKind, UnbuiltArray}
+use Rattle.virtiofs_map_c.specs.Makes.{TellsFault, MakesOrTells, TellsThis, IsArrayTold, IsAccepted}
+use Rattle.virtiofs_map_c.specs.declared.fault.Fault.{Fault}
+use Rattle.virtiofs_map_c.proofs.MakesLemmas.{refused_complete, refused_faulty}
 use Rattle.virtiofs_map_c.specs.declared.arrays.spec.Spec.{Spec}
 use Rattle.std.specs.Option.{option_map}
 use Rattle.std.proofs.lemmas.List.{take_more}
+use Rattle.virtiofs_map_c.proofs.FirstLemmas.{none_bad, one_place}
 
 -- one more
 pub AreSaid-more : (specs : List Spec) (list : List Specification) (i : ℕ) (d : Spec) (one : Specification)
@@ -31,3 +35,46 @@ pub refused-build : (specs : List Spec) (list : List Specification) (told : Opti
     → AreSaid specs list → OutOfMemoryOr told (HasFirstFault list) → OutOfMemoryOr (option_map UnbuiltArray told) (HasArrayFault specs)
 refused-build specs list None are refused = tt
 refused-build specs list (Some fault) are refused = record { list = list; are = are; first = refused }
+
+abbrev Goes : Spec → Specification → Type 0
+Goes spec one = said spec ≡ Some one
+
+abbrev IsUnknown : Spec → Type 0
+IsUnknown spec = said spec ≡ None
+
+never : (spec : Spec) (one : Specification) → Goes spec one → ¬ IsUnknown spec
+never spec one is none = cc
+
+same_said : (spec : Spec) (one other : Specification) → Goes spec one → Goes spec other → one ≡ other
+same_said spec one other first second = cc
+
+pub AreSaid-one : (specs : List Spec) (list others : List Specification) → AreSaid specs list → AreSaid specs others → list ≡ others
+AreSaid-one = AllZip-one Goes same_said
+
+-- an array that says an accepted list has no fault
+pub IsAccepted-no_fault : (specs : List Spec) → IsAccepted specs → (fault : ArrayFault) → ¬ HasArrayFault specs fault
+IsAccepted-no_fault specs is (UnknownKind i) wrong = none_bad Goes IsUnknown never specs is.list i is.are wrong.here
+IsAccepted-no_fault specs is (UnbuiltArray fault) wrong =
+    build_no_fault is.list fault is.accepted (subst (λ (list : List Specification). HasFirstFault list fault) (AreSaid-one specs wrong.list is.list wrong.are is.are) wrong.first)
+
+-- an array has at most one fault
+pub HasArrayFault-one : (specs : List Spec) (fault other : ArrayFault) → HasArrayFault specs fault → HasArrayFault specs other → fault ≡ other
+HasArrayFault-one specs (UnknownKind i) (UnknownKind j) first second =
+    ap UnknownKind (one_place Goes IsUnknown IsUnknown never never specs first.before second.before i j first.are first.here second.are second.here)
+HasArrayFault-one specs (UnknownKind i) (UnbuiltArray other) first second = absurd (none_bad Goes IsUnknown never specs second.list i second.are first.here)
+HasArrayFault-one specs (UnbuiltArray fault) (UnknownKind j) first second = absurd (none_bad Goes IsUnknown never specs first.list j first.are second.here)
+HasArrayFault-one specs (UnbuiltArray fault) (UnbuiltArray other) first second =
+    ap UnbuiltArray (build_one_fault second.list fault other (subst (λ (list : List Specification). HasFirstFault list fault) (AreSaid-one specs first.list second.list first.are second.are) first.first) second.first)
+
+-- ---- what a call tells of an array
+
+pub IsAccepted-made : (specs : List Spec) (list : Option (List Specification)) → IsSomeAnd list (AreSaid specs) → IsSomeAnd list Accepted → IsAccepted specs
+IsAccepted-made specs None are accepted = absurd are
+IsAccepted-made specs (Some list) are accepted = record { list = list; are = are; accepted = accepted }
+
+pub array_complete : (specs : List Spec) (told : Fault) → TellsFault (HasArrayFault specs) (IsArrayTold told) → IsAccepted specs → MakesOrTells false (IsArrayTold told)
+array_complete specs told tells is = refused_complete (HasArrayFault specs) (IsArrayTold told) tells (IsAccepted-no_fault specs is)
+
+pub array_faulty : (specs : List Spec) (told : Fault) → TellsFault (HasArrayFault specs) (IsArrayTold told) → (wrong : ArrayFault) → HasArrayFault specs wrong → TellsThis false (IsArrayTold told) wrong
+array_faulty specs told tells wrong has =
+    refused_faulty (HasArrayFault specs) (IsArrayTold told) tells wrong (λ other it. HasArrayFault-one specs other wrong it has)

@@ -12,6 +12,11 @@ use Rattle.virtiofs_map_c.specs.declared.fault.Fault.{Fault}
 abbrev pub fault_of_kind : ℕ → Fault
 fault_of_kind kind = record { kind = kind; direction = 0; end = 0; place = 0; expected = 0; seen = 0; quoted = 0 }
 
+-- a fault of the rule of that number, of which so many bytes are quoted
+abbrev pub fault_of_rule : ℕ → ℕ → ℕ → Fault
+fault_of_rule kind number quoted =
+    record { kind = kind; direction = 0; end = 0; place = number; expected = 0; seen = 0; quoted = quoted }
+
 -- nothing is wrong
 abbrev pub no_fault : Fault
 no_fault = fault_of_kind 0

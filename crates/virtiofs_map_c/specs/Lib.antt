@@ -7,6 +7,8 @@ pub mod Kinds
 pub mod Makes
 pub mod Names
 pub mod Plain
+pub mod Ranges
 pub mod Replies
 pub mod Rules
 pub mod Slot
+pub mod Texts

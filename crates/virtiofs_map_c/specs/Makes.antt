@@ -1,9 +1,9 @@
 -- What a call tells that makes a map, or shares one.
-use Rattle.std.specs.Prelude.{◌≡◌, ◌⊎◌, ℕ, List, Option, Some, None}
+use Rattle.std.specs.Prelude.{◌≡◌, ◌⊎◌, ℕ, Bool, IsTrue, List, Option, Some, None}
 use Rattle.virtiofs_map.specs.Build.{Accepted}
 use Rattle.virtiofs_map.specs.Refusal.{OutOfMemoryOr}
 use Rattle.virtiofs_map.specs.declared.cmdline.IdMap.{IdMap as Specification}
-use Rattle.virtiofs_map_c.specs.Arrays.{ArrayFault, AreSaid, HasArrayFault}
+use Rattle.virtiofs_map_c.specs.Arrays.{ArrayFault, AreSaid}
 use Rattle.virtiofs_map_c.specs.Codes.{ok, no_map, no_memory}
 use Rattle.virtiofs_map_c.specs.Faults.{array_told}
 use Rattle.virtiofs_map_c.specs.Kinds.{uids_in, gids_in, rules_in, only_uids, only_gids, only_names}
@@ -11,10 +11,21 @@ use Rattle.virtiofs_map_c.specs.declared.arrays.spec.Spec.{Spec}
 use Rattle.virtiofs_map_c.specs.declared.fault.Fault.{Fault}
 use Rattle.virtiofs_map_c.specs.declared.slot.kept.Kept.{Kept}
 
--- the first fault of the array is told, or want of memory
-abbrev pub TellsArrayFault : List Spec → Fault → Type 0
-TellsArrayFault specs told =
-    (fault : Option ArrayFault) × OutOfMemoryOr fault (HasArrayFault specs) × (told ≡ array_told fault)
+-- a fault that there is, is told, or want of memory
+abbrev pub TellsFault : {F : Type 0} → (F → Type 0) → (Option F → Type 0) → Type 0
+TellsFault {F} has is_told = (fault : Option F) × OutOfMemoryOr fault has × is_told fault
+
+-- where there is no fault: what was asked for is made, or want of memory is told
+abbrev pub MakesOrTells : {F : Type 0} → Bool → (Option F → Type 0) → Type 0
+MakesOrTells made is_told = IsTrue made ⊎ is_told None
+
+-- where there is this fault: nothing is made, and the fault is told, or want of memory
+abbrev pub TellsThis : {F : Type 0} → Bool → (Option F → Type 0) → F → Type 0
+TellsThis made is_told fault = (¬ IsTrue made) × (is_told (Some fault) ⊎ is_told None)
+
+-- what is wrong with an array of specifications, or want of memory, is told
+abbrev pub IsArrayTold : Fault → Option ArrayFault → Type 0
+IsArrayTold told fault = told ≡ array_told fault
 
 -- the other handle holds the map too; where there is none, or no memory, it holds what it held
 abbrev pub Shares : {S : Type 0} → Option S → Option S → ℕ → Option S → Type 0

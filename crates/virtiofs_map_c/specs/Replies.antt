@@ -13,3 +13,8 @@ pub record TellsCode (told : ℕ) (old : List ℕ) (code len : ℕ) (new : List 
   pub code_told : code ≡ told
   pub no_length : len ≡ 0
   pub untouched : new ≡ old
+
+-- Bytes that are quoted: where they fit they are the front of the buffer, and the rest of it is as it was; else all of it is.
+pub record IsQuoted (bytes old new : List ℕ) : Type 0 where
+  pub fits : length bytes ≤ length old → new ≡ bytes ++ drop (length bytes) old
+  pub does_not_fit : length old < length bytes → new ≡ old

@@ -1,12 +1,20 @@
--- What is wrong with a text of rules in bytes, and how it is told.
-use Rattle.std.specs.Prelude.{◌≡◌, ℕ, List, Option, Some, None}
+-- What a text of rules in bytes says, what is wrong with one that says none, and how it is told.
+use Rattle.std.specs.Prelude.{◌≡◌, ℕ, List, [], length, encode_utf8_all, Option, Some, None}
 use Rattle.std.specs.Option.{option_map}
 use Rattle.std.specs.Str.{chars, IsUtf8}
-use Rattle.virtiofs_map.specs.Refusal.{OutOfMemoryOr}
+use Rattle.virtiofs_map.specs.Rule.{MappingRule}
+use Rattle.virtiofs_map.specs.RuleText.{SaysRules}
 use Rattle.virtiofs_map.specs.RulesFault.{RulesFault, NoRules, InRule, NotOfText, RuleFault, InvalidScope, InvalidType, IncompleteRule, MapRuleViolation, NulInPattern, HasRulesFault, rules_fault_of}
 use Rattle.virtiofs_map.specs.declared.xattrmap.errors.PatternField.TheVariants.{Key, Prepend}
+use Rattle.virtiofs_map_c.specs.Faults.{no_fault, memory_fault, fault_of_kind, fault_of_rule}
+use Rattle.virtiofs_map_c.specs.Replies.{IsQuoted}
+use Rattle.virtiofs_map_c.specs.declared.fault.Fault.{Fault}
 use Rattle.virtiofs_map_c.specs.declared.names.reading.ReadError.{ReadError}
 use Rattle.virtiofs_map_c.specs.declared.names.reading.ReadError.TheVariants as errors
+
+-- the bytes are text, and it says the rules
+abbrev pub BytesSayRules : List ℕ → List MappingRule → Type 0
+BytesSayRules bytes rules = IsUtf8 bytes × SaysRules (chars bytes) rules
 
 -- what is wrong with bytes that are no text of rules
 pub data BytesFault : Type 0 where
@@ -33,15 +41,31 @@ rule_kind MapRuleViolation = 15
 rule_kind (NulInPattern Key) = 17
 rule_kind (NulInPattern Prepend) = 18
 
--- the number of the kind of what is wrong with a text of rules, or of want of memory
-abbrev pub bytes_kind : Option BytesFault → ℕ
-bytes_kind None = 1
-bytes_kind (Some NotUtf8) = 2
-bytes_kind (Some (OfRules NoRules)) = 16
-bytes_kind (Some (OfRules (InRule k fault))) = rule_kind fault
-bytes_kind (Some (OfRules NotOfText)) = 0
+-- the bytes that are quoted of it: the field in the place of a scope or of a type
+abbrev pub rule_quoted : RuleFault → List ℕ
+rule_quoted (InvalidScope got expected) = encode_utf8_all got
+rule_quoted (InvalidType got expected) = encode_utf8_all got
+rule_quoted IncompleteRule = []
+rule_quoted MapRuleViolation = []
+rule_quoted (NulInPattern field) = []
 
--- the kind of the first fault of the bytes is told, or want of memory
-abbrev pub TellsBytesFault : List ℕ → ℕ → Type 0
-TellsBytesFault bytes kind =
-    (fault : Option BytesFault) × OutOfMemoryOr fault (HasBytesFault bytes) × (kind ≡ bytes_kind fault)
+-- what is told of what is wrong with a text of rules, or of want of memory
+abbrev pub bytes_told : Option BytesFault → Fault
+bytes_told None = memory_fault
+bytes_told (Some NotUtf8) = fault_of_kind 2
+bytes_told (Some (OfRules NoRules)) = fault_of_kind 16
+bytes_told (Some (OfRules (InRule k fault))) = fault_of_rule (rule_kind fault) k (length (rule_quoted fault))
+bytes_told (Some (OfRules NotOfText)) = no_fault
+
+-- what is quoted of it
+abbrev pub bytes_quoted : Option BytesFault → List ℕ
+bytes_quoted None = []
+bytes_quoted (Some NotUtf8) = []
+bytes_quoted (Some (OfRules NoRules)) = []
+bytes_quoted (Some (OfRules (InRule k fault))) = rule_quoted fault
+bytes_quoted (Some (OfRules NotOfText)) = []
+
+-- what is wrong with a text of rules, or want of memory, is told and quoted
+pub record IsBytesTold (told : Fault) (old new : List ℕ) (fault : Option BytesFault) : Type 0 where
+  pub numbers : told ≡ bytes_told fault
+  pub bytes : IsQuoted (bytes_quoted fault) old new

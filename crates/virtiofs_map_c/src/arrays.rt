@@ -1,10 +1,11 @@
 //! Specifications of ids as C hands them over, and the maps that are made of them.
 ghost use Rattle.std.specs.Prelude.{◌≡◌, List, IfOk, IfErr, MatchResult};
-ghost use Rattle.virtiofs_map.specs.Build.{Accepted};
+ghost use Rattle.std.specs.Option.{option_map_or};
+ghost use Rattle.virtiofs_map.specs.Build.{Accepted, build_fault_of};
 ghost use Rattle.virtiofs_map.specs.Refusal.{IsOutOfMemory, OutOfMemoryOr};
 ghost use Rattle.virtiofs_map.specs.declared.cmdline.IdMap.{IdMap as Specification};
 ghost use Rattle.virtiofs_map_c.specs.Arrays.{said, AreSaid, ArrayFault, HasArrayFault, array_fault_of};
-ghost use Rattle.virtiofs_map_c.specs.Faults.{array_told, direction_number};
+ghost use Rattle.virtiofs_map_c.specs.Faults.{array_told, build_told, direction_number, memory_fault};
 
 mod errors;
 mod spec;
@@ -101,15 +102,22 @@ pub fn told(error: &ArrayError) -> Fault
             place: *index,
             ..Fault::of_kind(3)
         },
-        ArrayError::Build(IdMapBuildError::OutOfMemory) => Fault::of_kind(1),
-        ArrayError::Build(
-            IdMapBuildError::RangeOverflow {
-                index,
-                direction,
-                range_end,
-                ..
-            },
-        ) => Fault {
+        ArrayError::Build(error) => told_of_build(error),
+    }
+}
+
+/// What C is told of a list of which no map is made.
+pub fn told_of_build(error: &IdMapBuildError) -> Fault
+    ensures { result ≡ option_map_or build_told (build_fault_of error.now) memory_fault }
+{
+    match error {
+        IdMapBuildError::OutOfMemory => Fault::of_kind(1),
+        IdMapBuildError::RangeOverflow {
+            index,
+            direction,
+            range_end,
+            ..
+        } => Fault {
             direction: number_of(*direction),
             end: match range_end {
                 RangeEnd::Source => 0,
@@ -118,13 +126,11 @@ pub fn told(error: &ArrayError) -> Fault
             place: *index,
             ..Fault::of_kind(4)
         },
-        ArrayError::Build(
-            IdMapBuildError::Intersects {
-                index,
-                direction,
-                ..
-            },
-        ) => Fault {
+        IdMapBuildError::Intersects {
+            index,
+            direction,
+            ..
+        } => Fault {
             direction: number_of(*direction),
             place: *index,
             ..Fault::of_kind(5)

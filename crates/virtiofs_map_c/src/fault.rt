@@ -22,7 +22,7 @@ pub struct Fault {
 
 impl Fault {
     ghost use Rattle.std.specs.Prelude.{◌≡◌};
-    ghost use Rattle.virtiofs_map_c.specs.Faults.{no_fault, fault_of_kind};
+    ghost use Rattle.virtiofs_map_c.specs.Faults.{no_fault, fault_of_kind, fault_of_rule};
 
     /// Nothing is wrong.
     pub fn none() -> Fault
@@ -43,6 +43,17 @@ impl Fault {
             expected: 0,
             seen: 0,
             quoted: 0,
+        }
+    }
+
+    /// A fault of a rule: its kind, the number of the rule, and how many bytes are quoted.
+    pub fn of_rule(kind: u32, number: usize, quoted: usize) -> Fault
+        ensures { result ≡ fault_of_rule kind number quoted }
+    {
+        Fault {
+            place: number,
+            quoted,
+            ..Fault::of_kind(kind)
         }
     }
 }

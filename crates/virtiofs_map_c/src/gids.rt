@@ -2,14 +2,14 @@
 ghost use Rattle.std.specs.Prelude.{◌≡◌, Some, None, IsTrue, IfOk, IfErr, IsSomeAnd};
 ghost use Rattle.virtiofs_map.specs.Build.{Accepted};
 ghost use Rattle.virtiofs_map.specs.Refusal.{OutOfMemoryOr};
-ghost use Rattle.virtiofs_map.specs.Specifications.{texts_of, AllSay};
 ghost use Rattle.virtiofs_map.specs.declared.soft_idmap.entry.Direction.TheVariants.{GuestToHost, HostToGuest};
-ghost use Rattle.virtiofs_map_c.specs.Arrays.{AreSaid, HasArrayFault, array_fault_of};
+ghost use Rattle.virtiofs_map_c.specs.Arrays.{AreSaid, ArrayFault, HasArrayFault, array_fault_of};
 ghost use Rattle.virtiofs_map_c.specs.Faults.{no_fault};
 ghost use Rattle.virtiofs_map_c.specs.Handles.{specs_of_gids};
 ghost use Rattle.virtiofs_map_c.specs.Ids.{AnswersId, LeadsBackIfMapped};
 ghost use Rattle.virtiofs_map_c.specs.Kinds.{only_gids, gids_in};
-ghost use Rattle.virtiofs_map_c.specs.Makes.{TellsArrayFault, Shares};
+ghost use Rattle.virtiofs_map_c.specs.Makes.{TellsFault, MakesOrTells, TellsThis, IsArrayTold, IsAccepted, Shares};
+ghost use Rattle.virtiofs_map_c.specs.Texts.{AllSaySpecs, AreAccepted, TextsFault, HasTextsFault, texts_fault_of, AreTextsTold};
 
 mod handle;
 
@@ -18,7 +18,7 @@ use crate::codes::{NO_MAP, NO_MEMORY, OK};
 use crate::fault::Fault;
 use crate::ids::{guest_of, host_of};
 use crate::slot::{Kept, share};
-use crate::texts::map_from_texts;
+use crate::texts::{TextsError, map_from_texts, told_of_texts};
 pub use handle::Gids;
 use std::alloc::Global;
 use std::sync::Arc;
@@ -63,7 +63,11 @@ pub extern "C" fn virtiofs_gids_make(
     ensures accepted { IsTrue result → IsSomeAnd (specs_of_gids map.new) Accepted }
     ensures no_fault { IsTrue result → fault.new ≡ no_fault }
     ensures keeps { (¬ IsTrue result) → specs_of_gids map.new ≡ specs_of_gids map.old }
-    ensures refused { (¬ IsTrue result) → TellsArrayFault specs.now fault.new }
+    ensures refused { (¬ IsTrue result) →
+        TellsFault (HasArrayFault specs.now) (IsArrayTold fault.new) }
+    ensures complete { IsAccepted specs.now → MakesOrTells result (IsArrayTold fault.new) }
+    ensures faulty { (wrong : ArrayFault) → HasArrayFault specs.now wrong
+        → TellsThis result (IsArrayTold fault.new) wrong }
 {
     match boxed(alloc, specs) {
         Ok(kept) => {
@@ -79,20 +83,18 @@ pub extern "C" fn virtiofs_gids_make(
     }
 }
 
-/// The map of texts, in a box, or what C is told.
-fn boxed_texts(alloc: Global, texts: &[&[u8]], quoted: &mut [u8]) -> Result<Box<Kept>, Fault>
+/// The map of texts, in a box.
+fn boxed_texts(alloc: Global, texts: &[&[u8]]) -> Result<Box<Kept>, TextsError>
     ensures kind { IfOk result (λ kept. IsTrue (only_gids (Some kept.value))) }
     ensures read { IfOk result (λ kept.
-        IsSomeAnd (gids_in (Some kept.value)) (AllSay (texts_of texts.now))) }
+        IsSomeAnd (gids_in (Some kept.value)) (AllSaySpecs texts.now)) }
     ensures accepted { IfOk result (λ kept. IsSomeAnd (gids_in (Some kept.value)) Accepted) }
+    ensures refused { IfErr result (λ e.
+        OutOfMemoryOr (texts_fault_of e) (HasTextsFault texts.now)) }
 {
-    let ids: IdMap<GuestGid, HostGid> = map_from_texts(alloc, texts, quoted)?;
-    let Ok(shared) = Arc::new(alloc, ids) else {
-        return Err(Fault::of_kind(1));
-    };
-    let Ok(kept) = Box::new(alloc, Kept::Gids(shared)) else {
-        return Err(Fault::of_kind(1));
-    };
+    let ids: IdMap<GuestGid, HostGid> = map_from_texts(alloc, texts)?;
+    let shared = Arc::new(alloc, ids)?;
+    let kept = Box::new(alloc, Kept::Gids(shared))?;
     Ok(kept)
 }
 
@@ -105,21 +107,27 @@ pub extern "C" fn virtiofs_gids_make_texts(
     fault: &mut Fault,
     quoted: &mut [u8],
 ) -> bool
-    ensures made { IsTrue result →
-        IsSomeAnd (specs_of_gids map.new) (AllSay (texts_of texts.now)) }
+    ensures made { IsTrue result → IsSomeAnd (specs_of_gids map.new) (AllSaySpecs texts.now) }
     ensures accepted { IsTrue result → IsSomeAnd (specs_of_gids map.new) Accepted }
     ensures no_fault { IsTrue result → fault.new ≡ no_fault }
+    ensures unquoted { IsTrue result → quoted.new ≡ quoted.old }
     ensures keeps { (¬ IsTrue result) → specs_of_gids map.new ≡ specs_of_gids map.old }
+    ensures refused { (¬ IsTrue result) →
+        TellsFault (HasTextsFault texts.now) (AreTextsTold fault.new quoted.old quoted.new) }
+    ensures complete { AreAccepted texts.now
+        → MakesOrTells result (AreTextsTold fault.new quoted.old quoted.new) }
+    ensures faulty { (wrong : TextsFault) → HasTextsFault texts.now wrong
+        → TellsThis result (AreTextsTold fault.new quoted.old quoted.new) wrong }
 {
-    match boxed_texts(alloc, texts, quoted) {
+    match boxed_texts(alloc, texts) {
         Ok(kept) => {
             drop(map.take(alloc));
             map.put(kept);
             *fault = Fault::none();
             true
         }
-        Err(told) => {
-            *fault = told;
+        Err(error) => {
+            *fault = told_of_texts(&error, quoted);
             false
         }
     }

@@ -1,13 +1,12 @@
 //! Maps of attribute names, for C.
-ghost use Rattle.std.specs.Prelude.{◌≡◌, Some, None, IsTrue, IsSomeAnd};
-ghost use Rattle.std.specs.Str.{chars};
-ghost use Rattle.virtiofs_map.specs.RuleText.{SaysRules};
+ghost use Rattle.std.specs.Prelude.{◌≡◌, List, Some, None, IsTrue, IsSomeAnd};
+ghost use Rattle.virtiofs_map.specs.Rule.{MappingRule};
 ghost use Rattle.virtiofs_map_c.specs.Faults.{no_fault};
 ghost use Rattle.virtiofs_map_c.specs.Handles.{rules_of};
 ghost use Rattle.virtiofs_map_c.specs.Kinds.{only_names, rules_in};
-ghost use Rattle.virtiofs_map_c.specs.Makes.{Shares};
+ghost use Rattle.virtiofs_map_c.specs.Makes.{TellsFault, MakesOrTells, TellsThis, Shares};
 ghost use Rattle.virtiofs_map_c.specs.Names.{AnswersClient, AnswersServer, AnswersAudit, AnswersApart, AnswersTerminated};
-ghost use Rattle.virtiofs_map_c.specs.Rules.{TellsBytesFault};
+ghost use Rattle.virtiofs_map_c.specs.Rules.{BytesSayRules, BytesFault, HasBytesFault, IsBytesTold};
 ghost use Rattle.virtiofs_map.specs.Audit.{IsLost, IsStray, IsSeen};
 
 mod handle;
@@ -46,11 +45,16 @@ pub extern "C" fn virtiofs_names_make(
     fault: &mut Fault,
     quoted: &mut [u8],
 ) -> bool
-    ensures made { IsTrue result →
-        IsSomeAnd (rules_of map.new) (SaysRules (chars text.now)) }
+    ensures made { IsTrue result → IsSomeAnd (rules_of map.new) (BytesSayRules text.now) }
     ensures no_fault { IsTrue result → fault.new ≡ no_fault }
+    ensures unquoted { IsTrue result → quoted.new ≡ quoted.old }
     ensures keeps { (¬ IsTrue result) → rules_of map.new ≡ rules_of map.old }
-    ensures refused { (¬ IsTrue result) → TellsBytesFault text.now fault.new.kind }
+    ensures refused { (¬ IsTrue result) →
+        TellsFault (HasBytesFault text.now) (IsBytesTold fault.new quoted.old quoted.new) }
+    ensures complete { (rules : List MappingRule) → BytesSayRules text.now rules
+        → MakesOrTells result (IsBytesTold fault.new quoted.old quoted.new) }
+    ensures faulty { (wrong : BytesFault) → HasBytesFault text.now wrong
+        → TellsThis result (IsBytesTold fault.new quoted.old quoted.new) wrong }
 {
     match boxed(alloc, text) {
         Ok(kept) => {

@@ -2,7 +2,8 @@
 ghost use Rattle.std.specs.Prelude.{◌≡◌, IsTrue};
 ghost use Rattle.virtiofs_map.specs.declared.soft_idmap.entry.Direction.TheVariants.{GuestToHost, HostToGuest};
 ghost use Rattle.virtiofs_map_c.specs.Faults.{no_fault};
-ghost use Rattle.virtiofs_map_c.specs.Makes.{TellsArrayFault, IsAccepted};
+ghost use Rattle.virtiofs_map_c.specs.Arrays.{ArrayFault, HasArrayFault};
+ghost use Rattle.virtiofs_map_c.specs.Makes.{TellsFault, MakesOrTells, TellsThis, IsArrayTold, IsAccepted};
 ghost use Rattle.virtiofs_map_c.specs.Plain.{FindsAll, IsFound, AnswersPlain, IsPlainCode};
 
 mod find;
@@ -22,10 +23,15 @@ use virtiofs_map::soft_idmap::{Direction, IdMap};
 pub extern "C" fn virtiofs_specs_accepted(alloc: Global, specs: &[Spec], fault: &mut Fault) -> bool
     ensures accepted { IsTrue result → IsAccepted specs.now }
     ensures no_fault { IsTrue result → fault.new ≡ no_fault }
-    ensures refused { (¬ IsTrue result) → TellsArrayFault specs.now fault.new }
+    ensures refused { (¬ IsTrue result) →
+        TellsFault (HasArrayFault specs.now) (IsArrayTold fault.new) }
+    ensures complete { IsAccepted specs.now → MakesOrTells result (IsArrayTold fault.new) }
+    ensures faulty { (wrong : ArrayFault) → HasArrayFault specs.now wrong
+        → TellsThis result (IsArrayTold fault.new) wrong }
 {
     match map_from::<GuestUid, HostUid>(alloc, specs) {
-        Ok(_) => {
+        Ok(map) => {
+            drop(map);
             *fault = Fault::none();
             true
         }

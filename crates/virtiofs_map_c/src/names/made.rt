@@ -1,15 +1,14 @@
 //! The map of a text of rules in bytes, and what C is told where there is none.
 ghost use Rattle.std.specs.Prelude.{◌≡◌, Some, None, IsTrue, IsSomeAnd, IfOk, IfErr};
-ghost use Rattle.std.specs.Str.{chars};
 ghost use Rattle.virtiofs_map.specs.Refusal.{OutOfMemoryOr};
-ghost use Rattle.virtiofs_map.specs.RuleText.{SaysRules};
 ghost use Rattle.virtiofs_map_c.specs.Kinds.{only_names, rules_in};
-ghost use Rattle.virtiofs_map_c.specs.Rules.{OfRules, HasBytesFault, bytes_fault_of, bytes_kind, rule_kind};
-ghost use Rattle.virtiofs_map.specs.RulesFault.{rule_fault_of, fault_at};
-ghost use Rattle.std.specs.Option.{option_map, option_map_or};
+ghost use Rattle.virtiofs_map_c.specs.Rules.{BytesSayRules, OfRules, HasBytesFault, bytes_fault_of, bytes_told, bytes_quoted};
+ghost use Rattle.virtiofs_map_c.specs.Replies.{IsQuoted};
+ghost use Rattle.virtiofs_map.specs.RulesFault.{fault_at};
+ghost use Rattle.std.specs.Option.{option_map};
 
 use super::reading::ReadError;
-use crate::buffer::write;
+use crate::buffer::quote;
 use crate::fault::Fault;
 use crate::slot::Kept;
 use std::alloc::Global;
@@ -18,7 +17,7 @@ use virtiofs_map::xattrmap::{ErrorKind, PatternField, XattrMap};
 
 /// The map of a text in bytes.
 fn read(alloc: Global, text: &[u8]) -> Result<XattrMap, ReadError>
-    ensures read { IfOk result (SaysRules (chars text.now)) }
+    ensures read { IfOk result (BytesSayRules text.now) }
     ensures refused { IfErr result (λ e.
         OutOfMemoryOr (bytes_fault_of e) (HasBytesFault text.now)) }
 {
@@ -36,7 +35,7 @@ fn read(alloc: Global, text: &[u8]) -> Result<XattrMap, ReadError>
 pub fn boxed(alloc: Global, text: &[u8]) -> Result<Box<Kept>, ReadError>
     ensures kind { IfOk result (λ kept. IsTrue (only_names (Some kept.value))) }
     ensures read { IfOk result (λ kept.
-        IsSomeAnd (rules_in (Some kept.value)) (SaysRules (chars text.now))) }
+        IsSomeAnd (rules_in (Some kept.value)) (BytesSayRules text.now)) }
     ensures refused { IfErr result (λ e.
         OutOfMemoryOr (bytes_fault_of e) (HasBytesFault text.now)) }
 {
@@ -50,71 +49,59 @@ pub fn boxed(alloc: Global, text: &[u8]) -> Result<Box<Kept>, ReadError>
     Ok(kept)
 }
 
-/// The number of the kind of what is wrong with a rule; 0 for any other error.
-fn kind_of(cause: &ErrorKind) -> u32
-    ensures { result ≡ option_map_or rule_kind (rule_fault_of cause.now) 0 }
+/// What C is told of an error that blames a rule.
+fn told_of_rule(number: usize, cause: &ErrorKind, quoted: &mut [u8]) -> Fault
+    ensures told { result ≡ bytes_told (option_map OfRules (fault_at (Some number) cause.now)) }
+    ensures quoted { IsQuoted
+        (bytes_quoted (option_map OfRules (fault_at (Some number) cause.now)))
+        quoted.old quoted.new }
 {
     match cause {
-        ErrorKind::InvalidScope { .. } => 12,
-        ErrorKind::InvalidType { .. } => 13,
-        ErrorKind::IncompleteRule => 14,
-        ErrorKind::MapRuleViolation => 15,
+        ErrorKind::InvalidScope { got, .. } => Fault::of_rule(12, number, quote(got, quoted)),
+        ErrorKind::InvalidType { got, .. } => Fault::of_rule(13, number, quote(got, quoted)),
+        ErrorKind::IncompleteRule => Fault::of_rule(14, number, 0),
+        ErrorKind::MapRuleViolation => Fault::of_rule(15, number, 0),
         ErrorKind::NulInPattern {
             pattern: PatternField::Key,
-        } => 17,
+        } => Fault::of_rule(17, number, 0),
         ErrorKind::NulInPattern {
             pattern: PatternField::Prepend,
-        } => 18,
-        ErrorKind::NoRulesProvided => 0,
-        ErrorKind::OutOfMemory => 0,
-        ErrorKind::InvalidDelimiter => 0,
-        ErrorKind::UnterminatedMapping => 0,
+        } => Fault::of_rule(18, number, 0),
+        ErrorKind::NoRulesProvided => Fault::none(),
+        ErrorKind::OutOfMemory => Fault::none(),
+        ErrorKind::InvalidDelimiter => Fault::none(),
+        ErrorKind::UnterminatedMapping => Fault::none(),
     }
 }
 
-/// The number of the kind of an error that blames no rule.
-fn kind_of_none(cause: &ErrorKind) -> u32
-    ensures { result ≡ bytes_kind (option_map OfRules (fault_at None cause.now)) }
+/// What C is told of an error that blames no rule.
+fn told_of_none(cause: &ErrorKind) -> Fault
+    ensures { result ≡ bytes_told (option_map OfRules (fault_at None cause.now)) }
 {
     match cause {
-        ErrorKind::NoRulesProvided => 16,
-        ErrorKind::OutOfMemory => 1,
-        ErrorKind::InvalidScope { .. } => 0,
-        ErrorKind::InvalidType { .. } => 0,
-        ErrorKind::IncompleteRule => 0,
-        ErrorKind::MapRuleViolation => 0,
-        ErrorKind::NulInPattern { .. } => 0,
-        ErrorKind::InvalidDelimiter => 0,
-        ErrorKind::UnterminatedMapping => 0,
+        ErrorKind::NoRulesProvided => Fault::of_kind(16),
+        ErrorKind::OutOfMemory => Fault::of_kind(1),
+        ErrorKind::InvalidScope { .. } => Fault::none(),
+        ErrorKind::InvalidType { .. } => Fault::none(),
+        ErrorKind::IncompleteRule => Fault::none(),
+        ErrorKind::MapRuleViolation => Fault::none(),
+        ErrorKind::NulInPattern { .. } => Fault::none(),
+        ErrorKind::InvalidDelimiter => Fault::none(),
+        ErrorKind::UnterminatedMapping => Fault::none(),
     }
-}
-
-/// Quotes the field at fault, where it is quoted, and tells how many bytes it has.
-fn quote(cause: &ErrorKind, quoted: &mut [u8]) -> usize {
-    let mut len = 0;
-    match cause {
-        ErrorKind::InvalidScope { got, .. } | ErrorKind::InvalidType { got, .. } => {
-            write(got.as_bytes(), 0, quoted, &mut len);
-        }
-        _ => {}
-    }
-    len
 }
 
 /// What C is told of an error.
 pub fn told(error: &ReadError, quoted: &mut [u8]) -> Fault
-    ensures { result.kind ≡ bytes_kind (bytes_fault_of error.now) }
+    ensures told { result ≡ bytes_told (bytes_fault_of error.now) }
+    ensures quoted { IsQuoted (bytes_quoted (bytes_fault_of error.now)) quoted.old quoted.new }
 {
     match error {
         ReadError::NotUtf8 => Fault::of_kind(2),
         ReadError::OutOfMemory => Fault::of_kind(1),
         ReadError::Rules(error) => match error.rule {
-            None => Fault::of_kind(kind_of_none(&error.cause)),
-            Some(number) => Fault {
-                place: number,
-                quoted: quote(&error.cause, quoted),
-                ..Fault::of_kind(kind_of(&error.cause))
-            },
+            None => told_of_none(&error.cause),
+            Some(number) => told_of_rule(number, &error.cause, quoted),
         },
     }
 }

@@ -1,0 +1,32 @@
+-- A text of rules in bytes says one list of rules at most, and has one fault at most.
+use Rattle.std.proofs.Common.{◌≡◌, ℕ, List, Option, Some, None, IsSomeAnd, false, refl, ap}
+use Rattle.std.specs.Str.{chars}
+use Rattle.virtiofs_map.proofs.ForCallers.{rules_no_fault, rules_one_fault}
+use Rattle.virtiofs_map.specs.Rule.{MappingRule}
+use Rattle.virtiofs_map_c.specs.Makes.{TellsFault, MakesOrTells, TellsThis}
+use Rattle.virtiofs_map_c.specs.Rules.{BytesSayRules, BytesFault, NotUtf8, OfRules, HasBytesFault, IsBytesTold}
+use Rattle.virtiofs_map_c.specs.declared.fault.Fault.{Fault}
+use Rattle.virtiofs_map_c.proofs.MakesLemmas.{refused_complete, refused_faulty}
+
+pub BytesSayRules-no_fault : (bytes : List ℕ) (rules : List MappingRule) (fault : BytesFault) → BytesSayRules bytes rules → ¬ HasBytesFault bytes fault
+BytesSayRules-no_fault bytes rules NotUtf8 says wrong = wrong says.0
+BytesSayRules-no_fault bytes rules (OfRules fault) says wrong = rules_no_fault (chars bytes) rules fault says.1 wrong.1
+
+HasBytesFault-one : (bytes : List ℕ) (fault other : BytesFault) → HasBytesFault bytes fault → HasBytesFault bytes other → fault ≡ other
+HasBytesFault-one bytes NotUtf8 NotUtf8 first second = refl
+HasBytesFault-one bytes NotUtf8 (OfRules other) first second = absurd (first second.0)
+HasBytesFault-one bytes (OfRules fault) NotUtf8 first second = absurd (second first.0)
+HasBytesFault-one bytes (OfRules fault) (OfRules other) first second = ap OfRules (rules_one_fault (chars bytes) fault other first.1 second.1)
+
+pub rules_complete : (bytes : List ℕ) (told : Fault) (old new : List ℕ) → TellsFault (HasBytesFault bytes) (IsBytesTold told old new) → (rules : List MappingRule) → BytesSayRules bytes rules → MakesOrTells false (IsBytesTold told old new)
+rules_complete bytes told old new tells rules says =
+    refused_complete (HasBytesFault bytes) (IsBytesTold told old new) tells (λ fault. BytesSayRules-no_fault bytes rules fault says)
+
+pub rules_faulty : (bytes : List ℕ) (told : Fault) (old new : List ℕ) → TellsFault (HasBytesFault bytes) (IsBytesTold told old new) → (wrong : BytesFault) → HasBytesFault bytes wrong → TellsThis false (IsBytesTold told old new) wrong
+rules_faulty bytes told old new tells wrong has =
+    refused_faulty (HasBytesFault bytes) (IsBytesTold told old new) tells wrong (λ other it. HasBytesFault-one bytes other wrong it has)
+
+-- a map was made of it
+pub BytesSayRules-made : (bytes : List ℕ) (rules : Option (List MappingRule)) → IsSomeAnd rules (BytesSayRules bytes) → (wrong : BytesFault) → ¬ HasBytesFault bytes wrong
+BytesSayRules-made bytes None says wrong has = says
+BytesSayRules-made bytes (Some rules) says wrong has = BytesSayRules-no_fault bytes rules wrong says has

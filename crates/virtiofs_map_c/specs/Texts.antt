@@ -1,0 +1,123 @@
+-- What texts of specifications in bytes say, what is wrong with those that say nothing, and how it is told.
+use Rattle.std.specs.Prelude.{◌≡◌, ℕ, List, [], length, take, slice_get, encode_utf8_all, Option, Some, None, IsSomeAnd}
+use Rattle.std.specs.Borrow.{Bor}
+use Rattle.std.specs.List.{AllZip}
+use Rattle.std.specs.Option.{option_map, option_map_or}
+use Rattle.std.specs.Str.{chars, IsUtf8}
+use Rattle.virtiofs_map.specs.Build.{Accepted, BuildFault, HasFirstFault, build_fault_of}
+use Rattle.virtiofs_map.specs.SpecificationText.{Says, SpecificationFault, InvalidPrefix, InvalidLength, InvalidValue, HasSpecificationFault, specification_fault_of}
+use Rattle.virtiofs_map.specs.declared.cmdline.IdMap.{IdMap as Specification}
+use Rattle.virtiofs_map_c.specs.Faults.{memory_fault, build_told}
+use Rattle.virtiofs_map_c.specs.Replies.{IsQuoted}
+use Rattle.virtiofs_map_c.specs.declared.fault.Fault.{Fault}
+use Rattle.virtiofs_map_c.specs.declared.texts.errors.TextError.{TextError}
+use Rattle.virtiofs_map_c.specs.declared.texts.errors.TextError.TheVariants as text_errors
+use Rattle.virtiofs_map_c.specs.declared.texts.errors.TextsError.{TextsError}
+use Rattle.virtiofs_map_c.specs.declared.texts.errors.TextsError.TheVariants as errors
+
+-- ---- one text
+
+-- the bytes are text, and it says the specification
+abbrev pub SaysSpec : List ℕ → Specification → Type 0
+SaysSpec bytes spec = IsUtf8 bytes × Says (chars bytes) spec
+
+-- what is wrong with bytes that say no specification
+pub data TextFault : Type 0 where
+  NotUtf8 : TextFault
+  OfText : SpecificationFault → TextFault
+
+-- the bytes have that fault
+abbrev pub HasTextFault : List ℕ → TextFault → Type 0
+HasTextFault bytes NotUtf8 = ¬ IsUtf8 bytes
+HasTextFault bytes (OfText fault) = IsUtf8 bytes × HasSpecificationFault (chars bytes) fault
+
+-- the fault that an error tells; none where a request for memory was refused
+abbrev pub text_fault_of : TextError → Option TextFault
+text_fault_of text_errors.NotUtf8 = Some NotUtf8
+text_fault_of (text_errors.Spec error) = option_map OfText (specification_fault_of error)
+
+-- what is told of the text at that place
+abbrev pub fault_told : ℕ → TextFault → Fault
+fault_told place NotUtf8 =
+    record { kind = 2; direction = 0; end = 0; place = place; expected = 0; seen = 0; quoted = 0 }
+fault_told place (OfText (InvalidPrefix word)) =
+    record { kind = 6; direction = 0; end = 0; place = place; expected = 0; seen = 0; quoted = length (encode_utf8_all word) }
+fault_told place (OfText (InvalidLength expected seen)) =
+    record { kind = 7; direction = 0; end = 0; place = place; expected = expected; seen = seen; quoted = 0 }
+fault_told place (OfText (InvalidValue field)) =
+    record { kind = 8; direction = 0; end = 0; place = place; expected = 0; seen = 0; quoted = length (encode_utf8_all field) }
+
+-- what is quoted of it
+abbrev pub fault_quoted : TextFault → List ℕ
+fault_quoted NotUtf8 = []
+fault_quoted (OfText (InvalidPrefix word)) = encode_utf8_all word
+fault_quoted (OfText (InvalidLength expected seen)) = []
+fault_quoted (OfText (InvalidValue field)) = encode_utf8_all field
+
+-- the same, or want of memory
+abbrev pub text_told : ℕ → Option TextFault → Fault
+text_told place fault = option_map_or (fault_told place) fault memory_fault
+
+abbrev pub text_quoted : Option TextFault → List ℕ
+text_quoted fault = option_map_or fault_quoted fault []
+
+-- what is wrong with one text, or want of memory, is told and quoted
+pub record IsTextTold (told : Fault) (old new : List ℕ) (fault : Option TextFault) : Type 0 where
+  pub numbers : told ≡ text_told 0 fault
+  pub bytes : IsQuoted (text_quoted fault) old new
+
+-- ---- an array of texts
+
+-- each of the texts says the specification at its place
+abbrev pub AllSaySpecs : List (Bor (List ℕ)) → List Specification → Type 0
+AllSaySpecs texts specs = AllZip (λ text spec. SaysSpec text.now spec) texts specs
+
+-- the texts say an accepted list
+pub record AreAccepted (texts : List (Bor (List ℕ))) : Type 0 where
+  pub list : List Specification
+  pub say : AllSaySpecs texts list
+  pub accepted : Accepted list
+
+-- the text at that index has that fault, and each text before it says a specification
+pub record HasFirstUnread (texts : List (Bor (List ℕ))) (index : ℕ) (fault : TextFault) : Type 0 where
+  pub before : List Specification
+  pub say : AllSaySpecs (take index texts) before
+  pub here : IsSomeAnd (slice_get texts index) (λ text. HasTextFault text.now fault)
+
+-- each text says a specification, and the list of these has that first fault
+pub record HasUnbuilt (texts : List (Bor (List ℕ))) (fault : BuildFault) : Type 0 where
+  pub list : List Specification
+  pub say : AllSaySpecs texts list
+  pub first : HasFirstFault list fault
+
+-- what is wrong with an array of texts of which no map is made
+pub data TextsFault : Type 0 where
+  Unread : ℕ → TextFault → TextsFault
+  Unbuilt : BuildFault → TextsFault
+
+-- the array of texts has that fault
+abbrev pub HasTextsFault : List (Bor (List ℕ)) → TextsFault → Type 0
+HasTextsFault texts (Unread index fault) = HasFirstUnread texts index fault
+HasTextsFault texts (Unbuilt fault) = HasUnbuilt texts fault
+
+-- the fault that an error tells; none where a request for memory was refused
+abbrev pub texts_fault_of : TextsError → Option TextsFault
+texts_fault_of (errors.Text place cause) = option_map (Unread place) (text_fault_of cause)
+texts_fault_of (errors.Build error) = option_map Unbuilt (build_fault_of error)
+
+-- what is told of such an array, or want of memory
+abbrev pub texts_told : Option TextsFault → Fault
+texts_told None = memory_fault
+texts_told (Some (Unread index fault)) = fault_told index fault
+texts_told (Some (Unbuilt fault)) = build_told fault
+
+-- what is quoted of it
+abbrev pub texts_quoted : Option TextsFault → List ℕ
+texts_quoted None = []
+texts_quoted (Some (Unread index fault)) = fault_quoted fault
+texts_quoted (Some (Unbuilt fault)) = []
+
+-- what is wrong with an array of texts, or want of memory, is told and quoted
+pub record AreTextsTold (told : Fault) (old new : List ℕ) (fault : Option TextsFault) : Type 0 where
+  pub numbers : told ≡ texts_told fault
+  pub bytes : IsQuoted (texts_quoted fault) old new
