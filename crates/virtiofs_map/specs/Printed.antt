@@ -1,6 +1,7 @@
 -- The exact texts of values and of faults, as bytes.
 use Rattle.std.specs.Prelude.{ℕ, ◌+◌, List, [], ◌++◌, flat_map, codes, Option, Some, None}
 use Rattle.std.specs.Fmt.{decimal}
+use Rattle.std.specs.String.{string_bytes}
 use Rattle.virtiofs_map.specs.Mapping.{entry_of}
 use Rattle.virtiofs_map.specs.SpecificationText.{word_of, numbers_of}
 use Rattle.virtiofs_map.specs.declared.cmdline.IdMap.{IdMap}
@@ -12,6 +13,11 @@ use Rattle.virtiofs_map.specs.declared.soft_idmap.errors.MapError.{MapError}
 use Rattle.virtiofs_map.specs.declared.soft_idmap.errors.MapError.TheVariants.{ExplicitFailMapping}
 use Rattle.virtiofs_map.specs.declared.soft_idmap.errors.IdMapBuildError.{IdMapBuildError}
 use Rattle.virtiofs_map.specs.declared.soft_idmap.errors.IdMapBuildError.TheVariants.{RangeOverflow, Intersects, OutOfMemory}
+use Rattle.virtiofs_map.specs.declared.xattrmap.errors.Error.{Error}
+use Rattle.virtiofs_map.specs.declared.xattrmap.errors.ErrorKind.{ErrorKind}
+use Rattle.virtiofs_map.specs.declared.xattrmap.errors.ErrorKind.TheVariants as kinds
+use Rattle.virtiofs_map.specs.declared.xattrmap.errors.PatternField.{PatternField}
+use Rattle.virtiofs_map.specs.declared.xattrmap.errors.PatternField.TheVariants.{Key, Prepend}
 
 -- Specifications, and the faults of ids and of maps.
 
@@ -62,3 +68,35 @@ build_error_text OutOfMemory = codes "Out of memory"
 abbrev pub namespace_text : ℕ → ℕ → ℕ → List ℕ
 namespace_text inside outside count =
     codes ":" ++ decimal inside ++ codes ":" ++ decimal outside ++ codes ":" ++ decimal count ++ codes ":"
+
+-- Texts of rules, and names under them.
+
+-- a pattern at the beginning of a sentence
+abbrev pub pattern_text : PatternField → List ℕ
+pattern_text Key = codes "Key"
+pattern_text Prepend = codes "Prepend"
+
+-- what a rule has in the place of a word, and the words that could stand there
+abbrev pub unexpected_text : List ℕ → List ℕ → List ℕ
+unexpected_text got expected = got ++ (codes "', expected one of: " ++ expected)
+
+-- what is wrong
+abbrev pub cause_text : {A : Type 0} → ErrorKind A → List ℕ
+cause_text (kinds.InvalidScope got expected) = codes "invalid scope '" ++ unexpected_text (string_bytes got) expected.now
+cause_text (kinds.InvalidType got expected) = codes "invalid type '" ++ unexpected_text (string_bytes got) expected.now
+cause_text kinds.InvalidDelimiter = codes "the delimiter is not the rule's first"
+cause_text kinds.IncompleteRule = codes "the rule is incomplete"
+cause_text kinds.MapRuleViolation = codes "a map rule has to stand last"
+cause_text kinds.NoRulesProvided = codes "there are no rules"
+cause_text kinds.UnterminatedMapping = codes "no rule fits the name"
+cause_text (kinds.NulInPattern pattern) = pattern_text pattern ++ codes " holds NUL"
+cause_text kinds.OutOfMemory = codes "out of memory"
+
+-- the number of the rule that is blamed, counted from 1, if one is
+abbrev pub blamed_rule_text : Option ℕ → List ℕ
+blamed_rule_text (Some number) = codes "rule " ++ decimal number ++ codes ": "
+blamed_rule_text None = []
+
+-- what is wrong, and in which rule
+abbrev pub rules_error_text : {A : Type 0} → Error A → List ℕ
+rules_error_text error = blamed_rule_text error.rule ++ cause_text error.cause

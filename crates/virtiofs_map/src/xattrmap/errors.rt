@@ -1,6 +1,7 @@
 //! Why a text of rules is refused, and why names are.
 
 ghost use Rattle.std.specs.Prelude.{◌≡◌, ◌≢◌, Some, None};
+ghost use Rattle.virtiofs_map.specs.Printed.{pattern_text};
 ghost use Rattle.virtiofs_map.specs.declared.xattrmap.errors.ErrorKind.TheVariants.{OutOfMemory};
 
 use std::alloc::{AllocError, AllocFailed, Allocator, Global};
@@ -16,11 +17,10 @@ pub enum PatternField {
 }
 
 /// What is wrong.
-#[derive(Drop, thiserror::Error)]
+#[derive(Drop)]
 #[derive_where(PartialEq, Eq, Debug)]
 pub enum ErrorKind<A: Allocator = Global> {
     /// There is no such scope.
-    #[error("invalid scope '{got}', expected one of: {expected}")]
     InvalidScope {
         /// What the rule has in the place of its scope.
         got: String<A>,
@@ -28,7 +28,6 @@ pub enum ErrorKind<A: Allocator = Global> {
         expected: &'static str,
     },
     /// There is no such type.
-    #[error("invalid type '{got}', expected one of: {expected}")]
     InvalidType {
         /// What the rule has in the place of its type.
         got: String<A>,
@@ -37,28 +36,21 @@ pub enum ErrorKind<A: Allocator = Global> {
     },
     /// A delimiter differs from the one that its rule began with. Never answered, since any other
     /// character is part of the field.
-    #[error("the delimiter is not the rule's first")]
     InvalidDelimiter,
     /// A field of a rule is not closed by the rule's delimiter.
-    #[error("the rule is incomplete")]
     IncompleteRule,
     /// Something follows a `map` rule.
-    #[error("a map rule has to stand last")]
     MapRuleViolation,
     /// The text holds no rule.
-    #[error("there are no rules")]
     NoRulesProvided,
     /// No rule decides a name.
-    #[error("no rule fits the name")]
     UnterminatedMapping,
     /// A key or a prepend holds U+0000, which no name has.
-    #[error("{pattern:?} holds NUL")]
     NulInPattern {
         /// Which of the two.
         pattern: PatternField,
     },
     /// A request for memory was refused.
-    #[error("out of memory")]
     OutOfMemory,
 }
 
@@ -87,7 +79,50 @@ impl<A: Allocator> ErrorKind<A> {
     }
 }
 
+/// A pattern, as it begins a sentence.
+fn name_of(pattern: PatternField) -> &'static str
+    ensures { result.now ≡ pattern_text pattern }
+{
+    match pattern {
+        PatternField::Key => "Key",
+        PatternField::Prepend => "Prepend",
+    }
+}
+
+impl<A: Allocator> fmt::Display for ErrorKind<A> {
+    ghost use Rattle.virtiofs_map.specs.Printed.{cause_text};
+
+    ghost output = { λ cause. Some (cause_text cause) };
+
+    fn fmt<W: fmt::Write>(&self, f: &mut fmt::Formatter<W>) -> fmt::Result {
+        match self {
+            ErrorKind::InvalidScope { got, expected } => {
+                write!(f, "invalid scope '{got}', expected one of: {expected}")
+            }
+            ErrorKind::InvalidType { got, expected } => {
+                write!(f, "invalid type '{got}', expected one of: {expected}")
+            }
+            ErrorKind::InvalidDelimiter => write!(f, "the delimiter is not the rule's first"),
+            ErrorKind::IncompleteRule => write!(f, "the rule is incomplete"),
+            ErrorKind::MapRuleViolation => write!(f, "a map rule has to stand last"),
+            ErrorKind::NoRulesProvided => write!(f, "there are no rules"),
+            ErrorKind::UnterminatedMapping => write!(f, "no rule fits the name"),
+            ErrorKind::NulInPattern { pattern } => {
+                let name = name_of(*pattern);
+                write!(f, "{name} holds NUL")
+            }
+            ErrorKind::OutOfMemory => write!(f, "out of memory"),
+        }
+    }
+}
+
+impl<A: Allocator> error::Error for ErrorKind<A> {}
+
 impl<A: Allocator> fmt::Display for Error<A> {
+    ghost use Rattle.virtiofs_map.specs.Printed.{rules_error_text};
+
+    ghost output = { λ error. Some (rules_error_text error) };
+
     fn fmt<W: fmt::Write>(&self, f: &mut fmt::Formatter<W>) -> fmt::Result {
         match self.rule {
             Some(number) => {
