@@ -3,10 +3,11 @@ use Rattle.std.specs.Prelude.{ℕ, ◌<◌, Bool, IsTrue, IsFalse, List, Option,
 use Rattle.std.specs.Io.{StartsWith}
 use Rattle.std.specs.Io.KnownBytes.{Appends}
 
--- the bytes that the writer holds, `None` for a writer that doesn't tell them, and whether a write failed
+-- the bytes that the writer holds, `None` for a writer that doesn't tell them, whether a write failed, and whether the writer was flushed since the last write
 pub record Output : Type 0 where
   pub bytes : Option (List ℕ)
   pub failed : Bool
+  pub flushed : Bool
 
 -- the whole text was appended, and no write failed
 pub record Writes (old new : Output) (text : List ℕ) : Type 0 where

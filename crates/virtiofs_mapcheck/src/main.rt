@@ -1,9 +1,9 @@
 //! Shows what an id or extended attribute mapping does.
 #![tactic(auto)]
 
-ghost use Rattle.std.specs.Prelude.{◌≡◌, ◌↔◌, ℕ, List, IfOk, IsFalse, IsErrOf};
+ghost use Rattle.std.specs.Prelude.{◌≡◌, ◌↔◌, ◌⊎◌, ℕ, List, IfOk, OnOk, IsTrue, IsFalse, IsErrOf};
 ghost use Rattle.virtiofs_mapcheck.specs.Answer.{Answers};
-ghost use Rattle.virtiofs_mapcheck.specs.Output.{Writes};
+ghost use Rattle.virtiofs_mapcheck.specs.Output.{Writes, WritesFrontOf};
 ghost use Rattle.virtiofs_mapcheck.specs.Words.{words_of};
 
 mod answer;
@@ -81,6 +81,12 @@ fn print_answer<A: Allocator + Copy, W: Write>(
     ensures answered { IfOk result (λ answered. (text : List ℕ)
         × Answers (words_of words.now) answered text × Writes out.old out.new text) }
     ensures out_of_memory { IsErrOf result AnswerFault.OutOfMemory → out.new ≡ out.old }
+    // A fault of writing: what was written begins the text, and is the whole of it where only the
+    // flush failed.
+    ensures write { IsErrOf result AnswerFault.Write → (answered : _) × (text : List ℕ)
+        × Answers (words_of words.now) answered text
+        × (WritesFrontOf out.old out.new text ⊎ Writes out.old out.new text) }
+    ensures flushed { OnOk result (IsTrue out.new.flushed) }
 {
     let answered = answer(alloc, words, out)?;
     match out.flush() {

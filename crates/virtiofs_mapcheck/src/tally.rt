@@ -1,4 +1,4 @@
-//! A writer that remembers whether a write to it failed.
+//! A writer that remembers whether a write to it failed, and whether it was flushed since.
 ghost use Rattle.std.specs.Prelude.{◌≡◌, ◌<◌, ◌≤◌, length, take, IfOk, IsTrue, IsFalse, OnOk, OnErr};
 ghost use Rattle.std.specs.Io.KnownBytes.{Appends, Keeps};
 
@@ -6,15 +6,17 @@ use std::io;
 use std::io::Write;
 use std::marker::Model;
 
-/// A writer, and whether a write to it failed.
+/// A writer, whether a write to it failed, and whether it was flushed since the last write.
 ///
 /// A write fails where the writer answers a fault, an interruption included, or takes no byte of
 /// a piece that has some. Nothing else makes a tally failed, and a failed one stays failed. A
-/// contract sees the bytes that the writer tells it holds, and whether it failed.
+/// contract sees the bytes that the writer tells it holds, whether it failed, and whether it was
+/// flushed.
 #[derive(Drop)]
 pub struct Tally<W: Write> {
     writer: W,
     has_failed: bool,
+    is_flushed: bool,
 }
 
 impl<W: Write> Model for Tally<W> {
@@ -22,7 +24,11 @@ impl<W: Write> Model for Tally<W> {
 
     ghost Value = { Output };
 
-    ghost view = { λ t. record { bytes = W.contents t.writer; failed = t.has_failed } };
+    ghost view = { λ t. record {
+      bytes = W.contents t.writer;
+      failed = t.has_failed;
+      flushed = t.is_flushed;
+    } };
 }
 
 /// A write failed: the writer answered a fault, or took no byte of a piece that has some.
@@ -38,6 +44,7 @@ impl<W: Write> Tally<W> {
         Tally {
             writer: out,
             has_failed: false,
+            is_flushed: false,
         }
     }
 
@@ -56,6 +63,7 @@ impl<W: Write> Tally<W> {
         let Tally {
             writer,
             has_failed: _,
+            is_flushed: _,
         } = self;
         writer
     }
@@ -72,7 +80,9 @@ impl<W: Write> Tally<W> {
         ensures sound { OnOk result (IsFalse self.new.failed) }
         ensures kept { OnErr result (Keeps self.old.bytes self.new.bytes) }
         ensures fails { OnErr result (IsTrue self.new.failed) }
+        ensures unflushed { IsFalse self.new.flushed }
     {
+        self.is_flushed = false;
         match self.writer.write(piece) {
             Ok(taken) if taken > 0 || piece.is_empty() => Ok(taken),
             _ => {
@@ -86,8 +96,11 @@ impl<W: Write> Tally<W> {
     pub(crate) fn flush(&mut self) -> io::Result<()>
         ensures kept { Keeps self.old.bytes self.new.bytes }
         ensures same { self.new.failed ≡ self.old.failed }
+        ensures flushed { OnOk result (IsTrue self.new.flushed) }
     {
-        self.writer.flush()
+        self.writer.flush()?;
+        self.is_flushed = true;
+        Ok(())
     }
 }
 
