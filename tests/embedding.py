@@ -1,11 +1,11 @@
 #!/usr/bin/env python3
 """Sees what programs in C and in Rust make of the static library, and that its header says what it exports.
 
-usage: embedding.py [--build-in FOLDER | --as-it-is]
+usage: embedding.py [--archive FILE | --as-it-is]
 
-It builds the archive over the checked work of a checkout (`rt lib` in crates/virtiofs_map_c; FOLDER is another checkout
-of the same commit, whose archive is then kept in this one), or takes the one that is there. Then it compiles the tests
-of tests/embedding and the examples, in C and in Rust, and runs them. CC, CXX and RUSTC may name the compilers. What
+It builds the archive over the checked work of this checkout (`rt lib` in crates/virtiofs_map_c), or takes FILE, which was
+built from this very tree, and keeps it in this checkout, or takes the one that is there. Then it compiles the tests of
+tests/embedding and the examples, in C and in Rust, and runs them. CC, CXX and RUSTC may name the compilers. What
 there is no compiler for is left out, and a line says so. README.md has what each test is. The last line is
 'N passed, N failed'.
 """
@@ -83,19 +83,29 @@ def kit():
     return os.path.dirname(os.path.dirname(os.path.realpath(found))) if found else None
 
 
-def build(checkout):
-    """Builds the archive in a checkout, and keeps it in this one. Tells what went wrong."""
+def build():
+    """Builds the archive. Tells what went wrong."""
     jobs = ["--jobs", os.environ["RT_JOBS"]] if os.environ.get("RT_JOBS") else []
-    made = f"{checkout}/{CRATE}/out/libvirtiofs_map_c.a"
-    if os.path.lexists(made):
-        os.remove(made)
-    status, said = run(["rt", "lib", *jobs], SECONDS_OF_A_BUILD, cwd=f"{checkout}/{CRATE}")
-    if status or not os.path.isfile(made):
-        return f"no archive, status {status}", said
-    if os.path.realpath(made) != os.path.realpath(ARCHIVE):
-        os.makedirs(os.path.dirname(ARCHIVE), exist_ok=True)
-        shutil.copy2(made, ARCHIVE)
-    return None, said
+    status, said = run(["rt", "lib", *jobs], SECONDS_OF_A_BUILD, cwd=f"{TOP}/{CRATE}")
+    return f"no archive, status {status}" if status else None, said
+
+
+def take(file):
+    """Takes an archive that was built elsewhere. Tells what went wrong."""
+    if not os.path.isfile(file):
+        return f"there is no {file}: it was not proved, or not built", ""
+    os.makedirs(os.path.dirname(ARCHIVE), exist_ok=True)
+    shutil.copyfile(file, ARCHIVE)
+    return None, ""
+
+
+def archive(words):
+    """Sees to the archive. What an earlier run left counts only under --as-it-is. Tells what went wrong."""
+    if words == ["--as-it-is"]:
+        return None, ""
+    if os.path.lexists(ARCHIVE):
+        os.remove(ARCHIVE)
+    return take(words[1]) if words else build()
 
 
 # ---- compilers ----
@@ -270,14 +280,14 @@ def under_sanitizer(tally, with_, linked):
 
 
 def main(words):
-    if words not in ([], ["--as-it-is"]) and (len(words) != 2 or words[0] != "--build-in"):
+    if words not in ([], ["--as-it-is"]) and (len(words) != 2 or words[0] != "--archive"):
         print(__doc__, end="", file=sys.stderr)
         return 2
     with tempfile.TemporaryDirectory(prefix="embedding-") as room:
         tally = Tally(room)
         for name, found in compared(TOP):
             tally.see(name, "\n".join(found))
-        found, said = (None, "") if words == ["--as-it-is"] else build(os.path.abspath(words[1]) if words else TOP)
+        found, said = archive(words)
         if not found and not os.path.isfile(ARCHIVE):
             found = f"there is no {ARCHIVE}"
         if tally.see("the archive", found, said):

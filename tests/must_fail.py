@@ -1,19 +1,23 @@
 #!/usr/bin/env python3
 """Tries every edit crates/NAME/must-fail/*.edit, many in one check: the prover must refuse each.
 
-usage: must_fail.py [--lanes N] [TOP]      (TOP is the top of a repository: this one, where it is left out)
+usage: must_fail.py [--lanes N] [--archives FOLDER] [TOP]
+
+TOP is the top of a repository: this one, where it is left out.
 
 An edit that lies in the body of a function changes no statement, so the proofs of other functions do not see it. Edits
 of different functions are therefore made together in one check. There an edit is refused if a goal of its own function
-is open. That its function calls another refused one counts for nothing. What is not told so goes into a smaller check,
-and at last alone to the kit's own judge, as does every edit that touches more than bodies.
+is open. That its function calls another refused one counts for nothing. What is not told so goes alone to the kit's own
+judge, as does every edit that touches more than bodies; where a check tells nothing, its halves are tried first.
 
-Each crate is first proved from nothing, in this run. Each check starts from a copy of what that proved.
+Each crate that has edits, and each that it uses, is first proved from nothing, in this run. Each check starts from a
+copy of what that proved. The archives of static libraries that are built so go to FOLDER.
 
 Each edit has a line. The last line is 'N passed, N failed', and the exit status is 0 where none failed.
 """
 import importlib.machinery
 import importlib.util
+import math
 import os
 import re
 import shutil
@@ -22,6 +26,7 @@ import sys
 import tempfile
 import threading
 import time
+from collections import Counter
 from concurrent.futures import FIRST_COMPLETED, ThreadPoolExecutor, wait
 from typing import NamedTuple
 
@@ -33,7 +38,7 @@ HERE = os.path.dirname(os.path.abspath(__file__))
 # than many small ones; but the lanes should end together.
 BATCH = 32
 # What is begun first: what others wait for, and then what takes longest.
-KINDS = ("prove", "batch", "alone", "anew")
+KINDS = ("prove", "batch", "alone", "anew", "copy")
 SECONDS_BETWEEN_LINES = 60
 # The exit status of a call of the kit's judge, which says that it came to an answer.
 REFUSED, NOT_REFUSED = 0, 10
@@ -41,6 +46,8 @@ REFUSED, NOT_REFUSED = 0, 10
 FUNCTION = re.compile(r"fn (\S+): (.*)")
 PLACE = re.compile(r"note: (src/\S+?):(\d+):\d+: it is not proved ")
 PROOF_ERROR = re.compile(r"(?:\./)?proofs/(\S+)/[^/\s]+\.antt:\d+:\d+: error: (.*)")
+# The last line of a check that came to an answer, of all of the crate or of some functions of it.
+JUDGED = re.compile(r"^(?:logic=not-proved|only=\d+ proved=\d+$)", re.M)
 TEXT_ERROR = re.compile(r"^(?:\./)?(?:src|specs)/\S+:\d+:\d+: error", re.M)
 # Errors that a proof file has since it cites what another refused function proves, or names what an edit took away.
 CITES_REFUSED = re.compile(r"was not admitted")
@@ -48,24 +55,29 @@ NAMES_WHAT_IS_GONE = re.compile(r"has no field|is not in scope|has no `")
 
 
 class Crate(NamedTuple):
+    """A crate, with the repository's crates that it uses, itself or by others."""
+
     name: str
+    uses: frozenset
     edits: tuple
     misnamed: tuple
 
 
 class Task(NamedTuple):
-    """What a lane does at one time: 'prove' a crate, 'batch' some edits, or try one 'alone' or 'anew' (from nothing).
-    `later` are the crates that are proved after this one."""
+    """What a lane does at one time: 'prove' a crate, see that a 'copy' of it is proved, 'batch' some edits, or try one
+    'alone' or 'anew' (from nothing)."""
 
     kind: str
     crate: Crate
     edits: tuple
-    later: tuple = ()
+    jobs: int = 1
 
     def __str__(self):
         what = f"{len(self.edits)} edits of {self.crate.name} in one check"
         if self.kind == "prove":
             what = f"{self.crate.name} from nothing"
+        elif self.kind == "copy":
+            what = f"a copy of {self.crate.name} with no edit"
         elif len(self.edits) == 1:
             what = label(self.crate, self.edits[0]) + (" from nothing" if self.kind == "anew" else "")
         return what
@@ -76,36 +88,41 @@ def label(crate, edit):
 
 
 def crates_of(top):
-    """The crates of the repository, each after those that it uses."""
+    """The crates of the repository that have edits, and those that they use."""
     uses = {}
     with open(f"{top}/crates.txt", encoding="utf-8") as lines:
         for line in lines:
             name, _, used = line.partition("#")[0].partition(":")
             if name.strip():
                 uses[name.split()[0]] = set(used.replace(",", " ").split())
-    ordered = []
-    while len(ordered) < len(uses):
-        left = [it for it in uses if it not in ordered]
-        ordered.append(next(it for it in left if not uses[it] & set(left)))
-    return [Crate(it, *map(tuple, edits_in(f"{top}/crates/{it}/must-fail"))) for it in ordered]
+    every = [Crate(it, below(it, uses), *map(tuple, edits_in(f"{top}/crates/{it}/must-fail"))) for it in uses]
+    needed = {name for it in every if it.edits or it.misnamed for name in (it.name, *it.uses)}
+    return [it for it in every if it.name in needed]
+
+
+def below(name, uses):
+    own = uses[name] & set(uses)
+    return frozenset(own.union(*(below(it, uses) for it in own)))
 
 
 def planned(crate, folder):
     """The first tasks of a crate: batches of edits of different functions, and the edits that go alone."""
-    batches, alone = [], []
-    for edit in crate.edits:
-        own = bodies_of(edit, folder)
-        if not own:
-            alone.append(Task("alone", crate, (edit,)))
-            continue
+    own = {edit: bodies_of(edit, folder) for edit in crate.edits}
+    of_each = Counter(body for bodies in own.values() for body in bodies or ())
+    # (the edits of a function that has many are dealt out first, so that no more checks are needed than it has edits)
+    together = sorted((it for it in own if own[it]), key=lambda it: -max(map(of_each.get, own[it])))
+    checks = max([1, math.ceil(len(together) / BATCH), *of_each.values()])
+    size = math.ceil(len(together) / checks)
+    batches = []
+    for edit in together:
         for taken, held in batches:
-            if not own & taken and len(held) < BATCH and merged([*held, edit], folder) is not None:
-                taken |= own
+            if not own[edit] & taken and len(held) < size and merged([*held, edit], folder) is not None:
+                taken |= own[edit]
                 held.append(edit)
                 break
         else:
-            batches.append((set(own), [edit]))
-    return [as_task(crate, held) for _, held in batches] + alone
+            batches.append((set(own[edit]), [edit]))
+    return [as_task(crate, held) for _, held in batches] + [as_task(crate, (it,)) for it in own if not own[it]]
 
 
 def as_task(crate, edits):
@@ -135,10 +152,29 @@ def open_functions(said):
     return found
 
 
-def told_apart(edits, folder, said):
+def functions_in(said):
+    """The functions, closures among them, that a check says a line of."""
+    return frozenset(re.findall(r"^fn (\S+): ", said, re.M))
+
+
+def named(body, every):
+    """Those of these functions that can be the one with this body."""
+    return [it for it in every if is_body_of(it, body) and "::fn::" not in it]
+
+
+def only(edits, folder, every):
+    """The words by which a check reads the edited functions alone, and what they call. There are none where one of them
+    is not known by name."""
+    found = [named(body, every) for edit in edits for body in bodies_of(edit, folder) or [None] if body]
+    if not all(len(it) == 1 for it in found):
+        return []
+    return [word for (it,) in found for word in ("--only", it.partition("::")[2])]
+
+
+def told_apart(edits, folder, said, every):
     """The edits of a batch that were refused each at a goal of its own function, with that function's name. Nothing is
-    told where a function fails for itself that is not known to be one of the edited ones."""
-    every = set(re.findall(r"^fn (\S+): ", said, re.M))
+    told where a function fails for itself that is not known to be one of the edited ones. `every` are the functions of
+    the crate."""
     own = {edit: bodies_of(edit, folder) for edit in edits}
     told = {}
     for name, (places, shows) in open_functions(said).items():
@@ -146,8 +182,7 @@ def told_apart(edits, folder, said):
         if len(mine) != 1:
             return {}
         edit, body = mine[0]
-        namesakes = [it for it in every if is_body_of(it, body) and "::fn::" not in it]
-        if len(namesakes) != 1 or not all(body.holds(*it) for it in places):
+        if len(named(body, every)) != 1 or not all(body.holds(*it) for it in places):
             return {}
         if shows:
             told[edit] = name
@@ -157,11 +192,11 @@ def told_apart(edits, folder, said):
 class Run:
     """One run over a repository."""
 
-    def __init__(self, top, room, lanes):
-        self.top, self.room, self.lanes = top, room, lanes
+    def __init__(self, top, room, lanes, archives=None):
+        self.top, self.room, self.lanes, self.archives = top, room, lanes, archives
         self.proved = f"{room}/proved"
         self.begun, self.at, self.refused = time.time(), {}, {}
-        self.jobs, self.done = lanes, []
+        self.unproved, self.done, self.functions = crates_of(top), [], {}
         self.alone_on_the_machine = threading.Lock()
 
     def tell(self, text):
@@ -181,7 +216,7 @@ class Run:
         shutil.copytree(f"{self.top}/crates", f"{self.proved}/crates", ignore=unread)
 
     def copied(self, crate):
-        """A copy of the proved repository, in which this crate is checked once."""
+        """A copy of the proved repository, in which this crate is checked or proved once."""
 
         def unread(folder, names):
             above, name = os.path.split(folder)
@@ -192,8 +227,9 @@ class Run:
             return [it for it in names if it != read]
 
         def copy(file, to):
-            # (rt only reads a built library, or takes it away whole)
-            (os.link if "/out/rlib/" in file else shutil.copy2)(file, to)
+            # (rt reads a built library, or takes it away whole, and the prover writes a module as a new file. That no check
+            # has changed what the others start from is seen by the check with no edit, which comes last)
+            (os.link if "/out/rlib/" in file or file.endswith(".oantt") else shutil.copy2)(file, to)
 
         top = tempfile.mkdtemp(prefix="edited-", dir=self.room)
         return shutil.copytree(self.proved, f"{top}/copy", ignore=unread, copy_function=copy)
@@ -201,8 +237,9 @@ class Run:
     def go(self):
         """Proves the crates and tries their edits. A lane that dies is a failure of all that it held."""
         self.lay_out()
-        first, *later = crates_of(self.top)
-        waiting, running = [Task("prove", first, first.edits, tuple(later))], {}
+        # (beside the first proofs there is nothing else to do)
+        first, *others = self.to_prove()
+        waiting, running = [first._replace(jobs=self.lanes), *others], {}
         with ThreadPoolExecutor(self.lanes) as pool:
             while waiting or running:
                 waiting.sort(key=lambda task: (KINDS.index(task.kind), -len(task.edits)))
@@ -223,42 +260,65 @@ class Run:
         finally:
             del self.at[task]
 
+    def to_prove(self):
+        """What proves the crates that are next: all that they use is proved."""
+        ready = [it for it in self.unproved if it.uses <= {*self.done}]
+        self.unproved = [it for it in self.unproved if it not in ready]
+        return [Task("prove", it, it.edits) for it in ready]
+
     def left_to_do(self, task, ended):
         try:
-            return ended.result()
+            return ended.result() + self.to_prove()
         except Exception as error:
             say(f"FAILED: {task}: {error}")
-            for crate in (task.crate, *task.later):
-                if task.kind == "prove":
-                    self.refused[crate.name] = False
-                for edit in task.edits if crate is task.crate else crate.edits:
-                    self.answer(crate, edit, False, "FAILED: it was not judged, see above")
+            lost = [it for it in self.unproved if task.kind == "prove" and task.crate.name in it.uses]
+            self.unproved = [it for it in self.unproved if it not in lost]
+            if task.kind in ("prove", "copy"):
+                self.refused.update({it.name: False for it in (task.crate, *lost)})
+            for edit in task.edits:
+                self.answer(task.crate, edit, False, "FAILED: it was not judged, see above")
+            for crate, edit in [(it, edit) for it in lost for edit in it.edits]:
+                self.answer(crate, edit, False, "FAILED: it was not judged, see above")
             return []
 
     def prove(self, task):
-        """Proves a crate from nothing. A copy of that, with no edit, must then be proved too: else a refusal shows nothing."""
-        crate, begun = task.crate, time.time()
-        is_program = os.path.isfile(f"{self.proved}/crates/{crate.name}/src/main.rt")
-        # (beside the first crate's proof there is nothing else to do)
-        jobs, self.jobs = self.jobs, 1
-        verb = "check" if is_program else "lib"
-        ended = run(["rt", verb, "--jobs", str(jobs)], f"{self.proved}/crates/{crate.name}")
-        if ended.status:
-            raise RuntimeError(f"{crate.name} was not proved, rt {verb} ended with {ended.status}: {ended.said[-600:]}")
+        """Proves a crate from nothing, in a copy of its own, since rt keeps others out of all that it uses."""
+        crate, begun, top = task.crate, time.time(), self.copied(task.crate)
+        try:
+            folder = f"{top}/crates/{crate.name}"
+            is_program = os.path.isfile(f"{folder}/src/main.rt")
+            verb = "check" if is_program else "lib"
+            ended = run(["rt", verb, "--jobs", str(task.jobs)], folder)
+            if ended.status:
+                said = f"rt {verb} ended with {ended.status}: {ended.said[-600:]}"
+                raise RuntimeError(f"{crate.name} was not proved, {said}")
+            self.hand_over(f"{folder}/out/lib{crate.name}.a")
+            os.rename(f"{folder}/out", f"{self.proved}/crates/{crate.name}/out")
+        finally:
+            shutil.rmtree(os.path.dirname(top), ignore_errors=True)
+        self.functions[crate.name] = functions_in(ended.said)
         self.done.append(crate.name)
-        again = self.checked(crate, [])
-        if again.status:
-            raise RuntimeError(f"a copy of {crate.name} with no edit was not proved: {again.said[-600:]}")
         self.tell(f"{crate.name} proved from nothing, in {shown(time.time() - begun)}")
         for it in crate.misnamed:
             self.answer(crate, it, False, "BAD EDIT: rt takes no file of this name in must-fail/")
-        more = planned(crate, f"{self.top}/crates/{crate.name}")
-        if task.later:
-            following, *later = task.later
-            more.insert(0, Task("prove", following, following.edits, tuple(later)))
-        return more
+        copies = [Task("copy", crate, ())] if crate.edits else []
+        return planned(crate, f"{self.top}/crates/{crate.name}") + copies
 
-    def checked(self, crate, edits):
+    def hand_over(self, archive):
+        """Hands over the archive of a static library, whole or not at all."""
+        if self.archives and os.path.isfile(archive):
+            made = f"{self.archives}/{os.path.basename(archive)}"
+            shutil.copyfile(archive, f"{made}.new")
+            os.rename(f"{made}.new", made)
+
+    def copy(self, task):
+        """A copy of a proved crate with no edit must be proved too: else a refusal shows nothing."""
+        ended = self.checked(task.crate, [])
+        if ended.status:
+            raise RuntimeError(f"a copy of {task.crate.name} with no edit was not proved: {ended.said[-600:]}")
+        return []
+
+    def checked(self, crate, edits, words=()):
         """Checks a copy of the crate under these edits."""
         top = self.copied(crate)
         try:
@@ -266,25 +326,27 @@ class Run:
             for path, text in merged(edits, folder).items():
                 with open(f"{folder}/{path}", "w", encoding="utf-8") as it:
                     it.write(text)
-            return run(["rt", "check", "--jobs", "1"], folder)
+            return run(["rt", "check", "--jobs", "1", *words], folder)
         finally:
             shutil.rmtree(os.path.dirname(top), ignore_errors=True)
 
     def batch(self, task):
         """Tries edits together, and returns what is left to do for those that were not told apart."""
         crate, edits, begun = task.crate, task.edits, time.time()
-        ended = self.checked(crate, edits)
-        is_judged = ended.status == 1 and re.search(r"^logic=not-proved", ended.said, re.M)
+        folder, every = f"{self.top}/crates/{crate.name}", self.functions[crate.name]
+        ended = self.checked(crate, edits, only(edits, folder, every))
+        is_judged = ended.status == 1 and JUDGED.search(ended.said)
         told = {}
         if is_judged and not TEXT_ERROR.search(ended.said):
-            told = told_apart(edits, f"{self.top}/crates/{crate.name}", ended.said)
+            told = told_apart(edits, folder, ended.said, every)
         for edit, function in told.items():
             self.answer(crate, edit, True, f"refused, as it must be: fn {function}")
         rest = [it for it in edits if it not in told]
         how = "" if is_judged else f"; rt check ended with {ended.status}"
         self.tell(f"{len(told)} of {task} refused, {len(rest)} to be tried again ({shown(time.time() - begun)}{how})")
         if told:
-            return [as_task(crate, rest)] if rest else []
+            # (of what such a check does not tell, a smaller one seldom tells more)
+            return [as_task(crate, (it,)) for it in rest]
         half = len(rest) // 2
         return [as_task(crate, rest[:half]), as_task(crate, rest[half:])]
 
@@ -331,13 +393,15 @@ def judge(edit, kept):
 def main(words):
     if words[:1] == ["--judge"]:
         return judge(*words[1:])
-    lanes = cores()
+    lanes, archives = cores(), None
     if words[:1] == ["--lanes"]:
         lanes, words = int(words[1]), words[2:]
+    if words[:1] == ["--archives"]:
+        archives, words = words[1], words[2:]
     top = os.path.abspath(words[0] if words else os.path.dirname(HERE))
     room = made_room("must-fail")
     try:
-        started = Run(top, room, lanes)
+        started = Run(top, room, lanes, archives)
         started.go()
     finally:
         shutil.rmtree(room, ignore_errors=True)

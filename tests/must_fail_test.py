@@ -9,7 +9,7 @@ import sys
 from concurrent.futures import ThreadPoolExecutor
 
 from edited_bodies import bodies_of
-from must_fail import told_apart
+from must_fail import crates_of, functions_in, only, told_apart
 from running import cores, made_room, run, say
 
 HERE = os.path.dirname(os.path.abspath(__file__))
@@ -58,6 +58,15 @@ pub fn unrelated(d: usize) -> usize
     d
 }
 """
+EXPORT = """
+/// Is for C.
+#[unsafe(no_mangle)]
+pub extern "C" fn tiny_same(e: usize) -> usize
+    ensures { result ≡ e }
+{
+    e
+}
+"""
 PROOF = """use Rattle.tiny.proofs.by_hand.Goals as goal
 
 pub returns : goal.returns
@@ -77,6 +86,11 @@ EDITS = {
     "has_no_place": ("    no_such_text", "    0", "BAD EDIT: an 'old:' text is in src/lib.rt 0 times"),
 }
 TWO = ["in_an_impl", "is_refused"]
+NUMBER_ALONE = ["--only", "Number::number"]
+# What a check says of the functions above.
+PROVED = "".join(
+    f"fn tiny::{it}: proved\n" for it in ("called", "caller", "Number::number", "by_hand", "fn::by_hand::a::b", "unrelated")
+)
 # A line for the shell that stands before rt, which kills rt at some calls.
 NO_JUDGE = 'if [ "$1" = doc ]; then kill -9 $$; fi'
 NO_BATCH = 'if [ "$1" = check ] && grep -q "a / 2" src/lib.rt; then kill -9 $$; fi'
@@ -88,8 +102,8 @@ def write(file, text):
         it.write(text)
 
 
-def lay_out(top, edits, source=SOURCE):
-    write(f"{top}/crates.txt", "tiny:\n")
+def lay_out(top, edits, source=SOURCE, crates="tiny:\n"):
+    write(f"{top}/crates.txt", crates)
     write(f"{top}/crates/tiny/src/lib.rt", source)
     write(f"{top}/crates/tiny/proofs/by_hand/Answers.antt", PROOF)
     for name in edits:
@@ -100,20 +114,23 @@ def edit_of(top, name):
     return f"{top}/crates/tiny/must-fail/{name}.edit"
 
 
-def tried(top, edits, source=SOURCE, before_rt=":"):
-    """Runs the runner over a repository with these edits, where a line of shell stands before each call of rt."""
-    lay_out(top, edits, source)
+def tried(top, edits, source=SOURCE, before_rt=":", crates="tiny:\n"):
+    """Runs the runner over a repository with these edits, where a line of shell stands before each call of rt. Tells its
+    status, what it said, and the archives that it made."""
+    lay_out(top, edits, source, crates)
+    os.makedirs(f"{top}-archives")
     write(f"{top}-bin/rt", f'#!/bin/sh\n{before_rt}\nexec {shutil.which("rt")} "$@"\n')
     os.chmod(f"{top}-bin/rt", 0o755)
-    ended = run([f"{HERE}/must_fail.py", "--lanes", "2", top], PATH=f"{top}-bin:{os.environ['PATH']}")
-    return ended.status, ended.said
+    words = [f"{HERE}/must_fail.py", "--lanes", "2", "--archives", f"{top}-archives", top]
+    ended = run(words, PATH=f"{top}-bin:{os.environ['PATH']}")
+    return ended.status, ended.said, os.listdir(f"{top}-archives")
 
 
 def told(room, edits, *lines):
     """What is told of edits by lines that a check could say."""
     lay_out(room, edits)
-    every = ["fn tiny::called: proved", "fn tiny::unrelated: proved"]
-    found = told_apart([edit_of(room, it) for it in edits], f"{room}/crates/tiny", "\n".join([*lines, *every]))
+    edits = [edit_of(room, it) for it in edits]
+    found = told_apart(edits, f"{room}/crates/tiny", "\n".join(lines), functions_in(PROVED))
     return sorted(os.path.basename(it) for it in found)
 
 
@@ -123,9 +140,25 @@ def is_open(function, line):
     return f"{note}\nfn tiny::{function}: no proof: {answers}"
 
 
+def checked_alone(room, edits, said):
+    """The functions that a check of these edits reads alone, where what proved the crate said this."""
+    lay_out(room, edits)
+    return only([edit_of(room, it) for it in edits], f"{room}/crates/tiny", functions_in(said))
+
+
+def proved_first(room):
+    """The crates that are proved for an edit of a crate that uses another, each with what it uses."""
+    write(f"{room}/crates.txt", "high: low kit_crate\nidle: high\nlow:\n")
+    write(f"{room}/crates/high/must-fail/one.edit", "")
+    return {it.name: set(it.uses) for it in crates_of(room)}
+
+
 def unit_tests(room):
     """Tests of what is told of one check, and of why."""
     one = ["is_refused"]
+    yield "edited functions are checked alone", checked_alone(room, TWO, PROVED) == [*NUMBER_ALONE, "--only", "called"]
+    yield "a function of no known name is not", checked_alone(room, TWO, "fn tiny::called: proved\n") == []
+    yield "a crate with no edit is not proved", proved_first(f"{room}/several") == {"high": {"low"}, "low": set()}
     calls = "fn tiny::caller: no proof: it calls `tiny::called`, which is not proved"
     cites = "./proofs/called/Answers.antt:1:1: error: `returns`: `met` was not admitted\nfn tiny::called: not proved"
     shared = is_open("called", 6).replace("proofs/called", "proofs/+both")
@@ -146,7 +179,7 @@ def runs(room):
     given = {
         "every edit": (EDITS,),
         "no judge": ([*TWO, "of_a_contract"], SOURCE, NO_JUDGE),
-        "no batch": (TWO, SOURCE, NO_BATCH),
+        "no batch": (TWO, SOURCE + EXPORT, NO_BATCH, "tiny staticlib:\n"),
         "no proof": (TWO, not_proved),
     }
     with ThreadPoolExecutor(max(1, cores() // 2)) as pool:
@@ -154,13 +187,15 @@ def runs(room):
     for name, (_, _, wanted) in EDITS.items():
         said = ended["every edit"][1]
         yield f"edit {name}", f"must-fail tiny/{name}.edit: {wanted}" in said, said
+    _, said, archives = ended["no batch"]
+    yield "the archive of a static library is handed over", archives == ["libtiny.a"], said
     for group, what, status, last in (
         ("every edit", "what is not refused fails the run", 1, "4 passed, 4 failed"),
         ("no judge", "a lane whose judge is killed is a failure", 1, "2 passed, 1 failed"),
         ("no batch", "what was killed in one check is tried again", 0, "2 passed, 0 failed"),
         ("no proof", "a crate that is not proved is a failure", 1, "0 passed, 3 failed"),
     ):
-        found, said = ended[group]
+        found, said, _ = ended[group]
         yield what, found == status and said.endswith(f"\n{last}\n"), said
 
 
