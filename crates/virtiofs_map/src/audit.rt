@@ -28,8 +28,6 @@ mod candidates;
 mod least;
 mod questions;
 mod terminated;
-#[cfg(test)]
-mod tests;
 
 use crate::steps::Steps;
 use crate::xattrmap::{XattrMap, XattrName};

@@ -42,10 +42,6 @@ use std::ops::{Add, Sub};
 // `uids` and `gids` differ in names alone, as tests/same_but_for_names.py of the repository checks.
 mod gids;
 mod numbers;
-#[cfg(test)]
-pub(crate) mod projects;
-#[cfg(test)]
-mod tests;
 mod uids;
 
 pub use gids::{GidOffset, GuestGid, HostGid};

@@ -12,8 +12,6 @@ use thiserror::Error;
 
 pub mod laws;
 mod reader;
-#[cfg(test)]
-mod tests;
 
 /// A range of user ids. It is printed as `:inside_uid:outside_uid:count:`, in decimal.
 #[derive(Clone, Debug, PartialEq, Eq, Drop)]

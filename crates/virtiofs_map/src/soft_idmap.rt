@@ -25,15 +25,11 @@ use std::marker::{Model, PhantomData};
 mod build;
 mod entry;
 mod errors;
-#[cfg(test)]
-mod example;
 pub mod laws;
 mod lookup;
 mod placed;
 mod ranges;
 mod search;
-#[cfg(test)]
-mod tests;
 mod texts;
 
 pub use entry::Direction;

@@ -39,8 +39,6 @@ ghost use Rattle.virtiofs_map.specs.RulesFault.{RulesFault, HasRulesFault, rules
 
 mod client;
 mod errors;
-#[cfg(test)]
-mod example;
 mod first_rule;
 pub mod laws;
 mod listed;
@@ -52,8 +50,6 @@ mod reader;
 pub(crate) mod rules;
 mod scopes;
 mod server;
-#[cfg(test)]
-mod tests;
 mod trie;
 mod trie_builder;
 

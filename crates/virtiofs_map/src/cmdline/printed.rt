@@ -5,9 +5,6 @@ ghost use Rattle.virtiofs_map.specs.Printed.{specification_text};
 use crate::cmdline::IdMap;
 use std::fmt;
 
-#[cfg(test)]
-mod tests;
-
 /// A specification is printed with its word in lower case, `:` for its separator, and its numbers
 /// in plain decimal.
 impl fmt::Display for IdMap {

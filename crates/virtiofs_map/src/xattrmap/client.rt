@@ -133,6 +133,3 @@ impl<A: Allocator + Copy> XattrMap<A> {
         }
     }
 }
-
-#[cfg(test)]
-mod tests;

@@ -126,6 +126,3 @@ impl<'m, 'a, A: Allocator> Iterator for ListedNames<'m, 'a, A> {
 }
 
 impl<'m, 'a, A: Allocator> FusedIterator for ListedNames<'m, 'a, A> {}
-
-#[cfg(test)]
-mod tests;

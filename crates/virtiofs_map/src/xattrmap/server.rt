@@ -69,6 +69,3 @@ impl<A: Allocator + Copy> XattrMap<A> {
         Ok(listed)
     }
 }
-
-#[cfg(test)]
-mod tests;

@@ -1,10 +1,10 @@
 //! Audits of maps, with what they are to answer.
 
-use crate::audit::{Audit, audit, audit_counted, audit_listed, keeps_apart};
-use crate::steps::Steps;
-use crate::xattrmap::XattrMap;
 use std::alloc::Global;
 use std::test::Fail;
+use virtiofs_map::Steps;
+use virtiofs_map::audit::{Audit, audit, audit_counted, audit_listed, keeps_apart};
+use virtiofs_map::xattrmap::XattrMap;
 
 /// The name of a `No`.
 fn told(answer: &Audit) -> Option<&[u8]> {

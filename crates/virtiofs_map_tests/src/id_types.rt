@@ -2,13 +2,15 @@
 ghost use Rattle.std.specs.Prelude.{◌≡◌, ◌+◌, ◌-◌, ◌<◌, ◌≤◌, ◌↔◌, IsTrue};
 ghost use Rattle.std.specs.Ordering.{nat_cmp};
 
+pub(crate) mod projects;
+
 use crate::id_types::projects::{GuestProject, HostProject, ProjectNumber};
-use crate::id_types::{
-    GuestGid, GuestId, GuestUid, HostGid, HostId, HostUid, Id, IdNumber, IdOffset,
-};
 use std::alloc::Global;
 use std::process::Abort;
 use std::test::Fail;
+use virtiofs_map::id_types::{
+    GuestGid, GuestId, GuestUid, HostGid, HostId, HostUid, Id, IdNumber, IdOffset,
+};
 
 /// The id that is as far above `to` as `id` is above `from`.
 fn moved<G, H>(id: G, from: G, to: H) -> H

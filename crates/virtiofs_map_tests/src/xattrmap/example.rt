@@ -6,9 +6,9 @@ ghost use Rattle.virtiofs_map.specs.Names.{Passes, client_answer};
 ghost use Rattle.virtiofs_map.specs.Rule.{MappingRule};
 ghost use Rattle.virtiofs_map.specs.RuleText.{SaysRules};
 
-use crate::xattrmap::{AppliedRule, Error, PassedName, XattrMap, XattrName, laws};
 use std::alloc::Global;
 use std::test::Fail;
+use virtiofs_map::xattrmap::{AppliedRule, Error, PassedName, XattrMap, XattrName, laws};
 
 /// The map that a daemon's settings ask for.
 fn names(alloc: Global, text: &str) -> Result<XattrMap, Error>
@@ -42,7 +42,6 @@ fn say_the_same(one: &str, other: &str) -> bool
 }
 
 /// The bytes of the host's name; `None` where the guest may not use the name.
-#[cfg(test)]
 fn host_bytes(alloc: Global, text: &str, name: &[u8]) -> Result<Option<Vec<u8>>, Fail> {
     let map = names(alloc, text)?;
     let name = XattrName::new(name).ok_or("a name holds a zero")?;
@@ -52,7 +51,6 @@ fn host_bytes(alloc: Global, text: &str, name: &[u8]) -> Result<Option<Vec<u8>>,
     }
 }
 
-#[cfg(test)]
 const LABELS: &str = ":map:trusted.:user.virtiofs.:";
 
 #[test]

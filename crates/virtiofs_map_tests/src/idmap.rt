@@ -3,9 +3,9 @@ ghost use Rattle.std.specs.Prelude.{IfOk, string_bytes};
 ghost use Rattle.std.specs.Str.{chars};
 ghost use Rattle.virtiofs_map.specs.NamespaceText.{SaysNamespace};
 
-use super::{GidMap, IdMapError, UidMap, laws};
 use std::alloc::{AllocError, Global};
 use std::test::Fail;
+use virtiofs_map::idmap::{GidMap, IdMapError, UidMap, laws};
 
 /// A text, the three numbers that it says, and what these are printed as.
 const READ: [(&str, (u32, u32, u32), &str); 9] = [

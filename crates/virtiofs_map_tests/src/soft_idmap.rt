@@ -1,16 +1,19 @@
 //! Maps of known lists of specifications, built, refused and asked.
 
-use crate::cmdline::IdMapError;
+mod errors;
+mod example;
+
 use crate::id_types::projects::{GuestProject, HostProject, ProjectNumber};
-use crate::id_types::{GuestGid, GuestId, GuestUid, HostGid, HostId, HostUid, Id};
-use crate::soft_idmap::{Direction, IdMap, IdMapBuildError, MapError, RangeEnd, SpecsError};
-use crate::{Steps, cmdline};
 use std::alloc::Global;
 use std::process::Abort;
 use std::test::Fail;
+use virtiofs_map::cmdline::IdMapError;
+use virtiofs_map::id_types::{GuestGid, GuestId, GuestUid, HostGid, HostId, HostUid, Id};
+use virtiofs_map::soft_idmap::{Direction, IdMap, IdMapBuildError, MapError, RangeEnd, SpecsError};
+use virtiofs_map::{Steps, cmdline};
 
 /// The specifications that the texts say.
-pub(super) fn specs_of(alloc: Global, texts: &[&str]) -> Result<Vec<cmdline::IdMap>, Fail> {
+fn specs_of(alloc: Global, texts: &[&str]) -> Result<Vec<cmdline::IdMap>, Fail> {
     let mut specs = Vec::new(alloc);
     for text in texts {
         let spec = cmdline::IdMap::from_str(alloc, text)?;

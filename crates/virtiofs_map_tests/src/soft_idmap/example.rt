@@ -4,10 +4,10 @@ ghost use Rattle.virtiofs_map.specs.Mapping.{Becomes};
 ghost use Rattle.virtiofs_map.specs.Specifications.{texts_of, AllSay};
 ghost use Rattle.virtiofs_map.specs.declared.soft_idmap.entry.Direction.TheVariants.{GuestToHost};
 
-use crate::id_types::{GuestUid, HostUid};
-use crate::soft_idmap::{IdMap, SpecsError, laws};
 use std::alloc::Global;
 use std::test::Fail;
+use virtiofs_map::id_types::{GuestUid, HostUid};
+use virtiofs_map::soft_idmap::{IdMap, SpecsError, laws};
 
 /// The map that a daemon's settings ask for.
 fn users(alloc: Global, texts: &[&str]) -> Result<IdMap<GuestUid, HostUid>, SpecsError>

@@ -1,46 +1,21 @@
 //! Texts of rules, with the rules that they stand for or with what is wrong with them.
 
-use crate::steps::Steps;
-use crate::xattrmap::rules::{Rule, RuleKind};
-use crate::xattrmap::scopes::Side;
-use crate::xattrmap::{Error, ErrorKind, PatternField, XattrMap, XattrName};
 use std::alloc::{AllocError, Global};
 use std::process::Abort;
 use std::test::Fail;
+use virtiofs_map::Steps;
+use virtiofs_map::xattrmap::{Error, ErrorKind, PatternField, Side, XattrMap, XattrName};
 
-/// The sides on which a rule is to act: the client's, the server's.
-type Sides = (bool, bool);
-
-const BOTH: Sides = (true, true);
-
-const CLIENT: Sides = (true, false);
-
-const SERVER: Sides = (false, true);
-
-/// What a rule is to be, with its key and its prepend last.
-type Expected = (RuleKind, Sides, &'static str, &'static str);
-
-fn assert_rule(rt: &impl Abort, rule: &Rule, expected: &Expected) {
-    let (kind, sides, key, prepend) = *expected;
-    let found = (rule.scope.has(Side::Client), rule.scope.has(Side::Server));
-    assert_eq!(rt; rule.kind, kind);
-    assert_eq!(rt; found, sides);
-    assert_eq!(rt; rule.key.as_slice(), key.as_bytes());
-    assert_eq!(rt; rule.prepend.as_slice(), prepend.as_bytes());
+/// Whether a map equals the map of a text.
+fn is_map_of(alloc: Global, map: &XattrMap, text: &str) -> Result<bool, Fail> {
+    let other = XattrMap::try_from(alloc, text)?;
+    Ok(*map == other)
 }
 
-fn assert_rules(
-    rt: &impl Abort,
-    alloc: Global,
-    text: &str,
-    expected: &[Expected],
-) -> Result<(), Fail> {
-    let map = XattrMap::try_from(alloc, text)?;
-    assert_eq!(rt; map.rules.len(), expected.len(), "of {text:?}");
-    for (rule, wanted) in map.rules.iter().zip(expected) {
-        assert_rule(rt, rule, wanted);
-    }
-    Ok(())
+/// Whether the maps of two texts are equal.
+fn mean_the_same(alloc: Global, one: &str, other: &str) -> Result<bool, Fail> {
+    let map = XattrMap::try_from(alloc, one)?;
+    is_map_of(alloc, &map, other)
 }
 
 /// Whether the map of a text equals its clone.
@@ -49,13 +24,71 @@ fn equals_its_clone(alloc: Global, text: &str) -> Result<bool, Fail> {
     Ok(map.clone(alloc)? == map)
 }
 
-/// A text, and the rules that it stands for.
-type Read = (&'static str, &'static [Expected]);
+/// Two texts, and whether they mean the same.
+const COMPARED: [(&str, &str, bool); 16] = [
+    ("xokxallxxx", ":ok:all:::", true),
+    ("obadoallooo", ":bad:all:::", true),
+    ("obadoallooo", ":ok:all:::", false),
+    (
+        ":ok:all:::\u{a0}ok\u{a0}all\u{a0}\u{a0}\u{a0}:ok:all:::",
+        ":ok:all::::ok:all::::ok:all:::",
+        true,
+    ),
+    (
+        ":ok:all:::\u{b}ok\u{b}all\u{b}\u{b}\u{b}:ok:all:::",
+        ":ok:all::::ok:all::::ok:all:::",
+        true,
+    ),
+    (":ok:all::::ok:all:::", ":ok:all:::", false),
+    ("\0ok\0all\0\0\0", ":ok:all:::", true),
+    (
+        "\n        /prefix/all/trusted./user.virtiofs./\n        /bad/server//trusted./\n        /bad/client/user.virtiofs.//\n        /ok/all///\n        ",
+        ":prefix:all:trusted.:user.virtiofs.::bad:server::trusted.::bad:client:user.virtiofs.:::ok:all:::",
+        true,
+    ),
+    (
+        ":prefix:all:trusted.:user.virtiofs.: /prefix/all/trusted./user.virtiofs./",
+        ":prefix:all:trusted.:user.virtiofs.::prefix:all:trusted.:user.virtiofs.:",
+        true,
+    ),
+    (":map::P:   ", ":prefix:all::P::bad:all:::", true),
+    (
+        ":map::user.virtiofs.:",
+        ":prefix:all::user.virtiofs.::bad:all:::",
+        true,
+    ),
+    (
+        ":map:trusted.:user.virtiofs.:",
+        ":prefix:all::user.virtiofs.::bad:all:::",
+        false,
+    ),
+    (
+        ":map:trusted.:user.virtiofs.:",
+        ":prefix:all:trusted.:user.virtiofs.: :bad:all:user.virtiofs.:trusted.: :ok:all:::",
+        true,
+    ),
+    (
+        ":prefix:client:trusted.:user.virtiofs.:",
+        ":prefix:all:trusted.:user.virtiofs.:",
+        false,
+    ),
+    (
+        ":unsupported:server::security.:",
+        ":bad:server::security.:",
+        false,
+    ),
+    (":ok:all:é:ü.:", ":ok:all:ü.:é:", false),
+];
 
-fn assert_read(rt: &impl Abort, alloc: Global, texts: &[Read]) -> Result<(), Fail> {
-    for (text, expected) in texts {
-        assert_rules(rt, alloc, text, expected)?;
-        assert!(rt; equals_its_clone(alloc, text)?, "the clone of {text:?}");
+#[test]
+fn compares_by_what_rules_mean(rt: HostRuntime) -> Result<(), Fail> {
+    for (one, other, wanted) in COMPARED {
+        assert_eq!(rt;
+            mean_the_same(rt.alloc(), one, other)?,
+            wanted,
+            "{one:?} {other:?}"
+        );
+        assert!(rt; equals_its_clone(rt.alloc(), one)?, "the clone of {one:?}");
     }
     Ok(())
 }
@@ -99,74 +132,6 @@ fn assert_fault(
     let error = XattrMap::try_from(alloc, text).err();
     assert_eq!(rt; error, Some(Error { cause, rule }), "of {text:?}");
     Ok(())
-}
-
-const OKAY: Expected = (RuleKind::Okay, BOTH, "", "");
-
-const BAD: Expected = (RuleKind::Bad, BOTH, "", "");
-
-const TRUSTED: Expected = (RuleKind::Prefix, BOTH, "trusted.", "user.virtiofs.");
-
-const READ: [Read; 11] = [
-    ("xokxallxxx", &[OKAY]),
-    ("obadoallooo", &[BAD]),
-    (
-        ":ok:all:::\u{a0}ok\u{a0}all\u{a0}\u{a0}\u{a0}:ok:all:::",
-        &[OKAY, OKAY, OKAY],
-    ),
-    (
-        ":ok:all:::\u{b}ok\u{b}all\u{b}\u{b}\u{b}:ok:all:::",
-        &[OKAY, OKAY, OKAY],
-    ),
-    ("\0ok\0all\0\0\0", &[OKAY]),
-    (
-        ":prefix:client:trusted.:user.virtiofs.:",
-        &[(RuleKind::Prefix, CLIENT, "trusted.", "user.virtiofs.")],
-    ),
-    (
-        ":prefix:all::user.virtiofs.::bad:all:::",
-        &[(RuleKind::Prefix, BOTH, "", "user.virtiofs."), BAD],
-    ),
-    (
-        "\n        /prefix/all/trusted./user.virtiofs./\n        /bad/server//trusted./\n        /bad/client/user.virtiofs.//\n        /ok/all///\n        ",
-        &[
-            TRUSTED,
-            (RuleKind::Bad, SERVER, "", "trusted."),
-            (RuleKind::Bad, CLIENT, "user.virtiofs.", ""),
-            OKAY,
-        ],
-    ),
-    (
-        ":prefix:all:trusted.:user.virtiofs.: /prefix/all/trusted./user.virtiofs./",
-        &[TRUSTED, TRUSTED],
-    ),
-    (
-        ":unsupported:server::security.:",
-        &[(RuleKind::Unsupported, SERVER, "", "security.")],
-    ),
-    (":ok:all:é:ü.:", &[(RuleKind::Okay, BOTH, "é", "ü.")]),
-];
-
-#[test]
-fn reads_rules(rt: HostRuntime) -> Result<(), Fail> {
-    assert_read(&rt, rt.alloc(), &READ)
-}
-
-const EXPANDED: [Read; 2] = [
-    (":map::P:   ", &[(RuleKind::Prefix, BOTH, "", "P"), BAD]),
-    (
-        ":map:trusted.:user.virtiofs.:",
-        &[
-            TRUSTED,
-            (RuleKind::Bad, BOTH, "user.virtiofs.", "trusted."),
-            OKAY,
-        ],
-    ),
-];
-
-#[test]
-fn expands_map_rules(rt: HostRuntime) -> Result<(), Fail> {
-    assert_read(&rt, rt.alloc(), &EXPANDED)
 }
 
 /// A text, what is wrong with it, and the number of the rule at fault.
@@ -221,49 +186,6 @@ const FAULTS: [(&str, Wrong, Option<usize>); 24] = [
 fn tells_the_first_fault(rt: HostRuntime) -> Result<(), Fail> {
     for (text, wrong, rule) in FAULTS {
         assert_fault(&rt, rt.alloc(), text, wrong, rule)?;
-    }
-    Ok(())
-}
-
-/// Whether a map equals the map of a text.
-fn is_map_of(alloc: Global, map: &XattrMap, text: &str) -> Result<bool, Fail> {
-    let other = XattrMap::try_from(alloc, text)?;
-    Ok(*map == other)
-}
-
-/// Whether the maps of two texts are equal.
-fn mean_the_same(alloc: Global, one: &str, other: &str) -> Result<bool, Fail> {
-    let map = XattrMap::try_from(alloc, one)?;
-    is_map_of(alloc, &map, other)
-}
-
-/// Two texts, and whether they mean the same.
-const COMPARED: [(&str, &str, bool); 3] = [
-    (
-        ":map::user.virtiofs.:",
-        ":prefix:all::user.virtiofs.::bad:all:::",
-        true,
-    ),
-    (
-        ":map:trusted.:user.virtiofs.:",
-        ":prefix:all::user.virtiofs.::bad:all:::",
-        false,
-    ),
-    (
-        ":map:trusted.:user.virtiofs.:",
-        ":prefix:all:trusted.:user.virtiofs.: :bad:all:user.virtiofs.:trusted.: :ok:all:::",
-        true,
-    ),
-];
-
-#[test]
-fn compares_by_what_rules_mean(rt: HostRuntime) -> Result<(), Fail> {
-    for (one, other, wanted) in COMPARED {
-        assert_eq!(rt;
-            mean_the_same(rt.alloc(), one, other)?,
-            wanted,
-            "{one:?} {other:?}"
-        );
     }
     Ok(())
 }
@@ -356,7 +278,40 @@ fn assert_asked(rt: &impl Abort, alloc: Global, text: &str, asked: &[Asked]) -> 
 }
 
 /// Texts, each with names that are asked for.
-const ASKED: [(&str, &[Asked]); 5] = [
+const ASKED: [(&str, &[Asked]); 9] = [
+    (
+        ":prefix:client:trusted.:user.virtiofs.:",
+        &[
+            (Side::Client, "trusted.a", Some(0), (9, 9)),
+            (Side::Client, "user.virtiofs.a", None, (1, 9)),
+            (Side::Server, "user.virtiofs.a", None, (1, 1)),
+        ],
+    ),
+    (
+        ":prefix:all::user.virtiofs.::bad:all:::",
+        &[
+            (Side::Client, "user.virtiofs.a", Some(0), (1, 1)),
+            (Side::Server, "user.virtiofs.a", Some(0), (15, 15)),
+            (Side::Server, "x", Some(1), (1, 2)),
+        ],
+    ),
+    (
+        ":unsupported:server::security.:",
+        &[
+            (Side::Client, "security.a", None, (1, 1)),
+            (Side::Server, "security.a", Some(0), (10, 10)),
+            (Side::Server, "x", None, (1, 2)),
+        ],
+    ),
+    (
+        ":ok:all:é:ü.:",
+        &[
+            (Side::Client, "éa", Some(0), (3, 3)),
+            (Side::Client, "ü.", None, (1, 3)),
+            (Side::Server, "ü.", Some(0), (4, 4)),
+            (Side::Server, "é", None, (1, 3)),
+        ],
+    ),
     (
         ":ok:all:a:a: :bad:all:a:a: :ok:all:::",
         &[
@@ -448,25 +403,33 @@ fn many_rules(alloc: Global) -> Result<String, AllocError> {
     Ok(text)
 }
 
-/// The key and the prepend of the rule at that place are those of its line.
-fn assert_line(rt: &impl Abort, alloc: Global, n: usize, rule: &Rule) -> Result<(), Fail> {
-    let key = format!(in alloc; "key{n}.")?;
-    let prepend = format!(in alloc; "host{n}.")?;
-    assert!(rt; rule.key.as_slice() == key.as_bytes());
-    assert!(rt; rule.prepend.as_slice() == prepend.as_bytes());
+/// The rule at that place decides the names that begin with its key and with its prepend.
+fn assert_line(rt: &impl Abort, alloc: Global, map: &XattrMap, n: usize) -> Result<(), Fail> {
+    let of_guest = format!(in alloc; "key{n}.a")?;
+    let of_host = format!(in alloc; "host{n}.a")?;
+    let (decides, _) = first(map, Side::Client, of_guest.as_bytes())?;
+    assert_eq!(rt; decides, Some(n));
+    let (decides, _) = first(map, Side::Server, of_host.as_bytes())?;
+    assert_eq!(rt; decides, Some(n));
     Ok(())
+}
+
+/// The clone of the map of many rules, where it is that map.
+fn clone_of_many(alloc: Global) -> Result<XattrMap, Fail> {
+    let text = many_rules(alloc)?;
+    let map = XattrMap::try_from(alloc, text.as_str())?;
+    let copy = map.clone(alloc)?;
+    if copy != map {
+        return Err(Fail::from("the clone is another map"));
+    }
+    Ok(copy)
 }
 
 #[test]
 fn clones_many_rules(rt: HostRuntime) -> Result<(), Fail> {
-    let alloc = rt.alloc();
-    let text = many_rules(alloc)?;
-    let map = XattrMap::try_from(alloc, text.as_str())?;
-    let copy = map.clone(alloc)?;
-    assert!(rt; copy == map);
-    assert_eq!(rt; copy.rules.len(), MANY);
-    for (n, rule) in copy.rules.iter().enumerate() {
-        assert_line(&rt, alloc, n, rule)?;
+    let copy = clone_of_many(rt.alloc())?;
+    for n in 0..MANY {
+        assert_line(&rt, rt.alloc(), &copy, n)?;
     }
     Ok(())
 }

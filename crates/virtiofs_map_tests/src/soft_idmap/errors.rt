@@ -3,12 +3,12 @@ ghost use Rattle.std.specs.Prelude.{◌≡◌, IfOk, string_bytes};
 ghost use Rattle.virtiofs_map.specs.Printed.{map_error_text};
 
 use crate::id_types::projects::{GuestProject, ProjectNumber};
-use crate::id_types::{GuestId, GuestUid, HostId, HostUid, Id};
-use crate::soft_idmap::tests::specs_of;
-use crate::soft_idmap::{FaultKind, IdMap, IdMapBuildError, MapError};
+use crate::soft_idmap::specs_of;
 use std::alloc::{AllocError, Global};
 use std::process::Abort;
 use std::test::Fail;
+use virtiofs_map::id_types::{GuestId, GuestUid, HostId, HostUid, Id};
+use virtiofs_map::soft_idmap::{FaultKind, IdMap, IdMapBuildError, MapError};
 
 /// Two specifications of which the second meets the first, and the text of the fault.
 const MEETING: [(&str, &str, &str); 7] = [

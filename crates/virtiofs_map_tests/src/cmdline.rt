@@ -4,9 +4,9 @@ ghost use Rattle.std.specs.Str.{chars};
 ghost use Rattle.virtiofs_map.specs.SpecificationText.{Says};
 ghost use Rattle.virtiofs_map.specs.declared.cmdline.IdMap.TheVariants.{ForbidGuest};
 
-use crate::cmdline::{IdMap, IdMapError, laws};
 use std::alloc::{AllocError, Global};
 use std::test::Fail;
+use virtiofs_map::cmdline::{IdMap, IdMapError, laws};
 
 /// Each text, and the printed form of the specification that it says.
 const PRINTED: [(&str, &str); 11] = [

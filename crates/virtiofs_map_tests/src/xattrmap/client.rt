@@ -1,9 +1,9 @@
 //! Names that the guest asks for, with what becomes of them.
 
-use crate::xattrmap::{AppliedRule, Error, ErrorKind, PassedName, XattrMap, XattrName};
 use std::alloc::Global;
 use std::process::Abort;
 use std::test::Fail;
+use virtiofs_map::xattrmap::{AppliedRule, Error, ErrorKind, PassedName, XattrMap, XattrName};
 
 /// What is to become of a name.
 #[derive(Clone, Copy, PartialEq, Eq, Debug)]

@@ -1,9 +1,9 @@
 //! Lists of the host's names, with the lists that the guest gets.
 
-use crate::xattrmap::{Error, ErrorKind, XattrMap};
 use std::alloc::Global;
 use std::process::Abort;
 use std::test::Fail;
+use virtiofs_map::xattrmap::{Error, ErrorKind, XattrMap};
 
 /// The list that the guest is shown.
 fn shown(alloc: Global, text: &str, names: &[u8]) -> Result<Vec<u8>, Error> {

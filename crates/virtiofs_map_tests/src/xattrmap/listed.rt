@@ -1,9 +1,9 @@
 //! What is given of a list of names, a name at a time.
 
-use crate::xattrmap::{Error, ErrorKind, ListedNames, XattrMap};
 use std::alloc::Global;
 use std::process::Abort;
 use std::test::Fail;
+use virtiofs_map::xattrmap::{Error, ErrorKind, ListedNames, XattrMap};
 
 /// How what is given of a list ends.
 #[derive(Clone, Copy, PartialEq, Eq, Debug)]

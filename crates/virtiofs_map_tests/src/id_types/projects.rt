@@ -4,9 +4,9 @@
 //! printed as `project 7`. So code that works with it rests on the traits alone.
 ghost use Rattle.std.specs.Prelude.{◌≡◌, ◌+◌, ◌-◌, ◌≤◌};
 
-use crate::id_types::{GuestId, HostId, Id, IdNumber, IdOffset};
 use std::fmt;
 use std::ops::{Add, Sub};
+use virtiofs_map::id_types::{GuestId, HostId, Id, IdNumber, IdOffset};
 
 /// What a project id is made of.
 #[derive(Clone, Copy, Debug, PartialEq, Eq, PartialOrd, Ord)]

@@ -1,0 +1,7 @@
+//! Tests of the maps of attribute names.
+
+mod client;
+mod example;
+mod listed;
+mod server;
+mod texts;
