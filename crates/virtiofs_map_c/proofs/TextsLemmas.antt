@@ -10,7 +10,7 @@ use Rattle.virtiofs_map.specs.Refusal.{OutOfMemoryOr}
 use Rattle.virtiofs_map.specs.declared.cmdline.IdMap.{IdMap as Specification}
 use Rattle.virtiofs_map_c.specs.Makes.{TellsFault, MakesOrTells, TellsThis}
 use Rattle.virtiofs_map_c.specs.declared.fault.Fault.{Fault}
-use Rattle.virtiofs_map_c.specs.Texts.{SaysSpec, TextFault, NotUtf8, OfText, HasTextFault, IsTextTold, AllSaySpecs, AreAccepted, HasFirstUnread, TextsFault, Unread, Unbuilt, HasTextsFault, AreTextsTold}
+use Rattle.virtiofs_map_c.specs.Texts.{SaysSpec, TextFault, NotUtf8, OfText, HasTextFault, IsTextTold, AllSaySpecs, AreAccepted, HasUnreadText, TextsFault, UnreadText, UnbuiltTexts, HasTextsFault, AreTextsTold}
 use Rattle.virtiofs_map_c.proofs.FirstLemmas.{none_bad, one_place}
 use Rattle.virtiofs_map_c.proofs.MakesLemmas.{refused_complete, refused_faulty}
 
@@ -53,7 +53,7 @@ AllSaySpecs-one = AllZip-one Goes (λ text. SaysSpec-one text.now)
 -- one that is not read, after those that are
 pub unread-here : (texts : List (Bor (List ℕ))) (list : List Specification) (i : ℕ) (d : Bor (List ℕ)) (told : Option TextFault)
     → i < length texts → AllSaySpecs (take i texts) list → OutOfMemoryOr told (HasTextFault (get_or texts i d).now)
-    → OutOfMemoryOr (option_map (Unread i) told) (HasTextsFault texts)
+    → OutOfMemoryOr (option_map (UnreadText i) told) (HasTextsFault texts)
 unread-here texts list i d None below say wrong = tt
 unread-here texts list i d (Some fault) below say wrong = record {
   before = list;
@@ -63,21 +63,21 @@ unread-here texts list i d (Some fault) below say wrong = record {
 
 -- texts that say a list of which no map is made
 pub refused-build : (texts : List (Bor (List ℕ))) (list : List Specification) (told : Option BuildFault)
-    → AllSaySpecs texts list → OutOfMemoryOr told (HasFirstFault list) → OutOfMemoryOr (option_map Unbuilt told) (HasTextsFault texts)
+    → AllSaySpecs texts list → OutOfMemoryOr told (HasFirstFault list) → OutOfMemoryOr (option_map UnbuiltTexts told) (HasTextsFault texts)
 refused-build texts list None say refused = tt
 refused-build texts list (Some fault) say refused = record { list = list; say = say; first = refused }
 
 -- texts that say an accepted list have no fault
 pub AreAccepted-no_fault : (texts : List (Bor (List ℕ))) → AreAccepted texts → (fault : TextsFault) → ¬ HasTextsFault texts fault
-AreAccepted-no_fault texts are (Unread i fault) wrong = none_bad Goes (Has fault) (never fault) texts are.list i are.say wrong.here
-AreAccepted-no_fault texts are (Unbuilt fault) wrong =
+AreAccepted-no_fault texts are (UnreadText i fault) wrong = none_bad Goes (Has fault) (never fault) texts are.list i are.say wrong.here
+AreAccepted-no_fault texts are (UnbuiltTexts fault) wrong =
     build_no_fault are.list fault are.accepted (subst (λ (list : List Specification). HasFirstFault list fault) (AllSaySpecs-one texts wrong.list are.list wrong.say are.say) wrong.first)
 
 one_here : (text : Option (Bor (List ℕ))) (fault other : TextFault) → IsSomeAnd text (Has fault) → IsSomeAnd text (Has other) → fault ≡ other
 one_here None fault other first second = absurd first
 one_here (Some text) fault other first second = HasTextFault-one text.now fault other first second
 
-one_unread : (texts : List (Bor (List ℕ))) (i j : ℕ) (fault other : TextFault) → HasFirstUnread texts i fault → HasFirstUnread texts j other → Unread i fault ≡ Unread j other
+one_unread : (texts : List (Bor (List ℕ))) (i j : ℕ) (fault other : TextFault) → HasUnreadText texts i fault → HasUnreadText texts j other → UnreadText i fault ≡ UnreadText j other
 one_unread texts i j fault other first second =
     let same : i ≡ j = one_place Goes (Has fault) (Has other) (never fault) (never other) texts first.before second.before i j first.say first.here second.say second.here in
     let there : IsSomeAnd (slice_get texts i) (Has other) = rw same second.here in
@@ -86,11 +86,11 @@ one_unread texts i j fault other first second =
 
 -- an array of texts has at most one fault
 pub HasTextsFault-one : (texts : List (Bor (List ℕ))) (fault other : TextsFault) → HasTextsFault texts fault → HasTextsFault texts other → fault ≡ other
-HasTextsFault-one texts (Unread i fault) (Unread j other) first second = one_unread texts i j fault other first second
-HasTextsFault-one texts (Unread i fault) (Unbuilt other) first second = absurd (none_bad Goes (Has fault) (never fault) texts second.list i second.say first.here)
-HasTextsFault-one texts (Unbuilt fault) (Unread j other) first second = absurd (none_bad Goes (Has other) (never other) texts first.list j first.say second.here)
-HasTextsFault-one texts (Unbuilt fault) (Unbuilt other) first second =
-    ap Unbuilt (build_one_fault second.list fault other (subst (λ (list : List Specification). HasFirstFault list fault) (AllSaySpecs-one texts first.list second.list first.say second.say) first.first) second.first)
+HasTextsFault-one texts (UnreadText i fault) (UnreadText j other) first second = one_unread texts i j fault other first second
+HasTextsFault-one texts (UnreadText i fault) (UnbuiltTexts other) first second = absurd (none_bad Goes (Has fault) (never fault) texts second.list i second.say first.here)
+HasTextsFault-one texts (UnbuiltTexts fault) (UnreadText j other) first second = absurd (none_bad Goes (Has other) (never other) texts first.list j first.say second.here)
+HasTextsFault-one texts (UnbuiltTexts fault) (UnbuiltTexts other) first second =
+    ap UnbuiltTexts (build_one_fault second.list fault other (subst (λ (list : List Specification). HasFirstFault list fault) (AllSaySpecs-one texts first.list second.list first.say second.say) first.first) second.first)
 
 -- ---- what a call tells of texts
 

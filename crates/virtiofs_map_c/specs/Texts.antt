@@ -79,43 +79,43 @@ pub record AreAccepted (texts : List (Bor (List ℕ))) : Type 0 where
   pub accepted : Accepted list
 
 -- the text at that index has that fault, and each text before it says a specification
-pub record HasFirstUnread (texts : List (Bor (List ℕ))) (index : ℕ) (fault : TextFault) : Type 0 where
+pub record HasUnreadText (texts : List (Bor (List ℕ))) (index : ℕ) (fault : TextFault) : Type 0 where
   pub before : List Specification
   pub say : AllSaySpecs (take index texts) before
   pub here : IsSomeAnd (slice_get texts index) (λ text. HasTextFault text.now fault)
 
 -- each text says a specification, and the list of these has that first fault
-pub record HasUnbuilt (texts : List (Bor (List ℕ))) (fault : BuildFault) : Type 0 where
+pub record HasUnbuiltTexts (texts : List (Bor (List ℕ))) (fault : BuildFault) : Type 0 where
   pub list : List Specification
   pub say : AllSaySpecs texts list
   pub first : HasFirstFault list fault
 
 -- what is wrong with an array of texts of which no map is made
 pub data TextsFault : Type 0 where
-  Unread : ℕ → TextFault → TextsFault
-  Unbuilt : BuildFault → TextsFault
+  UnreadText : ℕ → TextFault → TextsFault
+  UnbuiltTexts : BuildFault → TextsFault
 
 -- the array of texts has that fault
 abbrev pub HasTextsFault : List (Bor (List ℕ)) → TextsFault → Type 0
-HasTextsFault texts (Unread index fault) = HasFirstUnread texts index fault
-HasTextsFault texts (Unbuilt fault) = HasUnbuilt texts fault
+HasTextsFault texts (UnreadText index fault) = HasUnreadText texts index fault
+HasTextsFault texts (UnbuiltTexts fault) = HasUnbuiltTexts texts fault
 
 -- the fault that an error tells; none where a request for memory was refused
 abbrev pub texts_fault_of : TextsError → Option TextsFault
-texts_fault_of (errors.Text place cause) = option_map (Unread place) (text_fault_of cause)
-texts_fault_of (errors.Build error) = option_map Unbuilt (build_fault_of error)
+texts_fault_of (errors.Text place cause) = option_map (UnreadText place) (text_fault_of cause)
+texts_fault_of (errors.Build error) = option_map UnbuiltTexts (build_fault_of error)
 
 -- what is told of such an array, or want of memory
 abbrev pub texts_told : Option TextsFault → Fault
 texts_told None = memory_fault
-texts_told (Some (Unread index fault)) = fault_told index fault
-texts_told (Some (Unbuilt fault)) = build_told fault
+texts_told (Some (UnreadText index fault)) = fault_told index fault
+texts_told (Some (UnbuiltTexts fault)) = build_told fault
 
 -- what is quoted of it
 abbrev pub texts_quoted : Option TextsFault → List ℕ
 texts_quoted None = []
-texts_quoted (Some (Unread index fault)) = fault_quoted fault
-texts_quoted (Some (Unbuilt fault)) = []
+texts_quoted (Some (UnreadText index fault)) = fault_quoted fault
+texts_quoted (Some (UnbuiltTexts fault)) = []
 
 -- what is wrong with an array of texts, or want of memory, is told and quoted
 pub record AreTextsTold (told : Fault) (old new : List ℕ) (fault : Option TextsFault) : Type 0 where
