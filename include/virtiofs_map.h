@@ -28,8 +28,8 @@
  *    alone while it runs: no two of these arguments overlap, and none overlaps
  *    what the call reads;
  *  - a handle is all zeros or was last written by a function below;
- *  - malloc and free are the C library's, or as good: one allocator, aligned to
- *    16 bytes. No call comes from a signal handler, or from the child of a fork
+ *  - malloc, realloc and free are the C library's, or as good: all three of one
+ *    allocator, aligned to 16 bytes. No call comes from a signal handler, or from the child of a fork
  *    of a program with threads.
  * No function keeps a pointer that it is given, once it has returned.
  *
@@ -235,9 +235,9 @@ uint32_t virtiofs_gids_host(struct virtiofs_gids *map, uint32_t host, uint32_t *
  *             is one of the faults. Ask it once, before the lookups.
  * guest       OK: the host's id for a guest's, in *host. FORBIDDEN: its use is
  *             forbidden. Of an array that is accepted this is the answer of the
- *             map, and there is no other code. Of an array that is not: either the
- *             answer of the first specification that covers the id, or
- *             NOT_ACCEPTED. With no OK, *host is as it was.
+ *             map, and there is no other code. Of an array that is not, the answer
+ *             means nothing, and NOT_ACCEPTED may come too. With no OK, *host is
+ *             as it was.
  * host        The guest's id for a host's, to *guest. The same.
  */
 
@@ -270,16 +270,17 @@ bool virtiofs_range_read(const uint8_t *text, size_t text_len, struct virtiofs_r
  * a zero after each; the last one needs none, and empty names count for nothing.
  *
  * make        Makes a map of a text of rules. True and false are as for ids. The
- *             faults: UTF8, SCOPE, TYPE, INCOMPLETE, MAP_RULE, NUL_KEY and
- *             NUL_PREPEND with the number of the rule, NO_RULES, MEMORY. The field
- *             at fault is quoted for SCOPE and TYPE.
+ *             faults: SCOPE, TYPE, INCOMPLETE, MAP_RULE, NUL_KEY and NUL_PREPEND
+ *             with the number of the rule; UTF8, NO_RULES and MEMORY without one.
+ *             The field at fault is quoted for SCOPE and TYPE.
  * share       As for ids.
  * free        As for ids.
  * client      As what a name that the guest asks for goes to the host. OK: the
  *             bytes in `out`, the name with a prepend before it. AS_IT_IS: the name
  *             itself; nothing is copied and no memory is taken. DENIED;
- *             UNSUPPORTED; UNTERMINATED; NO_NAME; NO_MAP. NO_ROOM and NO_MEMORY
- *             come only where a prepend goes before the name.
+ *             UNSUPPORTED; UNTERMINATED; NO_NAME; NO_MAP. OK, NO_ROOM and NO_MEMORY
+ *             come only where a `prefix` or a `map` rule puts its prepend before the
+ *             name, an empty one too.
  * server      The list that the guest gets for the host's list of names, each name
  *             with a zero after it; one zero where none is left. OK: the list in
  *             `out`. It is never empty, and at most one byte longer than the list

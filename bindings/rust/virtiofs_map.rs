@@ -6,9 +6,10 @@
 //! error and texts are virtiofsd's; docs/DIFFERENCES.md has what differs.
 //!
 //! Maps are `Send` and `Sync`, and any number of threads may ask one map at once by `&self`. A lookup takes a lock only
-//! where it is the first one that its thread makes of the map, or one in the last moments of the thread. What this file
-//! does itself is not proved: it carries numbers and bytes to the library and back, keeps a handle for each thread, and
-//! writes texts.
+//! where it is the first one that its thread makes of the map, where memory for a handle was refused, or in the last
+//! moments of the thread. The last owner of a map frees its handles after every call that was made of them, as `Arc`
+//! orders the two. What this file does itself is not proved: it carries numbers and bytes to the library and back, keeps
+//! a handle for each thread, and writes texts.
 
 // (a program may need only a part of it)
 #![allow(dead_code, unused_imports)]

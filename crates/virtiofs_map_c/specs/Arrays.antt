@@ -24,6 +24,10 @@ of_kind kind first to count =
 abbrev pub said : Spec → Option Specification
 said spec = of_kind spec.kind spec.first spec.to spec.count
 
+-- what is not read of a forbidden range is 0
+abbrev pub HasNoTarget : Spec → Type 0
+HasNoTarget spec = spec.kind ≡ 5 → spec.to ≡ 0
+
 -- the specifications of the array are these, one for one
 abbrev pub AreSaid : List Spec → List Specification → Type 0
 AreSaid specs list = AllZip (λ spec said_one. said spec ≡ Some said_one) specs list

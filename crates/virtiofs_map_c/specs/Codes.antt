@@ -1,4 +1,4 @@
--- The numbers that calls answer, under the names that the header has for them.
+-- The numbers that calls answer, under the names that the header has for them in small letters; YES and NO are `answer_yes` and `answer_no`.
 use Rattle.std.specs.Prelude.{ℕ}
 
 abbrev pub ok : ℕ

@@ -32,7 +32,7 @@ abbrev pub Shares : {S : Type 0} → Option S → Option S → ℕ → Option S 
 Shares None old code new = (code ≡ no_map) × (new ≡ old)
 Shares (Some map) old code new = ((code ≡ ok) × (new ≡ Some map)) ⊎ ((code ≡ no_memory) × (new ≡ old))
 
--- both lead to one map
+-- both hold maps of one kind that say the same
 pub record IsShared (kept other : Kept) : Type 0 where
   pub uids : uids_in (Some other) ≡ uids_in (Some kept)
   pub gids : gids_in (Some other) ≡ gids_in (Some kept)

@@ -2,12 +2,18 @@
 use Rattle.std.specs.Prelude.{◌≡◌, ◌⊎◌, ℕ, List, Option, Some, None, Contains}
 use Rattle.std.specs.Global.{Global}
 use Rattle.virtiofs_map.specs.Audit.{AnswersLeast, Terminated}
+use Rattle.virtiofs_map.specs.LookupAnswers.{IsDecidedBy}
 use Rattle.virtiofs_map.specs.Names.{ClientAnswer, Passes, IsDenied, IsUnsupported, IsUnterminated, client_answer, server_answer}
-use Rattle.virtiofs_map.specs.Rule.{MappingRule}
+use Rattle.virtiofs_map.specs.Rule.{RuleType, MappingRule}
 use Rattle.virtiofs_map.specs.declared.audit.answer.Audit.{Audit}
 use Rattle.virtiofs_map.specs.declared.audit.answer.Audit.TheVariants.{Yes, No}
 use Rattle.virtiofs_map_c.specs.Codes.{ok, as_it_is, denied, unsupported, unterminated, answer_yes, answer_no, no_memory, no_map, no_name}
 use Rattle.virtiofs_map_c.specs.Replies.{TellsBytes, TellsCode}
+
+-- the first rule of the handle's map that fits the guest's name is of that type
+abbrev pub IsDecidedIn : RuleType → Option (List MappingRule) → List ℕ → Type 0
+IsDecidedIn kind None name = ⊥
+IsDecidedIn kind (Some rules) name = IsDecidedBy kind rules name
 
 -- what becomes of a name that the guest asks for
 abbrev pub TellsClient : ClientAnswer → List ℕ → List ℕ → ℕ → ℕ → List ℕ → Type 0
@@ -59,7 +65,7 @@ AnswersApart bad None second old code len new = TellsCode no_map old code len ne
 AnswersApart bad (Some rules) None old code len new = TellsCode no_map old code len new
 AnswersApart bad (Some rules) (Some others) old code len new = TellsLeast (bad rules others) old code len new
 
--- whether some rule decides every name, or that there is no map
+-- whether each name is decided by some rule, or that there is no map
 abbrev pub AnswersTerminated : Option (List MappingRule) → ℕ → Type 0
 AnswersTerminated None code = code ≡ no_map
 AnswersTerminated (Some rules) code = (Terminated rules → code ≡ answer_yes) × ((¬ Terminated rules) → code ≡ answer_no)

@@ -1,11 +1,12 @@
 //! Maps of attribute names, for C.
-ghost use Rattle.std.specs.Prelude.{◌≡◌, List, Some, None, IsTrue, IsSomeAnd};
-ghost use Rattle.virtiofs_map.specs.Rule.{MappingRule};
+ghost use Rattle.std.specs.Prelude.{◌≡◌, ◌≢◌, List, Some, None, Contains, IsTrue, IsSomeAnd};
+ghost use Rattle.virtiofs_map.specs.Rule.{MappingRule, Okay, Prefix};
+ghost use Rattle.virtiofs_map_c.specs.Codes.{as_it_is, no_memory};
 ghost use Rattle.virtiofs_map_c.specs.Faults.{no_fault};
 ghost use Rattle.virtiofs_map_c.specs.Handles.{rules_of};
 ghost use Rattle.virtiofs_map_c.specs.Kinds.{only_names, rules_in};
 ghost use Rattle.virtiofs_map_c.specs.Makes.{TellsFault, MakesOrTells, TellsThis, Shares};
-ghost use Rattle.virtiofs_map_c.specs.Names.{AnswersClient, AnswersServer, AnswersAudit, AnswersApart, AnswersTerminated};
+ghost use Rattle.virtiofs_map_c.specs.Names.{IsDecidedIn, AnswersClient, AnswersServer, AnswersAudit, AnswersApart, AnswersTerminated};
 ghost use Rattle.virtiofs_map_c.specs.Rules.{BytesSayRules, BytesFault, HasBytesFault, IsBytesTold};
 ghost use Rattle.virtiofs_map.specs.Audit.{IsLost, IsStray, IsSeen};
 
@@ -110,6 +111,10 @@ pub extern "C" fn virtiofs_names_client(
     ensures keeps { rules_of map.new ≡ rules_of map.old }
     ensures answer { AnswersClient
         (rules_of map.old) name.now out.old result len.new out.new }
+    ensures okay { IsDecidedIn Okay (rules_of map.old) name.now → (¬ Contains name.now 0)
+        → result ≡ as_it_is }
+    ensures prefix { IsDecidedIn Prefix (rules_of map.old) name.now → result ≢ as_it_is }
+    ensures memory { result ≡ no_memory → IsDecidedIn Prefix (rules_of map.old) name.now }
 {
     let Some(kept) = map.take(alloc) else {
         return nothing(NO_MAP, len);

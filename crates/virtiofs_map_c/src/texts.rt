@@ -4,7 +4,7 @@ ghost use Rattle.virtiofs_map.specs.Build.{Accepted};
 ghost use Rattle.virtiofs_map.specs.NamespaceText.{namespace_fault_of};
 ghost use Rattle.virtiofs_map.specs.Refusal.{OutOfMemoryOr};
 ghost use Rattle.virtiofs_map.specs.declared.cmdline.IdMap.{IdMap as Specification};
-ghost use Rattle.virtiofs_map_c.specs.Arrays.{said};
+ghost use Rattle.virtiofs_map_c.specs.Arrays.{said, HasNoTarget};
 ghost use Rattle.virtiofs_map_c.specs.Faults.{no_fault};
 ghost use Rattle.virtiofs_map_c.specs.Makes.{TellsFault, MakesOrTells, TellsThis};
 ghost use Rattle.virtiofs_map_c.specs.Ranges.{SaysRange, RangeFault, HasRangeFault, range_kind, range_told};
@@ -114,7 +114,8 @@ fn told_of_text(error: &TextError, place: usize, quoted: &mut [u8]) -> Fault
 
 /// The specification, as C has it.
 fn spec_of(spec: cmdline::IdMap) -> Spec
-    ensures { said result ≡ Some spec }
+    ensures said { said result ≡ Some spec }
+    ensures no_target { HasNoTarget result }
 {
     let (kind, first, to, count) = match spec {
         cmdline::IdMap::Guest {
@@ -158,6 +159,7 @@ pub extern "C" fn virtiofs_spec_read(
     quoted: &mut [u8],
 ) -> bool
     ensures read { IsTrue result → IsSomeAnd (said spec.new) (SaysSpec text.now) }
+    ensures no_target { IsTrue result → HasNoTarget spec.new }
     ensures no_fault { IsTrue result → fault.new ≡ no_fault }
     ensures unquoted { IsTrue result → quoted.new ≡ quoted.old }
     ensures keeps { (¬ IsTrue result) → spec.new ≡ spec.old }

@@ -1,8 +1,8 @@
 //! What lookups of names and audits tell C.
-ghost use Rattle.std.specs.Prelude.{◌≡◌, Some, MatchResult};
+ghost use Rattle.std.specs.Prelude.{◌≡◌, ◌≢◌, Some, Contains, MatchResult};
 ghost use Rattle.virtiofs_map.specs.LookupAnswers.{IsDecidedBy, of_no_rule};
-ghost use Rattle.virtiofs_map.specs.Rule.{Prefix};
-ghost use Rattle.virtiofs_map_c.specs.Codes.{no_memory, unterminated};
+ghost use Rattle.virtiofs_map.specs.Rule.{Okay, Prefix};
+ghost use Rattle.virtiofs_map_c.specs.Codes.{as_it_is, no_memory, unterminated};
 ghost use Rattle.virtiofs_map_c.specs.Names.{AnswersClient, AnswersServer, AnswersTerminated, TellsFound};
 ghost use Rattle.virtiofs_map_c.specs.Replies.{TellsCode};
 
@@ -15,6 +15,9 @@ use virtiofs_map::xattrmap::{AppliedRule, Error, ErrorKind, PassedName, XattrMap
 /// As what a name of the guest goes to the host.
 pub fn client(alloc: Global, map: &XattrMap, name: &[u8], out: &mut [u8], len: &mut usize) -> u32
     ensures answer { AnswersClient (Some map.now) name.now out.old result len.new out.new }
+    ensures okay { IsDecidedBy Okay map.now name.now → (¬ Contains name.now 0)
+        → result ≡ as_it_is }
+    ensures prefix { IsDecidedBy Prefix map.now name.now → result ≢ as_it_is }
     ensures memory { result ≡ no_memory → IsDecidedBy Prefix map.now name.now }
 {
     let Some(name) = XattrName::new(name) else {
@@ -69,7 +72,7 @@ pub fn tell(found: Result<Audit, AllocError>, out: &mut [u8], len: &mut usize) -
     }
 }
 
-/// Whether some rule decides every name.
+/// Whether each name is decided by some rule.
 pub fn tell_terminated(map: &XattrMap) -> u32
     ensures { AnswersTerminated (Some map.now) result }
 {

@@ -6,7 +6,8 @@ use super::Kept;
 use std::alloc::Global;
 use std::sync::Arc;
 
-/// The same map for another handle; `None` where a request for memory was refused.
+/// The same map for another handle; `None` where a request for memory was refused, or where there
+/// are 2^63 owners.
 pub fn share(alloc: Global, kept: &Kept) -> Option<Box<Kept>>
     ensures { IfSome result (λ other. IsShared kept.now other.value) }
 {
