@@ -1,4 +1,4 @@
-//! Ids of a kind that the crate does not have, for the tests of what is generic in the kind.
+//! Ids of a kind that the library does not have, for the tests of what is generic in the kind.
 //!
 //! A project id is made of a [`ProjectNumber`] and not of a `u32`, has an offset of its own, and is
 //! printed as `project 7`. So code that works with it rests on the traits alone.
