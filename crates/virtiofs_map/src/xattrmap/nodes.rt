@@ -12,7 +12,7 @@ use std::marker::Model;
 pub(crate) const NO_RULE: usize = usize::MAX;
 
 /// The code that stands for no byte.
-pub(crate) const NO_BYTE: u16 = 256;
+const NO_BYTE: u16 = 256;
 
 /// A node of a trie.
 #[derive(Clone, Copy, Debug)]

@@ -128,7 +128,7 @@ fn fields<A: Allocator + Copy>(
 }
 
 /// The rule that the text begins with, and the text after it, which is empty after a `map` rule.
-pub(crate) fn next_rule<A: Allocator + Copy>(
+fn next_rule<A: Allocator + Copy>(
     alloc: A,
     text: &str,
 ) -> Result<(WrittenRule<'_>, &str), ErrorKind<A>>
