@@ -9,7 +9,7 @@ use Rattle.virtiofs_map.proofs.StoredLemmas.{found_entry}
 use Rattle.virtiofs_map.specs.Build.{HasSource, HasTarget, Meet, Accepted}
 use Rattle.virtiofs_map.specs.Mapping.{entry_of, first_of, count_of, EntryCovers, Covers}
 use Rattle.virtiofs_map.specs.LookupSteps.{acting}
-use Rattle.virtiofs_map.specs.RangeParts.{Precedes, AreRanges, IsOfOne, Stores, StandsAt, IsPlaced, Places, PlacesInOrder, ArePrecedingBelow, KeepsApartTo, HasRoomBothWays}
+use Rattle.virtiofs_map.specs.RangeParts.{Precedes, HasNumbers, AreRanges, IsOfOne, Stores, StandsAt, IsPlaced, Places, PlacesInOrder, ArePrecedingBelow, KeepsApartTo, HasRoomBothWays}
 use Rattle.virtiofs_map.specs.declared.cmdline.IdMap.{IdMap}
 use Rattle.virtiofs_map.specs.declared.soft_idmap.entry.Direction.{Direction}
 use Rattle.virtiofs_map.specs.declared.soft_idmap.entry.Direction.TheVariants.{GuestToHost, HostToGuest}
@@ -168,8 +168,14 @@ target_of_one : (specs : List IdMap) (direction : Direction) (one : Placed) → 
 target_of_one specs direction one accepted placed =
     rw placed.sets_up at (All-contains (λ (spec : IdMap). IfSome (entry_of spec direction) HasTarget) specs placed.spec (accepted.target direction) (one.index, placed.here.0, placed.here.1))
 
+numbers_of_one : (specs : List IdMap) (direction : Direction) (one : Placed) → Accepted specs → IsPlaced specs direction one → HasNumbers one.entry
+numbers_of_one specs direction one accepted placed =
+    let source : HasSource one.entry = rw placed.sets_up at (All-contains (λ (spec : IdMap). IfSome (entry_of spec direction) HasSource) specs placed.spec (accepted.source direction) (one.index, placed.here.0, placed.here.1)) in
+    record { some = placed.counted; source = source placed.counted }
+
 pub AreRanges-placed : (specs : List IdMap) (direction : Direction) (placed : List Placed) → Accepted specs → PlacesInOrder specs direction placed → AreRanges (map (λ one. one.entry) placed)
 AreRanges-placed specs direction placed accepted sorted = record {
+  numbers = All-map HasNumbers (λ (one : Placed). one.entry) placed (All-weaker (λ (one : Placed). IsPlaced specs direction one × (one.index < length specs)) (λ (one : Placed). HasNumbers one.entry) (λ one (is, _). numbers_of_one specs direction one accepted is) placed sorted.places.from);
   target = All-map HasTarget (λ (one : Placed). one.entry) placed (All-weaker (λ (one : Placed). IsPlaced specs direction one × (one.index < length specs)) (λ (one : Placed). HasTarget one.entry) (λ one (is, _). target_of_one specs direction one accepted is) placed sorted.places.from);
   ordered = ordered;
 } where

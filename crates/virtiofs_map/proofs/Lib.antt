@@ -47,4 +47,6 @@ mod TrieRuleLemmas
 mod TrieWayLemmas
 mod TrimLemmas
 mod WalkLemmas
+mod WordLemmas
+mod WrittenLemmas
 mod ZipLemmas

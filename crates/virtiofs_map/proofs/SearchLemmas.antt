@@ -84,6 +84,17 @@ Searched-left ranges n low high middle found range ordered searched from below h
       above = λ k d from' below'. above_from ranges n middle k range d ordered here begins from' below';
     }
 
+-- a search that has come to high stands before any later end too
+pub Searched-wider : (ranges : List Entry) (n low high wider : ℕ) (found : Option Entry) → Searched ranges n low high found → high ≤ wider → wider ≤ length ranges → Searched ranges n low wider found
+Searched-wider ranges n low high wider found searched more within =
+    let order : low ≤ high = searched.order in
+    record {
+      order = omega arith;
+      within = within;
+      last = searched.last;
+      above = λ k d from below. searched.above k d (omega arith) below;
+    }
+
 -- a range that covers n stands before low
 covers_before : (ranges : List Entry) (n low : ℕ) (found : Option Entry) (range : Entry) (k : ℕ) → Searched ranges n low low found → k < length ranges → get_or ranges k range ≡ range → EntryCovers range n → k < low
 covers_before ranges n low found range k searched below here covers =

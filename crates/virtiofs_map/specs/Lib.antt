@@ -5,6 +5,7 @@ pub mod Build
 pub mod BuildParts
 pub mod ChildrenParts
 pub mod FirstRule
+pub mod Image
 pub mod Listing
 pub mod LookupAnswers
 pub mod LookupSteps
@@ -28,3 +29,4 @@ pub mod SpecificationText
 pub mod Specifications
 pub mod Steps
 pub mod TrieParts
+pub mod WordParts

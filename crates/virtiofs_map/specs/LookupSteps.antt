@@ -1,4 +1,4 @@
--- How many ranges a lookup of an id inspects.
+-- How many times a lookup of an id reads a range.
 use Rattle.std.specs.Prelude.{ℕ, zero, suc, ◌/◌, nat_lt, min, Bool, false, List, count_by, Option, Some, None}
 use Rattle.virtiofs_map.specs.Mapping.{entry_of, count_of}
 use Rattle.virtiofs_map.specs.declared.cmdline.IdMap.{IdMap}
@@ -24,7 +24,7 @@ halvings_within (suc times) (suc m) = suc (halvings_within times (suc m / 2))
 unfoldable pub binary_digits : ℕ → ℕ
 binary_digits m = halvings_within m m
 
--- a lookup inspects one range at least, where a specification acts in the direction
+-- a lookup reads one range at least, where a specification acts in the direction
 abbrev pub least_steps : List IdMap → Direction → ℕ
 least_steps specs direction = min 1 (acting specs direction)
 

@@ -16,8 +16,14 @@ use Rattle.virtiofs_map.specs.declared.soft_idmap.placed.Placed.{Placed}
 abbrev pub Precedes : Entry → Entry → Type 0
 Precedes range other = first_of range + count_of range ≤ first_of other
 
+-- the range covers a number, and none above 4294967294
+pub record HasNumbers (range : Entry) : Type 0 where
+  pub some : 1 ≤ count_of range
+  pub source : first_of range + count_of range ≤ 4294967295
+
 -- the ranges stand in order, and what their numbers become are ids
 pub record AreRanges (ranges : List Entry) : Type 0 where
+  pub numbers : All HasNumbers ranges
   pub target : All HasTarget ranges
   pub ordered : AllPairs Precedes ranges
 
@@ -30,12 +36,6 @@ pub record Stores (specs : List IdMap) (direction : Direction) (ranges : List En
   pub from : All (IsOfOne specs direction) ranges
   pub each : (spec : IdMap) (range : Entry) → Contains specs spec → entry_of spec direction ≡ Some range → 1 ≤ count_of range → Contains ranges range
   pub counted : length ranges ≡ acting specs direction
-
--- a map of the specifications has these ranges from guest to host, and those from host to guest
-pub record IsBuilt (specs : List IdMap) (from_guest from_host : List Entry) : Type 0 where
-  pub accepted : Accepted specs
-  pub guests : Stores specs GuestToHost from_guest
-  pub hosts : Stores specs HostToGuest from_host
 
 -- ---- a search
 

@@ -7,20 +7,21 @@ ghost use Rattle.std.specs.Prelude.{◌≡◌, ℕ, List, [], Some, None, IsOk, 
 ghost use Rattle.virtiofs_map.specs.Build.{Accepted, BuildFault, HasFirstFault, build_fault_of};
 ghost use Rattle.virtiofs_map.specs.Mapping.{Becomes};
 ghost use Rattle.virtiofs_map.specs.MappingLaws.{IsOrderFree, KeepsGreatest, IsMappedBothWays, LeadsBack};
-ghost use Rattle.virtiofs_map.specs.LookupSteps.{least_steps, most_steps};
-ghost use Rattle.virtiofs_map.specs.RangeParts.{Stores};
+ghost use Rattle.virtiofs_map.specs.LookupSteps.{acting, least_steps, most_steps};
 ghost use Rattle.virtiofs_map.specs.Refusal.{IsOutOfMemory, OutOfMemoryOr};
 ghost use Rattle.virtiofs_map.specs.Specifications.{texts_of, AllSay, SpecsFault, HasSpecsFault, specs_fault_of, NamesReached};
 ghost use Rattle.virtiofs_map.specs.Steps.{CountsBetween};
+ghost use Rattle.virtiofs_map.specs.WordParts.{HasRanges};
 ghost use Rattle.virtiofs_map.specs.declared.cmdline.IdMap.{IdMap as Specification};
 ghost use Rattle.virtiofs_map.specs.declared.soft_idmap.entry.Direction.TheVariants.{GuestToHost, HostToGuest};
 
 use crate::id_types::{GuestId, HostId, Id, IdNumber};
 use crate::{Steps, cmdline};
 use lookup::look_up;
-use ranges::Ranges;
+use row::Answer;
 use std::alloc::{Allocator, Global};
 use std::marker::{Model, PhantomData};
+use words::{Ranges, Words};
 
 mod build;
 mod entry;
@@ -28,9 +29,11 @@ mod errors;
 pub mod laws;
 mod lookup;
 mod placed;
-mod ranges;
+mod row;
 mod search;
 mod texts;
+mod words;
+mod write;
 
 pub use entry::Direction;
 pub use errors::{FaultKind, IdMapBuildError, MapError, RangeEnd, SpecsError};
@@ -47,8 +50,7 @@ pub struct IdMap<
     A: Allocator = Global,
 > {
     specs: Vec<cmdline::IdMap, A>,
-    from_guest: Ranges<A>,
-    from_host: Ranges<A>,
+    words: Words<A>,
     guest: PhantomData<Guest>,
     host: PhantomData<Host>,
 }
@@ -57,13 +59,13 @@ impl<Guest: GuestId<HostType = Host>, Host: HostId<GuestType = Guest>, A: Alloca
     for IdMap<Guest, Host, A> {
     ghost use Rattle.std.specs.Prelude.{List};
     ghost use Rattle.virtiofs_map.specs.declared.cmdline.IdMap.{IdMap as Specification};
-    ghost use Rattle.virtiofs_map.specs.RangeParts.{IsBuilt};
+    ghost use Rattle.virtiofs_map.specs.WordParts.{IsOfWords};
 
     ghost Value = { List Specification };
 
     ghost view = { λ map. map.specs.items };
 
-    ghost invariant = { λ map. IsBuilt map.specs.items map.from_guest map.from_host };
+    ghost invariant = { λ map. IsOfWords map.specs.items map.words };
 }
 
 impl<Guest: GuestId<HostType = Host>, Host: HostId<GuestType = Guest>, A: Allocator + Copy> IdMap<
@@ -79,8 +81,7 @@ impl<Guest: GuestId<HostType = Host>, Host: HostId<GuestType = Guest>, A: Alloca
     {
         IdMap {
             specs: Vec::new(alloc),
-            from_guest: Ranges::none(alloc),
-            from_host: Ranges::none(alloc),
+            words: Words::none(alloc),
             guest: PhantomData,
             host: PhantomData,
         }
@@ -114,11 +115,10 @@ impl<Guest: GuestId<HostType = Host>, Host: HostId<GuestType = Guest>, A: Alloca
         ensures order { OnOk result (IsOrderFree specs.items) }
         ensures greatest { OnOk result (KeepsGreatest specs.items) }
     {
-        let (from_guest, from_host) = build::ranges_of(alloc, &specs)?;
+        let words = build::words_of(alloc, &specs)?;
         Ok(IdMap {
             specs,
-            from_guest,
-            from_host,
+            words,
             guest: PhantomData,
             host: PhantomData,
         })
@@ -131,8 +131,8 @@ impl<Guest: GuestId<HostType = Host>, Host: HostId<GuestType = Guest>, A: Alloca
     /// text is read, the error is the one of [`IdMap::try_from`], in [`SpecsError::Build`].
     ///
     /// Where a request for memory is refused, the error is [`cmdline::IdMapError::OutOfMemory`] in
-    /// [`SpecsError::Spec`], with the text that was being read, or else
-    /// [`IdMapBuildError::OutOfMemory`].
+    /// [`SpecsError::Spec`], with the index of a text before which each one says a specification, or
+    /// else [`IdMapBuildError::OutOfMemory`].
     pub fn from_specs(alloc: A, texts: &[&str]) -> Result<Self, SpecsError<A>>
         ensures read { IfOk result (AllSay (texts_of texts.now)) }
         ensures accepted { IfOk result Accepted }
@@ -185,9 +185,9 @@ impl<Guest: GuestId<HostType = Host>, Host: HostId<GuestType = Guest>, A: Alloca
 
     /// The host's id for a guest's, as [`IdMap::map_guest`] gives it, and a count of its steps.
     ///
-    /// A step is a range that is inspected. Where specifications act on guest ids, on one number or
-    /// more each, their number has some binary digits: the lookup takes as many steps at most, and
-    /// one at least. Else it takes none.
+    /// A step is a reading of a range; a range that is read twice counts twice. Where specifications
+    /// act on guest ids, on one number or more each, their number has some binary digits: the lookup
+    /// takes as many steps at most, and one at least. Else it takes none.
     pub fn map_guest_counted(&self, id: Guest, steps: &mut Steps) -> Result<Host, MapError<Guest>>
         ensures accepted { Accepted self.now }
         ensures value { IfOk result (λ host.
@@ -237,9 +237,9 @@ impl<Guest: GuestId<HostType = Host>, Host: HostId<GuestType = Guest>, A: Alloca
 
     /// The guest's id for a host's, as [`IdMap::map_host`] gives it, and a count of its steps.
     ///
-    /// A step is a range that is inspected. Where specifications act on host ids, on one number or
-    /// more each, their number has some binary digits: the lookup takes as many steps at most, and
-    /// one at least. Else it takes none.
+    /// A step is a reading of a range; a range that is read twice counts twice. Where specifications
+    /// act on host ids, on one number or more each, their number has some binary digits: the lookup
+    /// takes as many steps at most, and one at least. Else it takes none.
     pub fn map_host_counted(&self, id: Host, steps: &mut Steps) -> Result<Guest, MapError<Host>>
         ensures accepted { Accepted self.now }
         ensures value { IfOk result (λ guest.
@@ -263,14 +263,12 @@ impl<Guest: GuestId<HostType = Host>, Host: HostId<GuestType = Guest>, A: Alloca
     }
 
     /// The ranges of a direction.
-    fn ranges(&self, direction: Direction) -> &Ranges<A>
+    fn ranges(&self, direction: Direction) -> Ranges<'_>
         ensures accepted { Accepted self.now }
-        ensures stores { Stores self.now direction result.now }
+        ensures ranges { HasRanges self.now direction result }
+        ensures counted { result.count ≡ acting self.now direction }
     {
-        match direction {
-            Direction::GuestToHost => &self.from_guest,
-            Direction::HostToGuest => &self.from_host,
-        }
+        self.words.ranges(direction)
     }
 
     /// What a number becomes in a direction; `None` where its use fails.
@@ -281,10 +279,14 @@ impl<Guest: GuestId<HostType = Host>, Host: HostId<GuestType = Guest>, A: Alloca
             (least_steps self.now direction) (most_steps self.now direction)
             steps.old steps.new }
     {
-        look_up(self.ranges(direction), n, steps)
+        match look_up(&self.ranges(direction), n, steps) {
+            Answer::Becomes(value) => Some(value),
+            Answer::Fails => None,
+            Answer::NoImage => unreachable!(),
+        }
     }
 
-    /// The id of the other side, with a count of the ranges that were inspected.
+    /// The id of the other side, with a count of the readings of ranges.
     fn look_up<Source: Id, Target: Id>(
         &self,
         direction: Direction,

@@ -1,15 +1,16 @@
-//! The ranges of a map, made of a list of specifications, or the first fault of the list.
+//! The words of a map, made of a list of specifications, or the first fault of the list.
 ghost use Rattle.std.specs.Prelude.{◌↔◌, ◌≤◌, All, IsTrue, MatchResult, length, take};
 ghost use Rattle.virtiofs_map.specs.Mapping.{entry_of};
 ghost use Rattle.virtiofs_map.specs.Build.{Accepted, Fits, HasFirstFault, build_fault_of};
 ghost use Rattle.virtiofs_map.specs.BuildParts.{EntryMeets, EntryMeetsEarlier, IsFaultHere};
-ghost use Rattle.virtiofs_map.specs.RangeParts.{PlacesInOrder, HasRoom, HasRoomBothWays, IsLongestAccepted, IsBuilt};
+ghost use Rattle.virtiofs_map.specs.RangeParts.{PlacesInOrder, HasRoom, HasRoomBothWays, IsLongestAccepted};
 ghost use Rattle.virtiofs_map.specs.Refusal.{OutOfMemoryOr};
+ghost use Rattle.virtiofs_map.specs.WordParts.{IsOfWords};
 ghost use Rattle.virtiofs_map.specs.declared.soft_idmap.entry.Direction.TheVariants.{GuestToHost, HostToGuest};
 
 use super::entry::{Entry, entry_of};
 use super::placed::{Placed, keep_apart, place};
-use super::ranges::Ranges;
+use super::words::Words;
 use super::{Direction, IdMapBuildError, RangeEnd};
 use crate::cmdline::IdMap;
 use std::alloc::Allocator;
@@ -155,19 +156,18 @@ fn check(specs: &[IdMap], guests: &[Placed], hosts: &[Placed]) -> Result<(), IdM
     Ok(())
 }
 
-/// The ranges of both directions, of a list of specifications that is accepted.
-pub(crate) fn ranges_of<A: Allocator + Copy>(
+/// The words of a list of specifications that is accepted.
+pub(crate) fn words_of<A: Allocator + Copy>(
     alloc: A,
     specs: &[IdMap],
-) -> Result<(Ranges<A>, Ranges<A>), IdMapBuildError>
+) -> Result<Words<A>, IdMapBuildError>
     ensures { MatchResult result
-        (λ both. IsBuilt specs.now both.0 both.1)
+        (IsOfWords specs.now)
         (λ e. OutOfMemoryOr (build_fault_of e) (HasFirstFault specs.now)) }
 {
     let guests = place(alloc, specs, Direction::GuestToHost)?;
     let hosts = place(alloc, specs, Direction::HostToGuest)?;
     check(specs, &guests, &hosts)?;
-    let from_guest = Ranges::from_placed(alloc, &guests)?;
-    let from_host = Ranges::from_placed(alloc, &hosts)?;
-    Ok((from_guest, from_host))
+    let words = Words::of(alloc, &guests, &hosts)?;
+    Ok(words)
 }

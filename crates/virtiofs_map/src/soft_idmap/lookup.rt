@@ -1,29 +1,33 @@
 //! What a number becomes by the ranges of a direction.
-ghost use Rattle.std.specs.Prelude.{List, length, min};
+ghost use Rattle.std.specs.Prelude.{List, min};
 ghost use Rattle.virtiofs_map.specs.LookupSteps.{binary_digits};
-ghost use Rattle.virtiofs_map.specs.Mapping.{Becomes};
-ghost use Rattle.virtiofs_map.specs.RangeParts.{Stores};
 ghost use Rattle.virtiofs_map.specs.Steps.{CountsBetween};
+ghost use Rattle.virtiofs_map.specs.WordParts.{HasRanges, SaysIn};
 ghost use Rattle.virtiofs_map.specs.declared.cmdline.IdMap.{IdMap as Specification};
 ghost use Rattle.virtiofs_map.specs.declared.soft_idmap.entry.Direction.{Direction};
 
-use super::ranges::Ranges;
+use super::row::Answer;
 use super::search::last_from;
+use super::words::Ranges;
 use crate::Steps;
-use std::alloc::Allocator;
 
-/// What the number becomes; `None` where its use fails.
-pub(crate) fn look_up<A: Allocator>(ranges: &Ranges<A>, n: u32, steps: &mut Steps) -> Option<u32>
-    ensures becomes { (specs : List Specification) (direction : Direction)
-        → Stores specs direction ranges.now → Becomes specs direction n result }
-    ensures steps { CountsBetween (min 1 (length ranges.now)) (binary_digits (length ranges.now))
+/// What the ranges say of a number.
+///
+/// Where there is none the number stays itself, and where there is one it is the one to ask.
+pub(crate) fn look_up(ranges: &Ranges<'_>, n: u32, steps: &mut Steps) -> Answer
+    ensures says { (specs : List Specification) (direction : Direction)
+        → HasRanges specs direction ranges.now → SaysIn specs direction n result }
+    ensures steps { CountsBetween (min 1 ranges.now.count) (binary_digits ranges.now.count)
         steps.old steps.new }
 {
-    let Some(range) = last_from(ranges, n, steps) else {
-        return Some(n);
-    };
-    if !range.covers(n) {
-        return Some(n);
+    if ranges.len() == 0 {
+        steps.add(&Steps::new());
+        return Answer::Becomes(n);
     }
-    range.target(n)
+    if ranges.len() == 1 {
+        let only = ranges.read(0, steps).kept();
+        return ranges.say_by(only, n);
+    }
+    let last = last_from(ranges, n, steps);
+    ranges.say_by(last, n)
 }

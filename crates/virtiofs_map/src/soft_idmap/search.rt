@@ -1,44 +1,34 @@
 //! The search for the range that may cover a number.
-ghost use Rattle.std.specs.Prelude.{◌≡◌, Contains, IfSome, Some, length, min};
-ghost use Rattle.virtiofs_map.specs.Build.{HasTarget};
+//!
+//! It takes as many turns for one number as for another, and no turn branches by what it read: a
+//! branch that is guessed wrong costs more than a turn.
+ghost use Rattle.std.specs.Prelude.{◌≤◌, min};
 ghost use Rattle.virtiofs_map.specs.LookupSteps.{binary_digits};
-ghost use Rattle.virtiofs_map.specs.Mapping.{EntryCovers};
 ghost use Rattle.virtiofs_map.specs.Steps.{CountsBetween};
-ghost use Rattle.virtiofs_map.specs.declared.soft_idmap.entry.Entry.{Entry};
+ghost use Rattle.virtiofs_map.specs.WordParts.{Searches};
 
-use super::ranges::{Range, Ranges};
+use super::words::{Last, Ranges};
 use crate::Steps;
-use std::alloc::Allocator;
 
 /// The last range that begins at or below a number: no other one can cover it.
 ///
-/// Each range that is read is a step. The range that was found is kept, and not read again.
-pub(crate) fn last_from<A: Allocator>(
-    ranges: &Ranges<A>,
-    n: u32,
-    steps: &mut Steps,
-) -> Option<Range>
-    ensures found { (range : Entry) → Contains ranges.now range → EntryCovers range n
-        → result ≡ Some range }
-    ensures stored { IfSome result (Contains ranges.now) }
-    ensures fits { IfSome result HasTarget }
-    ensures steps { CountsBetween (min 1 (length ranges.now)) (binary_digits (length ranges.now))
+/// Each reading of a range is a step. The last turn may read a range that an earlier one read, and
+/// is counted as each other one.
+pub(crate) fn last_from(ranges: &Ranges<'_>, n: u32, steps: &mut Steps) -> Last
+    ensures within { result.end ≤ ranges.now.count }
+    ensures found { Searches ranges.now n result.end result.end }
+    ensures steps { CountsBetween (min 1 ranges.now.count) (binary_digits ranges.now.count)
         steps.old steps.new }
 {
-    let mut low = 0;
-    let mut high = ranges.len();
-    let mut found = None;
+    let mut last = Last::none();
+    let mut size = ranges.len();
     let mut taken = Steps::new();
-    while low < high {
-        let middle = low + (high - low) / 2;
-        let range = ranges.read(middle, &mut taken);
-        if range.first() <= n {
-            found = Some(range);
-            low = middle + 1;
-        } else {
-            high = middle;
-        }
+    while size > 0 {
+        let half = size / 2;
+        let range = ranges.read(last.end() + (size - half) - 1, &mut taken);
+        last = last.or(range, n);
+        size = half;
     }
     steps.add(&taken);
-    found
+    last
 }

@@ -6,18 +6,18 @@ use Rattle.virtiofs_map.proofs.MappingLawLemmas.{IsOrderFree-accepted}
 use Rattle.virtiofs_map.proofs.ReaderLemmas.{out_of_memory, told_fault}
 use Rattle.virtiofs_map.proofs.soft_idmap.IdMap.try_from.Goals as goal
 
-pub returns-in_err-from_guest-clause-complete : goal.returns-in_err-from_guest-clause-complete
-returns-in_err-from_guest-clause-complete g c = λ accepted.
+pub returns-in_err-words-clause-complete : goal.returns-in_err-words-clause-complete
+returns-in_err-words-clause-complete g c = λ accepted.
     let p = err_from_is_err_and c.from_residual.result c.from_residual.ensures.1 in
     let specs = c.args.specs.items in
-    let refused = rw c.deref.ensures.value at c.in_err-from_guest.ensures in
+    let refused = rw c.deref.ensures.value at c.in_err-words.ensures in
     rw (p.1, p.2) (out_of_memory _ (HasFirstFault specs) refused (λ fault. Accepted-no_fault specs fault accepted))
 
-pub returns-in_err-from_guest-clause-faulty : goal.returns-in_err-from_guest-clause-faulty
-returns-in_err-from_guest-clause-faulty g c = λ fault has.
+pub returns-in_err-words-clause-faulty : goal.returns-in_err-words-clause-faulty
+returns-in_err-words-clause-faulty g c = λ fault has.
     let p = err_from_is_err_and c.from_residual.result c.from_residual.ensures.1 in
     let specs = c.args.specs.items in
-    let refused = rw c.deref.ensures.value at c.in_err-from_guest.ensures in
+    let refused = rw c.deref.ensures.value at c.in_err-words.ensures in
     rw (p.1, p.2) (told_fault _ (HasFirstFault specs) fault refused (λ other told. HasFirstFault-one specs other fault told has))
 
 pub returns-clause-faulty : goal.returns-clause-faulty

@@ -1,19 +1,20 @@
-use Rattle.std.proofs.Common.{◌≡◌, refl}
-use Rattle.std.proofs.lemmas.Bool.{false≢true}
-use Rattle.std.proofs.lemmas.Option.{same_Some}
-use Rattle.virtiofs_map.proofs.StoredLemmas.{Becomes-itself, Becomes-by_range}
+use Rattle.std.proofs.Common.{arith}
+use Rattle.virtiofs_map.proofs.WordLemmas.{SaysIn-none, SaysIn-only, SaysIn-last, CountsBetween-none, CountsBetween-one}
 use Rattle.virtiofs_map.proofs.soft_idmap.lookup.look_up.Goals as goal
 
-pub returns-in_default-clause-becomes : goal.returns-in_default-clause-becomes
-returns-in_default-clause-becomes g c = λ specs direction stores.
-    Becomes-itself specs direction c.args.ranges.now c.args.n stores (λ range stored covers. absurd (cc (c.in_default.ensures.found range stored covers)))
+pub returns-then-len-eq0-clause-says : goal.returns-then-len-eq0-clause-says
+returns-then-len-eq0-clause-says c = λ specs direction has. SaysIn-none specs direction c.args.ranges.now c.args.n has (omega arith)
 
-pub returns-then-not-covers-clause-becomes : goal.returns-then-not-covers-clause-becomes
-returns-then-not-covers-clause-becomes g c = λ specs direction stores.
-    Becomes-itself specs direction c.args.ranges.now c.args.n stores (λ range stored covers.
-    let same : c.in-Some.range ≡ range = same_Some _ _ (c.in-Some.ensures.found range stored covers) in
-    false≢true (c.if-not-covers.ensures.1 (rw same covers)))
+pub returns-then-len-eq0-clause-steps : goal.returns-then-len-eq0-clause-steps
+returns-then-len-eq0-clause-steps c = CountsBetween-none _ _ _ (omega arith) (rw c.new.ensures at c.add.ensures)
 
-pub returns-clause-becomes : goal.returns-clause-becomes
-returns-clause-becomes g c = λ specs direction stores.
-    rw c.target.ensures (Becomes-by_range specs direction c.args.ranges.now c.args.n c.in-Some.range stores c.in-Some.ensures.stored (c.if-not-covers.ensures.0 refl))
+pub returns-then-len-eq1-clause-says : goal.returns-then-len-eq1-clause-says
+returns-then-len-eq1-clause-says c = λ specs direction has.
+    SaysIn-only specs direction c.args.ranges.now c.args.n _ has (omega arith) (rw (c.kept-only.ensures, c.read.ensures.end) at c.say_by.ensures)
+
+pub returns-then-len-eq1-clause-steps : goal.returns-then-len-eq1-clause-steps
+returns-then-len-eq1-clause-steps c = CountsBetween-one _ _ _ (omega arith) c.read.ensures.counted
+
+pub returns-clause-says : goal.returns-clause-says
+returns-clause-says c = λ specs direction has.
+    SaysIn-last specs direction c.args.ranges.now c.args.n c.last_from-last.result.end _ has c.last_from-last.ensures.found (omega arith) c.last_from-last.ensures.within c.say_by-2.ensures

@@ -1,16 +1,18 @@
-use Rattle.std.proofs.Common.{◌-◌, length}
+use Rattle.std.proofs.Common.{◌+◌, ◌≤◌}
 use Rattle.virtiofs_map.specs.LookupSteps.{binary_digits}
-use Rattle.virtiofs_map.specs.RangeParts.{Searched, HasDigitsFor, HasBegun}
+use Rattle.virtiofs_map.specs.RangeParts.{HasDigitsFor, HasBegun}
+use Rattle.virtiofs_map.specs.WordParts.{Searches}
 use Rattle.virtiofs_map.proofs.soft_idmap.search.last_from.Given as goal
 
--- the range before low is found, and there are digits enough for what is left
-abbrev pub invariant-loop-low : goal.invariant-loop-low
-invariant-loop-low g l = record {
-  searched : Searched l.ranges l.n l.low l.high l.found;
-  digits : HasDigitsFor (l.high - l.low) l.taken (binary_digits (length l.ranges));
-  begun : HasBegun l.taken l.low l.high (length l.ranges);
+-- size ranges are left after the last one
+abbrev pub invariant-loop-size : goal.invariant-loop-size
+invariant-loop-size l = record {
+  within : l.last.end + l.size ≤ l.ranges.count;
+  digits : HasDigitsFor l.size l.taken (binary_digits l.ranges.count);
+  begun : HasBegun l.taken l.last.end (l.last.end + l.size) l.ranges.count;
+  searched : Searches l.ranges l.n l.last.end (l.last.end + l.size);
 }
 
 -- what is left
-abbrev pub decreases-loop-low : goal.decreases-loop-low
-decreases-loop-low g l = l.high - l.low
+abbrev pub decreases-loop-size : goal.decreases-loop-size
+decreases-loop-size l = l.size

@@ -1,0 +1,11 @@
+use Rattle.virtiofs_map.specs.declared.soft_idmap.entry.Direction.TheVariants.{GuestToHost, HostToGuest}
+use Rattle.virtiofs_map.proofs.WrittenLemmas.{placed-count}
+use Rattle.virtiofs_map.proofs.soft_idmap.build.words_of.Goals as goal
+
+pub of-requires-clause-guests : goal.of-requires-clause-guests
+of-requires-clause-guests g c =
+    rw c.deref-3.ensures.value (placed-count c.args.specs.now GuestToHost c.in_ok-guests.guests.items c.in_ok-check.ensures c.in_ok-guests.ensures)
+
+pub of-requires-clause-hosts : goal.of-requires-clause-hosts
+of-requires-clause-hosts g c =
+    rw c.deref-4.ensures.value (placed-count c.args.specs.now HostToGuest c.in_ok-hosts.hosts.items c.in_ok-check.ensures c.in_ok-hosts.ensures)

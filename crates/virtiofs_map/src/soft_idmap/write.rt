@@ -1,0 +1,95 @@
+//! Writes the words of a map.
+ghost use Rattle.std.specs.Prelude.{◌≡◌, ◌+◌, ◌*◌, ◌<◌, ◌≤◌, List, length, map, slice_get, slice_index, Some};
+ghost use Rattle.virtiofs_map.specs.Build.{Accepted};
+ghost use Rattle.virtiofs_map.specs.Image.{IsImage};
+ghost use Rattle.virtiofs_map.specs.Mapping.{first_of};
+ghost use Rattle.virtiofs_map.specs.RangeParts.{PlacesInOrder};
+ghost use Rattle.virtiofs_map.specs.WordParts.{IsRow, AreFirstsBelow, AreRowsBelow, KeepsBefore};
+ghost use Rattle.virtiofs_map.specs.declared.cmdline.IdMap.{IdMap as Specification};
+ghost use Rattle.virtiofs_map.specs.declared.soft_idmap.entry.Direction.TheVariants.{GuestToHost, HostToGuest};
+
+use super::entry::Entry;
+use super::placed::Placed;
+use super::row::{FAILS, MAPS, SQUASHES};
+
+/// What the words of ids are: their kind in the three upper bytes, by its letters, and the version
+/// of their order in the lowest.
+pub(crate) const KIND: u32 = 0x6964_7301;
+
+/// An entry that was placed.
+fn entry_at(placed: &[Placed], at: usize) -> Entry
+    requires { at < length placed.now }
+    ensures { slice_get (map (λ one. one.entry) placed.now) at ≡ Some result }
+{
+    placed[at].entry
+}
+
+/// Writes what the words are, and how many ranges there are in each direction.
+fn write_head(words: &mut [u32], guests: u32, hosts: u32)
+    requires room { 3 ≤ length words.old }
+    ensures kind { slice_index words.new 0 ≡ 1768190721 }
+    ensures guests { slice_index words.new 1 ≡ guests }
+    ensures hosts { slice_index words.new 2 ≡ hosts }
+{
+    words[0] = KIND;
+    words[1] = guests;
+    words[2] = hosts;
+}
+
+/// Writes a row.
+fn write_row(words: &mut [u32], at: usize, entry: Entry)
+    requires room { at + 3 ≤ length words.old }
+    ensures row { IsRow (slice_index words.new at) (slice_index words.new (at + 1))
+        (slice_index words.new (at + 2)) entry }
+    ensures before { KeepsBefore at words.old words.new }
+{
+    let (count, to, kind) = match entry {
+        Entry::Map { to, count, .. } => (count, to, MAPS),
+        Entry::Squash { to, count, .. } => (count, to, SQUASHES),
+        Entry::Fail { count, .. } => (count, 0, FAILS),
+    };
+    words[at] = count;
+    words[at + 1] = to;
+    words[at + 2] = kind;
+}
+
+/// Writes the rows of a direction.
+fn write_rows(words: &mut [u32], start: usize, placed: &[Placed])
+    requires room { start + 3 * length placed.now ≤ length words.old }
+    ensures rows { AreRowsBelow words.new start (map (λ one. one.entry) placed.now)
+        (length placed.now) }
+    ensures before { KeepsBefore start words.old words.new }
+{
+    for at in 0..placed.len() {
+        write_row(words, start + 3 * at, entry_at(placed, at));
+    }
+}
+
+/// Writes the first numbers of a direction.
+fn write_firsts(words: &mut [u32], start: usize, placed: &[Placed])
+    requires room { start + length placed.now ≤ length words.old }
+    ensures firsts { AreFirstsBelow words.new start (map (λ one. one.entry) placed.now)
+        (length placed.now) }
+    ensures before { KeepsBefore start words.old words.new }
+{
+    for at in 0..placed.len() {
+        words[start + at] = entry_at(placed, at).first();
+    }
+}
+
+/// Writes the image of what was placed.
+pub(crate) fn write_words(words: &mut [u32], guests: &[Placed], hosts: &[Placed])
+    requires guests { length guests.now < 4294967296 }
+    requires hosts { length hosts.now < 4294967296 }
+    requires room { 3 + 4 * length guests.now + 4 * length hosts.now ≤ length words.old }
+    ensures { (specs : List Specification) → Accepted specs
+        → PlacesInOrder specs GuestToHost guests.now → PlacesInOrder specs HostToGuest hosts.now
+        → IsImage specs words.new }
+{
+    let rows = 3 + guests.len() + hosts.len();
+    write_head(words, guests.len() as u32, hosts.len() as u32);
+    write_firsts(words, 3, guests);
+    write_firsts(words, 3 + guests.len(), hosts);
+    write_rows(words, rows, guests);
+    write_rows(words, rows + 3 * guests.len(), hosts);
+}
