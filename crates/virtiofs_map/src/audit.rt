@@ -18,7 +18,7 @@
 //!
 //! There is no end of names, and few need to be tried: two names that begin with the same patterns
 //! fare alike. The names that decide are found from the patterns and are tried one after the other.
-ghost use Rattle.std.specs.Prelude.{◌≡◌, ◌↔◌, IfOk, OnOk};
+ghost use Rattle.std.specs.Prelude.{◌≡◌, ◌↔◌, IfOk, OnOk, OnErr};
 ghost use Rattle.virtiofs_map.specs.Audit.{AnswersLeast, Sound, IsLost, most_tried, OpensListed, IsStray, Apart, Isolated, IsSeen};
 ghost use Rattle.virtiofs_map.specs.Steps.{CountsBetween};
 ghost use Rattle.virtiofs_map.specs.declared.audit.answer.Audit.TheVariants.{Yes};
@@ -56,7 +56,7 @@ pub fn audit<A: Allocator + Copy>(alloc: A, map: &XattrMap<A>) -> Result<Audit<A
 
 /// The answer of [`audit`], which also counts the names that it tries. With k rules for the
 /// client's side and s rules for the server's side these are at most 255 + k + k * s, and one at
-/// the least.
+/// the least. Where a request for memory was refused, none is counted.
 ///
 /// # Errors
 ///
@@ -69,6 +69,7 @@ pub fn audit_counted<A: Allocator + Copy>(
     ensures answer { IfOk result (AnswersLeast (IsLost map.now)) }
     ensures sound { IfOk result (λ audit. (audit ≡ Yes) ↔ Sound map.now) }
     ensures counted { OnOk result (CountsBetween 1 (most_tried map.now) steps.old steps.new) }
+    ensures uncounted { OnErr result (steps.new ≡ steps.old) }
 {
     let mut tried = Tried::new(alloc);
     try_guest_names(alloc, &Question::Lost(map), map, map, &mut tried)?;

@@ -33,7 +33,7 @@ impl<A: Allocator + Copy> XattrMap<A> {
     ///
     /// # Errors
     ///
-    /// No error blames a rule. Memory for the list is asked for before the names are looked at.
+    /// No error blames a rule.
     ///
     /// - `OutOfMemory`: a request for memory was refused.
     /// - `UnterminatedMapping`: no rule decides one of the names, and only then. The whole list is

@@ -16,6 +16,7 @@ returns g c =
     let least : AnswersLeast (IsLost map) c.into_answer.result = found_least (IsLost map) (is_lost map) names c.into_answer.result c.try_guest_names.new.tried (lost_decide map no_zero) end c.into_answer.ensures.found c.into_answer.ensures.name in
     record {
       answer = least;
+      uncounted = tt;
       sound = yes_where_none (IsLost map) (Sound map) c.into_answer.result least (sound_where_none map no_zero) (none_where_sound map);
       counted = counts_between map (is_lost map) c.args.steps.now c.add.new.self (c.add.ensures ∙ ap (count_after c.args.steps.now) (c.steps.ensures ∙ ap (λ t. t.count) end));
     }
