@@ -1,6 +1,6 @@
 #!/usr/bin/env python3
 """Sees that programs that mix up ids, or keep a listed name longer than its list, do not compile, nor a library that
-reads its ranges or the nodes of its tries by another way than the one that counts.
+reads its ranges or the branches of its tries by another way than the one that counts.
 
 The folder must_not_compile has one program that compiles, caller.rt.txt, and edits of it, each of one line: 'old: TEXT'
 (standing once in the program), 'new: TEXT', and 'error: NAME', the name of the error that the edited line must get

@@ -1,15 +1,18 @@
 -- The loops over the names that an audit tries.
-use Rattle.std.proofs.Common.{◌≡◌, ℕ, ◌+◌, ◌-◌, ◌<◌, ◌≤◌, Bool, List, [], ◌∷◌, ◌++◌, map, length, drop, get_or, Option, Some, None, refl, sym, ap, ◌∙◌, arith}
-use Rattle.std.specs.List.{cons_option, filter_map, flat_map, range_with_len}
+use Rattle.std.proofs.Common.{◌≡◌, ℕ, ◌+◌, ◌-◌, ◌≤◌, Bool, List, [], ◌∷◌, ◌++◌, map, length, drop, Option, Some, None, refl, sym, ap, ◌∙◌, arith}
+use Rattle.std.specs.List.{cons_option, filter_map, flat_map, range_with_len, slice_get}
 use Rattle.std.proofs.lemmas.List.{at_drop_more, at_drop_all}
+use Rattle.std.proofs.lemmas.Option.{slice_get_within, get_or_from_slice_get}
 use Rattle.std.proofs.lemmas.List.FromFn.{map-range_with_len_more}
 use Rattle.virtiofs_map.specs.AuditParts.{TriedSoFar, try_one, after, one_byte, one_byte_names}
 use Rattle.virtiofs_map.proofs.AuditLeastLemmas.{after-append}
 
 -- one element more of a list whose elements each give names
-pub flat_more : {X : Type 0} (bad : List ℕ → Bool) (t new end : TriedSoFar) (f : X → List (List ℕ)) (xs : List X) (i : ℕ) (x : X) → i < length xs → x ≡ get_or xs i x → new ≡ after bad t (f x) → after bad t (flat_map f (drop i xs)) ≡ end → after bad new (flat_map f (drop (i + 1) xs)) ≡ end
-flat_more bad t new end f xs i x l is step h =
+pub flat_more : {X : Type 0} (bad : List ℕ → Bool) (t new end : TriedSoFar) (f : X → List (List ℕ)) (xs : List X) (i : ℕ) (x : X) → Some x ≡ slice_get xs i → new ≡ after bad t (f x) → after bad t (flat_map f (drop i xs)) ≡ end → after bad new (flat_map f (drop (i + 1) xs)) ≡ end
+flat_more bad t new end f xs i x here step h =
     let rest = flat_map f (drop (i + 1) xs) in
+    let is = sym (get_or_from_slice_get xs i x x (sym here)) in
+    let l = slice_get_within xs i x (sym here) in
     ap (λ s. after bad s rest) step ∙ sym (after-append bad t (f x) rest) ∙ ap (λ e. after bad t (f e ++ rest)) is ∙ sym (at_drop_more (λ ys. after bad t (flat_map f ys)) xs i x l) ∙ h
 
 pub flat_all : {X : Type 0} (bad : List ℕ → Bool) (t end : TriedSoFar) (f : X → List (List ℕ)) (xs : List X) (i : ℕ) → length xs ≤ i → after bad t (flat_map f (drop i xs)) ≡ end → t ≡ end
@@ -20,9 +23,11 @@ after_option : (bad : List ℕ → Bool) (t : TriedSoFar) (o : Option (List ℕ)
 after_option bad t None rest = refl
 after_option bad t (Some name) rest = refl
 
-pub option_more : {X : Type 0} (bad : List ℕ → Bool) (t new end : TriedSoFar) (h : X → Option (List ℕ)) (xs : List X) (i : ℕ) (x : X) → i < length xs → x ≡ get_or xs i x → new ≡ after bad t (cons_option (h x) []) → after bad t (filter_map h (drop i xs)) ≡ end → after bad new (filter_map h (drop (i + 1) xs)) ≡ end
-option_more bad t new end h xs i x l is step k =
+pub option_more : {X : Type 0} (bad : List ℕ → Bool) (t new end : TriedSoFar) (h : X → Option (List ℕ)) (xs : List X) (i : ℕ) (x : X) → Some x ≡ slice_get xs i → new ≡ after bad t (cons_option (h x) []) → after bad t (filter_map h (drop i xs)) ≡ end → after bad new (filter_map h (drop (i + 1) xs)) ≡ end
+option_more bad t new end h xs i x here step k =
     let rest = filter_map h (drop (i + 1) xs) in
+    let is = sym (get_or_from_slice_get xs i x x (sym here)) in
+    let l = slice_get_within xs i x (sym here) in
     ap (λ s. after bad s rest) step ∙ after_option bad t (h x) rest ∙ ap (λ e. after bad t (cons_option (h e) rest)) is ∙ sym (at_drop_more (λ ys. after bad t (filter_map h ys)) xs i x l) ∙ k
 
 pub option_all : {X : Type 0} (bad : List ℕ → Bool) (t end : TriedSoFar) (h : X → Option (List ℕ)) (xs : List X) (i : ℕ) → length xs ≤ i → after bad t (filter_map h (drop i xs)) ≡ end → t ≡ end

@@ -2,13 +2,14 @@
 use Rattle.std.proofs.Common.{◌≡◌, ℕ, List, [], ◌∷◌, refl, ◌∙◌, ◌≢◌, ◌++◌, append_assoc}
 use Rattle.std.proofs.lemmas.Str.{encodes-chars, chars-nil}
 use Rattle.std.specs.Str.{chars, IsUtf8}
-use Rattle.virtiofs_map.specs.Rule.{RuleType, Prefix, Bad, Okay, MappingRule}
-use Rattle.virtiofs_map.specs.RuleParts.{type_of, scope_of, head_of, holds, bits_of}
+use Rattle.virtiofs_map.specs.Rule.{Prefix, Bad, Okay, MappingRule}
+use Rattle.virtiofs_map.specs.RuleParts.{type_of, scope_of, head_of, holds, bits_of, rule_with}
 use Rattle.virtiofs_map.specs.RuleText.{All, Map, rule_of, rules_of, on_client, on_server}
 use Rattle.virtiofs_map.specs.declared.xattrmap.scopes.Side.TheVariants as sides
-use Rattle.virtiofs_map.specs.declared.xattrmap.rules.Head.{Head}
-use Rattle.virtiofs_map.specs.declared.xattrmap.rules.Head.TheVariants as heads
+use Rattle.virtiofs_map.specs.declared.xattrmap.written.Head.{Head}
+use Rattle.virtiofs_map.specs.declared.xattrmap.written.Head.TheVariants as heads
 use Rattle.virtiofs_map.specs.declared.xattrmap.rules.RuleKind.{RuleKind}
+use Rattle.virtiofs_map.specs.declared.xattrmap.scopes.Scope.{Scope}
 use Rattle.virtiofs_map.specs.declared.xattrmap.scopes.ScopeWord.{ScopeWord}
 use Rattle.virtiofs_map.specs.declared.xattrmap.scopes.ScopeWord.TheVariants as words
 
@@ -27,25 +28,20 @@ pub head_is_map : (head : Head) → head_of head ≡ Map → head ≡ heads.Map
 head_is_map (heads.Typed kind scope) e = absurd (cc)
 head_is_map heads.Map e = refl
 
--- a rule with the bits of a scope and the bytes of its patterns
-abbrev pub made : RuleType → ℕ → List ℕ → List ℕ → MappingRule
-made kind bits key prepend = record { kind = kind; client = holds sides.Client bits; server = holds sides.Server bits; key = key; prepend = prepend }
-
-pub made-rule_of : (kind : RuleKind) (word : ScopeWord) (bits : ℕ) (key prepend k p : List ℕ)
-    → bits ≡ bits_of word → k ≡ key → p ≡ prepend → IsUtf8 key → IsUtf8 prepend → made (type_of kind) bits k p ≡ rule_of (type_of kind) (scope_of word) (chars key) (chars prepend)
-made-rule_of kind word bits key prepend k p b ek ep uk up =
+pub made-rule_of : (kind : RuleKind) (word : ScopeWord) (scope : Scope) (key prepend k p : List ℕ)
+    → scope.0 ≡ bits_of word → k ≡ key → p ≡ prepend → IsUtf8 key → IsUtf8 prepend → rule_with kind scope k p ≡ rule_of (type_of kind) (scope_of word) (chars key) (chars prepend)
+made-rule_of kind word scope key prepend k p b ek ep uk up =
     rw (b, ek, ep, holds_client word, holds_server word, encodes-chars key uk, encodes-chars prepend up) refl
 
 -- two rules that were put at the end, where the key is empty
-pub pushed_two : (old one two : List MappingRule) (a b : MappingRule) (key prepend : List ℕ)
-    → one ≡ old ++ a ∷ [] → two ≡ one ++ b ∷ [] → a ≡ rule_of Prefix All key prepend → b ≡ rule_of Bad All (chars []) (chars []) → key ≡ []
+pub pushed_two : (old one two : List MappingRule) (key prepend : List ℕ)
+    → one ≡ old ++ rule_of Prefix All key prepend ∷ [] → two ≡ one ++ rule_of Bad All (chars []) (chars []) ∷ [] → key ≡ []
     → two ≡ old ++ rules_of Map key prepend
-pushed_two old one two a b key prepend e f ea eb nothing = rw (f, e, ea, eb, nothing, chars-nil) (append_assoc old _ _)
+pushed_two old one two key prepend e f nothing = rw (f, e, nothing, chars-nil) (append_assoc old _ _)
 
 -- three rules that were put at the end, where it is not
-pub pushed_three : (old one two three : List MappingRule) (a b c : MappingRule) (key prepend : List ℕ)
-    → one ≡ old ++ a ∷ [] → two ≡ one ++ b ∷ [] → three ≡ two ++ c ∷ []
-    → a ≡ rule_of Prefix All key prepend → b ≡ rule_of Bad All prepend key → c ≡ rule_of Okay All (chars []) (chars []) → key ≢ []
+pub pushed_three : (old one two three : List MappingRule) (key prepend : List ℕ)
+    → one ≡ old ++ rule_of Prefix All key prepend ∷ [] → two ≡ one ++ rule_of Bad All prepend key ∷ [] → three ≡ two ++ rule_of Okay All (chars []) (chars []) ∷ [] → key ≢ []
     → three ≡ old ++ rules_of Map key prepend
-pushed_three old one two three a b c [] prepend e f g ea eb ec some = absurd (some refl)
-pushed_three old one two three a b c (k ∷ ks) prepend e f g ea eb ec some = rw (g, f, e, ea, eb, ec, chars-nil) (append_assoc (old ++ _) _ _ ∙ append_assoc old _ _)
+pushed_three old one two three [] prepend e f g some = absurd (some refl)
+pushed_three old one two three (k ∷ ks) prepend e f g some = rw (g, f, e, chars-nil) (append_assoc (old ++ _) _ _ ∙ append_assoc old _ _)

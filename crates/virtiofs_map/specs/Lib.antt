@@ -1,10 +1,12 @@
 pub mod Alphanumeric
 pub mod Audit
 pub mod AuditParts
+pub mod BranchParts
 pub mod Build
 pub mod BuildParts
-pub mod ChildrenParts
+pub mod ByteWordParts
 pub mod FirstRule
+pub mod GrowthParts
 pub mod Image
 pub mod Listing
 pub mod LookupAnswers
@@ -28,5 +30,4 @@ pub mod SpecificationParts
 pub mod SpecificationText
 pub mod Specifications
 pub mod Steps
-pub mod TrieParts
 pub mod WordParts

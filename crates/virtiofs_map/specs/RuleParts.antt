@@ -1,7 +1,8 @@
 -- What the private functions on rules and their text say. Only they cite these words.
-use Rattle.std.specs.Prelude.{◌≡◌, ◌⊎◌, ℕ, Bool, List, [], ◌∷◌, ◌==◌, Contains, IsSomeAnd}
+use Rattle.std.specs.Prelude.{◌≡◌, ◌⊎◌, ℕ, ◌-◌, Bool, List, [], ◌∷◌, take, drop, ◌==◌, Contains, IsSomeAnd}
 use Rattle.std.specs.Int.RustNames.{bit_and}
 use Rattle.std.specs.Str.{chars}
+use Rattle.virtiofs_map.specs.BranchParts.{IsSpan}
 use Rattle.virtiofs_map.specs.Rule.{RuleType, MappingRule}
 use Rattle.virtiofs_map.specs.Rule as types
 use Rattle.virtiofs_map.specs.RuleText.{ScopeName, RuleHead, RuleAsWritten, rules_of, Opens, Fields}
@@ -11,15 +12,19 @@ use Rattle.virtiofs_map.specs.Separator.{Lacks}
 use Rattle.virtiofs_map.specs.declared.xattrmap.errors.ErrorKind.{ErrorKind}
 use Rattle.virtiofs_map.specs.declared.xattrmap.errors.ErrorKind.TheVariants.{OutOfMemory}
 use Rattle.virtiofs_map.specs.declared.xattrmap.errors.PatternField.{PatternField}
-use Rattle.virtiofs_map.specs.declared.xattrmap.rules.Head.{Head}
-use Rattle.virtiofs_map.specs.declared.xattrmap.rules.Head.TheVariants.{Typed, Map}
+use Rattle.virtiofs_map.specs.declared.xattrmap.rules.RuleEntry.{RuleEntry}
 use Rattle.virtiofs_map.specs.declared.xattrmap.rules.RuleKind.{RuleKind}
 use Rattle.virtiofs_map.specs.declared.xattrmap.rules.RuleKind.TheVariants.{Prefix, Okay, Bad, Unsupported}
-use Rattle.virtiofs_map.specs.declared.xattrmap.rules.WrittenRule.{WrittenRule}
+use Rattle.virtiofs_map.specs.declared.xattrmap.rules.RuleRef.{RuleRef}
+use Rattle.virtiofs_map.specs.declared.xattrmap.scopes.Scope.{Scope}
 use Rattle.virtiofs_map.specs.declared.xattrmap.scopes.ScopeWord.{ScopeWord}
 use Rattle.virtiofs_map.specs.declared.xattrmap.scopes.ScopeWord.TheVariants.{All, Client, Server}
 use Rattle.virtiofs_map.specs.declared.xattrmap.scopes.Side.{Side}
 use Rattle.virtiofs_map.specs.declared.xattrmap.scopes.Side.TheVariants as sides
+use Rattle.virtiofs_map.specs.declared.xattrmap.spans.Span.{Span}
+use Rattle.virtiofs_map.specs.declared.xattrmap.written.Head.{Head}
+use Rattle.virtiofs_map.specs.declared.xattrmap.written.Head.TheVariants.{Typed, Map}
+use Rattle.virtiofs_map.specs.declared.xattrmap.written.WrittenRule.{WrittenRule}
 
 -- ---- the code's types, as the definitions have them
 
@@ -58,6 +63,39 @@ abbrev pub bits_of : ScopeWord → ℕ
 bits_of All = 3
 bits_of Client = 1
 bits_of Server = 2
+
+-- ---- rules in one memory
+
+-- the rules in order, the bytes of all their patterns, and where those of each rule stand among them
+pub record KeptRules : Type 0 where
+  pub list : List MappingRule
+  pub bytes : List ℕ
+  pub spans : List Span
+
+-- the rule of that type, for those sides, with these patterns
+abbrev pub rule_with : RuleKind → Scope → List ℕ → List ℕ → MappingRule
+rule_with kind scope key prepend = record {
+  kind = type_of kind;
+  client = holds sides.Client scope.0;
+  server = holds sides.Server scope.0;
+  key = key;
+  prepend = prepend;
+}
+
+-- the rule that is lent
+abbrev pub rule_meant : RuleRef → MappingRule
+rule_meant rule = rule_with rule.kind rule.scope rule.key.now rule.prepend.now
+
+-- the rule of an entry, whose patterns stand among the bytes
+abbrev pub rule_kept : List ℕ → RuleEntry → MappingRule
+rule_kept bytes entry =
+    rule_with entry.kind entry.scope
+    (take (entry.span.prepend - entry.span.key) (drop entry.span.key bytes))
+    (take (entry.span.end - entry.span.prepend) (drop entry.span.prepend bytes))
+
+-- the entry's patterns stand among the bytes
+abbrev pub IsAmong : List ℕ → RuleEntry → Type 0
+IsAmong bytes entry = IsSpan bytes (rule_kept bytes entry) entry.span
 
 -- ---- reading
 

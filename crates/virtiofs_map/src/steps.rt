@@ -23,6 +23,7 @@ impl Model for Steps {
 
 impl Steps {
     /// A counter that stands at 0.
+    #[inline(always)]
     pub fn new() -> Steps
         ensures { result ≡ 0 }
     {
@@ -38,6 +39,7 @@ impl Steps {
     }
 
     /// Counts one step more.
+    #[inline(always)]
     pub(crate) fn tick(&mut self)
         ensures { self.new ≡ count_after self.old 1 }
     {
@@ -45,9 +47,18 @@ impl Steps {
     }
 
     /// Counts the steps of another counter.
+    #[inline(always)]
     pub(crate) fn add(&mut self, more: &Steps)
         ensures { self.new ≡ count_after self.old more.now }
     {
         self.count = self.count.saturating_add(more.count);
+    }
+
+    /// Counts several steps more.
+    #[inline(always)]
+    pub(crate) fn count_more(&mut self, more: u64)
+        ensures { self.new ≡ count_after self.old more }
+    {
+        self.count = self.count.saturating_add(more);
     }
 }

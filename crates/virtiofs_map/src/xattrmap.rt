@@ -37,56 +37,63 @@ ghost use Rattle.virtiofs_map.specs.Rule.{MappingRule};
 ghost use Rattle.virtiofs_map.specs.RuleText.{SaysRules};
 ghost use Rattle.virtiofs_map.specs.RulesFault.{RulesFault, HasRulesFault, rules_fault_of};
 
+mod branches;
 mod client;
 mod errors;
-mod first_rule;
+mod fronts;
+mod growth;
 pub mod laws;
 mod listed;
 mod lookup;
 mod names;
-mod nodes;
-mod others;
+mod patterns;
 mod reader;
+mod rows;
 pub(crate) mod rules;
 mod scopes;
 mod server;
-mod trie;
-mod trie_builder;
+mod spans;
+mod trie_rows;
+mod walk;
+mod words;
+mod written;
 
 pub use client::{AppliedRule, PassedName};
 pub use errors::{Error, ErrorKind, PatternField};
 pub use listed::ListedNames;
 pub use names::{XattrName, XattrNameBuf};
 use reader::read_rules;
-use rules::{Rule, copied_rules};
+use rules::Rules;
 pub use scopes::Side;
 use std::alloc::{AllocError, Allocator, Global};
 use std::marker::Model;
-use trie::Trie;
+use trie_rows::trie_rows;
 
 /// The rules by which names cross, in order. A contract sees it as the list of its rules, where
 /// each `map` rule stands as the two or three rules that it means.
 #[derive(Drop)]
 #[derive_where(Debug)]
 pub struct XattrMap<A: Allocator = Global> {
-    rules: Vec<Rule<A>, A>,
-    client: Trie<A>,
-    server: Trie<A>,
+    rules: Rules<A>,
+    /// The rows of the trie of the client's patterns, whose labels stand among the rules' bytes.
+    client: Vec<u8, A>,
+    /// The rows of the trie of the server's patterns.
+    server: Vec<u8, A>,
 }
 
 impl<A: Allocator> Model for XattrMap<A> {
     ghost use Rattle.std.specs.Prelude.{List, All};
+    ghost use Rattle.virtiofs_map.specs.BranchParts.{IsTrieIn};
     ghost use Rattle.virtiofs_map.specs.Rule.{MappingRule, HasNoZero};
-    ghost use Rattle.virtiofs_map.specs.TrieParts.{StandsFor};
     ghost use Rattle.virtiofs_map.specs.declared.xattrmap.scopes.Side.TheVariants.{Client, Server};
 
     ghost Value = { List MappingRule };
 
-    ghost view = { λ map. map.rules.items };
+    ghost view = { λ map. map.rules.list };
 
-    ghost invariant = { λ map. All HasNoZero map.rules.items
-        × StandsFor Client map.rules.items map.client
-        × StandsFor Server map.rules.items map.server };
+    ghost invariant = { λ map. All HasNoZero map.rules.list
+        × IsTrieIn Client map.rules.list map.client.items map.rules.bytes
+        × IsTrieIn Server map.rules.list map.server.items map.rules.bytes };
 }
 
 impl<A: Allocator> PartialEq for XattrMap<A> {
@@ -104,7 +111,7 @@ impl<A: Allocator> PartialEq for XattrMap<A> {
         // Maps are equal where their rules are, each map rule standing for those that it means.
         ensures equal { IsTrue result ↔ (self.now ≡ other.now) }
     {
-        self.rules == other.rules
+        self.rules.are_same(&other.rules)
     }
 }
 
@@ -146,8 +153,8 @@ impl<A: Allocator + Copy> XattrMap<A> {
         ensures map_rule { IfOk result (ReadsMapRule (chars text.now)) }
     {
         let rules = read_rules(alloc, text)?;
-        let client = Trie::of_rules(alloc, rules.as_slice(), Side::Client)?;
-        let server = Trie::of_rules(alloc, rules.as_slice(), Side::Server)?;
+        let client = trie_rows(alloc, &rules, Side::Client)?;
+        let server = trie_rows(alloc, &rules, Side::Server)?;
         Ok(XattrMap {
             rules,
             client,
@@ -159,11 +166,11 @@ impl<A: Allocator + Copy> XattrMap<A> {
     pub fn clone(&self, alloc: A) -> Result<XattrMap<A>, AllocError>
         ensures { IfOk result (λ map. map ≡ self.now) }
     {
-        let copies = copied_rules(alloc, self.rules.as_slice())?;
-        let client = Trie::of_rules(alloc, copies.as_slice(), Side::Client)?;
-        let server = Trie::of_rules(alloc, copies.as_slice(), Side::Server)?;
+        let rules = self.rules.copied(alloc)?;
+        let client = Vec::from_slice(alloc, self.client.as_slice())?;
+        let server = Vec::from_slice(alloc, self.server.as_slice())?;
         Ok(XattrMap {
-            rules: copies,
+            rules,
             client,
             server,
         })

@@ -8,10 +8,11 @@
 ghost use Rattle.std.specs.Prelude.{◌≡◌, ◌≢◌, ◌++◌, Some, None, All, MatchOption, OnOk, Option};
 ghost use Rattle.virtiofs_map.specs.AuditParts.{bad, after, rest_of, rests, guest_names_of, guest_names, wholes, host_names_of, host_names, one_byte_names};
 ghost use Rattle.virtiofs_map.specs.Rule.{HasNoZero};
+ghost use Rattle.virtiofs_map.specs.RuleParts.{rule_meant};
 
 use crate::audit::least::Tried;
 use crate::audit::questions::{Question, put_together};
-use crate::xattrmap::rules::Rule;
+use crate::xattrmap::rules::RuleRef;
 use crate::xattrmap::{Side, XattrMap, XattrName};
 use std::alloc::{AllocError, Allocator};
 
@@ -27,7 +28,10 @@ pub(crate) fn try_guest_names<A: Allocator + Copy>(
         (guest_names other.now map.now ++ one_byte_names)) }
     ensures no_zero { All HasNoZero map.now }
 {
-    for rule in map.rules() {
+    for place in 0..map.len() {
+        let Some(rule) = map.rule(place) else {
+            continue;
+        };
         try_guest_names_of(alloc, question, rule, other, tried)?;
     }
     try_one_byte_names(alloc, question, tried)
@@ -38,25 +42,26 @@ pub(crate) fn try_guest_names<A: Allocator + Copy>(
 fn try_guest_names_of<A: Allocator + Copy>(
     alloc: A,
     question: &Question<'_, A>,
-    rule: &Rule<A>,
+    rule: RuleRef<'_>,
     other: &XattrMap<A>,
     tried: &mut Tried<A>,
 ) -> Result<(), AllocError>
-    requires { HasNoZero rule.now }
+    requires { HasNoZero (rule_meant rule) }
     ensures { OnOk result (tried.new ≡ after (bad question.now) tried.old
-        (guest_names_of other.now rule.now)) }
+        (guest_names_of other.now (rule_meant rule.entry))) }
 {
     if !rule.scope.has(Side::Client) {
         return Ok(());
     }
-    let key = XattrName {
-        bytes: rule.key.as_slice(),
-    };
+    let key = XattrName { bytes: rule.key };
     tried.try_name(alloc, question, key)?;
     let Some(added) = rule.front() else {
         return Ok(());
     };
-    for each in other.rules() {
+    for place in 0..other.len() {
+        let Some(each) = other.rule(place) else {
+            continue;
+        };
         if let Some(rest) = rest_of(each, added) {
             tried.try_name(alloc, question, rest)?;
         }
@@ -65,12 +70,12 @@ fn try_guest_names_of<A: Allocator + Copy>(
 }
 
 /// The rest of the rule's prepend after the front, where that begins it.
-fn rest_of<'m, A: Allocator>(rule: &'m Rule<A>, added: &[u8]) -> Option<XattrName<'m>>
-    requires { HasNoZero rule.now }
-    ensures { MatchOption result (rest_of added.now rule.now ≡ None)
-        (λ rest. rest_of added.now rule.now ≡ Some rest.bytes.now) }
+fn rest_of<'m>(rule: RuleRef<'m>, added: &[u8]) -> Option<XattrName<'m>>
+    requires { HasNoZero (rule_meant rule) }
+    ensures { MatchOption result (rest_of added.now (rule_meant rule.entry) ≡ None)
+        (λ rest. rest_of added.now (rule_meant rule.entry) ≡ Some rest.bytes.now) }
 {
-    let prepend = rule.prepend.as_slice();
+    let prepend = rule.prepend;
     if rule.scope.has(Side::Server) && prepend.starts_with(added) {
         let bytes = &prepend[added.len()..];
         return Some(XattrName { bytes });
@@ -88,7 +93,10 @@ pub(crate) fn try_host_names<A: Allocator + Copy>(
     ensures { OnOk result (tried.new ≡ after (bad question.now) tried.old
         (host_names map.now map.now ++ one_byte_names)) }
 {
-    for rule in map.rules() {
+    for place in 0..map.len() {
+        let Some(rule) = map.rule(place) else {
+            continue;
+        };
         try_host_names_of(alloc, question, rule, map, tried)?;
     }
     try_one_byte_names(alloc, question, tried)
@@ -98,28 +106,31 @@ pub(crate) fn try_host_names<A: Allocator + Copy>(
 fn try_host_names_of<A: Allocator + Copy>(
     alloc: A,
     question: &Question<'_, A>,
-    rule: &Rule<A>,
+    rule: RuleRef<'_>,
     map: &XattrMap<A>,
     tried: &mut Tried<A>,
 ) -> Result<(), AllocError>
-    requires { HasNoZero rule.now }
+    requires { HasNoZero (rule_meant rule) }
     ensures { OnOk result (tried.new ≡ after (bad question.now) tried.old
-        (host_names_of map.now rule.now)) }
+        (host_names_of map.now (rule_meant rule.entry))) }
 {
     if !rule.scope.has(Side::Server) {
         return Ok(());
     }
     let prepend = XattrName {
-        bytes: rule.prepend.as_slice(),
+        bytes: rule.prepend,
     };
     tried.try_name(alloc, question, prepend)?;
     let Some(cut) = rule.front() else {
         return Ok(());
     };
     let mut whole = Vec::new(alloc);
-    for each in map.rules() {
+    for place in 0..map.len() {
+        let Some(each) = map.rule(place) else {
+            continue;
+        };
         if each.scope.has(Side::Client) {
-            put_together(&mut whole, cut, each.key.as_slice())?;
+            put_together(&mut whole, cut, each.key)?;
             let name = XattrName {
                 bytes: whole.as_slice(),
             };

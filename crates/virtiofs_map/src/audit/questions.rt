@@ -2,8 +2,9 @@
 
 ghost use Rattle.std.specs.Prelude.{◌≡◌, ◌++◌, Some, None, MatchOption, IfOk, OnOk};
 ghost use Rattle.virtiofs_map.specs.AuditParts.{front_of, front, is_lost, is_hidden, is_seen, is_stray};
+ghost use Rattle.virtiofs_map.specs.RuleParts.{rule_meant};
 
-use crate::xattrmap::rules::{Rule, RuleKind};
+use crate::xattrmap::rules::{RuleKind, RuleRef};
 use crate::xattrmap::{Side, XattrMap};
 use std::alloc::{AllocError, Allocator};
 
@@ -33,15 +34,15 @@ impl<A: Allocator> Question<'_, A> {
     }
 }
 
-impl<A: Allocator> Rule<A> {
+impl<'m> RuleRef<'m> {
     /// What the name of the host has before that of the guest, where the rule lets names through.
-    pub(crate) fn front(&self) -> Option<&[u8]>
-        ensures { MatchOption result (front_of self.now ≡ None)
-            (λ found. front_of self.now ≡ Some found.now) }
+    pub(crate) fn front(self) -> Option<&'m [u8]>
+        ensures { MatchOption result (front_of (rule_meant self.entry) ≡ None)
+            (λ found. front_of (rule_meant self.entry) ≡ Some found.now) }
     {
         match self.kind {
             RuleKind::Okay => Some(&[]),
-            RuleKind::Prefix => Some(self.prepend.as_slice()),
+            RuleKind::Prefix => Some(self.prepend),
             RuleKind::Bad | RuleKind::Unsupported => None,
         }
     }

@@ -123,7 +123,7 @@ impl<A: Allocator + Copy> XattrMap<A> {
             RuleKind::Okay => Ok(AppliedRule::Pass(PassedName::Borrowed(name))),
             RuleKind::Prefix => {
                 let prepend = XattrName {
-                    bytes: rule.prepend.as_slice(),
+                    bytes: rule.prepend,
                 };
                 let name = name.prefixed_with(alloc, prepend)?;
                 Ok(AppliedRule::Pass(PassedName::Owned(name)))

@@ -1,31 +1,74 @@
-//! The rules of a map, and the one that decides a name.
+//! The rules of a map, and the first one that fits a name.
 
-ghost use Rattle.std.specs.Prelude.{◌≡◌, All, IfSome};
-ghost use Rattle.std.specs.Option.{option_copied};
-ghost use Rattle.virtiofs_map.specs.Names.{deciding};
+ghost use Rattle.std.specs.Option.{option_map};
+ghost use Rattle.std.specs.Prelude.{◌≡◌, length, slice_get, All, IfSome};
+ghost use Rattle.virtiofs_map.specs.BranchParts.{IsTrieIn};
+ghost use Rattle.virtiofs_map.specs.FirstRule.{CountsLookup};
+ghost use Rattle.virtiofs_map.specs.Names.{deciding, first};
 ghost use Rattle.virtiofs_map.specs.Rule.{HasNoZero};
+ghost use Rattle.virtiofs_map.specs.RuleParts.{rule_meant};
 
 use crate::steps::Steps;
 use crate::xattrmap::XattrMap;
-use crate::xattrmap::rules::Rule;
+use crate::xattrmap::branches::{NO_ANSWER, Trie};
+use crate::xattrmap::names::XattrName;
+use crate::xattrmap::rules::RuleRef;
 use crate::xattrmap::scopes::Side;
+use crate::xattrmap::walk::{first_place, look_up};
 use std::alloc::Allocator;
 
 impl<A: Allocator> XattrMap<A> {
-    /// The rules in order, lent for reading inside the crate.
-    pub(crate) fn rules(&self) -> &[Rule<A>]
-        ensures rules { result.now ≡ self.now }
-        ensures no_zero { All HasNoZero result.now }
+    /// How many rules there are.
+    pub(crate) fn len(&self) -> usize
+        ensures count { result ≡ length self.now }
+        ensures no_zero { All HasNoZero self.now }
     {
-        self.rules.as_slice()
+        self.rules.len()
+    }
+
+    /// The rule at a place, lent for reading inside the crate.
+    pub(crate) fn rule(&self, place: usize) -> Option<RuleRef<'_>>
+        ensures here { option_map rule_meant result ≡ slice_get self.now place }
+        ensures no_zero { IfSome result (λ rule. HasNoZero (rule_meant rule)) }
+    {
+        self.rules.get(place)
+    }
+
+    /// The trie of the patterns of that side.
+    fn patterns(&self, side: Side) -> Trie<'_>
+        ensures { IsTrieIn side self.now result.rows.now result.bytes.now }
+    {
+        let rows = match side {
+            Side::Client => self.client.as_slice(),
+            Side::Server => self.server.as_slice(),
+        };
+        Trie::new(rows, self.rules.bytes())
     }
 
     /// The first rule that fits the name on that side.
-    pub(crate) fn deciding(&self, side: Side, name: &[u8]) -> Option<&Rule<A>>
-        ensures found { option_copied result ≡ deciding side self.now name.now }
-        ensures no_zero { IfSome result (λ rule. HasNoZero rule.now) }
+    pub(crate) fn deciding(&self, side: Side, name: &[u8]) -> Option<RuleRef<'_>>
+        ensures found { option_map rule_meant result ≡ deciding side self.now name.now }
+        ensures no_zero { IfSome result (λ rule. HasNoZero (rule_meant rule)) }
     {
-        let position = self.place(side, name, &mut Steps::new())?;
-        self.rules.get(position)
+        let (answer, _) = look_up(self.patterns(side), name);
+        if answer == NO_ANSWER {
+            return None;
+        }
+        self.rule((answer / 4) as usize)
+    }
+
+    /// The position of the first rule that decides the name on that side, counted from 0 in the
+    /// list of rules where each `map` rule stands as the rules that it means; `None` where no rule
+    /// decides the name. It takes no memory.
+    ///
+    /// A step is a front of a pattern that the walk along the trie passes: one more than the bytes
+    /// that the name shares with patterns. Where a rule decides the name, at least one more is
+    /// counted than its pattern on that side has bytes, and else at least one; at most one more than
+    /// the name has bytes, and than the longest pattern of that side has.
+    pub fn first_rule(&self, side: Side, name: XattrName<'_>, steps: &mut Steps) -> Option<usize>
+        ensures first { result ≡ first side self.now name.entry.bytes.now }
+        ensures steps { CountsLookup side self.now name.entry.bytes.now steps.old steps.new }
+    {
+        first_place(self.patterns(side), name.bytes, steps)
     }
 }

@@ -11,8 +11,9 @@ ghost use Rattle.virtiofs_map.specs.Separator.{Lacks};
 
 use crate::text::cut_at;
 use crate::xattrmap::errors::{Error, ErrorKind, PatternField};
-use crate::xattrmap::rules::{Head, Rule, RuleKind, WrittenRule, push_rules};
+use crate::xattrmap::rules::{RuleKind, Rules};
 use crate::xattrmap::scopes::ScopeWord;
+use crate::xattrmap::written::{Head, WrittenRule, push_rules};
 use std::alloc::Allocator;
 
 /// The type that a word names.
@@ -151,15 +152,12 @@ fn next_rule<A: Allocator + Copy>(
 }
 
 /// The rules that the text stands for.
-pub(crate) fn read_rules<A: Allocator + Copy>(
-    alloc: A,
-    text: &str,
-) -> Result<Vec<Rule<A>, A>, Error<A>>
-    ensures read { IfOk result (λ rules. SaysRules (chars text.now) rules.items) }
+pub(crate) fn read_rules<A: Allocator + Copy>(alloc: A, text: &str) -> Result<Rules<A>, Error<A>>
+    ensures read { IfOk result (λ rules. SaysRules (chars text.now) rules.list) }
     ensures refused { IfErr result (λ e.
         OutOfMemoryOr (rules_fault_of e) (HasRulesFault (chars text.now))) }
 {
-    let mut rules = Vec::new(alloc);
+    let mut rules = Rules::new(alloc);
     let mut rest = text.trim();
     while !rest.is_empty() {
         let number = rules.len() + 1;
@@ -167,11 +165,12 @@ pub(crate) fn read_rules<A: Allocator + Copy>(
             Ok(found) => found,
             Err(cause) => return Err(cause.in_rule(number)),
         };
-        push_rules(alloc, &mut rules, rule)?;
+        push_rules(&mut rules, rule)?;
         rest = after.trim_ascii_start();
     }
     if rules.is_empty() {
         return Err(Error::from(ErrorKind::NoRulesProvided));
     }
+    rules.trim();
     Ok(rules)
 }

@@ -1,12 +1,15 @@
-//! A rule of a map, as it is written and as lookups use it.
+//! The rules of a map, as lookups use them. In place of a `map` rule stand the two or three rules
+//! that it means. The patterns of all rules stand in one memory.
 
-ghost use Rattle.std.specs.Prelude.{◌≡◌, ◌++◌, IfOk, OnOk};
-ghost use Rattle.std.specs.Str.{chars, IsUtf8};
+ghost use Rattle.std.specs.Option.{option_map};
+ghost use Rattle.std.specs.Prelude.{◌≡◌, ◌==◌, ℕ, List, ◌++◌, ◌∷◌, [], length, slice_get, IfOk, IsSomeAnd, MatchOption, OnOk};
+ghost use Rattle.virtiofs_map.specs.BranchParts.{AreSpans, IsSpan};
 ghost use Rattle.virtiofs_map.specs.FirstRule.{acts, pattern};
-ghost use Rattle.virtiofs_map.specs.RuleParts.{type_of, scope_of, rules_for};
-ghost use Rattle.virtiofs_map.specs.RuleText.{rule_of};
+ghost use Rattle.virtiofs_map.specs.Rule.{MappingRule, same_rule, same_rules};
+ghost use Rattle.virtiofs_map.specs.RuleParts.{rule_meant, rule_with};
 
-use crate::xattrmap::scopes::{Scope, ScopeWord, Side};
+use crate::xattrmap::scopes::{Scope, Side};
+use crate::xattrmap::spans::Span;
 use std::alloc::{AllocError, Allocator, Global};
 use std::marker::Model;
 
@@ -19,162 +22,228 @@ pub(crate) enum RuleKind {
     Unsupported,
 }
 
-/// What comes before the key of a rule: its type and scope, or the word `map`.
-#[derive(Clone, Copy, PartialEq, Eq, Debug)]
-pub(crate) enum Head {
-    Typed(RuleKind, ScopeWord),
-    Map,
+impl RuleKind {
+    ghost use Rattle.virtiofs_map.specs.Rule.{type_number};
+    ghost use Rattle.virtiofs_map.specs.RuleParts.{type_of};
+
+    /// The number that stands for the type.
+    pub(crate) fn number(self) -> u64
+        ensures { result ≡ type_number (type_of self) }
+    {
+        match self {
+            RuleKind::Prefix => 0,
+            RuleKind::Okay => 1,
+            RuleKind::Bad => 2,
+            RuleKind::Unsupported => 3,
+        }
+    }
 }
 
-/// A rule as it is written.
+/// A rule, lent for reading.
 #[derive(Clone, Copy)]
-pub(crate) struct WrittenRule<'a> {
-    pub(crate) head: Head,
-    pub(crate) key: &'a str,
-    pub(crate) prepend: &'a str,
-}
-
-/// A rule as lookups use it. In place of a `map` rule stand the two or three rules that it means.
-#[derive(Drop)]
-#[derive_where(Debug)]
-pub(crate) struct Rule<A: Allocator = Global> {
+pub(crate) struct RuleRef<'m> {
     pub(crate) kind: RuleKind,
     pub(crate) scope: Scope,
-    pub(crate) key: Vec<u8, A>,
-    pub(crate) prepend: Vec<u8, A>,
+    pub(crate) key: &'m [u8],
+    pub(crate) prepend: &'m [u8],
 }
 
-impl<A: Allocator> Model for Rule<A> {
-    ghost use Rattle.virtiofs_map.specs.Rule.{MappingRule};
-    ghost use Rattle.virtiofs_map.specs.RuleParts.{type_of, holds};
-    ghost use Rattle.virtiofs_map.specs.declared.xattrmap.scopes.Side.TheVariants.{Client, Server};
-
-    ghost Value = { MappingRule };
-
-    ghost view = { λ rule. record {
-      kind = type_of rule.kind;
-      client = holds Client rule.scope.0;
-      server = holds Server rule.scope.0;
-      key = rule.key.items;
-      prepend = rule.prepend.items;
-    } };
-}
-
-impl<A: Allocator> PartialEq for Rule<A> {
-    ghost use Rattle.std.proofs.Common.{rules};
-    ghost use Rattle.std.specs.Cmp.Rules.{comparing};
-    ghost use Rattle.virtiofs_map.specs.Rule.{same_rule};
-
-    ghost eq = { same_rule };
-
-    ghost laws = { Prim.search (comparing, rules) depth 12 };
-
-    fn eq(&self, other: &Rule<A>) -> bool {
-        self.kind == other.kind
-            && self.scope.has(Side::Client) == other.scope.has(Side::Client)
-            && self.scope.has(Side::Server) == other.scope.has(Side::Server)
-            && self.key == other.key
-            && self.prepend == other.prepend
-    }
-}
-
-impl<A: Allocator> Eq for Rule<A> {
-    ghost use Rattle.std.proofs.Common.{rules};
-    ghost use Rattle.std.specs.Cmp.Rules.{comparing};
-
-    ghost laws = { Prim.search (comparing, rules) depth 12 };
-}
-
-/// A rule of that type for these sides.
-fn make_rule<A: Allocator + Copy>(
-    alloc: A,
-    kind: RuleKind,
-    scope: ScopeWord,
-    key: &str,
-    prepend: &str,
-) -> Result<Rule<A>, AllocError>
-    ensures { IfOk result (λ rule. rule
-        ≡ rule_of (type_of kind) (scope_of scope) (chars key.now) (chars prepend.now)) }
-{
-    Ok(Rule {
-        kind,
-        scope: Scope::from(scope),
-        key: Vec::from_slice(alloc, key.as_bytes())?,
-        prepend: Vec::from_slice(alloc, prepend.as_bytes())?,
-    })
-}
-
-/// Appends the rules that a written one stands for.
-pub(crate) fn push_rules<A: Allocator + Copy>(
-    alloc: A,
-    rules: &mut Vec<Rule<A>, A>,
-    written: WrittenRule<'_>,
-) -> Result<(), AllocError>
-    requires { IsUtf8 written.key.now × IsUtf8 written.prepend.now }
-    ensures { OnOk result (rules.new.items ≡ rules.old.items ++ rules_for written.entry) }
-{
-    let WrittenRule { head, key, prepend } = written;
-    let all = ScopeWord::All;
-    match head {
-        Head::Typed(kind, scope) => {
-            rules.push(make_rule(alloc, kind, scope, key, prepend)?)?;
-        }
-        Head::Map if key.is_empty() => {
-            rules.push(make_rule(alloc, RuleKind::Prefix, all, key, prepend)?)?;
-            rules.push(make_rule(alloc, RuleKind::Bad, all, "", "")?)?;
-        }
-        Head::Map => {
-            rules.push(make_rule(alloc, RuleKind::Prefix, all, key, prepend)?)?;
-            rules.push(make_rule(alloc, RuleKind::Bad, all, prepend, key)?)?;
-            rules.push(make_rule(alloc, RuleKind::Okay, all, "", "")?)?;
-        }
-    }
-    Ok(())
-}
-
-impl<A: Allocator> Rule<A> {
+impl<'m> RuleRef<'m> {
     /// Whether the rule acts on that side.
-    pub(crate) fn acts_on(&self, side: Side) -> bool
-        ensures { result ≡ acts side self.now }
+    pub(crate) fn acts_on(self, side: Side) -> bool
+        ensures { result ≡ acts side (rule_meant self.entry) }
     {
         self.scope.has(side)
     }
 
     /// What the rule compares names of that side with.
-    pub(crate) fn pattern(&self, side: Side) -> &[u8]
-        ensures { result.now ≡ pattern side self.now }
+    pub(crate) fn pattern(self, side: Side) -> &'m [u8]
+        ensures { result.now ≡ pattern side (rule_meant self.entry) }
     {
         match side {
-            Side::Client => self.key.as_slice(),
-            Side::Server => self.prepend.as_slice(),
+            Side::Client => self.key,
+            Side::Server => self.prepend,
         }
+    }
+
+    /// Whether the two rules are the same.
+    fn is_same(self, other: RuleRef<'_>) -> bool
+        ensures { result ≡ same_rule (rule_meant self.entry) (rule_meant other.entry) }
+    {
+        self.kind == other.kind
+            && self.acts_on(Side::Client) == other.acts_on(Side::Client)
+            && self.acts_on(Side::Server) == other.acts_on(Side::Server)
+            && self.key == other.key
+            && self.prepend == other.prepend
     }
 }
 
-impl<A: Allocator + Copy> Rule<A> {
-    /// The same rule, in memory of its own.
-    fn copied(&self, alloc: A) -> Result<Rule<A>, AllocError>
-        ensures { IfOk result (λ rule. rule ≡ self.now) }
+/// A rule as it is kept.
+#[derive(Clone, Copy, Debug)]
+pub(crate) struct RuleEntry {
+    kind: RuleKind,
+    scope: Scope,
+    span: Span,
+}
+
+/// The rules in order. A contract sees them as their list, the bytes of all patterns, and where
+/// those of each rule stand among them.
+#[derive(Drop)]
+#[derive_where(Debug)]
+pub(crate) struct Rules<A: Allocator = Global> {
+    /// The patterns, one after the other.
+    bytes: Vec<u8, A>,
+    entries: Vec<RuleEntry, A>,
+}
+
+impl<A: Allocator> Model for Rules<A> {
+    ghost use Rattle.std.specs.Prelude.{All, map};
+    ghost use Rattle.virtiofs_map.specs.RuleParts.{KeptRules, IsAmong, rule_kept};
+
+    ghost Value = { KeptRules };
+
+    ghost view = { λ rules. record {
+      list = map (rule_kept rules.bytes.items) rules.entries.items;
+      bytes = rules.bytes.items;
+      spans = map (λ entry. entry.span) rules.entries.items;
+    } };
+
+    ghost invariant = { λ rules. All (IsAmong rules.bytes.items) rules.entries.items };
+}
+
+impl<A: Allocator> Rules<A> {
+    /// How many rules there are.
+    pub(crate) fn len(&self) -> usize
+        ensures { result ≡ length self.now.list }
     {
-        Ok(Rule {
-            kind: self.kind,
-            scope: self.scope,
-            key: Vec::from_slice(alloc, self.key.as_slice())?,
-            prepend: Vec::from_slice(alloc, self.prepend.as_slice())?,
+        self.entries.len()
+    }
+
+    /// Whether there is no rule.
+    pub(crate) fn is_empty(&self) -> bool
+        ensures { result ≡ (length self.now.list == 0) }
+    {
+        self.entries.is_empty()
+    }
+
+    /// The rule at a place.
+    pub(crate) fn get(&self, place: usize) -> Option<RuleRef<'_>>
+        ensures { option_map rule_meant result ≡ slice_get self.now.list place }
+    {
+        let RuleEntry { kind, scope, span } = *self.entries.get(place)?;
+        let key = &self.bytes[span.key..span.prepend];
+        let prepend = &self.bytes[span.prepend..span.end];
+        Some(RuleRef {
+            kind,
+            scope,
+            key,
+            prepend,
+        })
+    }
+
+    /// The bytes of all patterns.
+    pub(crate) fn bytes(&self) -> &[u8]
+        ensures bytes { result.now ≡ self.now.bytes }
+        ensures spans { AreSpans self.now.bytes self.now.list self.now.spans }
+    {
+        self.bytes.as_slice()
+    }
+
+    /// Where the patterns of the rule at a place stand among the bytes.
+    pub(crate) fn span(&self, place: usize) -> Option<Span>
+        ensures here { result ≡ slice_get self.now.spans place }
+        ensures rule { MatchOption result
+            (slice_get self.now.list place ≡ None)
+            (λ span. IsSomeAnd (slice_get self.now.list place)
+            (λ rule. IsSpan self.now.bytes rule span)) }
+    {
+        let entry = self.entries.get(place)?;
+        Some(entry.span)
+    }
+
+    /// Whether the rules are the same, one by one.
+    pub(crate) fn are_same(&self, other: &Rules<A>) -> bool
+        ensures { result ≡ same_rules self.now.list other.now.list }
+    {
+        if self.len() != other.len() {
+            return false;
+        }
+        for place in 0..self.len() {
+            let (Some(one), Some(other)) = (self.get(place), other.get(place)) else {
+                return false;
+            };
+            if !one.is_same(other) {
+                return false;
+            }
+        }
+        true
+    }
+
+    /// Appends a rule.
+    pub(crate) fn push(
+        &mut self,
+        kind: RuleKind,
+        scope: Scope,
+        key: &[u8],
+        prepend: &[u8],
+    ) -> Result<(), AllocError>
+        ensures { OnOk result (self.new.list
+            ≡ self.old.list ++ rule_with kind scope key.now prepend.now ∷ []) }
+    {
+        let span = push_patterns(&mut self.bytes, key, prepend)?;
+        self.entries.push(RuleEntry { kind, scope, span })?;
+        Ok(())
+    }
+
+    /// Gives back the memory that no rule needs.
+    pub(crate) fn trim(&mut self)
+        ensures { self.new ≡ self.old }
+    {
+        self.bytes.shrink_to_fit();
+        self.entries.shrink_to_fit();
+    }
+}
+
+impl<A: Allocator + Copy> Rules<A> {
+    /// No rules.
+    pub(crate) fn new(alloc: A) -> Rules<A>
+        ensures { result.list ≡ [] }
+    {
+        Rules {
+            bytes: Vec::new(alloc),
+            entries: Vec::new(alloc),
+        }
+    }
+
+    /// The same rules, in memory of their own.
+    pub(crate) fn copied(&self, alloc: A) -> Result<Rules<A>, AllocError>
+        ensures { IfOk result (λ rules. rules ≡ self.now) }
+    {
+        Ok(Rules {
+            bytes: Vec::from_slice(alloc, self.bytes.as_slice())?,
+            entries: Vec::from_slice(alloc, self.entries.as_slice())?,
         })
     }
 }
 
-/// The same rules, in memory of their own.
-pub(crate) fn copied_rules<A: Allocator + Copy>(
-    alloc: A,
-    rules: &[Rule<A>],
-) -> Result<Vec<Rule<A>, A>, AllocError>
-    ensures { IfOk result (λ copies. copies.items ≡ rules.now) }
+/// Appends the patterns of a rule. Where memory is refused, a part of them may have been appended.
+fn push_patterns<A: Allocator>(
+    bytes: &mut Vec<u8, A>,
+    key: &[u8],
+    prepend: &[u8],
+) -> Result<Span, AllocError>
+    ensures more { (more : List ℕ) × (bytes.new.items ≡ bytes.old.items ++ more) }
+    ensures span { IfOk result (λ span. (rule : MappingRule) → rule.key ≡ key.now
+        → rule.prepend ≡ prepend.now → IsSpan bytes.new.items rule span) }
 {
-    let mut copies = Vec::with_capacity(alloc, rules.len())?;
-    for rule in rules {
-        copies.push(rule.copied(alloc)?)?;
-    }
-    Ok(copies)
+    let start = bytes.len();
+    bytes.extend_from_slice(key)?;
+    let middle = bytes.len();
+    bytes.extend_from_slice(prepend)?;
+    let end = bytes.len();
+    Ok(Span {
+        key: start,
+        prepend: middle,
+        end,
+    })
 }

@@ -2,6 +2,6 @@ use Rattle.std.proofs.Common.{◌≡◌, drop}
 use Rattle.virtiofs_map.specs.AuditParts.{bad, after, guest_names}
 use Rattle.virtiofs_map.proofs.audit.candidates.try_guest_names.Given as goal
 
-abbrev pub invariant-loop-rule : goal.invariant-loop-rule
-invariant-loop-rule g l =
-    after (bad l.question) l.tried (guest_names l.other (drop l.rule-index l.rule-items)) ≡ after (bad l.question) l.initial.tried (guest_names l.other l.rule-items)
+abbrev pub invariant-loop-place : goal.invariant-loop-place
+invariant-loop-place g l =
+    after (bad l.question) l.tried (guest_names l.other (drop l.place l.map)) ≡ after (bad l.question) l.initial.tried (guest_names l.other l.map)

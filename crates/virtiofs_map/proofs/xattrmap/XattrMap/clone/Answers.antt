@@ -1,13 +1,21 @@
-use Rattle.std.proofs.Common.{◌∙◌, subst}
-use Rattle.std.proofs.lemmas.List.Elements.{All-same}
+use Rattle.std.proofs.Common.{◌≡◌, ℕ, List, sym, subst, ◌∙◌}
+use Rattle.std.specs.List.{All}
+use Rattle.virtiofs_map.specs.BranchParts.{IsTrieIn}
 use Rattle.virtiofs_map.specs.Rule.{HasNoZero}
-use Rattle.virtiofs_map.specs.TrieParts.{StandsFor}
+use Rattle.virtiofs_map.specs.RuleParts.{KeptRules}
+use Rattle.virtiofs_map.specs.declared.xattrmap.scopes.Side.{Side}
 use Rattle.virtiofs_map.specs.declared.xattrmap.scopes.Side.TheVariants.{Client, Server}
 use Rattle.virtiofs_map.proofs.xattrmap.XattrMap.clone.Goals as goal
 
+-- a copied trie of copied rules is their trie
+copied : (side : Side) (kept copies : KeptRules) (rows others : List ℕ) → copies ≡ kept → others ≡ rows
+    → IsTrieIn side kept.list rows kept.bytes → IsTrieIn side copies.list others copies.bytes
+copied side kept copies rows others same are trie =
+    subst (λ (rules : KeptRules). IsTrieIn side rules.list others rules.bytes) (sym same) (subst (λ (bytes : List ℕ). IsTrieIn side kept.list bytes kept.bytes) (sym are) trie)
+
 pub invariant_of-result : goal.invariant_of-result
 invariant_of-result g c = (
-  All-same HasNoZero c.in_ok-copies.copies.items c.self.inside.rules.items (c.in_ok-copies.ensures ∙ c.as_slice.ensures.value) c.self.invariant.0,
-  subst (λ rules. StandsFor Client rules c.in_ok-client.client) c.as_slice-2.ensures.value c.in_ok-client.ensures,
-  subst (λ rules. StandsFor Server rules c.in_ok-server.server) c.as_slice-3.ensures.value c.in_ok-server.ensures,
+  subst (λ (rules : KeptRules). All HasNoZero rules.list) (sym c.in_ok-rules.ensures) c.self.invariant.0,
+  copied Client _ _ _ _ c.in_ok-rules.ensures (c.in_ok-client.ensures.items ∙ c.as_slice.ensures.value) c.self.invariant.1,
+  copied Server _ _ _ _ c.in_ok-rules.ensures (c.in_ok-server.ensures.items ∙ c.as_slice-2.ensures.value) c.self.invariant.2,
 )

@@ -1,21 +1,25 @@
 use Rattle.std.proofs.lemmas.Result.{err_from_is_err_and}
 use Rattle.std.specs.Str.{chars}
-use Rattle.std.proofs.Common.{[], ◌∷◌, ◌∙◌, ap, subst}
+use Rattle.std.proofs.Common.{[], ◌∷◌, ◌∙◌, ap}
 use Rattle.virtiofs_map.specs.RuleText.{expanded}
 use Rattle.virtiofs_map.specs.MapRule.{map_rule}
-use Rattle.virtiofs_map.specs.TrieParts.{StandsFor}
-use Rattle.virtiofs_map.specs.declared.xattrmap.scopes.Side.TheVariants.{Client, Server}
 use Rattle.virtiofs_map.proofs.NoZeroLemmas.{read_no_zero}
 use Rattle.virtiofs_map.proofs.MapRuleLemmas.{map_rule_means}
 use Rattle.virtiofs_map.proofs.ReaderLemmas.{out_of_memory, told_fault}
 use Rattle.virtiofs_map.proofs.RuleTextLemmas.{one_reading, one_value, no_fault, one_fault}
 use Rattle.virtiofs_map.proofs.xattrmap.XattrMap.try_from.Goals as goal
 
+pub trie_rows-requires : goal.trie_rows-requires
+trie_rows-requires g c = read_no_zero (chars c.args.text.now) c.in_ok-rules.rules.list c.in_ok-rules.ensures.read
+
+pub trie_rows-requires-2 : goal.trie_rows-requires-2
+trie_rows-requires-2 g c = read_no_zero (chars c.args.text.now) c.in_ok-rules.rules.list c.in_ok-rules.ensures.read
+
 pub invariant_of-result : goal.invariant_of-result
 invariant_of-result g c = (
-  read_no_zero (chars c.args.text.now) c.in_ok-rules.rules.items c.in_ok-rules.ensures.read,
-  subst (λ rules. StandsFor Client rules c.in_ok-client.client) c.as_slice.ensures.value c.in_ok-client.ensures,
-  subst (λ rules. StandsFor Server rules c.in_ok-server.server) c.as_slice-2.ensures.value c.in_ok-server.ensures,
+  read_no_zero (chars c.args.text.now) c.in_ok-rules.rules.list c.in_ok-rules.ensures.read,
+  c.in_ok-client.ensures,
+  c.in_ok-server.ensures,
 )
 
 pub returns-in_err-rules-clause-complete : goal.returns-in_err-rules-clause-complete
@@ -38,4 +42,4 @@ pub returns-clause-map_rule : goal.returns-clause-map_rule
 returns-clause-map_rule g c = λ key prepend text.
     (let (written, read, are) = c.in_ok-rules.ensures.read in
     let one = one_reading _ _ (map_rule key prepend ∷ []) read text in
-    map_rule_means (chars c.args.text.now) key prepend c.in_ok-rules.rules.items text (are ∙ ap expanded one))
+    map_rule_means (chars c.args.text.now) key prepend c.in_ok-rules.rules.list text (are ∙ ap expanded one))

@@ -4,7 +4,7 @@ use Rattle.std.proofs.lemmas.Str.{chars-nil}
 use Rattle.std.specs.Str.{chars}
 use Rattle.virtiofs_map.specs.RuleParts.{head_of, as_written, IsOpened}
 use Rattle.virtiofs_map.specs.RuleText as texts
-use Rattle.virtiofs_map.specs.declared.xattrmap.rules.Head.TheVariants.{Map}
+use Rattle.virtiofs_map.specs.declared.xattrmap.written.Head.TheVariants.{Map}
 use Rattle.virtiofs_map.proofs.RuleFieldLemmas.{opens_at, empty_is_not_opened, fault_from}
 use Rattle.virtiofs_map.proofs.RuleWordLemmas.{chars_nonempty}
 use Rattle.virtiofs_map.proofs.xattrmap.reader.next_rule.Goals as goal

@@ -1,7 +1,8 @@
-use Rattle.std.proofs.Common.{length, inl, inr, ap, ◌∙◌, arith, rules, ◌+◌, length-append}
+use Rattle.std.proofs.Common.{length, inl, inr, ap, sym, subst, ◌∙◌, arith, rules, ◌+◌, length-append}
 use Rattle.std.proofs.lemmas.Str.{chars-nil}
 use Rattle.std.specs.Str.{chars}
-use Rattle.virtiofs_map.specs.RuleParts.{as_written}
+use Rattle.virtiofs_map.specs.RuleParts.{KeptRules, as_written}
+use Rattle.virtiofs_map.specs.RuleText.{SaysRules}
 use Rattle.virtiofs_map.proofs.ReadSoFarLemmas.{start, opened, refused_at, not_out_of_memory, step, finish, nothing, rule_shorter, items_none, items_some}
 use Rattle.virtiofs_map.proofs.MadeRuleLemmas.{head_is_map}
 use Rattle.virtiofs_map.proofs.TrimLemmas.{chars-trim, skips}
@@ -10,7 +11,7 @@ use Rattle.virtiofs_map.proofs.xattrmap.reader.read_rules.Goals as goal
 
 pub loop-rest-init : goal.loop-rest-init
 loop-rest-init g c =
-    (c.trim-rest.utf8, start _ _ _ (ap chars c.trim-rest.ensures.trim ∙ chars-trim c.args.text.now c.utf8.text) c.new-rules.ensures.items)
+    (c.trim-rest.utf8, start _ _ _ (ap chars c.trim-rest.ensures.trim ∙ chars-trim c.args.text.now c.utf8.text) c.new-rules.ensures)
 
 pub next_rule-requires : goal.next_rule-requires
 next_rule-requires g c = opened _ _ _ c.loop-rest.invariant.1 (chars_nonempty _ c.loop-rest.invariant.0 _ c.is_empty.ensures c.loop-rest-test.true)
@@ -46,4 +47,5 @@ returns-then-is_empty-clause-refused g c =
 
 pub returns-clause-read : goal.returns-clause-read
 returns-clause-read g c =
-    finish _ _ _ c.loop-rest.invariant.1 (chars_empty _ _ c.is_empty.ensures c.loop-rest-test.false) (items_some _ _ _ (search rules) c.is_empty-2.ensures c.if-is_empty.false)
+    subst (λ (kept : KeptRules). SaysRules (chars c.args.text.now) kept.list) (sym c.trim.ensures)
+    (finish _ _ _ c.loop-rest.invariant.1 (chars_empty _ _ c.is_empty.ensures c.loop-rest-test.false) (items_some _ _ _ (search rules) c.is_empty-2.ensures c.if-is_empty.false))

@@ -1,0 +1,261 @@
+-- A trie of patterns whose pieces have labels. Only private functions cite these words.
+use Rattle.std.specs.Prelude.{◌≡◌, ◌≢◌, ◌⊎◌, ℕ, ◌+◌, ◌-◌, ◌*◌, ◌<◌, ◌≤◌, true, false, if◌then◌else◌, List, [], ◌∷◌, ◌++◌, length, take, drop, Contains, All, Option, Some, slice_get, slice_index}
+use Rattle.std.specs.List.{flat_map}
+use Rattle.std.specs.Option.{option_map_or}
+use Rattle.virtiofs_map.specs.FirstRule.{acts, pattern, longest, deciding_length}
+use Rattle.virtiofs_map.specs.Names.{begins, first}
+use Rattle.virtiofs_map.specs.Rule.{MappingRule, type_number}
+use Rattle.virtiofs_map.specs.Steps.{count_after}
+use Rattle.virtiofs_map.specs.ByteWordParts.{word_bytes}
+use Rattle.virtiofs_map.specs.declared.xattrmap.branches.Branch.{Branch}
+use Rattle.virtiofs_map.specs.declared.xattrmap.patterns.Pattern.{Pattern}
+use Rattle.virtiofs_map.specs.declared.xattrmap.scopes.Side.{Side}
+use Rattle.virtiofs_map.specs.declared.xattrmap.spans.Span.{Span}
+
+-- ---- what a branch answers
+
+-- the number that stands for no rule
+abbrev pub no_answer : ℕ
+no_answer = 281474976710655
+
+-- the number of the type of the rule at a place
+abbrev pub type_at : List MappingRule → ℕ → ℕ
+type_at rules at = option_map_or (λ rule. type_number rule.kind) (slice_get rules at) 0
+
+-- the answer that stands for a rule: four times its place, and the number of its type
+abbrev pub answer_for : List MappingRule → Option ℕ → ℕ
+answer_for rules place = option_map_or (λ at. 4 * at + type_at rules at) place no_answer
+
+-- the answer that stands for the first rule that fits a name of that side
+abbrev pub answer_of : Side → List MappingRule → List ℕ → ℕ
+answer_of side rules name = answer_for rules (first side rules name)
+
+-- so few rules that each has an answer
+abbrev pub AreFew : List MappingRule → Type 0
+AreFew rules = length rules < 70368744177663
+
+-- ---- branches
+
+-- the label of a branch, after the byte that leads to it
+abbrev pub label_of : List ℕ → Branch → List ℕ
+label_of bytes branch = take branch.length (drop branch.label bytes)
+
+-- the place holds no hole: it is the root, or a byte leads to it
+abbrev pub IsReal : ℕ → Branch → Type 0
+IsReal at branch = (at ≡ 0) ⊎ (branch.head ≢ 0)
+
+-- the byte leads from the parent to this branch, at this place
+pub record IsChild (branches : List Branch) (parent : Branch) (byte at : ℕ) (child : Branch) : Type 0 where
+  pub from : parent.first ≤ at
+  pub below : at < parent.first + parent.width
+  pub here : slice_get branches at ≡ Some child
+  pub head : child.head ≡ byte
+  pub real : byte ≢ 0
+
+-- children that are not scattered stand as far behind the first place as their bytes behind the lowest byte; between them are holes
+pub record AreInSlots (branches : List Branch) (parent : Branch) : Type 0 where
+  pub low : 1 ≤ parent.low
+  pub high : parent.low + parent.width ≤ 256
+  pub slots : (k : ℕ) (child : Branch) → k < parent.width → slice_get branches (parent.first + k) ≡ Some child → child.head ≢ 0 → child.head ≡ parent.low + k
+
+-- a branch stands for a way: the bytes that lead to it from the root
+pub record IsBranch (side : Side) (rules : List MappingRule) (branches : List Branch) (bytes : List ℕ) (way : ℕ → List ℕ) (at : ℕ) (branch : Branch) : Type 0 where
+  pub answers : branch.answer ≡ answer_of side rules (way at)
+  -- the places of its children are places of branches, and its label stands among the bytes
+  pub within : branch.first + branch.width ≤ length branches
+  pub label : branch.label + branch.length ≤ length bytes
+  pub placed : branch.scattered ≡ false → 1 ≤ branch.width → AreInSlots branches branch
+  -- a child's way is longer by the byte that leads to it and by its label
+  pub ways : (byte next : ℕ) (child : Branch) → IsChild branches branch byte next child
+      → way next ≡ way at ++ byte ∷ label_of bytes child
+  -- a pattern that goes on with the byte goes on with the whole way of the child
+  pub whole : (byte next : ℕ) (child : Branch) (rule : MappingRule) → IsChild branches branch byte next child
+      → Contains rules rule → acts side rule ≡ true → begins (way at ++ byte ∷ []) (pattern side rule) ≡ true
+      → begins (way next) (pattern side rule) ≡ true
+  -- and there is such a child
+  pub complete : (byte : ℕ) (rule : MappingRule)
+      → Contains rules rule → acts side rule ≡ true → begins (way at ++ byte ∷ []) (pattern side rule) ≡ true
+      → (next : ℕ) × (child : Branch) × IsChild branches branch byte next child
+  -- the way is no longer than the longest pattern
+  pub short : length (way at) ≤ longest side rules
+
+-- the branches are a trie of the patterns of that side, whose labels stand among the bytes; the root is the first
+pub record IsTrie (side : Side) (rules : List MappingRule) (branches : List Branch) (bytes : List ℕ) : Type 0 where
+  pub way : ℕ → List ℕ
+  pub root : 0 < length branches
+  pub begun : way 0 ≡ []
+  pub each : (at : ℕ) (branch : Branch) → slice_get branches at ≡ Some branch → IsReal at branch
+      → IsBranch side rules branches bytes way at branch
+
+-- ---- a walk
+
+-- a walk found the answer of a name, and passed so many of its bytes: at least as many as the deciding pattern has, and
+-- no more than the name and the longest pattern have
+pub record Walks (side : Side) (rules : List MappingRule) (name : List ℕ) (answer passed : ℕ) : Type 0 where
+  pub answers : answer ≡ answer_of side rules name
+  pub decided : deciding_length side rules name ≤ passed
+  pub within : passed ≤ length name
+  pub short : passed ≤ longest side rules
+
+-- ---- patterns, before a trie is made of them
+
+-- where the patterns of a rule stand among the bytes: the key, and right after it the prepend
+pub record IsSpan (bytes : List ℕ) (rule : MappingRule) (span : Span) : Type 0 where
+  pub key : take (span.prepend - span.key) (drop span.key bytes) ≡ rule.key
+  pub prepend : take (span.end - span.prepend) (drop span.prepend bytes) ≡ rule.prepend
+  pub rising : span.key ≤ span.prepend
+  pub rising_on : span.prepend ≤ span.end
+  pub within : span.end ≤ length bytes
+
+-- each rule has its span
+pub record AreSpans (bytes : List ℕ) (rules : List MappingRule) (spans : List Span) : Type 0 where
+  pub counted : length spans ≡ length rules
+  pub each : (place : ℕ) (rule : MappingRule) (span : Span) → slice_get rules place ≡ Some rule → slice_get spans place ≡ Some span
+      → IsSpan bytes rule span
+
+-- a pattern of the rule at a place, which acts on the side: it stands among the bytes, and its answer stands for the rule
+pub record IsPatternAt (side : Side) (rules : List MappingRule) (bytes : List ℕ) (place : ℕ) (one : Pattern) : Type 0 where
+  pub rule : MappingRule
+  pub here : slice_get rules place ≡ Some rule
+  pub acting : acts side rule ≡ true
+  pub are : one.bytes.now ≡ pattern side rule
+  pub among : take (length one.bytes.now) (drop one.start bytes) ≡ one.bytes.now
+  pub within : one.start + length one.bytes.now ≤ length bytes
+  pub stands_for : one.answer ≡ 4 * place + type_number rule.kind
+
+-- a pattern of a rule that acts on the side
+pub record IsPattern (side : Side) (rules : List MappingRule) (bytes : List ℕ) (one : Pattern) : Type 0 where
+  pub place : ℕ
+  pub is : IsPatternAt side rules bytes place one
+
+-- the patterns of the rules that act on the side, one for each rule
+pub record ArePatterns (side : Side) (rules : List MappingRule) (bytes : List ℕ) (patterns : List Pattern) : Type 0 where
+  pub each : All (IsPattern side rules bytes) patterns
+  pub every : (place : ℕ) (rule : MappingRule) → slice_get rules place ≡ Some rule → acts side rule ≡ true
+      → (one : Pattern) × Contains patterns one × (one.bytes.now ≡ pattern side rule) × (one.answer ≡ 4 * place + type_number rule.kind)
+
+-- the same of the rules before a place
+pub record ArePatternsBelow (side : Side) (rules : List MappingRule) (bytes : List ℕ) (end : ℕ) (patterns : List Pattern) : Type 0 where
+  pub each : All (IsPattern side rules bytes) patterns
+  pub every : (place : ℕ) (rule : MappingRule) → place < end → slice_get rules place ≡ Some rule → acts side rule ≡ true
+      → (one : Pattern) × Contains patterns one × (one.bytes.now ≡ pattern side rule) × (one.answer ≡ 4 * place + type_number rule.kind)
+
+-- the byte of a pattern at a depth; 0 where the pattern has ended
+abbrev pub byte_at : ℕ → Pattern → ℕ
+byte_at depth one = slice_index one.bytes.now depth
+
+-- patterns that share a front stand in the order of their next bytes, those that have ended first
+pub record AreInOrder (patterns : List Pattern) : Type 0 where
+  pub rising : (i j depth : ℕ) (one other : Pattern) → i < j → slice_get patterns i ≡ Some one → slice_get patterns j ≡ Some other
+      → take depth one.bytes.now ≡ take depth other.bytes.now → byte_at depth one ≤ byte_at depth other
+
+-- ---- branches as rows of bytes
+
+-- the numbers of a branch are within these bounds
+pub record IsBounded (branches : List Branch) (bytes : List ℕ) (branch : Branch) : Type 0 where
+  pub answer : branch.answer ≤ no_answer
+  pub label : branch.label ≤ length bytes
+  pub size : branch.length < 65536
+  pub first : branch.first ≤ length branches
+  pub width : branch.width ≤ 256
+
+-- the numbers of a branch fit into its row
+pub record IsSmall (branch : Branch) : Type 0 where
+  pub answer : branch.answer < 281474976710656
+  pub label : branch.label < 281474976710656
+  pub size : branch.length < 65536
+  pub first : branch.first < 281474976710656
+  pub width : branch.width < 32768
+
+-- the bytes of a branch are bytes
+pub record HasBytes (branch : Branch) : Type 0 where
+  pub low : branch.low < 256
+  pub head : branch.head < 256
+
+-- the 24 bytes of a branch: three numbers of eight bytes, the lowest byte first, each of which holds two or more
+unfoldable pub row_of : Branch → List ℕ
+row_of branch =
+    word_bytes (branch.label + 281474976710656 * branch.length)
+    ++ word_bytes (branch.first + 281474976710656 * (branch.width + (if branch.scattered then 32768 else 0)))
+    ++ word_bytes (branch.answer + 281474976710656 * (branch.low + 256 * branch.head))
+
+-- the bytes are the rows of these branches
+pub record AreRowsOf (rows : List ℕ) (branches : List Branch) : Type 0 where
+  pub are : rows ≡ flat_map row_of branches
+  pub small : All IsSmall branches
+  pub bytes : All HasBytes branches
+
+-- the rows are a trie of the patterns of that side, whose labels stand among the bytes, and of few rules
+pub record IsTrieIn (side : Side) (rules : List MappingRule) (rows bytes : List ℕ) : Type 0 where
+  pub branches : List Branch
+  pub rows_of : AreRowsOf rows branches
+  pub trie : IsTrie side rules branches bytes
+  pub few : AreFew rules
+
+-- ---- what a walk promises
+
+-- a walk found the answer of a name, and the bytes that it passed hold no zero where the bytes of the labels hold none
+pub record Passes (side : Side) (rules : List MappingRule) (bytes name : List ℕ) (answer passed : ℕ) : Type 0 where
+  pub walks : Walks side rules name answer passed
+  pub no_zero : All (λ byte. byte ≢ 0) bytes → All (λ byte. byte ≢ 0) (take passed name)
+
+-- a walk found the answer of a name, and counted one step more than the bytes that it passed
+pub record CountsWalk (side : Side) (rules : List MappingRule) (name : List ℕ) (answer before after : ℕ) : Type 0 where
+  pub passed : ℕ
+  pub walks : Walks side rules name answer passed
+  pub counted : after ≡ count_after before (passed + 1)
+
+-- ---- a step of a walk
+
+-- the children of a branch are found by their bytes, and their labels stand among the bytes
+pub record IsReadable (branches : List Branch) (bytes : List ℕ) (parent : Branch) : Type 0 where
+  pub small : IsSmall parent
+  pub placed : parent.scattered ≡ false → 1 ≤ parent.width → AreInSlots branches parent
+  pub labels : (byte at : ℕ) (child : Branch) → IsChild branches parent byte at child → child.label + child.length ≤ length bytes
+
+-- the byte leads to a child of the branch
+pub record LeadsTo (branches : List Branch) (parent : Branch) (byte : ℕ) (child : Branch) : Type 0 where
+  pub place : ℕ
+  pub leads : IsChild branches parent byte place child
+
+-- the byte leads nowhere
+abbrev pub LeadsNowhere : List Branch → Branch → ℕ → Type 0
+LeadsNowhere branches parent byte = (at : ℕ) (child : Branch) → ¬ IsChild branches parent byte at child
+
+-- the first byte of the rest and the label of a child were passed, and counted
+pub record StepsTo (branches : List Branch) (bytes : List ℕ) (parent : Branch) (rest : List ℕ) (child : Branch) (left : List ℕ) (before after : ℕ) : Type 0 where
+  pub byte : ℕ
+  pub to : LeadsTo branches parent byte child
+  pub passed : rest ≡ byte ∷ label_of bytes child ++ left
+  pub counted : after ≡ count_after before (length (label_of bytes child) + 1)
+
+-- so many bytes of the rest lead into a child
+pub record LeadsInto (branches : List Branch) (bytes : List ℕ) (parent : Branch) (rest : List ℕ) (count : ℕ) : Type 0 where
+  pub byte : ℕ
+  pub child : Branch
+  pub to : LeadsTo branches parent byte child
+  pub within : count ≤ length (label_of bytes child) + 1
+  pub same : take count rest ≡ take count (byte ∷ label_of bytes child)
+
+-- the label of a child that the byte leads to does not begin what is left
+pub record Misses (branches : List Branch) (bytes : List ℕ) (parent : Branch) (byte : ℕ) (left : List ℕ) : Type 0 where
+  pub child : Branch
+  pub to : LeadsTo branches parent byte child
+  pub unlike : begins (label_of bytes child) left ≡ false
+
+-- no child can be passed: none is there, or the label of one does not fit; the bytes that were counted lead into one
+pub record StaysAt (branches : List Branch) (bytes : List ℕ) (parent : Branch) (rest : List ℕ) (before after : ℕ) : Type 0 where
+  pub ended : (byte : ℕ) (left : List ℕ) → rest ≡ byte ∷ left → LeadsNowhere branches parent byte ⊎ Misses branches bytes parent byte left
+  pub shared : ℕ
+  pub within : shared ≤ length rest
+  pub counted : before ≤ 18446744073709551615 → after ≡ count_after before shared
+  pub into : (shared ≡ 0) ⊎ LeadsInto branches bytes parent rest shared
+
+-- a walk stands at a branch: its way was passed, each byte of it was counted, and the rest of the name is left
+pub record StandsAt (side : Side) (rules : List MappingRule) (branches : List Branch) (bytes : List ℕ) (trie : IsTrie side rules branches bytes) (name : List ℕ) (branch : Branch) (rest : List ℕ) (before count : ℕ) : Type 0 where
+  pub at : ℕ
+  pub here : slice_get branches at ≡ Some branch
+  pub real : IsReal at branch
+  pub split : name ≡ trie.way at ++ rest
+  pub counted : count ≡ count_after before (length (trie.way at) + 1)
+  pub no_zero : All (λ byte. byte ≢ 0) bytes → All (λ byte. byte ≢ 0) (trie.way at)

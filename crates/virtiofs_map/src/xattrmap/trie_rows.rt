@@ -1,0 +1,53 @@
+//! The making of the trie of a side, as rows of bytes.
+
+ghost use Rattle.std.specs.Prelude.{All, IfOk};
+ghost use Rattle.virtiofs_map.specs.BranchParts.{AreRowsOf, IsBounded, IsTrieIn};
+ghost use Rattle.virtiofs_map.specs.Rule.{HasNoZero};
+
+use crate::xattrmap::branches::Branch;
+use crate::xattrmap::growth::grow;
+use crate::xattrmap::patterns::patterns_of;
+use crate::xattrmap::rows::{ROW, SHARE, push_rows};
+use crate::xattrmap::rules::Rules;
+use crate::xattrmap::scopes::Side;
+use std::alloc::{AllocError, Allocator};
+
+/// How many rules have no answers any more.
+const TOO_MANY_RULES: usize = 70368744177663;
+
+/// The rows of branches whose labels stand among bytes.
+///
+/// A row has 48 bits for a place. No process has memory for as many bytes or branches, and more are
+/// answered as want of memory.
+fn rows_of<A: Allocator>(
+    alloc: A,
+    branches: &[Branch],
+    bytes: &[u8],
+) -> Result<Vec<u8, A>, AllocError>
+    requires { All (IsBounded branches.now bytes.now) branches.now }
+    ensures { IfOk result (λ rows. AreRowsOf rows.items branches.now) }
+{
+    if bytes.len() as u64 >= SHARE || branches.len() as u64 >= SHARE {
+        return Err(AllocError);
+    }
+    let mut rows = Vec::with_capacity(alloc, ROW * branches.len())?;
+    push_rows(&mut rows, branches)?;
+    Ok(rows)
+}
+
+/// The rows of the trie of the patterns of the rules that act on a side.
+pub(crate) fn trie_rows<A: Allocator + Copy>(
+    alloc: A,
+    rules: &Rules<A>,
+    side: Side,
+) -> Result<Vec<u8, A>, AllocError>
+    requires { All HasNoZero rules.now.list }
+    ensures { IfOk result (λ rows. IsTrieIn side rules.now.list rows.items rules.now.bytes) }
+{
+    if rules.len() >= TOO_MANY_RULES {
+        return Err(AllocError);
+    }
+    let patterns = patterns_of(alloc, rules, side)?;
+    let branches = grow(alloc, patterns.as_slice(), rules.bytes())?;
+    rows_of(alloc, branches.as_slice(), rules.bytes())
+}

@@ -1,0 +1,25 @@
+//! Numbers of eight bytes, the lowest byte first.
+
+ghost use Rattle.std.specs.Prelude.{◌≡◌, ◌+◌, ◌++◌, ◌≤◌, length, OnOk};
+ghost use Rattle.virtiofs_map.specs.ByteWordParts.{word_at, word_bytes};
+
+use std::alloc::{AllocError, Allocator};
+
+/// The number whose bytes begin there.
+#[inline(always)]
+pub(crate) fn word_at(bytes: &[u8], from: usize) -> u64
+    requires { from + 8 ≤ length bytes.now }
+    ensures { result ≡ word_at bytes.now from }
+{
+    match bytes[from..].first_chunk::<8>() {
+        Some(word) => u64::from_le_bytes(*word),
+        None => unreachable!(),
+    }
+}
+
+/// Appends the bytes of the number.
+pub(crate) fn push_word<A: Allocator>(bytes: &mut Vec<u8, A>, word: u64) -> Result<(), AllocError>
+    ensures { OnOk result (bytes.new.items ≡ bytes.old.items ++ word_bytes word) }
+{
+    bytes.extend_from_slice(&word.to_le_bytes())
+}
