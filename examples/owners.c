@@ -1,9 +1,10 @@
 /*
- * What a daemon in C does with the static library: it makes its maps once, gives each thread handles of its own, and
- * asks them for every request. docs/EMBEDDING.md has the commands that build and run it.
+ * What a daemon in C does with the static library: it makes its maps once, and asks them for every request, in as many
+ * threads as it has. docs/EMBEDDING.md has the commands that build and run it.
  */
 #include <inttypes.h>
 #include <stdio.h>
+#include <stdlib.h>
 #include <string.h>
 
 #include "virtiofs_map.h"
@@ -11,55 +12,70 @@
 /* The longest name of an extended attribute, and the longest list of names, that Linux has. */
 enum { NAME_ROOM = 255, LIST_ROOM = 65536 };
 
-/* The handles of one thread. */
-struct maps {
-    struct virtiofs_uids users;
-    struct virtiofs_names names;
-};
-
-static bool make_users(struct maps *maps, const char *const *settings, size_t count)
+/* A map of user ids, in memory that the caller frees once no thread asks it any more. All zeros where there is none. */
+static struct virtiofs_uids make_users(const char *const *settings, size_t count)
 {
+    struct virtiofs_uids none = { NULL, 0 };
     struct virtiofs_text texts[16];
     struct virtiofs_fault fault;
     uint8_t quoted[64];
+    size_t room = virtiofs_uids_bound(count), wanted;
     if (count > sizeof texts / sizeof *texts)
-        return false;
+        return none;
     for (size_t i = 0; i < count; i++) {
         texts[i].at = (const uint8_t *)settings[i];
         texts[i].len = strlen(settings[i]);
     }
-    if (virtiofs_uids_make_texts(texts, count, &maps->users, &fault, quoted, sizeof quoted))
-        return true;
+    uint32_t *words = malloc(room * sizeof *words);
+    if (!words)
+        return none;
+    uint32_t code = virtiofs_uids_make_texts(texts, count, words, room, &wanted, &fault, quoted, sizeof quoted);
+    if (code == VIRTIOFS_OK) {
+        const struct virtiofs_uids map = { words, wanted };
+        return map;
+    }
     fprintf(stderr, "specification %zu is refused: fault %" PRIu32 "\n", fault.place, fault.kind);
-    return false;
+    free(words);
+    return none;
 }
 
-static bool make_names(struct maps *maps, const char *rules)
+/* A map of attribute names, the same. */
+static struct virtiofs_names make_names(const char *rules)
 {
+    struct virtiofs_names none = { NULL, 0 };
     struct virtiofs_fault fault;
     uint8_t quoted[64];
-    if (virtiofs_names_make((const uint8_t *)rules, strlen(rules), &maps->names, &fault, quoted, sizeof quoted))
-        return true;
+    size_t len = strlen(rules), room = virtiofs_names_bound(len), wanted;
+    uint8_t *bytes = malloc(room);
+    if (!bytes)
+        return none;
+    const uint8_t *text = (const uint8_t *)rules;
+    uint32_t code = virtiofs_names_make(text, len, bytes, room, &wanted, &fault, quoted, sizeof quoted);
+    if (code == VIRTIOFS_OK) {
+        const struct virtiofs_names map = { bytes, wanted };
+        return map;
+    }
     fprintf(stderr, "rule %zu is refused: fault %" PRIu32 "\n", fault.place, fault.kind);
-    return false;
+    free(bytes);
+    return none;
 }
 
 /* Who owns a file on the host that the guest gave to this user. */
-static void show_owner(struct maps *maps, uint32_t user)
+static void show_owner(struct virtiofs_uids users, uint32_t user)
 {
     uint32_t owner;
-    if (virtiofs_uids_guest(&maps->users, user, &owner) == VIRTIOFS_OK)
+    if (virtiofs_uids_guest(users, user, &owner) == VIRTIOFS_OK)
         printf("user %" PRIu32 " of the guest is user %" PRIu32 " of the host\n", user, owner);
     else
         printf("user %" PRIu32 " of the guest is forbidden\n", user);
 }
 
 /* As what the guest's attribute goes to the host. */
-static void show_name(struct maps *maps, const char *name)
+static void show_name(struct virtiofs_names names, const char *name)
 {
     uint8_t out[NAME_ROOM];
     size_t len;
-    switch (virtiofs_names_client(&maps->names, (const uint8_t *)name, strlen(name), out, sizeof out, &len)) {
+    switch (virtiofs_names_client(names, (const uint8_t *)name, strlen(name), out, sizeof out, &len)) {
     case VIRTIOFS_OK:
         printf("%s goes to the host as %.*s\n", name, (int)len, (const char *)out);
         break;
@@ -75,11 +91,11 @@ static void show_name(struct maps *maps, const char *name)
 }
 
 /* Which names the guest gets to see, where the host lists these: each has a zero after it. */
-static void show_list(struct maps *maps, const char *list, size_t list_len)
+static void show_list(struct virtiofs_names names, const char *list, size_t list_len)
 {
     static uint8_t out[LIST_ROOM];
     size_t len;
-    if (virtiofs_names_server(&maps->names, (const uint8_t *)list, list_len, out, sizeof out, &len) != VIRTIOFS_OK)
+    if (virtiofs_names_server(names, (const uint8_t *)list, list_len, out, sizeof out, &len) != VIRTIOFS_OK)
         return;
     printf("the guest sees");
     for (const char *name = (const char *)out; name < (const char *)out + len; name += strlen(name) + 1)
@@ -91,25 +107,20 @@ int main(void)
 {
     static const char *const settings[] = { "map:0:1000:10", "forbid-guest:10:4294967284" };
     static const char host_list[] = "trusted.virtiofs.security.selinux\0security.selinux\0user.note";
-    struct maps first = { VIRTIOFS_NONE, VIRTIOFS_NONE }, of_thread = { VIRTIOFS_NONE, VIRTIOFS_NONE };
-    bool is_made = make_users(&first, settings, 2) && make_names(&first, ":map:security.selinux:trusted.virtiofs.:");
+    struct virtiofs_uids users = make_users(settings, 2);
+    struct virtiofs_names names = make_names(":map:security.selinux:trusted.virtiofs.:");
+    int is_made = users.count && names.len;
 
-    /* Each thread would get such handles; they stand for the same two maps. */
-    is_made = is_made && virtiofs_uids_share(&first.users, &of_thread.users) == VIRTIOFS_OK
-              && virtiofs_names_share(&first.names, &of_thread.names) == VIRTIOFS_OK;
+    /* Any number of threads would do so at once, with these two maps. */
     if (is_made) {
-        show_owner(&of_thread, 5);
-        show_owner(&of_thread, 10);
-        show_name(&of_thread, "security.selinux");
-        show_name(&of_thread, "trusted.virtiofs.x");
-        show_name(&of_thread, "user.note");
-        show_list(&of_thread, host_list, sizeof host_list);
+        show_owner(users, 5);
+        show_owner(users, 10);
+        show_name(names, "security.selinux");
+        show_name(names, "trusted.virtiofs.x");
+        show_name(names, "user.note");
+        show_list(names, host_list, sizeof host_list);
     }
-
-    /* The maps go with their last handles. */
-    virtiofs_uids_free(&of_thread.users);
-    virtiofs_names_free(&of_thread.names);
-    virtiofs_uids_free(&first.users);
-    virtiofs_names_free(&first.names);
+    free((void *)users.words);
+    free((void *)names.bytes);
     return is_made ? 0 : 1;
 }

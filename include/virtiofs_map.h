@@ -6,41 +6,67 @@
  * the host and the other way round, as what a name that the guest asks for goes
  * to the host, and which names of a list from the host the guest gets to see.
  *
- * HANDLES. A map lives behind a handle, which is a struct of the caller's. A
- * handle of no map is all zeros: VIRTIOFS_NONE, or memory from calloc. Only the
- * functions below read or write its fields, and a handle is never copied byte by
- * byte: virtiofs_..._share makes a second one of the same map. Each handle that
- * holds a map takes memory until virtiofs_..._free.
+ * MAPS. A map is plain numbers in memory of the caller's: words for ids, bytes for
+ * names. A `make` writes them. From then on every call only reads them. There is
+ * nothing to lock and nothing to free but that memory. It may be copied, moved and
+ * mapped at another address; words are aligned for their type.
  *
- * THREADS. A call writes to the handle that it is given, lookups too. So one
- * handle serves one call at a time, and each thread has its own, by share; they
- * stand for one map in one memory, and nothing is locked. A handle may be handed
- * to another thread, if the program orders the two as it orders any memory: by a
- * lock, by the start or the end of a thread, or by an atomic of the strongest
- * order. The calls without a handle may be made by any number of threads at once.
+ * THREADS. Any number of threads may ask one map at once. Its memory may be
+ * read-only, and may be shared with processes that only read it. Nobody writes to
+ * it while a call runs. No call keeps anything for the next one, and all calls may be
+ * made by any number of threads at once.
+ *
+ * WHAT IS NO MAP. The first numbers of a map say its kind and its version. So these
+ * are no map: a struct of zeros, a length of 0, memory of zeros, a map of the other
+ * kind, a map of another version. A call that is given one answers VIRTIOFS_NO_MAP,
+ * and never as the map that changes nothing: that one is made of no specifications.
+ * Whatever the numbers are, a call returns, reads nothing outside of them, and writes
+ * nothing outside of its answers. Where a `make` did not write them, or something
+ * changed them since, the answer means nothing.
+ *
+ * What the numbers are is private to a version of the library. They are in the order
+ * of bytes of the machine. They are no format for files, and nothing to send to
+ * another machine.
  *
  * POINTERS. The caller guarantees, for each call:
- *  - no pointer is NULL, not even one to no elements or to no bytes; any pointer
- *    that is aligned for its type serves there;
- *  - a pointer with a length leads to so many elements, which nobody writes while
- *    the call runs; a length is in elements, and their bytes are fewer than 2^63;
- *  - what the call writes to (handles, faults, numbers, buffers) is the call's
- *    alone while it runs: no two of these arguments overlap, and none overlaps
- *    what the call reads;
- *  - a handle is all zeros or was last written by a function below;
- *  - malloc, realloc and free are the C library's, or as good: all three of one
- *    allocator, aligned to 16 bytes. No call comes from a signal handler, or from the child of a fork
- *    of a program with threads.
+ *  - a pointer with a length leads to so many elements, which nobody else writes
+ *    while the call runs; a length is in elements, and their bytes are fewer than
+ *    2^63. Where the length is 0, the pointer may be NULL, or lead anywhere;
+ *  - no other pointer is NULL;
+ *  - what the call writes to is the call's alone while it runs: no two of these
+ *    arguments overlap, and none overlaps what the call reads.
  * No function keeps a pointer that it is given, once it has returned.
+ *
+ * MEMORY. Only `.._make`, `.._make_texts`, `virtiofs_spec_read` and the decisions
+ * `.._audit`, `.._audit_listed` and `.._apart` ask for memory. They give all of it
+ * back before they return. They use malloc, realloc and free, which are the C
+ * library's, or as good: all three of one allocator, aligned to 16 bytes. So none of
+ * them comes from a signal handler, or from the child of a fork of a program with
+ * threads. All other calls may.
  *
  * BUFFERS. An answer in bytes goes to a buffer of the caller's: `out` with `room`
  * bytes, and `*len` tells the length. Where the answer is longer than `room`, the
  * code is VIRTIOFS_NO_ROOM, and `*len` is the length that is needed; a second call
  * with such a buffer answers. Where a code comes with no bytes, `*len` is 0. No zero
- * is put after the bytes. What the call does not answer with stays as it was.
+ * is put after the bytes. What the call does not answer with stays as it was; where
+ * that is not so, the function says it.
  *
- * No function prints, ends the program, or keeps anything between two calls but
- * in the handles.
+ * ERRORS. Each function answers a code, 0 for done, and lists the codes that it has;
+ * it has no others. What a daemon would say to its guest:
+ *
+ *   VIRTIOFS_OK            no error
+ *   VIRTIOFS_AS_IT_IS      no error
+ *   VIRTIOFS_FORBIDDEN     EPERM
+ *   VIRTIOFS_DENIED        EPERM
+ *   VIRTIOFS_UNSUPPORTED   ENOTSUP
+ *   VIRTIOFS_UNTERMINATED  EPERM
+ *   VIRTIOFS_REFUSED       EINVAL
+ *   VIRTIOFS_NO_ROOM       ERANGE
+ *   VIRTIOFS_NO_MEMORY     ENOMEM
+ *   VIRTIOFS_NO_MAP        EINVAL
+ *   VIRTIOFS_NO_NAME       EINVAL
+ *
+ * No function prints, or ends the program.
  */
 #ifndef VIRTIOFS_MAP_H
 #define VIRTIOFS_MAP_H
@@ -53,34 +79,44 @@
 extern "C" {
 #endif
 
-/* ---- handles ---- */
+/* The version of this header. A header and an archive of one version belong together;
+   virtiofs_map_version() tells the archive's. */
+#define VIRTIOFS_MAP_VERSION 1
 
-/* A map of user ids, a map of group ids, and a map of attribute names, or none. */
-struct virtiofs_uids { void *at; bool made; };
-struct virtiofs_gids { void *at; bool made; };
-struct virtiofs_names { void *at; bool made; };
+/* What a compiler is told of a function: its answer is looked at, and the arguments
+   at these places are not NULL. A compiler that knows no such words is told nothing. */
+#if defined(__GNUC__)
+#define VIRTIOFS_CHECKED(places) __attribute__((warn_unused_result, nonnull places))
+#else
+#define VIRTIOFS_CHECKED(places)
+#endif
 
-/* What a handle is set to in its declaration. */
-#define VIRTIOFS_NONE { NULL, false }
+/* ---- maps ---- */
+
+/* A map of user ids: so many words. */
+struct virtiofs_uids { const uint32_t *words; size_t count; };
+
+/* A map of group ids: so many words. */
+struct virtiofs_gids { const uint32_t *words; size_t count; };
+
+/* A map of attribute names: so many bytes. */
+struct virtiofs_names { const uint8_t *bytes; size_t len; };
 
 /* ---- codes ---- */
 
-/* What the functions below answer, where they answer a number. Each function
-   lists those that it has; it has no others. */
+/* What the functions answer. */
 enum virtiofs_code {
     VIRTIOFS_OK = 0,           /* done; the answer is where the function says */
     VIRTIOFS_AS_IT_IS = 1,     /* the name passes as it is; nothing is written */
     VIRTIOFS_FORBIDDEN = 2,    /* a specification forbids the use of this id */
-    VIRTIOFS_DENIED = 3,       /* the guest may not use the name (EPERM) */
-    VIRTIOFS_UNSUPPORTED = 4,  /* the name is refused as unsupported (ENOTSUP) */
+    VIRTIOFS_DENIED = 3,       /* the guest may not use the name */
+    VIRTIOFS_UNSUPPORTED = 4,  /* the name is refused as unsupported */
     VIRTIOFS_UNTERMINATED = 5, /* no rule decides the name, or one of the list */
-    VIRTIOFS_YES = 6,          /* what was asked holds of all names */
-    VIRTIOFS_NO = 7,           /* it does not */
-    VIRTIOFS_NO_ROOM = 8,      /* the buffer is too short (ERANGE) */
-    VIRTIOFS_NO_MEMORY = 9,    /* a request for memory was refused (ENOMEM) */
-    VIRTIOFS_NO_MAP = 10,      /* the handle holds no map */
-    VIRTIOFS_NO_NAME = 11,     /* the bytes are no name: one of them is zero */
-    VIRTIOFS_NOT_ACCEPTED = 12 /* no map is made of these specifications */
+    VIRTIOFS_REFUSED = 6,      /* a text or a list has a fault, told in *fault */
+    VIRTIOFS_NO_ROOM = 7,      /* the buffer is too short */
+    VIRTIOFS_NO_MEMORY = 8,    /* a request for memory was refused */
+    VIRTIOFS_NO_MAP = 9,       /* the words, or the bytes, are no map */
+    VIRTIOFS_NO_NAME = 10      /* the bytes are no name: one of them is zero */
 };
 
 /* ---- specifications of ids ---- */
@@ -113,7 +149,7 @@ struct virtiofs_range {
     uint32_t count;
 };
 
-/* A text: bytes in UTF-8, with no zero after them. */
+/* A text: bytes in UTF-8, with no zero after them. One of no bytes may be NULL. */
 struct virtiofs_text {
     const uint8_t *at;
     size_t len;
@@ -124,7 +160,7 @@ struct virtiofs_text {
 /* Why a map is not made, or a text not read. */
 enum virtiofs_fault_kind {
     VIRTIOFS_FAULT_NONE = 0,   /* nothing is wrong */
-    VIRTIOFS_FAULT_MEMORY = 1, /* a request for memory was refused */
+    VIRTIOFS_FAULT_MEMORY = 1, /* beside the code VIRTIOFS_NO_MEMORY */
     VIRTIOFS_FAULT_UTF8 = 2,   /* the text is not UTF-8 */
 
     /* of a list of specifications */
@@ -152,19 +188,21 @@ enum virtiofs_fault_kind {
     VIRTIOFS_FAULT_NUL_PREPEND = 18 /* a prepend holds U+0000 */
 };
 
+/* The direction in which a range is at fault. */
 enum virtiofs_direction { VIRTIOFS_GUEST_TO_HOST = 0, VIRTIOFS_HOST_TO_GUEST = 1 };
+
+/* Which ids go too far: those that are mapped, or those that they become. */
 enum virtiofs_end { VIRTIOFS_SOURCE = 0, VIRTIOFS_TARGET = 1 };
 
-/* The first fault, told whole. What a kind does not use is 0. After a call that
-   succeeded all is 0. */
+/* The first fault, told whole. What a kind does not use is 0. Where the code is
+   VIRTIOFS_OK or VIRTIOFS_NO_ROOM, all is 0. */
 struct virtiofs_fault {
     /* One of enum virtiofs_fault_kind. */
     uint32_t kind;
-    /* OVERFLOW and INTERSECTS: the direction in which the range is at fault, one
-       of enum virtiofs_direction. */
+    /* OVERFLOW and INTERSECTS: one of enum virtiofs_direction. */
     uint32_t direction;
-    /* OVERFLOW: which range goes too far, the ids that are mapped (at most
-       4294967294) or those that they become; one of enum virtiofs_end. */
+    /* OVERFLOW: one of enum virtiofs_end. The ids that are mapped end at 4294967294,
+       those that they become at 4294967295. */
     uint32_t end;
     /* Of a list: the place of the specification or of its text, from 0. Of a text
        of rules: the number of the rule, from 1; 0 where no rule is to blame. */
@@ -173,165 +211,369 @@ struct virtiofs_fault {
        separator follows the word, 1 and 0. */
     size_t expected;
     size_t seen;
-    /* PREFIX, VALUE, SCOPE and TYPE: how many bytes the text at fault has. Where
-       so many fit into the buffer `quoted` of the call, they stand there; else
-       nothing is written to it. */
+    /* PREFIX, VALUE, SCOPE and TYPE: `wanted` is how many bytes the text at fault has.
+       Where the buffer of the call has room for them, they stand there, and `quoted` is
+       the same number. Else nothing is written to it, and `quoted` is 0. */
     size_t quoted;
+    size_t wanted;
+    /* OVERFLOW and INTERSECTS: the specification at fault. */
+    struct virtiofs_spec spec;
 };
+
+/* ---- what the archive has ----
+ *
+ * The functions further below call these, and put an address of their own where a
+ * pointer may be NULL. A caller that has no C compiler, as one in another language,
+ * calls these: then no pointer may be NULL, not even one to nothing, and each is
+ * aligned for its type. All else is as it is said further below.
+ */
+
+/* The version of the archive, which is VIRTIOFS_MAP_VERSION of its own header. */
+uint32_t virtiofs_map_version(void);
+
+/* As virtiofs_uids_bound. */
+size_t virtiofs_map_ids_bound(size_t count);
+
+/* As virtiofs_uids_make. */
+VIRTIOFS_CHECKED((1, 3, 5, 6))
+uint32_t virtiofs_map_ids_make(const struct virtiofs_spec *specs, size_t count,
+                               uint32_t *words, size_t room, size_t *wanted,
+                               struct virtiofs_fault *fault);
+
+/* As virtiofs_uids_make_texts. */
+VIRTIOFS_CHECKED((1, 3, 5, 6, 7))
+uint32_t virtiofs_map_ids_make_texts(const struct virtiofs_text *texts, size_t count,
+                                     uint32_t *words, size_t room, size_t *wanted,
+                                     struct virtiofs_fault *fault,
+                                     uint8_t *quoted, size_t quoted_room);
+
+/* As virtiofs_uids_guest. */
+VIRTIOFS_CHECKED((1, 4))
+uint32_t virtiofs_map_ids_guest(const uint32_t *words, size_t count,
+                                uint32_t guest, uint32_t *host);
+
+/* As virtiofs_uids_host. */
+VIRTIOFS_CHECKED((1, 4))
+uint32_t virtiofs_map_ids_host(const uint32_t *words, size_t count,
+                               uint32_t host, uint32_t *guest);
+
+/* As virtiofs_spec_read. */
+VIRTIOFS_CHECKED((1, 3, 4, 5))
+uint32_t virtiofs_map_spec_read(const uint8_t *text, size_t text_len,
+                                struct virtiofs_spec *spec, struct virtiofs_fault *fault,
+                                uint8_t *quoted, size_t quoted_room);
+
+/* As virtiofs_range_read. */
+VIRTIOFS_CHECKED((1, 3, 4))
+uint32_t virtiofs_map_range_read(const uint8_t *text, size_t text_len,
+                                 struct virtiofs_range *range, struct virtiofs_fault *fault);
+
+/* As virtiofs_names_bound. */
+size_t virtiofs_map_names_bound(size_t text_len);
+
+/* As virtiofs_names_make. */
+VIRTIOFS_CHECKED((1, 3, 5, 6, 7))
+uint32_t virtiofs_map_names_make(const uint8_t *text, size_t text_len,
+                                 uint8_t *bytes, size_t room, size_t *wanted,
+                                 struct virtiofs_fault *fault,
+                                 uint8_t *quoted, size_t quoted_room);
+
+/* As virtiofs_names_client. */
+VIRTIOFS_CHECKED((1, 3, 5, 7))
+uint32_t virtiofs_map_names_client(const uint8_t *bytes, size_t map_len,
+                                   const uint8_t *name, size_t name_len,
+                                   uint8_t *out, size_t room, size_t *len);
+
+/* As virtiofs_names_server. */
+VIRTIOFS_CHECKED((1, 3, 5, 7))
+uint32_t virtiofs_map_names_server(const uint8_t *bytes, size_t map_len,
+                                   const uint8_t *list, size_t list_len,
+                                   uint8_t *out, size_t room, size_t *len);
+
+/* As virtiofs_names_terminated. */
+VIRTIOFS_CHECKED((1, 3))
+uint32_t virtiofs_map_names_terminated(const uint8_t *bytes, size_t map_len, bool *yes);
+
+/* As virtiofs_names_audit. */
+VIRTIOFS_CHECKED((1, 3, 4, 6))
+uint32_t virtiofs_map_names_audit(const uint8_t *bytes, size_t map_len, bool *yes,
+                                  uint8_t *out, size_t room, size_t *len);
+
+/* As virtiofs_names_audit_listed. */
+VIRTIOFS_CHECKED((1, 3, 4, 6))
+uint32_t virtiofs_map_names_audit_listed(const uint8_t *bytes, size_t map_len, bool *yes,
+                                         uint8_t *out, size_t room, size_t *len);
+
+/* As virtiofs_names_apart. */
+VIRTIOFS_CHECKED((1, 3, 5, 6, 8))
+uint32_t virtiofs_map_names_apart(const uint8_t *bytes, size_t map_len,
+                                  const uint8_t *other_bytes, size_t other_len,
+                                  bool *yes, uint8_t *out, size_t room, size_t *len);
+
+/* A pointer and its length. Where the length is 0, the pointer becomes an aligned address
+   that is not NULL. */
+#define VIRTIOFS_SLICE(type, at, len) ((len) ? (at) : (type *)(uintptr_t)16), (len)
 
 /* ---- maps of ids ----
  *
- * virtiofs_uids_... and virtiofs_gids_... are the same for users and for groups.
- *
- * make        Makes a map of the array of specifications. True: the handle holds
- *             that map, and a map that it held before is let go. False: the
- *             handle stays as it was, and *fault is the first fault: KIND,
- *             OVERFLOW or INTERSECTS with the place of the specification, or
- *             MEMORY. A KIND is found before all others.
- * make_texts  The same of an array of texts, each of which says a specification.
- *             All texts are read first: UTF8, PREFIX, LENGTH and VALUE have the
- *             place of the first text that is not read; then come the faults of
- *             make. The text at fault is quoted in `quoted`, of `room` bytes.
- * share       Has *other hold the map of *map too, and lets go what *other held.
- *             Each share of a map makes one request for memory. OK; NO_MAP: *map
- *             holds none, and *other stays as it was; NO_MEMORY: the request was
- *             refused (or the map has 2^63 handles or so), and neither changed.
- * free        Lets the map go: the handle holds none from then on, and may be
- *             used for another. A handle of no map stays one. The memory is given
- *             back with the last handle of a map.
- * guest       The host's id for a guest's, to *host. OK; FORBIDDEN: *host is as it
- *             was; NO_MAP. An id that no specification covers keeps its number.
- *             It takes no memory.
- * host        The guest's id for a host's, to *guest. The same.
+ * virtiofs_uids_.. are for users and virtiofs_gids_.. for groups. The two differ in the
+ * types of their maps alone, so that a compiler tells one from the other.
  */
 
-bool virtiofs_uids_make(const struct virtiofs_spec *specs, size_t count,
-                        struct virtiofs_uids *map, struct virtiofs_fault *fault);
-bool virtiofs_uids_make_texts(const struct virtiofs_text *texts, size_t count,
-                              struct virtiofs_uids *map, struct virtiofs_fault *fault,
-                              uint8_t *quoted, size_t room);
-uint32_t virtiofs_uids_share(struct virtiofs_uids *map, struct virtiofs_uids *other);
-void virtiofs_uids_free(struct virtiofs_uids *map);
-uint32_t virtiofs_uids_guest(struct virtiofs_uids *map, uint32_t guest, uint32_t *host);
-uint32_t virtiofs_uids_host(struct virtiofs_uids *map, uint32_t host, uint32_t *guest);
+/* How many words a map of so many specifications takes at most. A buffer of so many
+   always serves. SIZE_MAX: more than there can be. */
+static inline size_t virtiofs_uids_bound(size_t count)
+{
+    return virtiofs_map_ids_bound(count);
+}
 
-bool virtiofs_gids_make(const struct virtiofs_spec *specs, size_t count,
-                        struct virtiofs_gids *map, struct virtiofs_fault *fault);
-bool virtiofs_gids_make_texts(const struct virtiofs_text *texts, size_t count,
-                              struct virtiofs_gids *map, struct virtiofs_fault *fault,
-                              uint8_t *quoted, size_t room);
-uint32_t virtiofs_gids_share(struct virtiofs_gids *map, struct virtiofs_gids *other);
-void virtiofs_gids_free(struct virtiofs_gids *map);
-uint32_t virtiofs_gids_guest(struct virtiofs_gids *map, uint32_t guest, uint32_t *host);
-uint32_t virtiofs_gids_host(struct virtiofs_gids *map, uint32_t host, uint32_t *guest);
+/* The same for groups. */
+static inline size_t virtiofs_gids_bound(size_t count)
+{
+    return virtiofs_map_ids_bound(count);
+}
 
-/* ---- ids without a handle ----
- *
- * For a caller with few specifications and many threads: each lookup goes through
- * the array, and takes no memory. The numbers are those of users or of groups.
- *
- * accepted    Whether make would make a map of the array. False: *fault is what
- *             make tells. It takes memory for the time of the call, so that MEMORY
- *             is one of the faults. Ask it once, before the lookups.
- * guest       OK: the host's id for a guest's, in *host. FORBIDDEN: its use is
- *             forbidden. Of an array that is accepted this is the answer of the
- *             map, and there is no other code. Of an array that is not, the answer
- *             means nothing, and NOT_ACCEPTED may come too. With no OK, *host is
- *             as it was.
- * host        The guest's id for a host's, to *guest. The same.
- */
+/* Makes a map of the array of specifications, in `words` with room for `room` of them.
+   OK: the first *wanted words are the map, and the others are as they were. NO_ROOM: the
+   map takes *wanted words, and none is written. REFUSED: no map is made of this array,
+   *wanted is 0, and *fault is its first fault: KIND, OVERFLOW or INTERSECTS, with the
+   place. A KIND is found before all others. NO_MEMORY: *wanted is 0. Where the code is
+   not OK, the words are as they were. */
+VIRTIOFS_CHECKED((5, 6))
+static inline uint32_t virtiofs_uids_make(const struct virtiofs_spec *specs, size_t count,
+                                          uint32_t *words, size_t room, size_t *wanted,
+                                          struct virtiofs_fault *fault)
+{
+    return virtiofs_map_ids_make(VIRTIOFS_SLICE(const struct virtiofs_spec, specs, count),
+                                 VIRTIOFS_SLICE(uint32_t, words, room), wanted, fault);
+}
 
-bool virtiofs_specs_accepted(const struct virtiofs_spec *specs, size_t count,
-                             struct virtiofs_fault *fault);
-uint32_t virtiofs_specs_guest(const struct virtiofs_spec *specs, size_t count,
-                              uint32_t guest, uint32_t *host);
-uint32_t virtiofs_specs_host(const struct virtiofs_spec *specs, size_t count,
-                             uint32_t host, uint32_t *guest);
+/* The same for groups. */
+VIRTIOFS_CHECKED((5, 6))
+static inline uint32_t virtiofs_gids_make(const struct virtiofs_spec *specs, size_t count,
+                                          uint32_t *words, size_t room, size_t *wanted,
+                                          struct virtiofs_fault *fault)
+{
+    return virtiofs_map_ids_make(VIRTIOFS_SLICE(const struct virtiofs_spec, specs, count),
+                                 VIRTIOFS_SLICE(uint32_t, words, room), wanted, fault);
+}
 
-/* ---- texts of ids ----
- *
- * spec_read   Reads the text of one specification. True: *spec is what it says.
- *             False: *spec is as it was, and *fault is UTF8, PREFIX, LENGTH, VALUE
- *             (place 0) or MEMORY. The text at fault is quoted.
- * range_read  Reads the text of one range of a namespace. True: *range is what it
- *             says. False: *range is as it was, and *fault is UTF8 or one of the
- *             RANGE_... It takes no memory.
- */
+/* Reads the text of one specification. OK: *spec is what it says. REFUSED: *fault is
+   UTF8, PREFIX, LENGTH or VALUE (with place 0), and the text at fault is quoted in
+   `quoted`. NO_MEMORY. Where the code is not OK, *spec is as it was. */
+VIRTIOFS_CHECKED((3, 4))
+static inline uint32_t virtiofs_spec_read(const uint8_t *text, size_t text_len,
+                                          struct virtiofs_spec *spec,
+                                          struct virtiofs_fault *fault,
+                                          uint8_t *quoted, size_t quoted_room)
+{
+    return virtiofs_map_spec_read(VIRTIOFS_SLICE(const uint8_t, text, text_len), spec, fault,
+                                  VIRTIOFS_SLICE(uint8_t, quoted, quoted_room));
+}
 
-bool virtiofs_spec_read(const uint8_t *text, size_t text_len, struct virtiofs_spec *spec,
-                        struct virtiofs_fault *fault, uint8_t *quoted, size_t room);
-bool virtiofs_range_read(const uint8_t *text, size_t text_len, struct virtiofs_range *range,
-                         struct virtiofs_fault *fault);
+/* Makes a map of texts, one of which may be NULL with a length of 0. (An empty text says
+   no specification. So the first text that says none is looked for, and told.) */
+VIRTIOFS_CHECKED((5, 6))
+static inline uint32_t virtiofs_ids_make_texts(const struct virtiofs_text *texts, size_t count,
+                                               uint32_t *words, size_t room, size_t *wanted,
+                                               struct virtiofs_fault *fault,
+                                               uint8_t *quoted, size_t quoted_room)
+{
+    size_t i, place = 0;
+    uint32_t code = VIRTIOFS_OK;
+    struct virtiofs_spec spec;
+    for (i = 0; i < count && (texts[i].at || texts[i].len); i++) { }
+    if (i == count)
+        return virtiofs_map_ids_make_texts(VIRTIOFS_SLICE(const struct virtiofs_text, texts, count),
+                                           VIRTIOFS_SLICE(uint32_t, words, room), wanted, fault,
+                                           VIRTIOFS_SLICE(uint8_t, quoted, quoted_room));
+    for (i = 0; i < count && code == VIRTIOFS_OK; place = i++)
+        code = virtiofs_spec_read(texts[i].at, texts[i].len, &spec, fault, quoted, quoted_room);
+    *wanted = 0;
+    fault->place = code == VIRTIOFS_REFUSED ? place : 0;
+    return code;
+}
+
+/* Makes a map of an array of texts, each of which says a specification. It is as
+   virtiofs_uids_make, with the faults of virtiofs_spec_read before its own. All texts are
+   read first: UTF8, PREFIX, LENGTH and VALUE have the place of the first text that says
+   no specification, and the text at fault is quoted in `quoted`. */
+VIRTIOFS_CHECKED((5, 6))
+static inline uint32_t virtiofs_uids_make_texts(const struct virtiofs_text *texts, size_t count,
+                                                uint32_t *words, size_t room, size_t *wanted,
+                                                struct virtiofs_fault *fault,
+                                                uint8_t *quoted, size_t quoted_room)
+{
+    return virtiofs_ids_make_texts(texts, count, words, room, wanted, fault, quoted, quoted_room);
+}
+
+/* The same for groups. */
+VIRTIOFS_CHECKED((5, 6))
+static inline uint32_t virtiofs_gids_make_texts(const struct virtiofs_text *texts, size_t count,
+                                                uint32_t *words, size_t room, size_t *wanted,
+                                                struct virtiofs_fault *fault,
+                                                uint8_t *quoted, size_t quoted_room)
+{
+    return virtiofs_ids_make_texts(texts, count, words, room, wanted, fault, quoted, quoted_room);
+}
+
+/* The host's id for a guest's, to *host. An id that no specification covers keeps its
+   number. OK; FORBIDDEN; NO_MAP. Where the code is not OK, *host is as it was. */
+VIRTIOFS_CHECKED((3))
+static inline uint32_t virtiofs_uids_guest(struct virtiofs_uids map, uint32_t guest, uint32_t *host)
+{
+    return virtiofs_map_ids_guest(VIRTIOFS_SLICE(const uint32_t, map.words, map.count),
+                                  guest, host);
+}
+
+/* The same for groups. */
+VIRTIOFS_CHECKED((3))
+static inline uint32_t virtiofs_gids_guest(struct virtiofs_gids map, uint32_t guest, uint32_t *host)
+{
+    return virtiofs_map_ids_guest(VIRTIOFS_SLICE(const uint32_t, map.words, map.count),
+                                  guest, host);
+}
+
+/* The guest's id for a host's, to *guest. It has the codes of virtiofs_uids_guest. */
+VIRTIOFS_CHECKED((3))
+static inline uint32_t virtiofs_uids_host(struct virtiofs_uids map, uint32_t host, uint32_t *guest)
+{
+    return virtiofs_map_ids_host(VIRTIOFS_SLICE(const uint32_t, map.words, map.count),
+                                 host, guest);
+}
+
+/* The same for groups. */
+VIRTIOFS_CHECKED((3))
+static inline uint32_t virtiofs_gids_host(struct virtiofs_gids map, uint32_t host, uint32_t *guest)
+{
+    return virtiofs_map_ids_host(VIRTIOFS_SLICE(const uint32_t, map.words, map.count),
+                                 host, guest);
+}
+
+/* Reads the text of one range of a namespace. OK: *range is what it says. REFUSED: *range
+   is as it was, and *fault is UTF8 or one of the RANGE_... */
+VIRTIOFS_CHECKED((3, 4))
+static inline uint32_t virtiofs_range_read(const uint8_t *text, size_t text_len,
+                                           struct virtiofs_range *range,
+                                           struct virtiofs_fault *fault)
+{
+    return virtiofs_map_range_read(VIRTIOFS_SLICE(const uint8_t, text, text_len), range, fault);
+}
 
 /* ---- maps of attribute names ----
  *
  * A name is bytes without a zero; the zero that ends it in C is not part of it
  * and not counted. It may be empty, and need not be UTF-8. A list of names has
  * a zero after each; the last one needs none, and empty names count for nothing.
- *
- * make        Makes a map of a text of rules. True and false are as for ids. The
- *             faults: SCOPE, TYPE, INCOMPLETE, MAP_RULE, NUL_KEY and NUL_PREPEND
- *             with the number of the rule; UTF8, NO_RULES and MEMORY without one.
- *             The field at fault is quoted for SCOPE and TYPE.
- * share       As for ids.
- * free        As for ids.
- * client      As what a name that the guest asks for goes to the host. OK: the
- *             bytes in `out`, the name with a prepend before it. AS_IT_IS: the name
- *             itself; nothing is copied and no memory is taken. DENIED;
- *             UNSUPPORTED; UNTERMINATED; NO_NAME; NO_MAP. OK, NO_ROOM and NO_MEMORY
- *             come only where a `prefix` or a `map` rule puts its prepend before the
- *             name, an empty one too.
- * server      The list that the guest gets for the host's list of names, each name
- *             with a zero after it; one zero where none is left. OK: the list in
- *             `out`. It is never empty, and at most one byte longer than the list
- *             that was handed in, so that a buffer with room for one byte more
- *             always serves. NO_ROOM; UNTERMINATED: no rule decides one of the
- *             names, and there is no list, whatever the room; NO_MEMORY; NO_MAP.
- *             It takes memory for two lists for the time of the call.
  */
 
-bool virtiofs_names_make(const uint8_t *text, size_t text_len,
-                         struct virtiofs_names *map, struct virtiofs_fault *fault,
-                         uint8_t *quoted, size_t room);
-uint32_t virtiofs_names_share(struct virtiofs_names *map, struct virtiofs_names *other);
-void virtiofs_names_free(struct virtiofs_names *map);
-uint32_t virtiofs_names_client(struct virtiofs_names *map,
-                               const uint8_t *name, size_t name_len,
-                               uint8_t *out, size_t room, size_t *len);
-uint32_t virtiofs_names_server(struct virtiofs_names *map,
-                               const uint8_t *list, size_t list_len,
-                               uint8_t *out, size_t room, size_t *len);
+/* How many bytes a map of a text of that length takes at most. A buffer of so many always
+   serves. SIZE_MAX: more than there can be. */
+static inline size_t virtiofs_names_bound(size_t text_len)
+{
+    return virtiofs_map_names_bound(text_len);
+}
+
+/* Makes a map of a text of rules, in `bytes` with room for `room` of them. OK: the first
+   *wanted bytes are the map, and the others are as they were. NO_ROOM: the map takes
+   *wanted bytes, and none is written. REFUSED: no map is made of this text, *wanted is 0,
+   and *fault is its first fault: SCOPE, TYPE, INCOMPLETE, MAP_RULE, NUL_KEY and NUL_PREPEND
+   with the number of the rule, UTF8 and NO_RULES without one. For SCOPE and TYPE the field
+   at fault is quoted in `quoted`. NO_MEMORY: *wanted is 0. Where the code is not OK, the
+   bytes are as they were. */
+VIRTIOFS_CHECKED((5, 6))
+static inline uint32_t virtiofs_names_make(const uint8_t *text, size_t text_len,
+                                           uint8_t *bytes, size_t room, size_t *wanted,
+                                           struct virtiofs_fault *fault,
+                                           uint8_t *quoted, size_t quoted_room)
+{
+    return virtiofs_map_names_make(VIRTIOFS_SLICE(const uint8_t, text, text_len),
+                                   VIRTIOFS_SLICE(uint8_t, bytes, room), wanted, fault,
+                                   VIRTIOFS_SLICE(uint8_t, quoted, quoted_room));
+}
+
+/* As what a name that the guest asks for goes to the host. OK: the bytes in `out`, the
+   name with a prepend before it. NO_ROOM: the same, and it does not fit. Both come only
+   where a `prefix` or a `map` rule puts its prepend before the name, an empty one too.
+   AS_IT_IS: the name itself; nothing is copied. DENIED; UNSUPPORTED; UNTERMINATED; NO_NAME;
+   NO_MAP. */
+VIRTIOFS_CHECKED((6))
+static inline uint32_t virtiofs_names_client(struct virtiofs_names map,
+                                             const uint8_t *name, size_t name_len,
+                                             uint8_t *out, size_t room, size_t *len)
+{
+    return virtiofs_map_names_client(VIRTIOFS_SLICE(const uint8_t, map.bytes, map.len),
+                                     VIRTIOFS_SLICE(const uint8_t, name, name_len),
+                                     VIRTIOFS_SLICE(uint8_t, out, room), len);
+}
+
+/* The list that the guest gets for the host's list of names, each name with a zero after
+   it; one zero where none is left. OK: the list in `out`. It is never empty, and at most
+   one byte longer than the list that was handed in, so that a buffer with room for one
+   byte more always serves. NO_ROOM. UNTERMINATED: no rule decides one of the names, and
+   there is no list, whatever the room. NO_MAP. Where the code is not OK, `out` may hold
+   anything. */
+VIRTIOFS_CHECKED((6))
+static inline uint32_t virtiofs_names_server(struct virtiofs_names map,
+                                             const uint8_t *list, size_t list_len,
+                                             uint8_t *out, size_t room, size_t *len)
+{
+    return virtiofs_map_names_server(VIRTIOFS_SLICE(const uint8_t, map.bytes, map.len),
+                                     VIRTIOFS_SLICE(const uint8_t, list, list_len),
+                                     VIRTIOFS_SLICE(uint8_t, out, room), len);
+}
 
 /* ---- decisions about all names ----
  *
  * Each decides of every name there is, of any length. The names come in the order
- * of their bytes, where a front of a name comes before it.
- *
- * terminated    Whether no name of the guest and no list of the host is ever
- *               answered UNTERMINATED. YES; NO; NO_MAP. It takes no memory.
- * audit         Whether each name that passes, the empty one left out, is listed
- *               back to the guest as itself. YES; NO: the least name that is not,
- *               in `out`; NO_ROOM: the same as NO, and the name does not fit;
- *               NO_MEMORY; NO_MAP.
- * audit_listed  Whether each name of the host that is listed, the empty one left
- *               out, is what the name passes as under which it is listed. NO and
- *               NO_ROOM: the least name of the host that is not. The same codes.
- * apart         Whether the second map hides each name of the host, the empty one
- *               left out, as which some name passes by the first; then names that
- *               the first guest reaches make no difference to the lists of the
- *               second. NO and NO_ROOM: the least name of the first map whose host
- *               name is not hidden. The same codes; NO_MAP where one handle of the
- *               two holds none. To ask it of one map twice, give two handles, by
- *               share.
+ * of their bytes, where a front of a name comes before it. OK: *yes tells whether it holds
+ * of all names. Where the code is not OK, *yes is false.
  */
 
-uint32_t virtiofs_names_terminated(struct virtiofs_names *map);
-uint32_t virtiofs_names_audit(struct virtiofs_names *map,
-                              uint8_t *out, size_t room, size_t *len);
-uint32_t virtiofs_names_audit_listed(struct virtiofs_names *map,
-                                     uint8_t *out, size_t room, size_t *len);
-uint32_t virtiofs_names_apart(struct virtiofs_names *first, struct virtiofs_names *second,
-                              uint8_t *out, size_t room, size_t *len);
+/* Whether no name of the guest and no list of the host is ever answered UNTERMINATED.
+   OK; NO_MAP. */
+VIRTIOFS_CHECKED((2))
+static inline uint32_t virtiofs_names_terminated(struct virtiofs_names map, bool *yes)
+{
+    return virtiofs_map_names_terminated(VIRTIOFS_SLICE(const uint8_t, map.bytes, map.len), yes);
+}
+
+/* Whether each name that passes, the empty one left out, is listed back to the guest as
+   itself. OK: where *yes is false, the least name that is not stands in `out`. NO_ROOM:
+   there is such a name, and it does not fit. NO_MEMORY; NO_MAP. */
+VIRTIOFS_CHECKED((2, 5))
+static inline uint32_t virtiofs_names_audit(struct virtiofs_names map, bool *yes,
+                                            uint8_t *out, size_t room, size_t *len)
+{
+    return virtiofs_map_names_audit(VIRTIOFS_SLICE(const uint8_t, map.bytes, map.len), yes,
+                                    VIRTIOFS_SLICE(uint8_t, out, room), len);
+}
+
+/* Whether each name of the host that is listed, the empty one left out, is what the name
+   passes as under which it is listed. OK: where *yes is false, the least name of the host
+   that is not stands in `out`. NO_ROOM; NO_MEMORY; NO_MAP. */
+VIRTIOFS_CHECKED((2, 5))
+static inline uint32_t virtiofs_names_audit_listed(struct virtiofs_names map, bool *yes,
+                                                   uint8_t *out, size_t room, size_t *len)
+{
+    return virtiofs_map_names_audit_listed(VIRTIOFS_SLICE(const uint8_t, map.bytes, map.len), yes,
+                                           VIRTIOFS_SLICE(uint8_t, out, room), len);
+}
+
+/* Whether the second map hides each name of the host, the empty one left out, as which
+   some name passes by the first; then names that the first guest reaches make no
+   difference to the lists of the second. OK: where *yes is false, the least name of the
+   first map whose host name is not hidden stands in `out`. NO_ROOM; NO_MEMORY. NO_MAP: one
+   of the two is none. Both may be one map. */
+VIRTIOFS_CHECKED((3, 6))
+static inline uint32_t virtiofs_names_apart(struct virtiofs_names first,
+                                            struct virtiofs_names second, bool *yes,
+                                            uint8_t *out, size_t room, size_t *len)
+{
+    return virtiofs_map_names_apart(VIRTIOFS_SLICE(const uint8_t, first.bytes, first.len),
+                                    VIRTIOFS_SLICE(const uint8_t, second.bytes, second.len),
+                                    yes, VIRTIOFS_SLICE(uint8_t, out, room), len);
+}
 
 #ifdef __cplusplus
 }

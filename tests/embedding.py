@@ -27,7 +27,8 @@ TESTS, EXAMPLES, BINDING = f"{HERE}/embedding", f"{TOP}/examples", f"{TOP}/bindi
 CRATE = "crates/virtiofs_map_c"
 ARCHIVE = f"{TOP}/{CRATE}/out/libvirtiofs_map_c.a"
 TABLES = ("program.jsonl", "upstream_sample.jsonl")
-FORMS_IN_RUST = ("ids", "ns", "client", "server")
+EDITIONS = ("2015", "2018", "2021", "2024")
+WRAPPED = "-Wl,--wrap=malloc,--wrap=realloc"
 SECONDS, SECONDS_OF_A_BUILD = 600, 7200
 C_FLAGS = ["-std=c99", "-Wall", "-Wextra", "-pedantic", "-Werror", "-O2", f"-I{TOP}/include"]
 SANITIZED = ["-fsanitize=address", "-g"]
@@ -36,6 +37,17 @@ PROBE_C = """#include <stdbool.h>
 #include <stdint.h>
 #include <stdio.h>
 int main(void) { return puts("") < 0; }
+"""
+PROGRAM_CXX = """#include "virtiofs_map.h"
+int main() {
+    const virtiofs_spec spec = { VIRTIOFS_MAP, 0, 1000, 10 };
+    virtiofs_fault fault;
+    uint32_t words[64], host = 0;
+    size_t wanted;
+    if (virtiofs_uids_make(&spec, 1, words, 64, &wanted, &fault) != VIRTIOFS_OK) return 1;
+    const virtiofs_uids map = { words, wanted };
+    return virtiofs_uids_guest(map, 5, &host) != VIRTIOFS_OK || host != 1005;
+}
 """
 
 
@@ -151,7 +163,7 @@ def made_program(tally, name, words):
 # ---- tables of the program ----
 
 
-def is_row_for(row, forms):
+def is_row_for(row):
     """Whether a row can be asked of a stand-in for the program: its words are UTF-8, and it ends by itself."""
     if "stdout" in row or "memory" in row or row["status"] > 2:
         return False
@@ -159,14 +171,14 @@ def is_row_for(row, forms):
         json.dumps(row["words"], ensure_ascii=False).encode()
     except UnicodeEncodeError:
         return False
-    return forms is None or (row["words"] and row["words"][0] in forms)
+    return True
 
 
-def run_tables(tally, name, program, forms=None):
+def run_tables(tally, name, program):
     tables = []
     for table in TABLES:
         with open(f"{HERE}/{table}", encoding="utf-8") as lines:
-            kept = [line for line in lines if line.strip() and is_row_for(json.loads(line), forms)]
+            kept = [line for line in lines if line.strip() and is_row_for(json.loads(line))]
         tables.append(written(tally.room, table, "".join(kept)))
     tally.add(name, *run([sys.executable, f"{HERE}/end_to_end.py", program, "--", *tables], SECONDS_OF_A_BUILD))
 
@@ -189,12 +201,15 @@ def in_c(tally, with_, linked):
     status, said = run([with_.c, *C_FLAGS, header, "-o", f"{tally.room}/header"])
     tally.see("the header in C99", status and f"status {status}", said)
     made = lambda name, file, *flags: made_program(tally, name, [with_.c, *C_FLAGS, *flags, file, *linked, "-pthread"])
-    program = made("the tests in C", f"{TESTS}/test.c")
-    if program:
-        tally.add("the tests in C", *run([program]))
-    program = made("refused memory in C", f"{TESTS}/refused.c", "-Wl,--wrap=malloc,--wrap=realloc")
-    if program:
-        tally.add("refused memory in C", *run([program]))
+    for name, file, *flags in (
+        ("the tests in C", "test.c"),
+        ("shared pages in C", "pages.c"),
+        ("changed numbers in C", "changed.c"),
+        ("refused memory in C", "refused.c", WRAPPED),
+    ):
+        program = made(name, f"{TESTS}/{file}", *flags)
+        if program:
+            tally.add(name, *run([program]))
     made("the speed in C", f"{TESTS}/speed.c")
     program = made("the tables in C", f"{TESTS}/mapcheck.c")
     if program:
@@ -208,18 +223,19 @@ def in_cxx(tally, with_, linked):
     if not with_.cxx:
         left_out("the header in C++", "there is no C++ compiler")
         return
-    text = '#include "virtiofs_map.h"\nint main() { virtiofs_uids map = VIRTIOFS_NONE; virtiofs_uids_free(&map); }\n'
-    header = written(tally.room, "header.cc", text)
-    words = [with_.cxx, "-std=c++11", *C_FLAGS[1:], header, *linked, "-o", f"{tally.room}/header-cxx"]
-    status, said = run(words)
+    header = written(tally.room, "header.cc", PROGRAM_CXX)
+    program = f"{tally.room}/header-cxx"
+    status, said = run([with_.cxx, "-std=c++11", *C_FLAGS[1:], header, *linked, "-o", program])
+    if not status:
+        status, said = run([program])
     tally.see("the header in C++", status and f"status {status}", said)
 
 
 # ---- Rust ----
 
 
-def rust_words(with_, linked):
-    words = [with_.rust, "--edition", "2021", "-O", "-D", "warnings"]
+def rust_words(with_, linked, edition="2021"):
+    words = [with_.rust, "--edition", edition, "-O", "-D", "warnings"]
     for it in linked:
         folder, file = os.path.split(it)
         words += ["-L", f"native={folder}", "-l", f"static={file[len('lib') : -len('.a')]}"]
@@ -230,14 +246,21 @@ def in_rust(tally, with_, linked):
     if not with_.rust:
         left_out("the tests and the example in Rust", "there is no rustc")
         return
-    for edition in ("2018", "2021", "2024"):
-        words = [with_.rust, "--edition", edition, "--crate-type", "rlib", "-D", "warnings", BINDING]
-        status, said = run([*words, "-o", f"{tally.room}/binding.rlib"])
-        tally.see(f"the Rust file in edition {edition}", status and f"status {status}", said)
+    for edition in EDITIONS:
+        name = f"the Rust file in edition {edition}"
+        program = made_program(tally, name, [*rust_words(with_, linked, edition), f"{TESTS}/edition.rs"])
+        if program:
+            status, said = run([program])
+            tally.see(name, status and f"status {status}", said)
     made = lambda name, file, *flags: made_program(tally, name, [*rust_words(with_, linked), *flags, file])
-    program = made("the tests in Rust", f"{TESTS}/test.rs", "--test")
-    if program:
-        tally.add("the tests in Rust", *run([program]))
+    for name, file, *flags in (
+        ("the tests in Rust", "test.rs", "--test"),
+        ("shared pages and changed numbers in Rust", "pages.rs"),
+        ("refused memory in Rust", "refused.rs", "-C", f"link-arg={WRAPPED}"),
+    ):
+        program = made(name, f"{TESTS}/{file}", *flags)
+        if program:
+            tally.add(name, *run([program]))
     program = made("calls as virtiofsd makes them", f"{TESTS}/calls.rs")
     if program:
         status, said = run([program])
@@ -245,7 +268,7 @@ def in_rust(tally, with_, linked):
     made("the speed in Rust", f"{TESTS}/speed.rs")
     program = made("the tables in Rust", f"{TESTS}/mapcheck.rs")
     if program:
-        run_tables(tally, "the tables in Rust", program, FORMS_IN_RUST)
+        run_tables(tally, "the tables in Rust", program)
     program = made("the example in Rust", f"{EXAMPLES}/owners.rs")
     if program:
         run_example(tally, "the example in Rust", program)

@@ -1,5 +1,5 @@
 #!/usr/bin/env python3
-"""Sees that the ids of users and those of groups, and what the library for C does for the two, differ in names alone.
+"""Sees that the ids of users and those of groups differ in names alone.
 
 Each pair is a file on users and a file on groups, whose path is the same but for these words. The words of users in the
 first are replaced by those of groups, and then the two must be the same, byte for byte. A file in which no word is
@@ -12,14 +12,8 @@ import os
 import sys
 
 TOP = os.path.dirname(os.path.dirname(os.path.abspath(__file__)))
-# The files on users: of the library, and of the library for C with their proofs and the edits that must fail.
-ON_USERS = [
-    "crates/virtiofs_map/src/id_types/uids.rt",
-    "crates/virtiofs_map_c/src/uids.rt",
-    "crates/virtiofs_map_c/src/uids/**/*.rt",
-    "crates/virtiofs_map_c/proofs/uids/**/*.antt",
-    "crates/virtiofs_map_c/must-fail/uids_*.edit",
-]
+# The files on users.
+ON_USERS = ["crates/virtiofs_map/src/id_types/uids.rt"]
 WORDS = [("Uid", "Gid"), ("uid", "gid"), ("user", "group")]
 
 

@@ -5,401 +5,94 @@
 //! `libvirtiofs_map_c.a` with the kit's `liblibc_c.a`; docs/EMBEDDING.md has the commands. The names, types, kinds of
 //! error and texts are virtiofsd's; docs/DIFFERENCES.md has what differs.
 //!
-//! Maps are `Send` and `Sync`, and any number of threads may ask one map at once by `&self`. A lookup takes a lock only
-//! where it is the first one that its thread makes of the map, where memory for a handle was refused, or in the last
-//! moments of the thread. The last owner of a map frees its handles after every call that was made of them, as `Arc`
-//! orders the two. What this file does itself is not proved: it carries numbers and bytes to the library and back, keeps
-//! a handle for each thread, and writes texts.
+//! A map is a box of plain numbers, which are written once and then only read. So maps are `Send` and `Sync` as any box
+//! is, and any number of threads may ask one map at once by `&self`, with no lock. What this file does itself is not
+//! proved: it carries numbers and bytes to the library and back, and writes texts.
 
 // (a program may need only a part of it)
 #![allow(dead_code, unused_imports)]
 
 /// What `include/virtiofs_map.h` declares, as far as this file calls it.
+#[rustfmt::skip]
 mod ffi {
-    use std::ffi::c_void;
-
-    /// A handle of a map of ids, or of none.
-    #[repr(C)]
-    pub struct Uids {
-        at: *mut c_void,
-        made: bool,
-    }
-
-    /// A handle of a map of attribute names, or of none.
-    #[repr(C)]
-    pub struct Names {
-        at: *mut c_void,
-        made: bool,
-    }
-
     /// One specification.
     #[repr(C)]
     #[derive(Clone, Copy, Default)]
-    pub struct Spec {
-        pub kind: u32,
-        pub first: u32,
-        pub to: u32,
-        pub count: u32,
-    }
+    pub struct Spec { pub kind: u32, pub first: u32, pub to: u32, pub count: u32 }
 
     /// One range of a user namespace.
     #[repr(C)]
     #[derive(Clone, Copy, Default)]
-    pub struct Range {
-        pub inside: u32,
-        pub outside: u32,
-        pub count: u32,
-    }
+    pub struct Range { pub inside: u32, pub outside: u32, pub count: u32 }
 
     /// The first fault of a text or of a list.
     #[repr(C)]
     #[derive(Default)]
     pub struct Fault {
-        pub kind: u32,
-        pub direction: u32,
-        pub end: u32,
-        pub place: usize,
-        pub expected: usize,
-        pub seen: usize,
-        pub quoted: usize,
+        pub kind: u32, pub direction: u32, pub end: u32, pub place: usize, pub expected: usize, pub seen: usize,
+        pub quoted: usize, pub wanted: usize, pub spec: Spec,
     }
 
-    pub const OK: u32 = 0;
-    pub const AS_IT_IS: u32 = 1;
-    pub const DENIED: u32 = 3;
-    pub const UNSUPPORTED: u32 = 4;
-    pub const UNTERMINATED: u32 = 5;
-    pub const NO_ROOM: u32 = 8;
-
-    pub const GUEST: u32 = 0;
-    pub const HOST: u32 = 1;
-    pub const SQUASH_GUEST: u32 = 2;
-    pub const SQUASH_HOST: u32 = 3;
-    pub const MAP: u32 = 4;
-    pub const FORBID_GUEST: u32 = 5;
-
-    pub const FAULT_OVERFLOW: u32 = 4;
-    pub const FAULT_INTERSECTS: u32 = 5;
-    pub const FAULT_PREFIX: u32 = 6;
-    pub const FAULT_LENGTH: u32 = 7;
-    pub const FAULT_VALUE: u32 = 8;
-    pub const FAULT_RANGE_DELIMITER: u32 = 9;
-    pub const FAULT_RANGE_VALUE: u32 = 11;
-    pub const FAULT_SCOPE: u32 = 12;
-    pub const FAULT_TYPE: u32 = 13;
-    pub const FAULT_INCOMPLETE: u32 = 14;
-    pub const FAULT_MAP_RULE: u32 = 15;
-    pub const FAULT_NO_RULES: u32 = 16;
-    pub const FAULT_NUL_KEY: u32 = 17;
-    pub const FAULT_NUL_PREPEND: u32 = 18;
-
+    pub const OK: u32 = 0; pub const AS_IT_IS: u32 = 1; pub const DENIED: u32 = 3; pub const UNSUPPORTED: u32 = 4;
+    pub const NO_ROOM: u32 = 7;
+    pub const GUEST: u32 = 0; pub const HOST: u32 = 1; pub const SQUASH_GUEST: u32 = 2;
+    pub const SQUASH_HOST: u32 = 3; pub const MAP: u32 = 4; pub const FORBID_GUEST: u32 = 5;
     pub const GUEST_TO_HOST: u32 = 0;
 
+    pub const FAULT_OVERFLOW: u32 = 4; pub const FAULT_INTERSECTS: u32 = 5;
+    pub const FAULT_PREFIX: u32 = 6; pub const FAULT_LENGTH: u32 = 7; pub const FAULT_VALUE: u32 = 8;
+    pub const FAULT_RANGE_DELIMITER: u32 = 9; pub const FAULT_RANGE_VALUE: u32 = 11;
+    pub const FAULT_SCOPE: u32 = 12; pub const FAULT_TYPE: u32 = 13; pub const FAULT_INCOMPLETE: u32 = 14;
+    pub const FAULT_MAP_RULE: u32 = 15; pub const FAULT_NO_RULES: u32 = 16;
+    pub const FAULT_NUL_KEY: u32 = 17; pub const FAULT_NUL_PREPEND: u32 = 18;
+
     unsafe extern "C" {
-        pub fn virtiofs_uids_make(specs: *const Spec, count: usize, map: *mut Uids, fault: *mut Fault) -> bool;
-        pub fn virtiofs_uids_share(map: *mut Uids, other: *mut Uids) -> u32;
-        pub fn virtiofs_uids_free(map: *mut Uids);
-        pub fn virtiofs_uids_guest(map: *mut Uids, guest: u32, host: *mut u32) -> u32;
-        pub fn virtiofs_uids_host(map: *mut Uids, host: u32, guest: *mut u32) -> u32;
-
-        pub fn virtiofs_specs_accepted(specs: *const Spec, count: usize, fault: *mut Fault) -> bool;
-        pub fn virtiofs_specs_guest(specs: *const Spec, count: usize, guest: u32, host: *mut u32) -> u32;
-        pub fn virtiofs_specs_host(specs: *const Spec, count: usize, host: u32, guest: *mut u32) -> u32;
-
-        pub fn virtiofs_spec_read(
-            text: *const u8,
-            text_len: usize,
-            spec: *mut Spec,
-            fault: *mut Fault,
-            quoted: *mut u8,
-            room: usize,
-        ) -> bool;
-        pub fn virtiofs_range_read(text: *const u8, text_len: usize, range: *mut Range, fault: *mut Fault) -> bool;
-
-        pub fn virtiofs_names_make(
-            text: *const u8,
-            text_len: usize,
-            map: *mut Names,
-            fault: *mut Fault,
-            quoted: *mut u8,
-            room: usize,
-        ) -> bool;
-        pub fn virtiofs_names_share(map: *mut Names, other: *mut Names) -> u32;
-        pub fn virtiofs_names_free(map: *mut Names);
-        pub fn virtiofs_names_client(
-            map: *mut Names,
-            name: *const u8,
-            name_len: usize,
-            out: *mut u8,
-            room: usize,
-            len: *mut usize,
-        ) -> u32;
-        pub fn virtiofs_names_server(
-            map: *mut Names,
-            list: *const u8,
-            list_len: usize,
-            out: *mut u8,
-            room: usize,
-            len: *mut usize,
-        ) -> u32;
+        pub safe fn virtiofs_map_ids_bound(count: usize) -> usize;
+        pub fn virtiofs_map_ids_make(specs: *const Spec, count: usize, words: *mut u32, room: usize,
+            wanted: &mut usize, fault: &mut Fault) -> u32;
+        pub fn virtiofs_map_ids_guest(words: *const u32, count: usize, guest: u32, host: &mut u32) -> u32;
+        pub fn virtiofs_map_ids_host(words: *const u32, count: usize, host: u32, guest: &mut u32) -> u32;
+        pub fn virtiofs_map_spec_read(text: *const u8, text_len: usize, spec: &mut Spec, fault: &mut Fault,
+            quoted: *mut u8, quoted_room: usize) -> u32;
+        pub fn virtiofs_map_range_read(text: *const u8, text_len: usize, range: &mut Range, fault: &mut Fault) -> u32;
+        pub safe fn virtiofs_map_names_bound(text_len: usize) -> usize;
+        pub fn virtiofs_map_names_make(text: *const u8, text_len: usize, bytes: *mut u8, room: usize,
+            wanted: &mut usize, fault: &mut Fault, quoted: *mut u8, quoted_room: usize) -> u32;
+        pub fn virtiofs_map_names_client(bytes: *const u8, map_len: usize, name: *const u8, name_len: usize,
+            out: *mut u8, room: usize, len: &mut usize) -> u32;
+        pub fn virtiofs_map_names_server(bytes: *const u8, map_len: usize, list: *const u8, list_len: usize,
+            out: *mut u8, room: usize, len: &mut usize) -> u32;
+        pub fn virtiofs_map_names_terminated(bytes: *const u8, map_len: usize, yes: &mut bool) -> u32;
+        pub fn virtiofs_map_names_audit(bytes: *const u8, map_len: usize, yes: &mut bool,
+            out: *mut u8, room: usize, len: &mut usize) -> u32;
+        pub fn virtiofs_map_names_audit_listed(bytes: *const u8, map_len: usize, yes: &mut bool,
+            out: *mut u8, room: usize, len: &mut usize) -> u32;
+        pub fn virtiofs_map_names_apart(bytes: *const u8, map_len: usize, other_bytes: *const u8, other_len: usize,
+            yes: &mut bool, out: *mut u8, room: usize, len: &mut usize) -> u32;
     }
 
-    // A handle may be handed to another thread: the header says so, and the library proves it of what stands behind it.
-    unsafe impl Send for Uids {}
-    unsafe impl Send for Names {}
-
-    impl Uids {
-        /// A handle of no map.
-        pub const NONE: Uids = Uids {
-            at: std::ptr::null_mut(),
-            made: false,
-        };
-    }
-
-    impl Names {
-        /// A handle of no map.
-        pub const NONE: Names = Names {
-            at: std::ptr::null_mut(),
-            made: false,
-        };
-    }
-
-    impl Drop for Uids {
-        fn drop(&mut self) {
-            unsafe { virtiofs_uids_free(self) }
+    /// The numbers of a map, which `make` writes into a buffer that always serves, or the fault.
+    pub fn made<T: Clone + Default, Make>(bound: usize, make: Make) -> Result<Box<[T]>, Fault>
+        where Make: FnOnce(&mut [T], &mut usize, &mut Fault) -> u32 {
+        let (mut buffer, mut wanted, mut fault) = (vec![T::default(); bound], 0, Fault::default());
+        if make(&mut buffer, &mut wanted, &mut fault) != OK {
+            return Err(fault);
         }
+        buffer.truncate(wanted);
+        Ok(buffer.into_boxed_slice())
     }
 
-    impl Drop for Names {
-        fn drop(&mut self) {
-            unsafe { virtiofs_names_free(self) }
-        }
-    }
-
-    /// The bytes of the text at fault, which has to be one of `text`, or one of those with its letters in lower case.
-    pub fn quoted(fault: &Fault, mut bytes: Vec<u8>) -> String {
-        bytes.truncate(fault.quoted);
-        String::from_utf8_lossy(&bytes).into_owned()
-    }
-}
-
-/// One map for any number of threads.
-///
-/// A handle serves one call at a time, so each thread asks by a handle of its own, which it gets by share at its first
-/// lookup and finds again at a place of the map's number, or in a list of the thread's where another map took that place.
-/// The handles belong to the map: they go with it, and a thread that ends leaves its own to the next one.
-mod shared {
-    use super::ffi;
-    use std::cell::{Cell, RefCell};
-    use std::sync::atomic::{AtomicU64, Ordering};
-    use std::sync::{Arc, Mutex, MutexGuard, PoisonError, Weak};
-    use std::thread::LocalKey;
-
-    /// The handles that a thread has.
-    pub type Seats<H> = RefCell<Vec<Seat<H>>>;
-
-    /// Some of them at once: a handle, with the number of its map, at the place of that number; 0 and null where there
-    /// is none. They are never dropped, so that they can be read until the very end of the thread.
-    pub type Places<H> = [Cell<(u64, *mut Apart<H>)>; PLACES];
-
-    const PLACES: usize = 8;
-
-    /// A handle of the library.
-    pub trait Handle: Sized + Send + 'static {
-        /// A handle of no map.
-        const NONE: Self;
-
-        /// Has `other` hold this handle's map too, and tells whether it does.
-        fn share(&mut self, other: &mut Self) -> bool;
-
-        /// The handles of this thread.
-        fn seats() -> &'static LocalKey<Seats<Self>>;
-
-        /// Some of them at once.
-        fn places() -> &'static LocalKey<Places<Self>>;
-
-        /// The place for a map of that number.
-        #[inline]
-        fn place_of<T>(number: u64, see: impl FnOnce(&Cell<(u64, *mut Apart<Self>)>) -> T) -> T {
-            Self::places().with(|places| see(&places[number as usize % PLACES]))
-        }
-    }
-
-    macro_rules! handle {
-        ($type:ident, $share:ident, $seats:ident, $places:ident) => {
-            thread_local! {
-                static $seats: Seats<ffi::$type> = const { RefCell::new(Vec::new()) };
-                static $places: Places<ffi::$type> = const { [const { Cell::new((0, std::ptr::null_mut())) }; PLACES] };
-            }
-
-            impl Handle for ffi::$type {
-                const NONE: Self = ffi::$type::NONE;
-
-                fn share(&mut self, other: &mut Self) -> bool {
-                    unsafe { ffi::$share(self, other) == ffi::OK }
-                }
-
-                fn seats() -> &'static LocalKey<Seats<Self>> {
-                    &$seats
-                }
-
-                #[inline]
-                fn places() -> &'static LocalKey<Places<Self>> {
-                    &$places
-                }
-            }
-        };
-    }
-
-    handle!(Uids, virtiofs_uids_share, SEATS_OF_IDS, PLACES_OF_IDS);
-    handle!(Names, virtiofs_names_share, SEATS_OF_NAMES, PLACES_OF_NAMES);
-
-    /// A handle in cache lines of its own, since each lookup writes to its handle.
-    #[repr(align(128))]
-    pub struct Apart<H>(H);
-
-    /// The handle of one thread for one map.
-    pub struct Seat<H: Handle> {
-        number: u64,
-        handle: *mut Apart<H>,
-        home: Weak<Home<H>>,
-    }
-
-    impl<H: Handle> Drop for Seat<H> {
-        fn drop(&mut self) {
-            // (from here on the handle may be another thread's)
-            H::place_of(self.number, |place| {
-                if place.get().0 == self.number {
-                    place.set((0, std::ptr::null_mut()));
-                }
-            });
-            if let Some(home) = self.home.upgrade() {
-                home.lock().idle.push(self.handle);
-            }
-        }
-    }
-
-    /// All handles of a map: the first one, those of threads, and which of these no thread has.
-    struct Handles<H: Handle> {
-        first: H,
-        all: Vec<*mut Apart<H>>,
-        idle: Vec<*mut Apart<H>>,
-    }
-
-    // (what the pointers lead to is a handle, which may be handed to another thread)
-    unsafe impl<H: Handle> Send for Handles<H> {}
-
-    impl<H: Handle> Drop for Handles<H> {
-        fn drop(&mut self) {
-            for handle in self.all.drain(..) {
-                // Made by `Box::into_raw`, once in this list, and asked by nobody once the map is gone.
-                drop(unsafe { Box::from_raw(handle) });
-            }
-        }
-    }
-
-    /// Where the handles of a map are at home.
-    struct Home<H: Handle> {
-        handles: Mutex<Handles<H>>,
-    }
-
-    impl<H: Handle> Home<H> {
-        fn lock(&self) -> MutexGuard<'_, Handles<H>> {
-            self.handles.lock().unwrap_or_else(PoisonError::into_inner)
-        }
-    }
-
-    /// A map of the library, for any number of threads. A clone is the same map. No two maps of a process have one
-    /// number, and none has 0.
-    pub struct Shared<H: Handle> {
-        number: u64,
-        home: Arc<Home<H>>,
-    }
-
-    impl<H: Handle> Clone for Shared<H> {
-        fn clone(&self) -> Self {
-            Shared {
-                number: self.number,
-                home: Arc::clone(&self.home),
-            }
-        }
-    }
-
-    impl<H: Handle> Shared<H> {
-        /// The map that a handle holds.
-        pub fn new(first: H) -> Self {
-            static NUMBERS: AtomicU64 = AtomicU64::new(1);
-            Shared {
-                number: NUMBERS.fetch_add(1, Ordering::Relaxed),
-                home: Arc::new(Home {
-                    handles: Mutex::new(Handles {
-                        first,
-                        all: Vec::new(),
-                        idle: Vec::new(),
-                    }),
-                }),
-            }
-        }
-
-        /// Makes one call with a handle that is this thread's alone. `call` may not ask a map itself.
-        #[inline]
-        pub fn ask<T>(&self, call: impl FnOnce(&mut H) -> T) -> T {
-            let (number, handle) = H::place_of(self.number, Cell::get);
-            match if number == self.number { Some(handle) } else { self.seated() } {
-                // The handle is this thread's until its seat is dropped, which takes it out of its place, and lives as
-                // long as the map.
-                Some(handle) => call(unsafe { &mut (*handle).0 }),
-                // The thread is about to end, or there was no handle to be had.
-                None => call(&mut self.home.lock().first),
-            }
-        }
-
-        #[cold]
-        #[inline(never)]
-        fn seated(&self) -> Option<*mut Apart<H>> {
-            H::seats().try_with(|seats| self.handle(seats)).ok().flatten()
-        }
-
-        fn handle(&self, seats: &Seats<H>) -> Option<*mut Apart<H>> {
-            let number = self.number;
-            let seated = seats.borrow().iter().find(|seat| seat.number == number).map(|seat| seat.handle);
-            let handle = seated.or_else(|| self.sit_down(seats))?;
-            H::place_of(number, |place| place.set((number, handle)));
-            Some(handle)
-        }
-
-        fn sit_down(&self, seats: &Seats<H>) -> Option<*mut Apart<H>> {
-            // (maps that are gone)
-            seats.borrow_mut().retain(|seat| seat.home.strong_count() > 0);
-            let handle = self.free_handle()?;
-            seats.borrow_mut().push(Seat {
-                number: self.number,
-                handle,
-                home: Arc::downgrade(&self.home),
-            });
-            Some(handle)
-        }
-
-        fn free_handle(&self) -> Option<*mut Apart<H>> {
-            let mut handles = self.home.lock();
-            if let Some(handle) = handles.idle.pop() {
-                return Some(handle);
-            }
-            let mut fresh = Box::new(Apart(H::NONE));
-            if !handles.first.share(&mut fresh.0) {
-                return None;
-            }
-            let handle = Box::into_raw(fresh);
-            handles.all.push(handle);
-            Some(handle)
-        }
+    /// The text at fault, of which the call quoted so many bytes.
+    pub fn quoted(fault: &Fault, bytes: &[u8]) -> String {
+        String::from_utf8_lossy(&bytes[..fault.quoted]).into_owned()
     }
 }
 
 /// Ranges of a user namespace, as `--uid-map` and `--gid-map` give them.
 pub mod idmap {
     use super::ffi;
-    use std::fmt;
+    use std::error::Error;
+    use std::fmt::{self, Display, Formatter};
     use std::num::ParseIntError;
     use std::str::FromStr;
 
@@ -414,10 +107,10 @@ pub mod idmap {
         InvalidValue(ParseIntError),
     }
 
-    impl std::error::Error for IdMapError {}
+    impl Error for IdMapError {}
 
-    impl fmt::Display for IdMapError {
-        fn fmt(&self, f: &mut fmt::Formatter<'_>) -> fmt::Result {
+    impl Display for IdMapError {
+        fn fmt(&self, f: &mut Formatter<'_>) -> fmt::Result {
             f.write_str(match self {
                 IdMapError::InvalidDelimiter => {
                     "A delimiter has been found that does not match the delimiter the map started with"
@@ -434,81 +127,55 @@ pub mod idmap {
         }
     }
 
-    /// A range of user ids: `count` of them, from `inside_uid` on in the namespace, and from `outside_uid` on outside.
-    #[derive(Clone, Debug, PartialEq, Eq)]
-    pub struct UidMap {
-        /// The first id in the namespace.
-        pub inside_uid: u32,
-        /// What it is outside.
-        pub outside_uid: u32,
-        /// How many ids.
-        pub count: u32,
+    macro_rules! range {
+        ($type:ident, $inside:ident, $outside:ident, $doc:expr) => {
+            #[doc = $doc]
+            #[derive(Clone, Debug, PartialEq, Eq)]
+            pub struct $type {
+                /// The first id in the namespace.
+                pub $inside: u32,
+                /// What it is outside.
+                pub $outside: u32,
+                /// How many ids.
+                pub count: u32,
+            }
+
+            impl FromStr for $type {
+                type Err = IdMapError;
+
+                fn from_str(text: &str) -> Result<Self, IdMapError> {
+                    read(text).map(|it| $type { $inside: it.inside, $outside: it.outside, count: it.count })
+                }
+            }
+
+            impl Display for $type {
+                fn fmt(&self, f: &mut Formatter<'_>) -> fmt::Result {
+                    write!(f, ":{}:{}:{}:", self.$inside, self.$outside, self.count)
+                }
+            }
+        };
     }
 
-    /// A range of group ids: `count` of them, from `inside_gid` on in the namespace, and from `outside_gid` on outside.
-    #[derive(Clone, Debug, PartialEq, Eq)]
-    pub struct GidMap {
-        /// The first id in the namespace.
-        pub inside_gid: u32,
-        /// What it is outside.
-        pub outside_gid: u32,
-        /// How many ids.
-        pub count: u32,
-    }
-
-    impl FromStr for UidMap {
-        type Err = IdMapError;
-
-        fn from_str(text: &str) -> Result<Self, IdMapError> {
-            read(text).map(|range| UidMap {
-                inside_uid: range.inside,
-                outside_uid: range.outside,
-                count: range.count,
-            })
-        }
-    }
-
-    impl FromStr for GidMap {
-        type Err = IdMapError;
-
-        fn from_str(text: &str) -> Result<Self, IdMapError> {
-            read(text).map(|range| GidMap {
-                inside_gid: range.inside,
-                outside_gid: range.outside,
-                count: range.count,
-            })
-        }
-    }
-
-    impl fmt::Display for UidMap {
-        fn fmt(&self, f: &mut fmt::Formatter<'_>) -> fmt::Result {
-            write!(f, ":{}:{}:{}:", self.inside_uid, self.outside_uid, self.count)
-        }
-    }
-
-    impl fmt::Display for GidMap {
-        fn fmt(&self, f: &mut fmt::Formatter<'_>) -> fmt::Result {
-            write!(f, ":{}:{}:{}:", self.inside_gid, self.outside_gid, self.count)
-        }
-    }
+    range!(UidMap, inside_uid, outside_uid, "A range of user ids.");
+    range!(GidMap, inside_gid, outside_gid, "A range of group ids.");
 
     fn read(text: &str) -> Result<ffi::Range, IdMapError> {
         let (mut range, mut fault) = (ffi::Range::default(), ffi::Fault::default());
-        if unsafe { ffi::virtiofs_range_read(text.as_ptr(), text.len(), &mut range, &mut fault) } {
-            return Ok(range);
+        // Sound: the text is lent for the call, which writes to the two structs alone.
+        let code = unsafe { ffi::virtiofs_map_range_read(text.as_ptr(), text.len(), &mut range, &mut fault) };
+        match (code, fault.kind) {
+            (ffi::OK, _) => Ok(range),
+            (_, ffi::FAULT_RANGE_DELIMITER) => Err(IdMapError::InvalidDelimiter),
+            (_, ffi::FAULT_RANGE_VALUE) => Err(number_fault(text)),
+            _ => Err(IdMapError::IncompleteMap),
         }
-        Err(match fault.kind {
-            ffi::FAULT_RANGE_DELIMITER => IdMapError::InvalidDelimiter,
-            ffi::FAULT_RANGE_VALUE => number_fault(text).map_or(IdMapError::IncompleteMap, IdMapError::InvalidValue),
-            _ => IdMapError::IncompleteMap,
-        })
     }
 
     /// What std says of the first field that is no number. The library found one, and tells no more than that.
-    fn number_fault(text: &str) -> Option<ParseIntError> {
-        let delimiter = text.chars().last()?;
-        let fields = text.split(delimiter).skip(1).take(3);
-        fields.map(str::parse::<u32>).find_map(Result::err)
+    fn number_fault(text: &str) -> IdMapError {
+        let delimiter = text.chars().last().unwrap_or(':');
+        let mut read = text.split(delimiter).skip(1).take(3).map(str::parse::<u32>);
+        read.find_map(Result::err).map_or(IdMapError::IncompleteMap, IdMapError::InvalidValue)
     }
 }
 
@@ -517,111 +184,53 @@ pub mod soft_idmap {
     /// Specifications, as `--translate-uid` and `--translate-gid` give them.
     pub mod cmdline {
         use super::super::ffi;
+        use std::error::Error;
         use std::fmt::{self, Display, Formatter};
         use std::num::ParseIntError;
         use std::str::FromStr;
 
         /// One specification. A count of 0 covers no id.
         #[derive(Clone, Copy, Debug, PartialEq, Eq)]
+        #[rustfmt::skip]
         pub enum IdMap {
-            /// Each guest id of the range becomes the host id as far above `to_host`.
-            Guest {
-                /// The first guest id.
-                from_guest: u32,
-                /// What it becomes.
-                to_host: u32,
-                /// How many ids.
-                count: u32,
-            },
-
-            /// Each host id of the range becomes the guest id as far above `to_guest`.
-            Host {
-                /// The first host id.
-                from_host: u32,
-                /// What it becomes.
-                to_guest: u32,
-                /// How many ids.
-                count: u32,
-            },
-
-            /// Each guest id of the range becomes `to_host`.
-            SquashGuest {
-                /// The first guest id.
-                from_guest: u32,
-                /// What each becomes.
-                to_host: u32,
-                /// How many guest ids.
-                count: u32,
-            },
-
-            /// Each host id of the range becomes `to_guest`.
-            SquashHost {
-                /// The first host id.
-                from_host: u32,
-                /// What each becomes.
-                to_guest: u32,
-                /// How many host ids.
-                count: u32,
-            },
-
-            /// `Guest` and `Host` together.
-            Bidirectional {
-                /// The first guest id.
-                guest: u32,
-                /// The first host id.
-                host: u32,
-                /// How many ids.
-                count: u32,
-            },
-
-            /// The use of each guest id of the range fails.
-            ForbidGuest {
-                /// The first guest id.
-                from_guest: u32,
-                /// How many ids.
-                count: u32,
-            },
+            /// Each of `count` guest ids from `from_guest` on becomes the host id as far above `to_host`.
+            Guest { from_guest: u32, to_host: u32, count: u32 },
+            /// Each of `count` host ids from `from_host` on becomes the guest id as far above `to_guest`.
+            Host { from_host: u32, to_guest: u32, count: u32 },
+            /// Each of `count` guest ids from `from_guest` on becomes `to_host`.
+            SquashGuest { from_guest: u32, to_host: u32, count: u32 },
+            /// Each of `count` host ids from `from_host` on becomes `to_guest`.
+            SquashHost { from_host: u32, to_guest: u32, count: u32 },
+            /// `Guest` and `Host` together, with `guest` as the first guest id and `host` as the first host id.
+            Bidirectional { guest: u32, host: u32, count: u32 },
+            /// The use of each of `count` guest ids from `from_guest` on fails.
+            ForbidGuest { from_guest: u32, count: u32 },
         }
 
         /// Why a text says no specification.
         #[derive(Debug)]
+        #[rustfmt::skip]
         pub enum IdMapError {
             /// The word is none of the six; here it is in lower case.
             InvalidPrefix(String),
-
-            /// The word takes another count of numbers.
-            InvalidLength {
-                /// How many it takes; 1 where no separator follows the word.
-                expected: usize,
-                /// How many there are; then 0.
-                seen: usize,
-            },
-
-            /// A field is no number.
-            InvalidValue {
-                /// The field.
-                value: String,
-                /// What std says of it.
-                error: ParseIntError,
-            },
-
+            /// The word takes `expected` numbers, and there are `seen`; 1 and 0 where no separator follows the word.
+            InvalidLength { expected: usize, seen: usize },
+            /// The field `value` is no number, of which std says `error`.
+            InvalidValue { value: String, error: ParseIntError },
             /// The library was refused memory. virtiofsd has no such variant.
             OutOfMemory,
         }
 
-        impl std::error::Error for IdMapError {}
+        impl Error for IdMapError {}
 
         impl Display for IdMapError {
             fn fmt(&self, f: &mut Formatter<'_>) -> fmt::Result {
                 match self {
                     IdMapError::InvalidPrefix(prefix) => write!(f, "Invalid ID map prefix {prefix}"),
-                    IdMapError::InvalidLength { expected, seen } => write!(
-                        f,
-                        "Invalid ID map length (expected {expected} elements, got {seen} elements)"
-                    ),
-                    IdMapError::InvalidValue { value, error } => {
-                        write!(f, "Invalid value {value} in ID map: {error}")
+                    IdMapError::InvalidLength { expected, seen } => {
+                        write!(f, "Invalid ID map length (expected {expected} elements, got {seen} elements)")
                     }
+                    IdMapError::InvalidValue { value, error } => write!(f, "Invalid value {value} in ID map: {error}"),
                     IdMapError::OutOfMemory => f.write_str("Out of memory"),
                 }
             }
@@ -634,27 +243,19 @@ pub mod soft_idmap {
                 let (mut spec, mut fault) = (ffi::Spec::default(), ffi::Fault::default());
                 // (what is quoted is a part of the text, in lower case)
                 let mut quoted = vec![0; text.len()];
-                let is_read = unsafe {
-                    ffi::virtiofs_spec_read(
-                        text.as_ptr(),
-                        text.len(),
-                        &mut spec,
-                        &mut fault,
-                        quoted.as_mut_ptr(),
-                        quoted.len(),
-                    )
-                };
-                if is_read { Ok(IdMap::of(spec)) } else { Err(error_of(&fault, quoted)) }
+                let (at, len, to) = (text.as_ptr(), text.len(), quoted.as_mut_ptr());
+                // Sound: the text is lent for the call, which writes to the two structs and to `quoted` alone.
+                match unsafe { ffi::virtiofs_map_spec_read(at, len, &mut spec, &mut fault, to, len) } {
+                    ffi::OK => Ok(IdMap::of(spec)),
+                    _ => Err(error_of(&fault, &quoted)),
+                }
             }
         }
 
-        fn error_of(fault: &ffi::Fault, quoted: Vec<u8>) -> IdMapError {
+        fn error_of(fault: &ffi::Fault, quoted: &[u8]) -> IdMapError {
             match fault.kind {
                 ffi::FAULT_PREFIX => IdMapError::InvalidPrefix(ffi::quoted(fault, quoted)),
-                ffi::FAULT_LENGTH => IdMapError::InvalidLength {
-                    expected: fault.expected,
-                    seen: fault.seen,
-                },
+                ffi::FAULT_LENGTH => IdMapError::InvalidLength { expected: fault.expected, seen: fault.seen },
                 ffi::FAULT_VALUE => {
                     let value = ffi::quoted(fault, quoted);
                     let error = value.parse::<u32>().expect_err("the library found it to be no number");
@@ -665,7 +266,7 @@ pub mod soft_idmap {
         }
 
         impl IdMap {
-            fn of(spec: ffi::Spec) -> IdMap {
+            pub(in super::super) fn of(spec: ffi::Spec) -> IdMap {
                 let ffi::Spec { kind, first, to, count } = spec;
                 match kind {
                     ffi::GUEST => IdMap::Guest { from_guest: first, to_host: to, count },
@@ -695,15 +296,10 @@ pub mod soft_idmap {
         impl Display for IdMap {
             fn fmt(&self, f: &mut Formatter<'_>) -> fmt::Result {
                 let ffi::Spec { kind, first, to, count } = self.spec();
-                let word = match kind {
-                    ffi::GUEST => "guest",
-                    ffi::HOST => "host",
-                    ffi::SQUASH_GUEST => "squash-guest",
-                    ffi::SQUASH_HOST => "squash-host",
-                    ffi::MAP => "map",
-                    _ => return write!(f, "forbid-guest:{first}:{count}"),
-                };
-                write!(f, "{word}:{first}:{to}:{count}")
+                match ["guest", "host", "squash-guest", "squash-host", "map"].get(kind as usize) {
+                    Some(word) => write!(f, "{word}:{first}:{to}:{count}"),
+                    None => write!(f, "forbid-guest:{first}:{count}"),
+                }
             }
         }
     }
@@ -714,27 +310,13 @@ pub mod soft_idmap {
         use std::ops::{Add, Sub};
 
         /// An id of a user or of a group, of a guest or of the host.
-        pub trait Id:
-            Clone
-            + Copy
-            + Debug
-            + Display
-            + Eq
-            + From<Self::Inner>
-            + Ord
-            + PartialEq
-            + PartialOrd
-            + Send
-            + Sub<Self>
-            + Sync
-            + 'static
-        {
+        #[rustfmt::skip]
+        pub trait Id: Clone + Copy + Debug + Display + Eq + From<Self::Inner> + Ord + PartialEq + PartialOrd
+            + Send + Sub<Self> + Sync + 'static {
             /// The plain number.
             type Inner: Clone + Copy + From<u32> + Into<u32>;
-
             /// Whether this is root's id.
             fn is_root(&self) -> bool;
-
             /// The plain number.
             fn into_inner(self) -> Self::Inner;
         }
@@ -743,7 +325,6 @@ pub mod soft_idmap {
         pub trait GuestId: Id + Add<<Self::HostType as Sub>::Output, Output = Self> {
             /// The type of what it is on the host.
             type HostType: HostId;
-
             /// The host's id of the same number.
             fn id_mapped(self) -> Self::HostType;
         }
@@ -752,7 +333,6 @@ pub mod soft_idmap {
         pub trait HostId: Id + Add<<Self::GuestType as Sub>::Output, Output = Self> {
             /// The type of what it is in the guest.
             type GuestType: GuestId;
-
             /// The guest's id of the same number.
             fn id_mapped(self) -> Self::GuestType;
         }
@@ -764,8 +344,8 @@ pub mod soft_idmap {
         pub struct GidOffset(u32);
 
         macro_rules! id {
-            ($(#[$doc:meta])* $type:ident, $side:ident, $other_type:ident = $other:ident, $offset:ident) => {
-                $(#[$doc])*
+            ($type:ident, $side:ident, $other_type:ident = $other:ident, $offset:ident, $doc:expr) => {
+                #[doc = $doc]
                 #[derive(Clone, Copy, Debug, Default, Eq, Ord, PartialEq, PartialOrd)]
                 #[repr(transparent)]
                 pub struct $type(u32);
@@ -778,11 +358,9 @@ pub mod soft_idmap {
 
                 impl Id for $type {
                     type Inner = u32;
-
                     fn is_root(&self) -> bool {
                         self.0 == 0
                     }
-
                     fn into_inner(self) -> u32 {
                         self.0
                     }
@@ -790,7 +368,6 @@ pub mod soft_idmap {
 
                 impl $side for $type {
                     type $other_type = $other;
-
                     fn id_mapped(self) -> $other {
                         $other(self.0)
                     }
@@ -798,7 +375,6 @@ pub mod soft_idmap {
 
                 impl Add<$offset> for $type {
                     type Output = $type;
-
                     fn add(self, offset: $offset) -> $type {
                         $type(self.0 + offset.0)
                     }
@@ -806,7 +382,6 @@ pub mod soft_idmap {
 
                 impl Sub<$type> for $type {
                     type Output = $offset;
-
                     fn sub(self, from: $type) -> $offset {
                         $offset(self.0 - from.0)
                     }
@@ -820,51 +395,36 @@ pub mod soft_idmap {
             };
         }
 
-        id!(
-            /// A user id in the guest.
-            GuestUid, GuestId, HostType = HostUid, UidOffset
-        );
-        id!(
-            /// A group id in the guest.
-            GuestGid, GuestId, HostType = HostGid, GidOffset
-        );
-        id!(
-            /// A user id on the host.
-            HostUid, HostId, GuestType = GuestUid, UidOffset
-        );
-        id!(
-            /// A group id on the host.
-            HostGid, HostId, GuestType = GuestGid, GidOffset
-        );
+        id!(GuestUid, GuestId, HostType = HostUid, UidOffset, "A user id in the guest.");
+        id!(GuestGid, GuestId, HostType = HostGid, GidOffset, "A group id in the guest.");
+        id!(HostUid, HostId, GuestType = GuestUid, UidOffset, "A user id on the host.");
+        id!(HostGid, HostId, GuestType = GuestGid, GidOffset, "A group id on the host.");
     }
 
     use super::ffi;
-    use super::shared::Shared;
-    pub use id_types::{GuestGid, GuestId, GuestUid, HostGid, HostId, HostUid, Id};
+    pub use self::id_types::{GuestGid, GuestId, GuestUid, HostGid, HostId, HostUid, Id};
     use std::convert::TryFrom;
+    use std::error::Error;
     use std::fmt::{self, Display, Formatter};
     use std::io;
     use std::marker::PhantomData;
 
-    /// Up to this many specifications a lookup goes through the list, which then takes less time than a handle's map.
-    const FEW: usize = 4;
-
     /// What ids become, guest to host and host to guest. An id that no specification covers keeps its number.
+    #[derive(Clone)]
+    #[repr(transparent)]
     pub struct IdMap<Guest: GuestId<HostType = Host>, Host: HostId<GuestType = Guest>> {
-        specs: Vec<ffi::Spec>,
-        // (`None` where the specifications are few)
-        map: Option<Shared<ffi::Uids>>,
+        words: Box<[u32]>,
         pair: PhantomData<(Guest, Host)>,
     }
 
+    type Lookup = unsafe extern "C" fn(*const u32, usize, u32, &mut u32) -> u32;
+
     /// Why an id is not mapped.
     #[derive(Clone, Debug)]
+    #[rustfmt::skip]
     pub enum MapError<Source: Id> {
-        /// A specification forbids its use.
-        ExplicitFailMapping {
-            /// The id that was asked for.
-            id: Source,
-        },
+        /// A specification forbids the use of this id.
+        ExplicitFailMapping { id: Source },
     }
 
     impl<Source: Id> Display for MapError<Source> {
@@ -874,7 +434,7 @@ pub mod soft_idmap {
         }
     }
 
-    impl<Source: Id> std::error::Error for MapError<Source> {}
+    impl<Source: Id> Error for MapError<Source> {}
 
     impl<Source: Id> From<MapError<Source>> for io::Error {
         fn from(error: MapError<Source>) -> Self {
@@ -882,48 +442,43 @@ pub mod soft_idmap {
         }
     }
 
-    impl<Guest, Host> IdMap<Guest, Host>
-    where
-        Guest: GuestId<HostType = Host>,
-        Host: HostId<GuestType = Guest>,
-    {
+    impl<Guest: GuestId<HostType = Host>, Host: HostId<GuestType = Guest>> IdMap<Guest, Host> {
         /// The map under which every id keeps its number.
         pub fn empty() -> Self {
-            IdMap {
-                specs: Vec::new(),
-                map: None,
-                pair: PhantomData,
-            }
+            IdMap::made(&[]).ok().expect("a map of no specifications is not refused")
+        }
+
+        fn made(specs: &[ffi::Spec]) -> Result<Self, ffi::Fault> {
+            let words = ffi::made(ffi::virtiofs_map_ids_bound(specs.len()), |words, wanted, fault| {
+                let (to, room) = (words.as_mut_ptr(), words.len());
+                // Sound: the list is lent for the call, which writes to `words` and to the two others alone.
+                unsafe { ffi::virtiofs_map_ids_make(specs.as_ptr(), specs.len(), to, room, wanted, fault) }
+            })?;
+            Ok(IdMap { words, pair: PhantomData })
         }
 
         /// The host's id for a guest's.
         pub fn map_guest(&self, guest_id: Guest) -> Result<Host, MapError<Guest>> {
-            let (number, mut host) = (guest_id.into_inner().into(), 0);
-            let code = match &self.map {
-                None => unsafe {
-                    ffi::virtiofs_specs_guest(self.specs.as_ptr(), self.specs.len(), number, &mut host)
-                },
-                Some(map) => map.ask(|map| unsafe { ffi::virtiofs_uids_guest(map, number, &mut host) }),
-            };
-            match code {
-                ffi::OK => Ok(Host::from(host.into())),
-                _ => Err(MapError::ExplicitFailMapping { id: guest_id }),
+            match self.asked(ffi::virtiofs_map_ids_guest, guest_id.into_inner().into()) {
+                Some(host) => Ok(Host::from(host.into())),
+                None => Err(MapError::ExplicitFailMapping { id: guest_id }),
             }
         }
 
         /// The guest's id for a host's.
         pub fn map_host(&self, host_id: Host) -> Result<Guest, MapError<Host>> {
-            let (number, mut guest) = (host_id.into_inner().into(), 0);
-            let code = match &self.map {
-                None => unsafe {
-                    ffi::virtiofs_specs_host(self.specs.as_ptr(), self.specs.len(), number, &mut guest)
-                },
-                Some(map) => map.ask(|map| unsafe { ffi::virtiofs_uids_host(map, number, &mut guest) }),
-            };
-            match code {
-                ffi::OK => Ok(Guest::from(guest.into())),
-                _ => Err(MapError::ExplicitFailMapping { id: host_id }),
+            match self.asked(ffi::virtiofs_map_ids_host, host_id.into_inner().into()) {
+                Some(guest) => Ok(Guest::from(guest.into())),
+                None => Err(MapError::ExplicitFailMapping { id: host_id }),
             }
+        }
+
+        #[inline(always)]
+        fn asked(&self, call: Lookup, number: u32) -> Option<u32> {
+            let mut to = 0;
+            // Sound: the words are lent for the call, a lookup of the library, which writes to `to` alone.
+            let code = unsafe { call(self.words.as_ptr(), self.words.len(), number, &mut to) };
+            if code == ffi::OK { Some(to) } else { None }
         }
     }
 
@@ -936,50 +491,30 @@ pub mod soft_idmap {
 
         fn try_from(cmdline: Vec<cmdline::IdMap>) -> io::Result<Self> {
             let specs: Vec<ffi::Spec> = cmdline.iter().map(cmdline::IdMap::spec).collect();
-            let mut fault = ffi::Fault::default();
-            let mut map = ffi::Uids::NONE;
-            let is_few = specs.len() <= FEW;
-            let is_accepted = unsafe {
-                if is_few {
-                    ffi::virtiofs_specs_accepted(specs.as_ptr(), specs.len(), &mut fault)
-                } else {
-                    ffi::virtiofs_uids_make(specs.as_ptr(), specs.len(), &mut map, &mut fault)
-                }
-            };
-            if !is_accepted {
-                return Err(error_of(&fault, &cmdline));
-            }
-            Ok(IdMap {
-                specs,
-                map: if is_few { None } else { Some(Shared::new(map)) },
-                pair: PhantomData,
-            })
+            IdMap::made(&specs).map_err(|fault| error_of(&fault))
         }
     }
 
-    fn error_of(fault: &ffi::Fault, cmdline: &[cmdline::IdMap]) -> io::Error {
-        match (fault.kind, cmdline.get(fault.place)) {
-            (ffi::FAULT_OVERFLOW, Some(spec)) => {
-                let text = format!("Parameter {spec}: Range overflow");
-                io::Error::new(io::ErrorKind::InvalidInput, text)
-            }
-            (ffi::FAULT_INTERSECTS, Some(spec)) => {
-                let guest_to_host = fault.direction == ffi::GUEST_TO_HOST;
-                let direction = if guest_to_host { "Guest-to-host" } else { "Host-to-guest" };
-                let entry = entry_of(spec.spec(), guest_to_host);
+    fn error_of(fault: &ffi::Fault) -> io::Error {
+        let spec = cmdline::IdMap::of(fault.spec);
+        let (kind, text) = match fault.kind {
+            ffi::FAULT_OVERFLOW => (io::ErrorKind::InvalidInput, format!("Parameter {spec}: Range overflow")),
+            ffi::FAULT_INTERSECTS => {
+                let to_host = fault.direction == ffi::GUEST_TO_HOST;
+                let direction = if to_host { "Guest-to-host" } else { "Host-to-guest" };
+                let entry = entry_of(fault.spec, to_host);
                 let text = format!("{spec}: {direction} mapping '{entry}' intersects previously added entry");
-                io::Error::new(io::ErrorKind::Other, text)
+                (io::ErrorKind::Other, text)
             }
-            _ => io::ErrorKind::OutOfMemory.into(),
-        }
+            _ => return io::ErrorKind::OutOfMemory.into(),
+        };
+        io::Error::new(kind, text)
     }
 
     /// What a specification sets up in a direction, as its faults print it.
-    fn entry_of(spec: ffi::Spec, guest_to_host: bool) -> String {
-        let (mut from, mut to, count) = (u64::from(spec.first), u64::from(spec.to), u64::from(spec.count));
-        if spec.kind == ffi::MAP && !guest_to_host {
-            std::mem::swap(&mut from, &mut to);
-        }
+    fn entry_of(spec: ffi::Spec, to_host: bool) -> String {
+        let (first, to, count) = (u64::from(spec.first), u64::from(spec.to), u64::from(spec.count));
+        let (from, to) = if spec.kind == ffi::MAP && !to_host { (to, first) } else { (first, to) };
         let from_end = from + count;
         match spec.kind {
             ffi::SQUASH_GUEST | ffi::SQUASH_HOST => format!("squash [{from}, {from_end}) to {to}"),
@@ -992,53 +527,34 @@ pub mod soft_idmap {
 /// Maps of the names of extended attributes, as `--xattrmap` gives them.
 pub mod xattrmap {
     use super::ffi;
-    use super::shared::Shared;
     use std::borrow::Cow;
     use std::convert::TryFrom;
+    use std::error;
     use std::ffi::{CStr, CString};
-    use std::fmt;
+    use std::fmt::{self, Debug, Display, Formatter};
     use std::mem::MaybeUninit;
+    use std::slice;
 
     /// What is wrong.
     #[derive(Debug, Eq, PartialEq)]
+    #[rustfmt::skip]
     pub enum ErrorKind {
-        /// There is no such scope.
-        InvalidScope {
-            /// What the rule has in the place of its scope.
-            got: String,
-            /// The three scopes.
-            expected: String,
-        },
-
-        /// There is no such type.
-        InvalidType {
-            /// What the rule has in the place of its type.
-            got: String,
-            /// The usual types.
-            expected: String,
-        },
-
+        /// There is no such scope: what the rule has in its place, and the three scopes.
+        InvalidScope { got: String, expected: String },
+        /// There is no such type: what the rule has in its place, and the usual types.
+        InvalidType { got: String, expected: String },
         /// Never answered: a character that is not a rule's delimiter is part of its field.
         InvalidDelimiter,
-
         /// A field is not closed by the rule's delimiter.
         IncompleteRule,
-
         /// Something follows a `map` rule.
         MapRuleViolation,
-
         /// The text has no rules.
         NoRulesProvided,
-
         /// No rule decides a name.
         UnterminatedMapping,
-
         /// A key or a prepend holds a zero. virtiofsd has no such kind, and panics.
-        NulInPattern {
-            /// Which of the two.
-            pattern: PatternField,
-        },
-
+        NulInPattern { pattern: PatternField },
         /// The library was refused memory. virtiofsd has no such kind.
         OutOfMemory,
     }
@@ -1052,10 +568,10 @@ pub mod xattrmap {
         Prepend,
     }
 
-    impl std::error::Error for ErrorKind {}
+    impl error::Error for ErrorKind {}
 
-    impl fmt::Display for ErrorKind {
-        fn fmt(&self, f: &mut fmt::Formatter<'_>) -> fmt::Result {
+    impl Display for ErrorKind {
+        fn fmt(&self, f: &mut Formatter<'_>) -> fmt::Result {
             write!(f, "{self:?}")
         }
     }
@@ -1065,19 +581,18 @@ pub mod xattrmap {
     pub struct Error {
         /// What is wrong.
         pub cause: ErrorKind,
-
         /// The number of the rule in the text, from 1.
         pub rule: Option<usize>,
     }
 
-    impl std::error::Error for Error {
-        fn source(&self) -> Option<&(dyn std::error::Error + 'static)> {
+    impl error::Error for Error {
+        fn source(&self) -> Option<&(dyn error::Error + 'static)> {
             Some(&self.cause)
         }
     }
 
-    impl fmt::Display for Error {
-        fn fmt(&self, f: &mut fmt::Formatter<'_>) -> fmt::Result {
+    impl Display for Error {
+        fn fmt(&self, f: &mut Formatter<'_>) -> fmt::Result {
             write!(f, "{self:?}")
         }
     }
@@ -1093,63 +608,58 @@ pub mod xattrmap {
     pub enum AppliedRule<'a> {
         /// It goes to the host as this name.
         Pass(Cow<'a, CStr>),
-
         /// The guest may not use it: EPERM.
         Deny,
-
         /// It is refused as unsupported: ENOTSUP.
         Unsupported,
     }
 
-    /// The rules of a text. A clone is the same map.
-    #[derive(Clone)]
-    pub struct XattrMap {
-        map: Shared<ffi::Names>,
+    /// Whether something holds of all names. virtiofsd has no such questions.
+    #[derive(Clone, Debug, Eq, PartialEq)]
+    pub enum Audit {
+        /// It does.
+        Yes,
+        /// It does not, and this is the least name of which it does not.
+        No(CString),
     }
 
-    impl fmt::Debug for XattrMap {
-        fn fmt(&self, f: &mut fmt::Formatter<'_>) -> fmt::Result {
+    /// The rules of a text. Two maps are equal where their rules are.
+    #[derive(Clone, Eq, PartialEq)]
+    #[repr(transparent)]
+    pub struct XattrMap {
+        bytes: Box<[u8]>,
+    }
+
+    impl Debug for XattrMap {
+        fn fmt(&self, f: &mut Formatter<'_>) -> fmt::Result {
             f.debug_struct("XattrMap").finish_non_exhaustive()
         }
     }
 
-    impl TryFrom<&str> for XattrMap {
+    impl<'t> TryFrom<&'t str> for XattrMap {
         type Error = Error;
 
-        fn try_from(text: &str) -> Result<Self, Error> {
-            let (mut map, mut fault) = (ffi::Names::NONE, ffi::Fault::default());
+        fn try_from(text: &'t str) -> Result<Self, Error> {
             // (what is quoted is a field of the text)
-            let mut quoted = vec![0; text.len()];
-            let is_made = unsafe {
-                ffi::virtiofs_names_make(
-                    text.as_ptr(),
-                    text.len(),
-                    &mut map,
-                    &mut fault,
-                    quoted.as_mut_ptr(),
-                    quoted.len(),
-                )
-            };
-            if is_made {
-                return Ok(XattrMap { map: Shared::new(map) });
-            }
-            Err(Error {
+            let (mut quoted, len) = (vec![0; text.len()], text.len());
+            let quote = quoted.as_mut_ptr();
+            let made = ffi::made(ffi::virtiofs_map_names_bound(len), |bytes, wanted, fault| {
+                let (text, to, room) = (text.as_ptr(), bytes.as_mut_ptr(), bytes.len());
+                // Sound: the text is lent for the call, which writes to `bytes`, `quoted` and the two others alone.
+                unsafe { ffi::virtiofs_map_names_make(text, len, to, room, wanted, fault, quote, len) }
+            });
+            made.map(|bytes| XattrMap { bytes }).map_err(|fault| Error {
                 rule: Some(fault.place).filter(|place| *place > 0),
-                cause: cause_of(&fault, quoted),
+                cause: cause_of(&fault, &quoted),
             })
         }
     }
 
-    fn cause_of(fault: &ffi::Fault, quoted: Vec<u8>) -> ErrorKind {
+    fn cause_of(fault: &ffi::Fault, quoted: &[u8]) -> ErrorKind {
+        let (got, list) = (ffi::quoted(fault, quoted), String::from);
         match fault.kind {
-            ffi::FAULT_SCOPE => ErrorKind::InvalidScope {
-                got: ffi::quoted(fault, quoted),
-                expected: "all, client, server".into(),
-            },
-            ffi::FAULT_TYPE => ErrorKind::InvalidType {
-                got: ffi::quoted(fault, quoted),
-                expected: "prefix, ok, bad, map".into(),
-            },
+            ffi::FAULT_SCOPE => ErrorKind::InvalidScope { got, expected: list("all, client, server") },
+            ffi::FAULT_TYPE => ErrorKind::InvalidType { got, expected: list("prefix, ok, bad, map") },
             ffi::FAULT_INCOMPLETE => ErrorKind::IncompleteRule,
             ffi::FAULT_MAP_RULE => ErrorKind::MapRuleViolation,
             ffi::FAULT_NO_RULES => ErrorKind::NoRulesProvided,
@@ -1164,74 +674,122 @@ pub mod xattrmap {
 
     impl XattrMap {
         /// What becomes of a name that the guest asks for. It is borrowed where it passes as it is.
+        #[inline]
         pub fn map_client_xattr<'a>(&self, xattr_name: &'a CStr) -> Result<AppliedRule<'a>, Error> {
-            let name = xattr_name.to_bytes();
-            let mut out = MaybeUninit::<[u8; ROOM]>::uninit();
-            let bytes = out.as_mut_ptr().cast::<u8>();
-            let (code, len) = self.client(name, bytes, ROOM);
-            match code {
-                ffi::AS_IT_IS => Ok(AppliedRule::Pass(Cow::Borrowed(xattr_name))),
-                // The call wrote so many bytes.
-                ffi::OK => Ok(passed(unsafe { std::slice::from_raw_parts(bytes, len) })),
-                ffi::DENIED => Ok(AppliedRule::Deny),
-                ffi::UNSUPPORTED => Ok(AppliedRule::Unsupported),
-                ffi::UNTERMINATED => Err(ErrorKind::UnterminatedMapping.into()),
-                ffi::NO_ROOM => self.long_client(name, len),
-                _ => Err(ErrorKind::OutOfMemory.into()),
+            let mut out = [MaybeUninit::uninit(); ROOM];
+            match self.client(xattr_name, &mut out) {
+                (ffi::AS_IT_IS, _) => Ok(AppliedRule::Pass(Cow::Borrowed(xattr_name))),
+                (ffi::DENIED, _) => Ok(AppliedRule::Deny),
+                (ffi::UNSUPPORTED, _) => Ok(AppliedRule::Unsupported),
+                (ffi::OK, len) => {
+                    let mut name = Vec::with_capacity(len + 1);
+                    // Sound: the call wrote so many bytes.
+                    name.extend_from_slice(unsafe { slice::from_raw_parts(out.as_ptr() as *const u8, len) });
+                    Ok(AppliedRule::Pass(Cow::Owned(c_string(name))))
+                }
+                (ffi::NO_ROOM, len) => self.long_client(xattr_name, len),
+                _ => Err(ErrorKind::UnterminatedMapping.into()),
             }
         }
 
         #[cold]
-        fn long_client<'a>(&self, name: &[u8], len: usize) -> Result<AppliedRule<'a>, Error> {
-            let mut out = vec![0; len];
-            match self.client(name, out.as_mut_ptr(), len) {
-                (ffi::OK, len) if len == out.len() => Ok(passed(&out)),
-                _ => Err(ErrorKind::OutOfMemory.into()),
+        fn long_client<'a>(&self, xattr_name: &CStr, len: usize) -> Result<AppliedRule<'a>, Error> {
+            let mut out = Vec::with_capacity(len + 1);
+            if self.client(xattr_name, out.spare_capacity_mut()) != (ffi::OK, len) {
+                return Err(ErrorKind::UnterminatedMapping.into());
             }
+            // Sound: the call wrote so many bytes.
+            unsafe { out.set_len(len) };
+            Ok(AppliedRule::Pass(Cow::Owned(c_string(out))))
         }
 
+        /// The code for a name, and the length of what is written to `out`, or that is needed.
         #[inline]
-        fn client(&self, name: &[u8], out: *mut u8, room: usize) -> (u32, usize) {
-            let mut len = 0;
-            let code = self.map.ask(|map| unsafe {
-                ffi::virtiofs_names_client(map, name.as_ptr(), name.len(), out, room, &mut len)
-            });
+        fn client(&self, name: &CStr, out: &mut [MaybeUninit<u8>]) -> (u32, usize) {
+            let (bytes, map_len, name, mut len) = (self.bytes.as_ptr(), self.bytes.len(), name.to_bytes(), 0);
+            let (to, room) = (out.as_mut_ptr() as *mut u8, out.len());
+            // Sound: map and name are lent for the call, which writes to `len` and to `out` alone.
+            let code = unsafe {
+                ffi::virtiofs_map_names_client(bytes, map_len, name.as_ptr(), name.len(), to, room, &mut len)
+            };
             (code, len)
         }
 
-        /// The list that the guest gets for the host's: each name with a zero after it, and one zero where none is left.
+        /// The list that the guest gets for the host's: each name with a zero after it, one zero where none is left.
         pub fn map_server_xattrlist(&self, xattr_names: Vec<u8>) -> Result<Vec<u8>, Error> {
+            let (bytes, map_len, mut len) = (self.bytes.as_ptr(), self.bytes.len(), 0);
+            let (list, list_len) = (xattr_names.as_ptr(), xattr_names.len());
             // (an answer is at most one byte longer)
-            let room = xattr_names.len() + 1;
+            let room = list_len + 1;
             let mut out = Vec::with_capacity(room);
-            let mut len = 0;
-            let code = self.map.ask(|map| unsafe {
-                ffi::virtiofs_names_server(
-                    map,
-                    xattr_names.as_ptr(),
-                    xattr_names.len(),
-                    out.as_mut_ptr(),
-                    room,
-                    &mut len,
-                )
-            });
-            match code {
-                ffi::OK => {
-                    // The call wrote so many bytes.
-                    unsafe { out.set_len(len) };
-                    Ok(out)
-                }
-                ffi::UNTERMINATED => Err(ErrorKind::UnterminatedMapping.into()),
-                _ => Err(ErrorKind::OutOfMemory.into()),
+            let to = out.as_mut_ptr();
+            // Sound: map and list are lent for the call, which writes to `len` and to the room of `out` alone.
+            let code = unsafe { ffi::virtiofs_map_names_server(bytes, map_len, list, list_len, to, room, &mut len) };
+            if code != ffi::OK {
+                return Err(ErrorKind::UnterminatedMapping.into());
             }
+            // Sound: the call wrote so many bytes.
+            unsafe { out.set_len(len) };
+            Ok(out)
+        }
+
+        /// Whether no name and no list is ever an `UnterminatedMapping`.
+        pub fn is_terminated(&self) -> bool {
+            let (bytes, map_len, mut yes) = (self.bytes.as_ptr(), self.bytes.len(), false);
+            // Sound: the map is lent for the call, which writes to `yes` alone.
+            unsafe { ffi::virtiofs_map_names_terminated(bytes, map_len, &mut yes) == ffi::OK && yes }
+        }
+
+        /// Whether each name that passes, the empty one left out, is listed back to the guest as itself.
+        pub fn audit(&self) -> Result<Audit, Error> {
+            self.decided(ffi::virtiofs_map_names_audit)
+        }
+
+        /// Whether each name of the host that is listed, the empty one left out, is what the name passes as under which
+        /// it is listed. The name of a `No` is one of the host's.
+        pub fn audit_listed(&self) -> Result<Audit, Error> {
+            self.decided(ffi::virtiofs_map_names_audit_listed)
+        }
+
+        /// Whether the other map hides each name of the host, the empty one left out, as which some name passes by this
+        /// one. Then names that the guest of this map reaches make no difference to the lists of the other.
+        pub fn keeps_apart(&self, other: &XattrMap) -> Result<Audit, Error> {
+            let (bytes, map_len) = (self.bytes.as_ptr(), self.bytes.len());
+            let (others, other_len) = (other.bytes.as_ptr(), other.bytes.len());
+            // Sound: the maps are lent for the call, which writes to `yes`, `len` and the room of `out` alone.
+            told(|yes, out, room, len| unsafe {
+                ffi::virtiofs_map_names_apart(bytes, map_len, others, other_len, yes, out, room, len)
+            })
+        }
+
+        fn decided(&self, call: Decision) -> Result<Audit, Error> {
+            let (bytes, map_len) = (self.bytes.as_ptr(), self.bytes.len());
+            // Sound: the map is lent for the call, which writes to `yes`, `len` and the room of `out` alone.
+            told(|yes, out, room, len| unsafe { call(bytes, map_len, yes, out, room, len) })
         }
     }
 
-    fn passed<'a>(name: &[u8]) -> AppliedRule<'a> {
-        let mut owned = Vec::with_capacity(name.len() + 1);
-        owned.extend_from_slice(name);
-        // The library proves that no byte of it is a zero.
-        let owned = unsafe { CString::from_vec_unchecked(owned) };
-        AppliedRule::Pass(Cow::Owned(owned))
+    type Decision = unsafe extern "C" fn(*const u8, usize, &mut bool, *mut u8, usize, &mut usize) -> u32;
+
+    /// What a decision comes to. It is asked again where its name has more than `ROOM` bytes.
+    fn told(ask: impl Fn(&mut bool, *mut u8, usize, &mut usize) -> u32) -> Result<Audit, Error> {
+        let (mut yes, mut len, mut out) = (false, 0, vec![0; ROOM]);
+        let mut code = ask(&mut yes, out.as_mut_ptr(), out.len(), &mut len);
+        if code == ffi::NO_ROOM {
+            out.resize(len, 0);
+            code = ask(&mut yes, out.as_mut_ptr(), out.len(), &mut len);
+        }
+        out.truncate(len);
+        match code {
+            ffi::OK if yes => Ok(Audit::Yes),
+            ffi::OK => Ok(Audit::No(c_string(out))),
+            _ => Err(ErrorKind::OutOfMemory.into()),
+        }
+    }
+
+    /// The name as a `CString`, which takes no memory where there is room for one byte more.
+    fn c_string(name: Vec<u8>) -> CString {
+        // Sound: a name that the library answers with holds no zero.
+        unsafe { CString::from_vec_unchecked(name) }
     }
 }

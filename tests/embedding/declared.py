@@ -6,9 +6,8 @@ import glob
 import os
 import re
 
-# The kind of an argument or of a member, by the words of its type.
-C_KINDS = [(r"\*", "pointer"), (r"\buint32_t\b", "u32"), (r"\bsize_t\b", "usize"), (r"\bbool\b", "bool")]
-RUST_KINDS = [(r"[*&]", "pointer"), (r"\bu32\b", "u32"), (r"\busize\b", "usize"), (r"\bbool\b", "bool")]
+# What a type of C is in Rust. Structs have their names in lower case, without the header's prefix.
+OF_C = {"uint8_t": "u8", "uint32_t": "u32", "size_t": "usize"}
 
 
 def text_of(file):
@@ -16,8 +15,18 @@ def text_of(file):
         return it.read()
 
 
-def kind_of(said, kinds):
-    return next((kind for pattern, kind in kinds if re.search(pattern, said)), said.strip())
+def of_c(said):
+    """The kind of an argument, a member or an answer in C: its type, and whether it leads to what may be written."""
+    word = next(it for it in re.findall(r"\w+", said) if it not in ("const", "struct"))
+    word = OF_C.get(word, word.replace("virtiofs_", ""))
+    return f"{'leads to' if 'const' in said else 'writes to'} {word}" if "*" in said else word
+
+
+def of_rust_type(said):
+    """The same of a type of Rust. A slice of bytes in an array is a text of C."""
+    word = "text" if "[&[u8]]" in said else re.findall(r"\w+", said)[-1].lower()
+    pointer = re.match(r"\s*(?:\*const|\*mut|&mut|&)", said)
+    return f"{'writes to' if 'mut' in pointer[0] else 'leads to'} {word}" if pointer else word
 
 
 def parts_of(said):
@@ -29,10 +38,10 @@ def without_comments(text):
 
 
 def of_header(text):
-    """The functions of the header: of each its arguments and what it answers."""
-    found = re.findall(r"\b(void|bool|uint32_t)\s+(virtiofs_\w+)\s*\(([^()]*)\)\s*;", without_comments(text))
+    """The functions of the archive that the header declares: of each its arguments and what it answers."""
+    found = re.findall(r"\b(void|bool|uint32_t|size_t)\s+(virtiofs_map_\w+)\s*\(([^()]*)\)\s*;", without_comments(text))
     return {
-        name: [*(kind_of(it, C_KINDS) for it in parts_of(said)), "->", kind_of(answer, C_KINDS)]
+        name: [*(of_c(it) for it in parts_of(said) if it != "void"), "->", of_c(answer)]
         for answer, name, said in found
     }
 
@@ -42,7 +51,7 @@ def arguments_in_c(said):
     of_type = said.split(":", 1)[1]
     if of_type.strip() == "Global":
         return []
-    return ["pointer", "usize"] if "[" in of_type else [kind_of(of_type, RUST_KINDS)]
+    return [of_rust_type(of_type), *(["usize"] if "[" in of_type else [])]
 
 
 def of_rust(text):
@@ -54,33 +63,30 @@ def of_rust(text):
     }
 
 
-def exported(crate):
-    texts = [text_of(it) for it in sorted(glob.glob(f"{crate}/src/**/*.rt", recursive=True))]
-    cut = [it for text in texts for it in re.findall(r'extern "C" (fn virtiofs_\w+\s*\([^()]*\)\s*(?:->\s*\w+)?)', text)]
+def exported(text):
+    cut = re.findall(r'extern "C" (fn virtiofs_\w+\s*\([^()]*\)\s*(?:->\s*\w+)?)', text)
     return of_rust("\n".join(cut))
+
+
+def never_called(header, declared):
+    """The functions of the archive that no inline function of the header calls."""
+    text = without_comments(header)
+    called = {it for it in declared if len(re.findall(rf"\b{it}\(", text)) > 1}
+    return [f"no function calls {it}" for it in declared if it not in called and it != "virtiofs_map_version"]
 
 
 def constants(text, pattern):
     return {name: int(number) for name, number in re.findall(pattern, without_comments(text))}
 
 
-def members(body, kinds, by_semicolon):
-    found = []
-    for it in without_comments(body).split(";" if by_semicolon else ","):
-        if it.strip():
-            names = it.split(",") if by_semicolon else [it]
-            found += [kind_of(it, kinds)] * len(names)
-    return found
-
-
 def structs_of_header(text):
-    found = re.findall(r"\bstruct (virtiofs_\w+)\s*\{([^{}]*)\}", without_comments(text))
-    return {name: members(body, C_KINDS, True) for name, body in found}
+    found = re.findall(r"\bstruct virtiofs_(\w+)\s*\{([^{}]*)\}", without_comments(text))
+    return {name: [of_c(it) for it in body.split(";") if it.strip()] for name, body in found}
 
 
 def structs_of_rust(text):
-    found = re.findall(r"#\[repr\(C\)][^{}]*?\bstruct (\w+)\s*\{([^{}]*)\}", without_comments(text))
-    return {f"virtiofs_{name.lower()}": members(body, RUST_KINDS, False) for name, body in found}
+    found = re.findall(r"#\[repr\(C\)\][^{}]*?\bstruct (\w+)\s*\{([^{}]*)\}", without_comments(text))
+    return {name.lower(): [of_rust_type(it.split(":", 1)[1]) for it in parts_of(body)] for name, body in found}
 
 
 def differences(what, wanted, found, is_part):
@@ -96,17 +102,23 @@ def compared(top):
     """Each comparison by its name, with what it found."""
     header = text_of(f"{top}/include/virtiofs_map.h")
     rust = text_of(f"{top}/bindings/rust/virtiofs_map.rs")
+    files = sorted(glob.glob(f"{top}/crates/virtiofs_map_c/src/**/*.rt", recursive=True))
+    crate = "\n".join(text_of(it) for it in files)
     declared, structs = of_header(header), structs_of_header(header)
     numbers = constants(header, r"\bVIRTIOFS_(\w+)\s*=\s*(\d+)")
-    ours = constants(rust, r"\bpub const (\w+): u32 = (\d+);")
+    of_constant = r"\bpub const (\w+): u32 = (\d+);"
+    of_crate = {name: number for name, number in constants(crate, of_constant).items() if name in numbers}
     empty = [f"the header has no {it}" for it, found in (("functions", declared), ("constants", numbers)) if not found]
     return [
         ("the header can be read", empty),
-        ("the crate exports what the header declares",
-         differences("the crate", declared, exported(f"{top}/crates/virtiofs_map_c"), False)),
+        ("the header calls all that it declares", never_called(header, declared)),
+        ("the crate exports what the header declares", differences("the crate", declared, exported(crate), False)),
+        ("the crate has structs of the header", differences("the crate", structs, structs_of_rust(crate), True)),
+        ("the crate has codes of the header", differences("the crate", numbers, of_crate, True)),
         ("the Rust file declares functions of the header", differences("the Rust file", declared, of_rust(rust), True)),
         ("the Rust file has structs of the header", differences("the Rust file", structs, structs_of_rust(rust), True)),
-        ("the Rust file has constants of the header", differences("the Rust file", numbers, ours, True)),
+        ("the Rust file has constants of the header",
+         differences("the Rust file", numbers, constants(rust, of_constant), True)),
     ]
 
 

@@ -68,31 +68,20 @@ static void write_entry(struct virtiofs_spec spec, uint32_t direction)
                to + spec.count);
 }
 
-/* What stands at a place of the list, which was read before. */
-static struct virtiofs_spec spec_at(struct virtiofs_text text)
+static int refuse_ids(uint32_t code, struct virtiofs_fault fault, const uint8_t *quoted)
 {
-    struct virtiofs_spec spec = { 0, 0, 0, 0 };
-    struct virtiofs_fault fault;
-    uint8_t quoted[1];
-    if (!virtiofs_spec_read(text.at, text.len, &spec, &fault, quoted, 0))
-        exit(NO_MEMORY);
-    return spec;
-}
-
-static int refuse_ids(const struct virtiofs_text *texts, struct virtiofs_fault fault, const uint8_t *quoted)
-{
-    if (fault.kind == VIRTIOFS_FAULT_MEMORY)
+    if (code != VIRTIOFS_REFUSED)
         return NO_MEMORY;
     printf("refused: specification %zu: ", fault.place);
     if (fault.kind == VIRTIOFS_FAULT_LENGTH) {
         printf("InvalidLength expected %zu seen %zu", fault.expected, fault.seen);
     } else if (fault.kind == VIRTIOFS_FAULT_OVERFLOW) {
         printf("Parameter ");
-        write_spec(spec_at(texts[fault.place]));
+        write_spec(fault.spec);
         printf(": Range overflow");
     } else if (fault.kind == VIRTIOFS_FAULT_INTERSECTS) {
         printf("%s mapping '", fault.direction == VIRTIOFS_GUEST_TO_HOST ? "Guest-to-host" : "Host-to-guest");
-        write_entry(spec_at(texts[fault.place]), fault.direction);
+        write_entry(fault.spec, fault.direction);
         printf("' intersects previously added entry");
     } else {
         printf(fault.kind == VIRTIOFS_FAULT_PREFIX ? "InvalidPrefix '" : "InvalidValue '");
@@ -149,22 +138,27 @@ static int answer_ids(char **words, size_t count)
         longest = texts[i].len > longest ? texts[i].len : longest;
     }
     uint8_t *quoted = room_for(longest);
-    struct virtiofs_uids map = VIRTIOFS_NONE;
+    size_t room = virtiofs_uids_bound(specs), wanted;
+    uint32_t *numbers = room_for(room * sizeof *numbers);
     struct virtiofs_fault fault;
     int ended = GIVEN;
-    if (!virtiofs_uids_make_texts(texts, specs, &map, &fault, quoted, longest))
-        ended = refuse_ids(texts, fault, quoted);
+    uint32_t code = virtiofs_uids_make_texts(texts, specs, numbers, room, &wanted, &fault, quoted, longest);
+    if (code != VIRTIOFS_OK)
+        ended = refuse_ids(code, fault, quoted);
+    const struct virtiofs_uids map = { numbers, wanted };
     for (size_t i = specs + 1; ended == GIVEN && i < count; i++) {
         uint32_t to;
         read_query(words[i], &query);
-        uint32_t code = query.is_guest ? virtiofs_uids_guest(&map, query.number, &to)
-                                       : virtiofs_uids_host(&map, query.number, &to);
+        code = query.is_guest ? virtiofs_uids_guest(map, query.number, &to)
+                              : virtiofs_uids_host(map, query.number, &to);
         if (code == VIRTIOFS_OK)
             printf("%" PRIu32 "\n", to);
-        else
+        else if (code == VIRTIOFS_FORBIDDEN)
             printf("Use of ID %" PRIu32 " has been configured to fail\n", query.number);
+        else
+            ended = NO_MEMORY;
     }
-    virtiofs_uids_free(&map);
+    free(numbers);
     free(quoted);
     free(texts);
     return ended;
@@ -175,7 +169,7 @@ static int answer_namespace(const char *word)
     struct virtiofs_text text = text_of(word);
     struct virtiofs_range range;
     struct virtiofs_fault fault;
-    if (virtiofs_range_read(text.at, text.len, &range, &fault)) {
+    if (virtiofs_range_read(text.at, text.len, &range, &fault) == VIRTIOFS_OK) {
         printf(":%" PRIu32 ":%" PRIu32 ":%" PRIu32 ":\n", range.inside, range.outside, range.count);
         return GIVEN;
     }
@@ -187,9 +181,9 @@ static int answer_namespace(const char *word)
 
 /* ---- names ---- */
 
-static int refuse_rules(const char *which, struct virtiofs_fault fault, const uint8_t *quoted)
+static int refuse_rules(const char *which, uint32_t code, struct virtiofs_fault fault, const uint8_t *quoted)
 {
-    if (fault.kind == VIRTIOFS_FAULT_MEMORY)
+    if (code != VIRTIOFS_REFUSED)
         return NO_MEMORY;
     printf("refused: %s", which);
     if (fault.place)
@@ -208,14 +202,17 @@ static int refuse_rules(const char *which, struct virtiofs_fault fault, const ui
     return REFUSED;
 }
 
-static int read_rules(const char *which, const char *word, struct virtiofs_names *map)
+/* Makes a map, whose bytes are to be freed where it is none, too. */
+static int read_rules(const char *which, const char *word, struct virtiofs_names *map, uint8_t **bytes)
 {
     struct virtiofs_text text = text_of(word);
     struct virtiofs_fault fault;
+    size_t room = virtiofs_names_bound(text.len);
     uint8_t *quoted = room_for(text.len);
-    int ended = GIVEN;
-    if (!virtiofs_names_make(text.at, text.len, map, &fault, quoted, text.len))
-        ended = refuse_rules(which, fault, quoted);
+    *bytes = room_for(room);
+    uint32_t code = virtiofs_names_make(text.at, text.len, *bytes, room, &map->len, &fault, quoted, text.len);
+    map->bytes = *bytes;
+    int ended = code == VIRTIOFS_OK ? GIVEN : refuse_rules(which, code, fault, quoted);
     free(quoted);
     return ended;
 }
@@ -228,7 +225,7 @@ static int undecided(uint32_t code)
     return REFUSED;
 }
 
-static int answer_client(struct virtiofs_names *map, const char *word)
+static int answer_client(struct virtiofs_names map, const char *word)
 {
     struct virtiofs_text name = text_of(word);
     size_t room = name.len, len;
@@ -254,7 +251,7 @@ static int answer_client(struct virtiofs_names *map, const char *word)
     return ended;
 }
 
-static int answer_server(struct virtiofs_names *map, char **words, size_t count)
+static int answer_server(struct virtiofs_names map, char **words, size_t count)
 {
     size_t list_len = 0, len;
     for (size_t i = 0; i < count; i++)
@@ -278,42 +275,53 @@ static int answer_server(struct virtiofs_names *map, char **words, size_t count)
 }
 
 /* Writes the answer of a decision, whose name may be as long as all patterns together and one byte more. */
-static int answer_audit(struct virtiofs_names *map, struct virtiofs_names *second, size_t room)
+static int answer_audit(struct virtiofs_names map, const struct virtiofs_names *second, size_t room)
 {
     size_t len;
+    bool yes;
     uint8_t *out = room_for(room);
-    uint32_t code = second ? virtiofs_names_apart(map, second, out, room, &len)
-                           : virtiofs_names_audit(map, out, room, &len);
-    if (code == VIRTIOFS_NO) {
+    uint32_t code = second ? virtiofs_names_apart(map, *second, &yes, out, room, &len)
+                           : virtiofs_names_audit(map, &yes, out, room, &len);
+    if (code == VIRTIOFS_OK && !yes) {
         printf("no ");
         write_bytes(out, len);
         putchar('\n');
-    } else if (code == VIRTIOFS_YES) {
+    } else if (code == VIRTIOFS_OK) {
         puts("yes");
     }
     free(out);
-    return code == VIRTIOFS_NO || code == VIRTIOFS_YES ? GIVEN : NO_MEMORY;
+    return code == VIRTIOFS_OK ? GIVEN : NO_MEMORY;
+}
+
+static int answer_terminated(struct virtiofs_names map)
+{
+    bool yes;
+    if (virtiofs_names_terminated(map, &yes) != VIRTIOFS_OK)
+        return NO_MEMORY;
+    puts(yes ? "yes" : "no");
+    return GIVEN;
 }
 
 static int answer_rules(const char *form, char **words, size_t count)
 {
-    struct virtiofs_names map = VIRTIOFS_NONE, second = VIRTIOFS_NONE;
+    struct virtiofs_names map, second;
+    uint8_t *bytes, *second_bytes = NULL;
     int is_apart = !strcmp(form, "apart");
-    int ended = read_rules(is_apart ? "first: " : "", words[0], &map);
+    int ended = read_rules(is_apart ? "first: " : "", words[0], &map, &bytes);
     if (ended == GIVEN && is_apart)
-        ended = read_rules("second: ", words[1], &second);
+        ended = read_rules("second: ", words[1], &second, &second_bytes);
     if (ended == GIVEN) {
         if (!strcmp(form, "client"))
-            ended = answer_client(&map, words[1]);
+            ended = answer_client(map, words[1]);
         else if (!strcmp(form, "server"))
-            ended = answer_server(&map, words + 1, count - 1);
+            ended = answer_server(map, words + 1, count - 1);
         else if (!strcmp(form, "terminated"))
-            puts(virtiofs_names_terminated(&map) == VIRTIOFS_YES ? "yes" : "no");
+            ended = answer_terminated(map);
         else
-            ended = answer_audit(&map, is_apart ? &second : NULL, strlen(words[0]) + strlen(words[count - 1]) + 1);
+            ended = answer_audit(map, is_apart ? &second : NULL, strlen(words[0]) + strlen(words[count - 1]) + 1);
     }
-    virtiofs_names_free(&map);
-    virtiofs_names_free(&second);
+    free(bytes);
+    free(second_bytes);
     return ended;
 }
 

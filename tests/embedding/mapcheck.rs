@@ -1,5 +1,5 @@
-//! The forms of virtiofs_mapcheck that ask what virtiofsd asks, over the Rust file, so that the tables of the program
-//! show what its calls answer. It writes what the program writes, and ends as the program does.
+//! The forms of virtiofs_mapcheck over the Rust file, so that the tables of the program show what its calls answer. It
+//! writes what the program writes, and ends as the program does.
 
 #[path = "../../bindings/rust/virtiofs_map.rs"]
 mod virtiofs_map;
@@ -9,7 +9,7 @@ use std::fmt::Write;
 use std::process::ExitCode;
 use virtiofs_map::idmap::{self, UidMap};
 use virtiofs_map::soft_idmap::{cmdline, GuestUid, HostUid, IdMap};
-use virtiofs_map::xattrmap::{AppliedRule, Error, ErrorKind, PatternField, XattrMap};
+use virtiofs_map::xattrmap::{AppliedRule, Audit, Error, ErrorKind, PatternField, XattrMap};
 
 /// What a form comes to: the lines that it is answered with, or the rest of the line of a refusal.
 type Answer = Result<String, String>;
@@ -123,6 +123,19 @@ fn answer_server(rules: &str, names: &[String]) -> Answer {
     map.map_server_xattrlist(list).map(|list| written(&list)).map_err(refused_rules)
 }
 
+fn decided(audit: Result<Audit, Error>) -> Answer {
+    match audit.map_err(refused_rules)? {
+        Audit::Yes => Ok("yes".into()),
+        Audit::No(name) => Ok(format!("no {}", written(name.to_bytes()))),
+    }
+}
+
+fn answer_apart(first: &str, second: &str) -> Answer {
+    let first = XattrMap::try_from(first).map_err(|error| format!("first: {}", refused_rules(error)))?;
+    let second = XattrMap::try_from(second).map_err(|error| format!("second: {}", refused_rules(error)))?;
+    decided(first.keeps_apart(&second))
+}
+
 /// `None` where the words have no form.
 fn answer(words: &[String]) -> Option<Answer> {
     let (form, rest) = words.split_first()?;
@@ -135,6 +148,15 @@ fn answer(words: &[String]) -> Option<Answer> {
         ("ns", [text]) => Some(answer_namespace(text)),
         ("client", [rules, name]) => Some(answer_client(rules, name)),
         ("server", [rules, names @ ..]) => Some(answer_server(rules, names)),
+        ("terminated", [rules]) => {
+            let map = XattrMap::try_from(rules.as_str()).map_err(refused_rules);
+            Some(map.map(|map| if map.is_terminated() { "yes" } else { "no" }.into()))
+        }
+        ("audit", [rules]) => {
+            let map = XattrMap::try_from(rules.as_str()).map_err(refused_rules);
+            Some(map.and_then(|map| decided(map.audit())))
+        }
+        ("apart", [first, second]) => Some(answer_apart(first, second)),
         _ => None,
     }
 }
@@ -149,7 +171,7 @@ fn main() -> ExitCode {
         }
         None => {
             println!("wrong words");
-            eprintln!("usage: the forms ids, ns, client and server of virtiofs_mapcheck");
+            eprintln!("usage: the forms of virtiofs_mapcheck");
             return ExitCode::from(2);
         }
     }

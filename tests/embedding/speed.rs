@@ -1,31 +1,68 @@
-//! How long a lookup takes through the Rust file: of each, the best of some rounds, in nanoseconds. It shows no right
-//! or wrong, and no test runs it. Build it as docs/EMBEDDING.md says, with -O.
+//! How long a lookup takes through the Rust file, where one, two and four threads ask one map at once: of each, the
+//! best of some rounds, in nanoseconds of processor time of the slowest thread. It shows no right or wrong, and no test
+//! runs it. Build it as docs/EMBEDDING.md says, with -O.
 
 #[path = "../../bindings/rust/virtiofs_map.rs"]
 mod virtiofs_map;
 
+use std::convert::TryFrom;
+use std::ffi::{c_int, c_long};
 use std::hint::black_box;
-use std::time::Instant;
+use std::sync::Barrier;
+use std::thread;
 use virtiofs_map::soft_idmap::{cmdline, GuestUid, HostUid, Id, IdMap};
 use virtiofs_map::xattrmap::XattrMap;
 
-const ROUNDS: usize = 40;
+const ROUNDS: usize = 20;
 const LOOKUPS: usize = 100000;
+const PROCESSOR_TIME_OF_A_THREAD: c_int = 3;
 
-fn show(what: &str, of: usize, mut look_up: impl FnMut(usize)) {
-    let best = (0..ROUNDS).map(|_| {
-        let begun = Instant::now();
-        (0..LOOKUPS).for_each(&mut look_up);
-        begun.elapsed()
+#[repr(C)]
+struct Time {
+    seconds: c_long,
+    nanos: c_long,
+}
+
+unsafe extern "C" {
+    fn clock_gettime(clock: c_int, time: *mut Time) -> c_int;
+}
+
+fn now() -> f64 {
+    let mut time = Time { seconds: 0, nanos: 0 };
+    unsafe { clock_gettime(PROCESSOR_TIME_OF_A_THREAD, &mut time) };
+    time.seconds as f64 * 1e9 + time.nanos as f64
+}
+
+/// The best round of one thread, which begins each with the others.
+fn best(start: &Barrier, look_up: &(impl Fn(usize) + Sync)) -> f64 {
+    let rounds = (0..ROUNDS).map(|_| {
+        start.wait();
+        let begun = now();
+        (0..LOOKUPS).for_each(look_up);
+        now() - begun
     });
-    let best = best.min().expect("a round").as_secs_f64();
-    println!("{what:<44} {of:>5} {:>8.1} ns", best * 1e9 / LOOKUPS as f64);
+    rounds.fold(f64::MAX, f64::min)
+}
+
+fn show(what: &str, of: usize, look_up: impl Fn(usize) + Sync) {
+    print!("{what:<44} {of:>5}");
+    for count in [1, 2, 4] {
+        let start = Barrier::new(count);
+        let slowest = thread::scope(|scope| {
+            let threads: Vec<_> = (0..count).map(|_| scope.spawn(|| best(&start, &look_up))).collect();
+            threads.into_iter().map(|it| it.join().expect("it ends")).fold(0.0, f64::max)
+        });
+        print!(" {:>8.1}", slowest / LOOKUPS as f64);
+    }
+    println!();
 }
 
 fn main() {
-    for count in [1, 2, 4, 5, 8, 16, 64, 1000] {
-        let list = (0..count).map(|i| cmdline::IdMap::Bidirectional { guest: 20 * i, host: 1000000 + 20 * i, count: 10 });
-        let map = IdMap::<GuestUid, HostUid>::try_from(list.collect::<Vec<_>>()).expect("an accepted list");
+    println!("{:<50} {:>8} {:>8} {:>8}", "ns, of so many threads", 1, 2, 4);
+    for count in [1, 2, 4, 8, 16, 64, 1000] {
+        let spec = |i| cmdline::IdMap::Bidirectional { guest: 20 * i, host: 1000000 + 20 * i, count: 10 };
+        let list: Vec<_> = (0..count).map(spec).collect();
+        let map = IdMap::<GuestUid, HostUid>::try_from(list).expect("an accepted list");
         let asked = (0..LOOKUPS as u32).map(|i| (i.wrapping_mul(2654435761) >> 8) % (20 * count));
         let asked: Vec<_> = asked.map(GuestUid::from).collect();
         show("an id, of so many specifications", count as usize, |i| {

@@ -1,54 +1,40 @@
 /*
  * What the tables of the program cannot show of the static library: faults field by field, buffers that are full or
- * one byte short, handles of no map, specifications without a handle, rounds of make, share and free, and threads.
- * What is wanted is worked out by hand from the documentation. The last line is 'N passed, N failed'.
+ * one byte short, pointers to nothing, what is no map, rounds of calls, and threads. What is wanted is worked out by
+ * hand from the documentation. The last line is 'N passed, N failed'.
  */
 #define _POSIX_C_SOURCE 200809L
 #include <pthread.h>
-#include <stdio.h>
 #include <stdlib.h>
-#include <string.h>
 
-#include "virtiofs_map.h"
+#include "see.h"
 
-enum { UNTOUCHED = 0xa5, ROUNDS = 1000, THREADS = 8, LOOKUPS = 20000 };
+enum { WORDS = 64, BYTES = 4096, ROUNDS = 1000, THREADS = 8, LOOKUPS = 20000 };
 
-static int passed, failed;
-
-static void see(int is_well, const char *what, int line)
+static int is_no_spec(struct virtiofs_spec spec)
 {
-    if (is_well) {
-        passed++;
-    } else {
-        failed++;
-        printf("FAILED: line %d: %s\n", line, what);
-    }
+    return !spec.kind && !spec.first && !spec.to && !spec.count;
 }
 
-#define SEE(condition) see((condition), #condition, __LINE__)
-/* With the row of a table. */
-#define SEE_ROW(condition, row) see((condition), (row), __LINE__)
-
-#define COUNT(table) (sizeof(table) / sizeof *(table))
-
-static struct virtiofs_text text_of(const char *text)
+static int are_equal(struct virtiofs_spec one, struct virtiofs_spec other)
 {
-    struct virtiofs_text it = { (const uint8_t *)text, strlen(text) };
-    return it;
+    return one.kind == other.kind && one.first == other.first && one.to == other.to && one.count == other.count;
 }
 
 static int is_clear(struct virtiofs_fault fault)
 {
     return !fault.kind && !fault.direction && !fault.end && !fault.place && !fault.expected && !fault.seen
-           && !fault.quoted;
+           && !fault.quoted && !fault.wanted && is_no_spec(fault.spec);
 }
 
-static int is_untouched(const uint8_t *from, size_t len)
+/* A version of the header and the archive, and lengths that no memory has. */
+static void test_version_and_bounds(void)
 {
-    for (size_t i = 0; i < len; i++)
-        if (from[i] != UNTOUCHED)
-            return 0;
-    return 1;
+    SEE(virtiofs_map_version() == VIRTIOFS_MAP_VERSION);
+    SEE(virtiofs_uids_bound(SIZE_MAX) == SIZE_MAX && virtiofs_gids_bound(SIZE_MAX) == SIZE_MAX);
+    SEE(virtiofs_names_bound(SIZE_MAX) == SIZE_MAX);
+    SEE(virtiofs_uids_bound(SIZE_MAX / 2) >= SIZE_MAX / 2 && virtiofs_names_bound(SIZE_MAX / 2) >= SIZE_MAX / 2);
+    SEE(virtiofs_uids_bound(0) > 0 && virtiofs_gids_bound(7) == virtiofs_uids_bound(7));
 }
 
 /* ---- lists of specifications ---- */
@@ -85,30 +71,55 @@ static const struct ids_row {
       VIRTIOFS_OK, 2 },
 };
 
+/* A map of users and one of groups, by one call each, with room for what the bound says. */
 static void test_ids(void)
 {
     for (size_t i = 0; i < COUNT(ids_rows); i++) {
         const struct ids_row *row = &ids_rows[i];
-        struct virtiofs_uids users = VIRTIOFS_NONE;
-        struct virtiofs_gids groups = VIRTIOFS_NONE;
+        uint32_t words[2][WORDS], to[2] = { 17, 17 }, code[2];
+        size_t room = virtiofs_uids_bound(row->count), wanted[2] = { 77, 77 };
         struct virtiofs_fault fault;
-        uint32_t to[3] = { 17, 17, 17 }, code[3];
-        SEE_ROW(virtiofs_specs_accepted(row->specs, row->count, &fault) && is_clear(fault), row->row);
-        SEE_ROW(virtiofs_uids_make(row->specs, row->count, &users, &fault) && is_clear(fault), row->row);
-        SEE_ROW(virtiofs_gids_make(row->specs, row->count, &groups, &fault) && is_clear(fault), row->row);
+        SEE_ROW(room <= WORDS, row->row);
+        memset(words, UNTOUCHED, sizeof words);
+        code[0] = virtiofs_uids_make(row->specs, row->count, words[0], room, &wanted[0], &fault);
+        SEE_ROW(code[0] == VIRTIOFS_OK && is_clear(fault), row->row);
+        code[1] = virtiofs_gids_make(row->specs, row->count, words[1], room, &wanted[1], &fault);
+        SEE_ROW(code[1] == VIRTIOFS_OK && is_clear(fault), row->row);
+        SEE_ROW(wanted[0] && wanted[0] <= room && wanted[0] == wanted[1], row->row);
+        for (int by = 0; by < 2; by++)
+            SEE_ROW(is_untouched(words[by] + wanted[by], sizeof words[by] - 4 * wanted[by]), row->row);
+        const struct virtiofs_uids users = { words[0], wanted[0] };
+        const struct virtiofs_gids groups = { words[1], wanted[1] };
         if (row->side == GUEST_ASKED) {
-            code[0] = virtiofs_uids_guest(&users, row->asked, &to[0]);
-            code[1] = virtiofs_gids_guest(&groups, row->asked, &to[1]);
-            code[2] = virtiofs_specs_guest(row->specs, row->count, row->asked, &to[2]);
+            code[0] = virtiofs_uids_guest(users, row->asked, &to[0]);
+            code[1] = virtiofs_gids_guest(groups, row->asked, &to[1]);
         } else {
-            code[0] = virtiofs_uids_host(&users, row->asked, &to[0]);
-            code[1] = virtiofs_gids_host(&groups, row->asked, &to[1]);
-            code[2] = virtiofs_specs_host(row->specs, row->count, row->asked, &to[2]);
+            code[0] = virtiofs_uids_host(users, row->asked, &to[0]);
+            code[1] = virtiofs_gids_host(groups, row->asked, &to[1]);
         }
-        for (int by = 0; by < 3; by++)
+        for (int by = 0; by < 2; by++)
             SEE_ROW(code[by] == row->code && to[by] == (row->code == VIRTIOFS_OK ? row->to : 17), row->row);
-        virtiofs_uids_free(&users);
-        virtiofs_gids_free(&groups);
+    }
+}
+
+/* Every room up to what is needed. With less, nothing is written, and the length is told. */
+static void test_room_for_ids(void)
+{
+    for (size_t i = 0; i < COUNT(ids_rows); i++) {
+        const struct ids_row *row = &ids_rows[i];
+        uint32_t whole[WORDS], words[WORDS];
+        size_t wanted, told;
+        struct virtiofs_fault fault;
+        SEE_ROW(virtiofs_uids_make(row->specs, row->count, whole, WORDS, &wanted, &fault) == VIRTIOFS_OK, row->row);
+        for (size_t room = 0; room <= wanted; room++) {
+            uint32_t code = room < wanted ? VIRTIOFS_NO_ROOM : VIRTIOFS_OK;
+            memset(words, UNTOUCHED, sizeof words);
+            SEE_ROW(virtiofs_gids_make(row->specs, row->count, words, room, &told, &fault) == code, row->row);
+            SEE_ROW(told == wanted && is_clear(fault), row->row);
+            size_t stands = code ? 0 : wanted;
+            SEE_ROW(!memcmp(words, whole, 4 * stands), row->row);
+            SEE_ROW(is_untouched(words + stands, sizeof words - 4 * stands), row->row);
+        }
     }
 }
 
@@ -139,27 +150,29 @@ static const struct refused_row {
 
 static int is_fault(struct virtiofs_fault fault, const struct refused_row *row)
 {
+    int is_spec = row->kind == VIRTIOFS_FAULT_KIND ? is_no_spec(fault.spec)
+                                                   : are_equal(fault.spec, row->specs[row->place]);
     return fault.kind == row->kind && fault.direction == row->direction && fault.end == row->end
-           && fault.place == row->place && !fault.expected && !fault.seen && !fault.quoted;
+           && fault.place == row->place && !fault.expected && !fault.seen && !fault.quoted && !fault.wanted && is_spec;
 }
 
 static void test_refused_ids(void)
 {
-    const struct virtiofs_spec before = { VIRTIOFS_GUEST, 1, 2, 1 };
-    struct virtiofs_uids users = VIRTIOFS_NONE;
-    struct virtiofs_gids groups = VIRTIOFS_NONE;
-    struct virtiofs_fault fault;
-    SEE(virtiofs_uids_make(&before, 1, &users, &fault));
     for (size_t i = 0; i < COUNT(refused_rows); i++) {
         const struct refused_row *row = &refused_rows[i];
-        uint32_t to = 0;
-        SEE_ROW(!virtiofs_specs_accepted(row->specs, row->count, &fault) && is_fault(fault, row), row->row);
-        SEE_ROW(!virtiofs_uids_make(row->specs, row->count, &users, &fault) && is_fault(fault, row), row->row);
-        SEE_ROW(!virtiofs_gids_make(row->specs, row->count, &groups, &fault) && is_fault(fault, row), row->row);
-        SEE_ROW(virtiofs_uids_guest(&users, 1, &to) == VIRTIOFS_OK && to == 2, row->row);
-        SEE_ROW(virtiofs_gids_guest(&groups, 1, &to) == VIRTIOFS_NO_MAP, row->row);
+        uint32_t words[WORDS], to = 17;
+        size_t wanted = 77;
+        struct virtiofs_fault fault;
+        memset(words, UNTOUCHED, sizeof words);
+        SEE_ROW(virtiofs_uids_make(row->specs, row->count, words, WORDS, &wanted, &fault) == VIRTIOFS_REFUSED,
+                row->row);
+        SEE_ROW(!wanted && is_fault(fault, row), row->row);
+        const struct virtiofs_uids none = { words, wanted };
+        SEE_ROW(virtiofs_uids_guest(none, 1, &to) == VIRTIOFS_NO_MAP && to == 17, row->row);
+        wanted = 77;
+        SEE_ROW(virtiofs_gids_make(row->specs, row->count, words, 0, &wanted, &fault) == VIRTIOFS_REFUSED, row->row);
+        SEE_ROW(!wanted && is_fault(fault, row) && is_untouched(words, sizeof words), row->row);
     }
-    virtiofs_uids_free(&users);
 }
 
 /* ---- texts of specifications ---- */
@@ -189,10 +202,11 @@ static const struct text_row {
     { "map\xc3:0:1:1", VIRTIOFS_FAULT_UTF8, 0, 0, "" },
 };
 
-static int is_text_fault(struct virtiofs_fault fault, const struct text_row *row, size_t place)
+static int is_text_fault(struct virtiofs_fault fault, const struct text_row *row, size_t place, size_t quoted)
 {
     return fault.kind == row->kind && !fault.direction && !fault.end && fault.place == place
-           && fault.expected == row->expected && fault.seen == row->seen && fault.quoted == strlen(row->quoted);
+           && fault.expected == row->expected && fault.seen == row->seen && fault.wanted == strlen(row->quoted)
+           && fault.quoted == quoted && is_no_spec(fault.spec);
 }
 
 /* What is quoted stands in a buffer that is just long enough, and in none that is a byte shorter. */
@@ -201,27 +215,27 @@ static void test_refused_texts(void)
     for (size_t i = 0; i < COUNT(text_rows); i++) {
         const struct text_row *row = &text_rows[i];
         const struct virtiofs_text texts[2] = { text_of("guest:0:1:1"), text_of(row->text) };
-        size_t wanted = strlen(row->quoted);
+        size_t len = strlen(row->quoted);
         struct virtiofs_spec spec = { 9, 9, 9, 9 };
-        struct virtiofs_uids users = VIRTIOFS_NONE;
-        struct virtiofs_gids groups = VIRTIOFS_NONE;
-        struct virtiofs_fault fault;
-        for (size_t less = 0; less <= (wanted ? 1 : 0); less++) {
+        uint32_t words[WORDS], code[3];
+        memset(words, UNTOUCHED, sizeof words);
+        for (size_t less = 0; less <= (len ? 1 : 0); less++) {
+            struct virtiofs_fault fault[3];
             uint8_t quoted[3][64];
-            size_t stands = less ? 0 : wanted;
+            size_t stands = less ? 0 : len, room = len - less, wanted[2] = { 77, 77 };
             memset(quoted, UNTOUCHED, sizeof quoted);
-            SEE_ROW(!virtiofs_spec_read(texts[1].at, texts[1].len, &spec, &fault, quoted[0], wanted - less), row->text);
-            SEE_ROW(is_text_fault(fault, row, 0), row->text);
-            SEE_ROW(!virtiofs_uids_make_texts(texts, 2, &users, &fault, quoted[1], wanted - less), row->text);
-            SEE_ROW(is_text_fault(fault, row, 1), row->text);
-            SEE_ROW(!virtiofs_gids_make_texts(texts, 2, &groups, &fault, quoted[2], wanted - less), row->text);
-            SEE_ROW(is_text_fault(fault, row, 1), row->text);
+            code[0] = virtiofs_spec_read(texts[1].at, texts[1].len, &spec, &fault[0], quoted[0], room);
+            code[1] = virtiofs_uids_make_texts(texts, 2, words, WORDS, &wanted[0], &fault[1], quoted[1], room);
+            code[2] = virtiofs_gids_make_texts(texts, 2, words, 0, &wanted[1], &fault[2], quoted[2], room);
+            SEE_ROW(!wanted[0] && !wanted[1], row->text);
             for (int by = 0; by < 3; by++) {
+                SEE_ROW(code[by] == VIRTIOFS_REFUSED && is_text_fault(fault[by], row, by > 0, stands), row->text);
                 SEE_ROW(!memcmp(quoted[by], row->quoted, stands), row->text);
                 SEE_ROW(is_untouched(quoted[by] + stands, sizeof quoted[by] - stands), row->text);
             }
         }
         SEE_ROW(spec.kind == 9 && spec.first == 9 && spec.to == 9 && spec.count == 9, row->text);
+        SEE_ROW(is_untouched(words, sizeof words), row->text);
     }
 }
 
@@ -242,25 +256,36 @@ static void test_read_texts(void)
         struct virtiofs_text text = text_of(read_rows[i].text);
         struct virtiofs_spec spec = { 9, 9, 9, 9 };
         struct virtiofs_fault fault;
-        uint8_t quoted[1];
-        SEE_ROW(virtiofs_spec_read(text.at, text.len, &spec, &fault, quoted, 0) && is_clear(fault), read_rows[i].text);
-        SEE_ROW(!memcmp(&spec, &read_rows[i].spec, sizeof spec), read_rows[i].text);
+        uint8_t quoted[1] = { UNTOUCHED };
+        SEE_ROW(virtiofs_spec_read(text.at, text.len, &spec, &fault, quoted, 1) == VIRTIOFS_OK, read_rows[i].text);
+        SEE_ROW(is_clear(fault) && are_equal(spec, read_rows[i].spec), read_rows[i].text);
+        SEE_ROW(is_untouched(quoted, 1), read_rows[i].text);
     }
 }
 
-static void test_first_of_texts(void)
+/* Texts make the map of the specifications that they say, and have their faults. */
+static void test_maps_of_texts(void)
 {
     const struct virtiofs_text texts[3] = { text_of("guest:0:100:10"), text_of("guest:5:200:1"), text_of("map:1:2") };
-    struct virtiofs_uids map = VIRTIOFS_NONE;
+    const struct virtiofs_spec specs[2] = { { VIRTIOFS_GUEST, 0, 100, 10 }, { VIRTIOFS_GUEST, 5, 200, 1 } };
+    uint32_t words[WORDS], same[WORDS];
+    size_t wanted, len;
     struct virtiofs_fault fault;
     uint8_t quoted[8];
-    SEE(!virtiofs_uids_make_texts(texts, 3, &map, &fault, quoted, 8));
+    SEE(virtiofs_uids_make_texts(texts, 3, words, WORDS, &wanted, &fault, quoted, 8) == VIRTIOFS_REFUSED && !wanted);
     SEE(fault.kind == VIRTIOFS_FAULT_LENGTH && fault.place == 2 && fault.expected == 3 && fault.seen == 2);
-    SEE(!virtiofs_uids_make_texts(texts, 2, &map, &fault, quoted, 8));
-    SEE(fault.kind == VIRTIOFS_FAULT_INTERSECTS && fault.place == 1 && !fault.direction && !fault.quoted);
-    SEE(virtiofs_uids_make_texts(texts, 1, &map, &fault, quoted, 8) && is_clear(fault));
-    SEE(virtiofs_uids_make_texts(texts, 0, &map, &fault, quoted, 8) && is_clear(fault));
-    virtiofs_uids_free(&map);
+    SEE(virtiofs_uids_make_texts(texts, 2, words, WORDS, &wanted, &fault, quoted, 8) == VIRTIOFS_REFUSED && !wanted);
+    SEE(fault.kind == VIRTIOFS_FAULT_INTERSECTS && fault.place == 1 && !fault.direction && !fault.wanted);
+    SEE(are_equal(fault.spec, specs[1]));
+    for (size_t count = 0; count < 2; count++) {
+        memset(words, UNTOUCHED, sizeof words);
+        SEE(virtiofs_gids_make(specs, count, same, WORDS, &len, &fault) == VIRTIOFS_OK);
+        SEE(virtiofs_gids_make_texts(texts, count, words, len, &wanted, &fault, quoted, 8) == VIRTIOFS_OK);
+        SEE(is_clear(fault) && wanted == len && len <= virtiofs_gids_bound(count) && !memcmp(words, same, 4 * len));
+        SEE(is_untouched(words + len, sizeof words - 4 * len));
+        SEE(virtiofs_uids_make_texts(texts, count, words, len - 1, &wanted, &fault, quoted, 8) == VIRTIOFS_NO_ROOM);
+        SEE(is_clear(fault) && wanted == len && !memcmp(words, same, 4 * len));
+    }
 }
 
 static const struct { const char *text; uint32_t kind; } range_rows[] = {
@@ -281,8 +306,10 @@ static void test_ranges(void)
         struct virtiofs_text text = text_of(range_rows[i].text);
         struct virtiofs_range range = { 9, 9, 9 };
         struct virtiofs_fault fault;
-        bool is_read = virtiofs_range_read(text.at, text.len, &range, &fault);
-        SEE_ROW(is_read == !range_rows[i].kind && fault.kind == range_rows[i].kind, range_rows[i].text);
+        uint32_t code = virtiofs_range_read(text.at, text.len, &range, &fault);
+        bool is_read = !range_rows[i].kind;
+        SEE_ROW(code == (is_read ? VIRTIOFS_OK : VIRTIOFS_REFUSED) && fault.kind == range_rows[i].kind,
+                range_rows[i].text);
         fault.kind = 0;
         SEE_ROW(is_clear(fault), range_rows[i].text);
         SEE_ROW(range.inside == (is_read ? 0 : 9) && range.outside == (is_read ? 100000 : 9)
@@ -321,48 +348,57 @@ static const struct {
 
 static void test_refused_rules(void)
 {
-    struct virtiofs_names map = VIRTIOFS_NONE;
     for (size_t i = 0; i < COUNT(rules_rows); i++) {
         const char *row = rules_rows[i].text;
-        size_t wanted = rules_rows[i].quoted_len;
-        for (size_t less = 0; less <= (wanted ? 1 : 0); less++) {
+        size_t len = rules_rows[i].quoted_len;
+        uint8_t bytes[BYTES];
+        memset(bytes, UNTOUCHED, sizeof bytes);
+        for (size_t less = 0; less <= (len ? 1 : 0); less++) {
             struct virtiofs_fault fault;
             uint8_t quoted[64];
-            size_t stands = less ? 0 : wanted;
+            size_t stands = less ? 0 : len, wanted = 77;
             memset(quoted, UNTOUCHED, sizeof quoted);
-            SEE_ROW(!virtiofs_names_make((const uint8_t *)row, rules_rows[i].len, &map, &fault, quoted, wanted - less),
+            SEE_ROW(virtiofs_names_make((const uint8_t *)row, rules_rows[i].len, bytes, less ? 0 : BYTES, &wanted,
+                                        &fault, quoted, len - less) == VIRTIOFS_REFUSED,
                     row);
-            SEE_ROW(fault.kind == rules_rows[i].kind && fault.place == rules_rows[i].place && fault.quoted == wanted,
-                    row);
+            SEE_ROW(!wanted && fault.kind == rules_rows[i].kind && fault.place == rules_rows[i].place, row);
+            SEE_ROW(fault.wanted == len && fault.quoted == stands && is_no_spec(fault.spec), row);
             SEE_ROW(!fault.direction && !fault.end && !fault.expected && !fault.seen, row);
             SEE_ROW(!memcmp(quoted, rules_rows[i].quoted, stands), row);
             SEE_ROW(is_untouched(quoted + stands, sizeof quoted - stands), row);
         }
-        SEE_ROW(virtiofs_names_terminated(&map) == VIRTIOFS_NO_MAP, row);
+        SEE_ROW(is_untouched(bytes, sizeof bytes), row);
     }
 }
 
 /* ---- names ---- */
 
-static int make_names(struct virtiofs_names *map, const char *rules)
+/* The map of a text of rules in a buffer of BYTES, and no map where there is none. */
+static struct virtiofs_names names_of(uint8_t *bytes, const char *rules)
 {
     struct virtiofs_fault fault;
+    struct virtiofs_names map = { bytes, 0 };
     uint8_t quoted[1];
-    return virtiofs_names_make((const uint8_t *)rules, strlen(rules), map, &fault, quoted, 0) && is_clear(fault);
+    size_t wanted = 77;
+    if (virtiofs_names_make((const uint8_t *)rules, strlen(rules), bytes, BYTES, &wanted, &fault, quoted, 0)
+            == VIRTIOFS_OK
+        && is_clear(fault))
+        map.len = wanted;
+    return map;
 }
 
 enum form { CLIENT, SERVER, TERMINATED, AUDIT, AUDIT_LISTED, APART };
 
-static uint32_t ask(enum form form, struct virtiofs_names *map, struct virtiofs_names *second, const uint8_t *asked,
-                    size_t asked_len, uint8_t *out, size_t room, size_t *len)
+static uint32_t ask(enum form form, struct virtiofs_names map, struct virtiofs_names second, const uint8_t *asked,
+                    size_t asked_len, bool *yes, uint8_t *out, size_t room, size_t *len)
 {
     switch (form) {
     case CLIENT: return virtiofs_names_client(map, asked, asked_len, out, room, len);
     case SERVER: return virtiofs_names_server(map, asked, asked_len, out, room, len);
-    case AUDIT: return virtiofs_names_audit(map, out, room, len);
-    case AUDIT_LISTED: return virtiofs_names_audit_listed(map, out, room, len);
-    case APART: return virtiofs_names_apart(map, second, out, room, len);
-    default: *len = 0; return virtiofs_names_terminated(map);
+    case AUDIT: return virtiofs_names_audit(map, yes, out, room, len);
+    case AUDIT_LISTED: return virtiofs_names_audit_listed(map, yes, out, room, len);
+    case APART: return virtiofs_names_apart(map, second, yes, out, room, len);
+    default: *len = 0; return virtiofs_names_terminated(map, yes);
     }
 }
 
@@ -372,11 +408,15 @@ static const struct names_row {
     const char *asked; /* of APART the second rules */
     size_t asked_len;
     uint32_t code;
+    bool yes; /* of a decision */
     const char *answer;
     size_t answer_len;
 } names_rows[] = {
 #define NAMES(form, rules, asked, code, answer) \
-    { form, rules, asked, sizeof asked - 1, VIRTIOFS_##code, answer, sizeof answer - 1 }
+    { form, rules, asked, sizeof asked - 1, VIRTIOFS_##code, false, answer, sizeof answer - 1 }
+#define YES(form, rules, asked) { form, rules, asked, sizeof asked - 1, VIRTIOFS_OK, true, "", 0 }
+#define NO(form, rules, asked, answer) \
+    { form, rules, asked, sizeof asked - 1, VIRTIOFS_OK, false, answer, sizeof answer - 1 }
     NAMES(CLIENT, ":map:trusted.:user.virtiofs.:", "user.virtiofs.a", DENIED, ""),
     NAMES(CLIENT, ":map:trusted.:user.virtiofs.:", "trusted.a", OK, "user.virtiofs.trusted.a"),
     NAMES(CLIENT, ":map:trusted.:user.virtiofs.:", "x", AS_IT_IS, ""),
@@ -403,57 +443,90 @@ static const struct names_row {
     NAMES(SERVER, ":map::a.:", "b.w\0a.x\0b.y\0a.z\0", OK, "x\0z\0"),
     NAMES(CLIENT, ":ok:all:::", "a\0b", NO_NAME, ""),
     NAMES(CLIENT, ":bad:all:::", "\0", NO_NAME, ""),
-    NAMES(TERMINATED, ":ok:all:::", "", YES, ""),
-    NAMES(TERMINATED, ":ok:client:::", "", NO, ""),
-    NAMES(TERMINATED, ":ok:client:a:: :ok:server::a:", "", NO, ""),
-    NAMES(TERMINATED, ":map:a:b:", "", YES, ""),
-    NAMES(AUDIT, ":map:trusted.:user.virtiofs.:", "", YES, ""),
-    NAMES(AUDIT, ":bad:all:::", "", YES, ""),
-    NAMES(AUDIT, ":prefix:client:trusted.:user.: :ok:all:::", "", NO, "trusted."),
-    NAMES(AUDIT, ":bad:server::u.xy: :prefix:all::u.:", "", NO, "xy"),
-    NAMES(AUDIT, ":ok:client:::", "", NO, "\1"),
-    NAMES(AUDIT, ":bad:server::b: :bad:server::ab: :ok:all:::", "", NO, "ab"),
-    NAMES(AUDIT, ":ok:client::: :bad:server::\xc3\xa9: :ok:server:::", "", NO, "\xc3\xa9"),
-    NAMES(AUDIT_LISTED, ":map:trusted.:user.virtiofs.:", "", NO, "user.virtiofs."),
-    NAMES(AUDIT_LISTED, ":map::a.:", "", YES, ""),
-    NAMES(AUDIT_LISTED, ":bad:client:xy:: :prefix:all::u.:", "", NO, "u.xy"),
-    NAMES(AUDIT_LISTED, ":ok:server:::", "", NO, "\1"),
-    NAMES(APART, ":map::a.:", ":map::b.:", YES, ""),
-    NAMES(APART, ":map::a.:", ":map::a.b.:", NO, "b."),
-    NAMES(APART, ":map::a.b.:", ":map::a.:", NO, ""),
-    NAMES(APART, ":map:trusted.:a.:", ":map::b.:", NO, "b."),
-    NAMES(APART, ":bad:all:::", ":ok:all:::", YES, ""),
-    NAMES(APART, ":ok:all:::", ":ok:all:::", NO, "\1"),
-    NAMES(APART, ":map::a.:", ":unsupported:server::a.: :ok:all:::", YES, ""),
-    NAMES(APART, ":prefix:all:x:a.: :bad:all:::", ":map::a.:", NO, "x"),
+    YES(TERMINATED, ":ok:all:::", ""),
+    NO(TERMINATED, ":ok:client:::", "", ""),
+    NO(TERMINATED, ":ok:client:a:: :ok:server::a:", "", ""),
+    YES(TERMINATED, ":map:a:b:", ""),
+    YES(AUDIT, ":map:trusted.:user.virtiofs.:", ""),
+    YES(AUDIT, ":bad:all:::", ""),
+    NO(AUDIT, ":prefix:client:trusted.:user.: :ok:all:::", "", "trusted."),
+    NO(AUDIT, ":bad:server::u.xy: :prefix:all::u.:", "", "xy"),
+    NO(AUDIT, ":ok:client:::", "", "\1"),
+    NO(AUDIT, ":bad:server::b: :bad:server::ab: :ok:all:::", "", "ab"),
+    NO(AUDIT, ":ok:client::: :bad:server::\xc3\xa9: :ok:server:::", "", "\xc3\xa9"),
+    NO(AUDIT_LISTED, ":map:trusted.:user.virtiofs.:", "", "user.virtiofs."),
+    YES(AUDIT_LISTED, ":map::a.:", ""),
+    NO(AUDIT_LISTED, ":bad:client:xy:: :prefix:all::u.:", "", "u.xy"),
+    NO(AUDIT_LISTED, ":ok:server:::", "", "\1"),
+    YES(APART, ":map::a.:", ":map::b.:"),
+    NO(APART, ":map::a.:", ":map::a.b.:", "b."),
+    NO(APART, ":map::a.b.:", ":map::a.:", ""),
+    NO(APART, ":map:trusted.:a.:", ":map::b.:", "b."),
+    YES(APART, ":bad:all:::", ":ok:all:::"),
+    NO(APART, ":ok:all:::", ":ok:all:::", "\1"),
+    YES(APART, ":map::a.:", ":unsupported:server::a.: :ok:all:::"),
+    NO(APART, ":prefix:all:x:a.: :bad:all:::", ":map::a.:", "x"),
 #undef NAMES
+#undef YES
+#undef NO
 };
 
-/* Buffers that are longer than the answer, just as long, and one byte too short. Nothing but the answer is written. */
+/* Buffers that are longer than the answer, just as long, and one byte too short. Nothing but the answer is written; a
+   list that does not fit, or is none, may write to the room that it has. */
 static void test_names(void)
 {
     for (size_t i = 0; i < COUNT(names_rows); i++) {
         const struct names_row *row = &names_rows[i];
         size_t wanted = row->answer_len;
-        struct virtiofs_names map = VIRTIOFS_NONE, second = VIRTIOFS_NONE;
-        SEE_ROW(make_names(&map, row->rules), row->rules);
-        if (row->form == APART)
-            SEE_ROW(make_names(&second, row->asked), row->asked);
+        uint8_t bytes[2][BYTES];
+        struct virtiofs_names map = names_of(bytes[0], row->rules), second = { NULL, 0 };
+        SEE_ROW(map.len > 0 && map.len <= virtiofs_names_bound(strlen(row->rules)), row->rules);
+        if (row->form == APART) {
+            second = names_of(bytes[1], row->asked);
+            SEE_ROW(second.len > 0, row->asked);
+        }
         for (int more = -1; more <= 9; more++) {
             uint8_t out[64];
             size_t len = 77, room = wanted + (size_t)more;
+            uint32_t code = more < 0 ? (uint32_t)VIRTIOFS_NO_ROOM : row->code;
+            int is_decision = row->form >= TERMINATED;
+            bool yes = !row->yes;
             if (more < 0 && (!wanted || row->form == TERMINATED))
                 continue;
             memset(out, UNTOUCHED, sizeof out);
-            uint32_t code = ask(row->form, &map, &second, (const uint8_t *)row->asked, row->asked_len, out, room, &len);
-            SEE_ROW(code == (more < 0 ? (uint32_t)VIRTIOFS_NO_ROOM : row->code), row->rules);
+            SEE_ROW(ask(row->form, map, second, (const uint8_t *)row->asked, row->asked_len, &yes, out, room, &len)
+                        == code,
+                    row->rules);
             SEE_ROW(len == wanted, row->rules);
-            SEE_ROW(more < 0 || !memcmp(out, row->answer, wanted), row->rules);
-            size_t stands = more < 0 ? 0 : wanted;
+            SEE_ROW(!is_decision || yes == (row->yes && code == VIRTIOFS_OK), row->rules);
+            SEE_ROW(code == VIRTIOFS_NO_ROOM || !memcmp(out, row->answer, wanted), row->rules);
+            size_t stands = code == VIRTIOFS_OK ? wanted : row->form == SERVER ? room : 0;
             SEE_ROW(is_untouched(out + stands, sizeof out - stands), row->rules);
         }
-        virtiofs_names_free(&map);
-        virtiofs_names_free(&second);
+    }
+}
+
+/* Every room up to what is needed, and one byte more. With less, nothing is written, and the length is told. */
+static void test_room_for_names(void)
+{
+    static const char *const rules[] = {
+        ":ok:all:::", ":map:trusted.:user.virtiofs.:", ":bad:all:a:a: :ok:all:ab:ab:",
+    };
+    for (size_t i = 0; i < COUNT(rules); i++) {
+        const uint8_t *text = (const uint8_t *)rules[i];
+        size_t text_len = strlen(rules[i]), wanted;
+        uint8_t whole[BYTES], bytes[BYTES];
+        struct virtiofs_names map = names_of(whole, rules[i]);
+        SEE_ROW(map.len > 0, rules[i]);
+        for (size_t room = 0; room <= map.len + 1; room++) {
+            struct virtiofs_fault fault;
+            uint32_t code = room < map.len ? VIRTIOFS_NO_ROOM : VIRTIOFS_OK;
+            size_t stands = code ? 0 : map.len;
+            memset(bytes, UNTOUCHED, sizeof bytes);
+            SEE_ROW(virtiofs_names_make(text, text_len, bytes, room, &wanted, &fault, NULL, 0) == code, rules[i]);
+            SEE_ROW(wanted == map.len && is_clear(fault), rules[i]);
+            SEE_ROW(!memcmp(bytes, whole, stands) && is_untouched(bytes + stands, sizeof bytes - stands), rules[i]);
+        }
     }
 }
 
@@ -461,139 +534,247 @@ static void test_names(void)
 static void test_room_that_always_serves(void)
 {
     static const uint8_t list[] = { 'a', 0, 'b' };
-    uint8_t out[4];
+    uint8_t bytes[BYTES], out[4];
     size_t len;
-    struct virtiofs_names map = VIRTIOFS_NONE;
-    SEE(make_names(&map, ":ok:all:::"));
-    SEE(virtiofs_names_server(&map, list, 3, out, 3, &len) == VIRTIOFS_NO_ROOM && len == 4);
-    SEE(virtiofs_names_server(&map, list, 3, out, 4, &len) == VIRTIOFS_OK && len == 4 && !memcmp(out, "a\0b\0", 4));
-    SEE(virtiofs_names_server(&map, list, 0, out, 0, &len) == VIRTIOFS_NO_ROOM && len == 1);
-    SEE(virtiofs_names_server(&map, list, 0, out, 1, &len) == VIRTIOFS_OK && len == 1 && !out[0]);
-    virtiofs_names_free(&map);
+    struct virtiofs_names map = names_of(bytes, ":ok:all:::");
+    SEE(virtiofs_names_server(map, list, 3, out, 3, &len) == VIRTIOFS_NO_ROOM && len == 4);
+    SEE(virtiofs_names_server(map, list, 3, out, 4, &len) == VIRTIOFS_OK && len == 4 && !memcmp(out, "a\0b\0", 4));
+    SEE(virtiofs_names_server(map, list, 0, out, 0, &len) == VIRTIOFS_NO_ROOM && len == 1);
+    SEE(virtiofs_names_server(map, list, 0, out, 1, &len) == VIRTIOFS_OK && len == 1 && !out[0]);
 }
 
-/* ---- handles ---- */
+/* Rules are the same in other words, and then their maps are the same bytes; other rules have other bytes. */
+static void test_equal_rules(void)
+{
+    static const struct { const char *one, *other; int are_equal; } rows[] = {
+        { ":map::a.:", " /prefix/all//a./ /bad/all/// ", 1 },
+        { ":map:k:p:", ":prefix:all:k:p::bad:all:p:k: =ok=all===", 1 },
+        { ":ok:all:::", ":ok:all::: :bad:all:::", 0 },
+        { ":ok:client:a:b:", ":ok:client:a:c:", 0 },
+        { ":ok:all:a:b:", ":ok:all:b:a:", 0 },
+        { ":ok:client:::", ":ok:server:::", 0 },
+        { ":bad:all:::", ":unsupported:all:::", 0 },
+    };
+    for (size_t i = 0; i < COUNT(rows); i++) {
+        uint8_t bytes[2][BYTES];
+        struct virtiofs_names one = names_of(bytes[0], rows[i].one), other = names_of(bytes[1], rows[i].other);
+        SEE_ROW(one.len && other.len, rows[i].one);
+        SEE_ROW((one.len == other.len && !memcmp(bytes[0], bytes[1], one.len)) == rows[i].are_equal, rows[i].one);
+    }
+}
+
+/* ---- nothing, and no map ---- */
+
+/* NULL with a length of 0, for every argument that has a length. */
+static void test_pointers_to_nothing(void)
+{
+    struct virtiofs_fault fault;
+    struct virtiofs_spec spec = { 9, 9, 9, 9 };
+    struct virtiofs_range range;
+    uint32_t words[WORDS], to = 17;
+    uint8_t bytes[BYTES], out[32];
+    size_t wanted, len;
+    bool yes;
+    SEE(virtiofs_uids_make(NULL, 0, NULL, 0, &wanted, &fault) == VIRTIOFS_NO_ROOM && wanted > 0);
+    SEE(virtiofs_gids_make_texts(NULL, 0, NULL, 0, &len, &fault, NULL, 0) == VIRTIOFS_NO_ROOM && len == wanted);
+    SEE(virtiofs_uids_make(NULL, 0, words, wanted, &wanted, &fault) == VIRTIOFS_OK);
+    const struct virtiofs_uids all_same = { words, wanted };
+    SEE(virtiofs_uids_guest(all_same, 4294967295u, &to) == VIRTIOFS_OK && to == 4294967295u);
+    SEE(virtiofs_spec_read(NULL, 0, &spec, &fault, NULL, 0) == VIRTIOFS_REFUSED && spec.kind == 9);
+    SEE(fault.kind == VIRTIOFS_FAULT_LENGTH && fault.expected == 1 && !fault.seen && !fault.wanted);
+    SEE(virtiofs_range_read(NULL, 0, &range, &fault) == VIRTIOFS_REFUSED);
+    SEE(fault.kind == VIRTIOFS_FAULT_RANGE_INCOMPLETE);
+    SEE(virtiofs_names_make(NULL, 0, NULL, 0, &wanted, &fault, NULL, 0) == VIRTIOFS_REFUSED && !wanted);
+    SEE(fault.kind == VIRTIOFS_FAULT_NO_RULES);
+    SEE(virtiofs_names_make((const uint8_t *)":nope:", 6, NULL, 0, &wanted, &fault, NULL, 0) == VIRTIOFS_REFUSED);
+    SEE(fault.kind == VIRTIOFS_FAULT_TYPE && fault.wanted == 4 && !fault.quoted);
+    struct virtiofs_names map = names_of(bytes, ":map::user.:");
+    SEE(virtiofs_names_client(map, NULL, 0, NULL, 0, &len) == VIRTIOFS_NO_ROOM && len == 5);
+    SEE(virtiofs_names_client(map, NULL, 0, out, 5, &len) == VIRTIOFS_OK && len == 5 && !memcmp(out, "user.", 5));
+    SEE(virtiofs_names_server(map, NULL, 0, NULL, 0, &len) == VIRTIOFS_NO_ROOM && len == 1);
+    SEE(virtiofs_names_server(map, (const uint8_t *)"user.ab", 7, NULL, 0, &len) == VIRTIOFS_NO_ROOM && len == 3);
+    SEE(virtiofs_names_audit(map, &yes, NULL, 0, &len) == VIRTIOFS_OK && yes && !len);
+    SEE(virtiofs_names_apart(map, map, &yes, NULL, 0, &len) == VIRTIOFS_OK && !yes && !len);
+    map = names_of(bytes, ":ok:client:::");
+    SEE(virtiofs_names_client(map, NULL, 0, NULL, 0, &len) == VIRTIOFS_AS_IT_IS && !len);
+    SEE(virtiofs_names_audit(map, &yes, NULL, 0, &len) == VIRTIOFS_NO_ROOM && !yes && len == 1);
+}
+
+/* A text that is NULL is an empty one, which says no specification; an earlier text that says none is told first. */
+static void test_texts_of_nothing(void)
+{
+    const struct virtiofs_text none = { NULL, 0 };
+    const struct virtiofs_text first[2] = { none, text_of("foo:1") }, second[2] = { text_of("map:0:1:2"), none };
+    const struct virtiofs_text later[3] = { text_of("map:0:1:2"), text_of("foo:1"), none };
+    const struct virtiofs_text met[3] = { text_of("guest:0:1:2"), text_of("guest:1:1:2"), none };
+    uint32_t words[WORDS];
+    size_t wanted = 77;
+    struct virtiofs_fault fault;
+    uint8_t quoted[8];
+    memset(words, UNTOUCHED, sizeof words);
+    SEE(virtiofs_uids_make_texts(first, 2, words, WORDS, &wanted, &fault, NULL, 0) == VIRTIOFS_REFUSED && !wanted);
+    SEE(fault.kind == VIRTIOFS_FAULT_LENGTH && !fault.place && fault.expected == 1 && !fault.seen && !fault.wanted);
+    wanted = 77;
+    SEE(virtiofs_gids_make_texts(second, 2, words, WORDS, &wanted, &fault, NULL, 0) == VIRTIOFS_REFUSED && !wanted);
+    SEE(fault.kind == VIRTIOFS_FAULT_LENGTH && fault.place == 1 && fault.expected == 1 && !fault.seen && !fault.wanted);
+    SEE(virtiofs_uids_make_texts(later, 3, words, WORDS, &wanted, &fault, quoted, 8) == VIRTIOFS_REFUSED && !wanted);
+    SEE(fault.kind == VIRTIOFS_FAULT_PREFIX && fault.place == 1 && fault.quoted == 3 && !memcmp(quoted, "foo", 3));
+    SEE(virtiofs_gids_make_texts(met, 3, words, WORDS, &wanted, &fault, quoted, 8) == VIRTIOFS_REFUSED && !wanted);
+    SEE(fault.kind == VIRTIOFS_FAULT_LENGTH && fault.place == 2 && is_no_spec(fault.spec));
+    SEE(is_untouched(words, sizeof words));
+}
+
+/* Every call that is asked of these numbers says that they are no map, and writes nothing. */
+static void see_no_map(const uint32_t *words, size_t count, const uint8_t *bytes, size_t len, const char *row)
+{
+    const struct virtiofs_uids users = { words, count };
+    const struct virtiofs_gids groups = { words, count };
+    const struct virtiofs_names names = { bytes, len };
+    uint8_t whole[BYTES];
+    struct virtiofs_names map = names_of(whole, ":ok:all:::");
+    uint32_t to = 17;
+    if (words || !count) {
+        SEE_ROW(virtiofs_uids_guest(users, 1, &to) == VIRTIOFS_NO_MAP && to == 17, row);
+        SEE_ROW(virtiofs_uids_host(users, 1, &to) == VIRTIOFS_NO_MAP && to == 17, row);
+        SEE_ROW(virtiofs_gids_guest(groups, 1, &to) == VIRTIOFS_NO_MAP && to == 17, row);
+        SEE_ROW(virtiofs_gids_host(groups, 1, &to) == VIRTIOFS_NO_MAP && to == 17, row);
+    }
+    for (int form = CLIENT; (bytes || !len) && form <= APART + 1; form++) {
+        static const uint8_t asked[] = { 'a', 'b', 0, 'c' };
+        uint8_t out[1] = { UNTOUCHED };
+        size_t told = 77, asked_len = form == CLIENT ? 2 : 4;
+        bool yes = true, is_second = form > APART;
+        SEE_ROW(ask(is_second ? APART : (enum form)form, is_second ? map : names, is_second ? names : map, asked,
+                    asked_len, &yes, out, 1, &told) == VIRTIOFS_NO_MAP,
+                row);
+        SEE_ROW(!told && (form == SERVER || out[0] == UNTOUCHED) && (form < TERMINATED || !yes), row);
+    }
+}
 
 static void test_no_map(void)
 {
-    struct virtiofs_uids users = VIRTIOFS_NONE, other_users = VIRTIOFS_NONE;
-    struct virtiofs_gids groups = VIRTIOFS_NONE, other_groups = VIRTIOFS_NONE;
-    struct virtiofs_names names = VIRTIOFS_NONE, other = VIRTIOFS_NONE;
-    uint32_t to = 17;
-    uint8_t byte[1] = { UNTOUCHED };
-    size_t len = 77;
-    SEE(virtiofs_uids_guest(&users, 1, &to) == VIRTIOFS_NO_MAP && virtiofs_uids_host(&users, 1, &to) == VIRTIOFS_NO_MAP);
-    SEE(virtiofs_gids_guest(&groups, 1, &to) == VIRTIOFS_NO_MAP);
-    SEE(virtiofs_gids_host(&groups, 1, &to) == VIRTIOFS_NO_MAP && to == 17);
-    SEE(virtiofs_uids_share(&users, &other_users) == VIRTIOFS_NO_MAP);
-    SEE(virtiofs_gids_share(&groups, &other_groups) == VIRTIOFS_NO_MAP);
-    SEE(virtiofs_names_share(&names, &other) == VIRTIOFS_NO_MAP);
-    for (int form = CLIENT; form <= APART; form++) {
-        uint8_t out[1] = { UNTOUCHED };
-        len = 77;
-        SEE(ask((enum form)form, &names, &other, byte, 1, out, 1, &len) == VIRTIOFS_NO_MAP && !len);
-        SEE(out[0] == UNTOUCHED);
-    }
-    SEE(make_names(&names, ":ok:all:::"));
-    SEE(virtiofs_names_apart(&names, &other, byte, 1, &len) == VIRTIOFS_NO_MAP && !len);
-    SEE(virtiofs_names_apart(&other, &names, byte, 1, &len) == VIRTIOFS_NO_MAP && !len);
-    virtiofs_names_free(&names);
-    virtiofs_names_free(&names);
-    SEE(virtiofs_names_terminated(&names) == VIRTIOFS_NO_MAP);
-}
-
-/* A handle is made again, is shared over another map, and outlives the one that it was shared from. */
-static void test_shares(void)
-{
-    const struct virtiofs_spec first = { VIRTIOFS_GUEST, 1, 100, 1 }, second = { VIRTIOFS_GUEST, 1, 200, 1 };
-    struct virtiofs_uids a = VIRTIOFS_NONE, b = VIRTIOFS_NONE, none = VIRTIOFS_NONE;
+    static const uint32_t zeros[WORDS];
+    static const struct virtiofs_spec specs[2] = { { VIRTIOFS_MAP, 0, 1000, 10 }, { VIRTIOFS_FORBID_GUEST, 20, 0, 1 } };
+    uint32_t words[WORDS], of_names[BYTES / 4];
+    uint8_t *bytes = (uint8_t *)of_names;
+    size_t count;
+    uint64_t state = 7;
     struct virtiofs_fault fault;
-    uint32_t to = 0;
-    SEE(virtiofs_uids_make(&first, 1, &a, &fault) && virtiofs_uids_make(&second, 1, &b, &fault));
-    SEE(virtiofs_uids_share(&none, &b) == VIRTIOFS_NO_MAP);
-    SEE(virtiofs_uids_guest(&b, 1, &to) == VIRTIOFS_OK && to == 200);
-    SEE(virtiofs_uids_share(&a, &b) == VIRTIOFS_OK);
-    virtiofs_uids_free(&a);
-    SEE(virtiofs_uids_guest(&a, 1, &to) == VIRTIOFS_NO_MAP);
-    SEE(virtiofs_uids_guest(&b, 1, &to) == VIRTIOFS_OK && to == 100);
-    SEE(virtiofs_uids_make(&second, 1, &b, &fault));
-    SEE(virtiofs_uids_guest(&b, 1, &to) == VIRTIOFS_OK && to == 200);
-    virtiofs_uids_free(&b);
+    struct virtiofs_names names = names_of(bytes, ":map:trusted.:user.virtiofs.:");
+    SEE(virtiofs_uids_make(specs, 2, words, WORDS, &count, &fault) == VIRTIOFS_OK && names.len > 0);
+    see_no_map(NULL, 0, NULL, 0, "NULL");
+    see_no_map(words, 0, bytes, 0, "a length of 0");
+    for (size_t len = 1; len <= WORDS; len++)
+        see_no_map(zeros, len, (const uint8_t *)zeros, 4 * len, "zeros");
+    see_no_map(of_names, names.len / 4, (const uint8_t *)words, 4 * count, "a map of the other kind");
+    /* (the first word says kind and version, and so does the first byte) */
+    uint32_t first = words[0];
+    uint8_t first_byte = bytes[0];
+    for (unsigned i = 0; i < 256; i++) {
+        words[0] = i < 64 ? first + i + 1 : i < 128 ? first - (i - 63) : (uint32_t)random_number(&state);
+        bytes[0] = (uint8_t)i;
+        if (words[0] != first)
+            see_no_map(words, count, NULL, 1, "another first word");
+        if (bytes[0] != first_byte)
+            see_no_map(NULL, 1, bytes, names.len, "another first byte");
+    }
 }
 
-/* What is not given back, or given back twice, is seen by AddressSanitizer. */
+/* A map may be copied, to any address, and the first one may go. */
+static void test_copies(void)
+{
+    static const struct virtiofs_spec specs[2] = { { VIRTIOFS_MAP, 0, 1000, 10 }, { VIRTIOFS_FORBID_GUEST, 20, 0, 1 } };
+    uint32_t words[WORDS], copy[WORDS], to = 0;
+    uint8_t bytes[BYTES], odd[BYTES + 8], out[32];
+    size_t count, len;
+    struct virtiofs_fault fault;
+    struct virtiofs_names names = names_of(bytes, ":map:trusted.:user.:");
+    SEE(virtiofs_gids_make(specs, 2, words, WORDS, &count, &fault) == VIRTIOFS_OK && names.len > 0);
+    memcpy(copy, words, sizeof copy);
+    memset(words, UNTOUCHED, sizeof words);
+    const struct virtiofs_gids groups = { copy, count };
+    SEE(virtiofs_gids_guest(groups, 9, &to) == VIRTIOFS_OK && to == 1009);
+    SEE(virtiofs_gids_guest(groups, 20, &to) == VIRTIOFS_FORBIDDEN && to == 1009);
+    for (size_t at = 0; at < 8; at++) {
+        const struct virtiofs_names moved = { odd + at, names.len };
+        memcpy(odd + at, bytes, names.len);
+        SEE(virtiofs_names_client(moved, (const uint8_t *)"trusted.a", 9, out, 32, &len) == VIRTIOFS_OK && len == 14);
+        SEE(!memcmp(out, "user.trusted.a", 14));
+    }
+}
+
+/* ---- rounds ---- */
+
+/* Memory of the library that is not given back, or given back twice, is seen by AddressSanitizer. */
 static void test_rounds(void)
 {
     const struct virtiofs_spec specs[2] = { { VIRTIOFS_MAP, 0, 1000, 10 }, { VIRTIOFS_FORBID_GUEST, 20, 0, 1 } };
     const struct virtiofs_text texts[2] = { text_of("map:0:1000:10"), text_of("foo:1") };
     int wrong = 0;
     for (int round = 0; round < ROUNDS; round++) {
-        struct virtiofs_uids users = VIRTIOFS_NONE, users_too = VIRTIOFS_NONE;
-        struct virtiofs_gids groups = VIRTIOFS_NONE, groups_too = VIRTIOFS_NONE;
-        struct virtiofs_names names = VIRTIOFS_NONE, names_too = VIRTIOFS_NONE;
+        uint32_t *words = malloc(virtiofs_uids_bound(2) * sizeof *words), to;
+        uint8_t *bytes = malloc(BYTES), quoted[8], out[32];
         struct virtiofs_fault fault;
-        uint8_t quoted[8], out[32];
-        size_t len;
-        uint32_t to;
-        wrong += !virtiofs_uids_make(specs, 2, &users, &fault) + !virtiofs_gids_make(specs, 2, &groups, &fault);
-        wrong += virtiofs_gids_make_texts(texts, 2, &groups_too, &fault, quoted, 8);
-        wrong += !make_names(&names, ":map:trusted.:user.:");
-        wrong += make_names(&names, ":map:trusted.:user.");
-        wrong += virtiofs_uids_share(&users, &users_too) != VIRTIOFS_OK;
-        wrong += virtiofs_gids_share(&groups, &groups_too) != VIRTIOFS_OK;
-        wrong += virtiofs_names_share(&names, &names_too) != VIRTIOFS_OK;
-        virtiofs_uids_free(round % 2 ? &users : &users_too);
-        wrong += virtiofs_uids_guest(round % 2 ? &users_too : &users, 5, &to) != VIRTIOFS_OK || to != 1005;
-        wrong += virtiofs_gids_host(&groups_too, 1005, &to) != VIRTIOFS_OK || to != 5;
-        wrong += virtiofs_names_client(&names_too, (const uint8_t *)"trusted.a", 9, out, 32, &len) != VIRTIOFS_OK;
+        struct virtiofs_spec spec;
+        size_t wanted, len;
+        bool yes;
+        if (!words || !bytes)
+            exit(3);
+        wrong += virtiofs_uids_make(specs, 2, words, 0, &wanted, &fault) != VIRTIOFS_NO_ROOM;
+        wrong += virtiofs_uids_make(specs, 2, words, wanted, &wanted, &fault) != VIRTIOFS_OK;
+        const struct virtiofs_uids users = { words, wanted };
+        wrong += virtiofs_uids_guest(users, 5, &to) != VIRTIOFS_OK || to != 1005;
+        wrong += virtiofs_gids_make_texts(texts, 2, words, wanted, &len, &fault, quoted, 8) != VIRTIOFS_REFUSED;
+        wrong += virtiofs_gids_make_texts(texts, 1, words, wanted, &len, &fault, quoted, 8) != VIRTIOFS_OK;
+        wrong += virtiofs_spec_read(texts[1].at, texts[1].len, &spec, &fault, quoted, 8) != VIRTIOFS_REFUSED;
+        wrong += names_of(bytes, ":map:trusted.:user.").len != 0;
+        struct virtiofs_names names = names_of(bytes, ":map:trusted.:user.:");
+        wrong += virtiofs_names_client(names, (const uint8_t *)"trusted.a", 9, out, 32, &len) != VIRTIOFS_OK;
         wrong += len != 14;
-        wrong += virtiofs_names_server(&names, (const uint8_t *)"user.b", 6, out, 32, &len) != VIRTIOFS_OK || len != 2;
-        wrong += virtiofs_names_apart(&names, &names_too, out, 32, &len) != VIRTIOFS_NO;
-        virtiofs_uids_free(&users);
-        virtiofs_uids_free(&users_too);
-        virtiofs_gids_free(&groups);
-        virtiofs_gids_free(&groups_too);
-        virtiofs_names_free(&names);
-        virtiofs_names_free(&names_too);
+        wrong += virtiofs_names_server(names, (const uint8_t *)"user.b", 6, out, 32, &len) != VIRTIOFS_OK || len != 2;
+        wrong += virtiofs_names_audit(names, &yes, out, 32, &len) != VIRTIOFS_OK || !yes;
+        wrong += virtiofs_names_audit_listed(names, &yes, out, 2, &len) != VIRTIOFS_NO_ROOM || yes;
+        wrong += virtiofs_names_apart(names, names, &yes, out, 32, &len) != VIRTIOFS_OK || yes;
+        free(words);
+        free(bytes);
     }
     SEE(!wrong);
 }
 
 /* ---- threads ---- */
 
-struct seat {
+struct asker {
     struct virtiofs_uids users;
     struct virtiofs_names names;
-    const struct virtiofs_spec *specs;
-    size_t count;
     uint32_t number;
     int wrong;
 };
 
 static void *look_up(void *argument)
 {
-    struct seat *seat = argument;
+    struct asker *asker = argument;
     for (uint32_t i = 0; i < LOOKUPS; i++) {
-        uint32_t id = (seat->number * 131 + i) % 1000, to = 0;
+        uint32_t id = (asker->number * 131 + i) % 1000, to = 0;
         uint8_t out[32];
         size_t len = 0;
-        seat->wrong += virtiofs_uids_guest(&seat->users, 10 * id, &to) != VIRTIOFS_OK || to != 5000000 + id;
-        seat->wrong += virtiofs_uids_host(&seat->users, 5000000 + id, &to) != VIRTIOFS_OK || to != 5000000 + id;
-        seat->wrong += virtiofs_specs_guest(seat->specs, 4, 10 * (id % 4), &to) != VIRTIOFS_OK || to != 5000000 + id % 4;
-        seat->wrong += virtiofs_names_client(&seat->names, (const uint8_t *)"trusted.x", 9, out, 32, &len) != VIRTIOFS_OK;
-        seat->wrong += len != 14 || memcmp(out, "user.trusted.x", 14);
+        asker->wrong += virtiofs_uids_guest(asker->users, 10 * id, &to) != VIRTIOFS_OK || to != 5000000 + id;
+        asker->wrong += virtiofs_uids_host(asker->users, 5000000 + id, &to) != VIRTIOFS_OK || to != 5000000 + id;
+        asker->wrong += virtiofs_names_client(asker->names, (const uint8_t *)"trusted.x", 9, out, 32, &len)
+                        != VIRTIOFS_OK;
+        asker->wrong += len != 14 || memcmp(out, "user.trusted.x", 14);
     }
-    virtiofs_uids_free(&seat->users);
-    virtiofs_names_free(&seat->names);
     return NULL;
 }
 
+/* All threads ask one map of ids and one of names. */
 static void test_threads(void)
 {
     static struct virtiofs_spec specs[1000];
-    static struct seat seats[THREADS];
-    struct virtiofs_uids users = VIRTIOFS_NONE;
-    struct virtiofs_names names = VIRTIOFS_NONE;
+    static struct asker askers[THREADS];
+    size_t room = virtiofs_uids_bound(1000), wanted = 0;
+    uint32_t *words = malloc(room * sizeof *words);
+    uint8_t bytes[BYTES];
+    struct virtiofs_names names = names_of(bytes, ":map:trusted.:user.:");
     struct virtiofs_fault fault;
     pthread_t threads[THREADS];
     int started = 0, wrong = 0;
@@ -601,40 +782,41 @@ static void test_threads(void)
         struct virtiofs_spec spec = { VIRTIOFS_GUEST, 10 * i, 5000000 + i, 1 };
         specs[i] = spec;
     }
-    SEE(virtiofs_uids_make(specs, 1000, &users, &fault) && make_names(&names, ":map:trusted.:user.:"));
+    SEE(words && virtiofs_uids_make(specs, 1000, words, room, &wanted, &fault) == VIRTIOFS_OK && names.len);
     for (int i = 0; i < THREADS; i++) {
-        seats[i].specs = specs;
-        seats[i].number = (uint32_t)i;
-        SEE(virtiofs_uids_share(&users, &seats[i].users) == VIRTIOFS_OK);
-        SEE(virtiofs_names_share(&names, &seats[i].names) == VIRTIOFS_OK);
+        struct asker asker = { { words, wanted }, names, (uint32_t)i, 0 };
+        askers[i] = asker;
+        started += !pthread_create(&threads[i], NULL, look_up, &askers[i]);
     }
-    virtiofs_uids_free(&users);
-    virtiofs_names_free(&names);
-    for (int i = 0; i < THREADS; i++)
-        started += !pthread_create(&threads[i], NULL, look_up, &seats[i]);
     SEE(started == THREADS);
     for (int i = 0; i < started; i++) {
         pthread_join(threads[i], NULL);
-        wrong += seats[i].wrong;
+        wrong += askers[i].wrong;
     }
     SEE(!wrong);
+    free(words);
 }
 
 int main(void)
 {
+    test_version_and_bounds();
     test_ids();
+    test_room_for_ids();
     test_refused_ids();
     test_refused_texts();
     test_read_texts();
-    test_first_of_texts();
+    test_maps_of_texts();
     test_ranges();
     test_refused_rules();
     test_names();
+    test_room_for_names();
     test_room_that_always_serves();
+    test_equal_rules();
+    test_pointers_to_nothing();
+    test_texts_of_nothing();
     test_no_map();
-    test_shares();
+    test_copies();
     test_rounds();
     test_threads();
-    printf("%d passed, %d failed\n", passed, failed);
-    return failed || !passed;
+    return counted();
 }

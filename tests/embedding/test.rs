@@ -1,5 +1,6 @@
 //! What the tables of the program cannot show of the Rust file: the types and errors of virtiofsd, names that are
-//! borrowed or owned, and many threads on one map. What is wanted is worked out by hand from the documentation.
+//! borrowed or owned, maps that are equal, and many threads on one map. What is wanted is worked out by hand from the
+//! documentation.
 
 #[path = "../../bindings/rust/virtiofs_map.rs"]
 mod virtiofs_map;
@@ -14,7 +15,7 @@ use virtiofs_map::idmap::{GidMap, IdMapError, UidMap};
 use virtiofs_map::soft_idmap::cmdline;
 use virtiofs_map::soft_idmap::id_types::{GidOffset, UidOffset};
 use virtiofs_map::soft_idmap::{GuestGid, GuestId, GuestUid, HostGid, HostId, HostUid, Id, IdMap, MapError};
-use virtiofs_map::xattrmap::{AppliedRule, Error, ErrorKind, PatternField, XattrMap};
+use virtiofs_map::xattrmap::{AppliedRule, Audit, Error, ErrorKind, PatternField, XattrMap};
 
 type Users = IdMap<GuestUid, HostUid>;
 type Groups = IdMap<GuestGid, HostGid>;
@@ -197,7 +198,6 @@ fn a_forbidden_id_is_an_error_of_the_system() {
     assert!(error.get_ref().unwrap().is::<MapError<GuestUid>>());
 }
 
-/// As many specifications as lookups go through one by one, one more, and many more.
 #[test]
 fn long_lists_answer_as_short_ones_do() {
     for count in [0, 1, 3, 4, 5, 8, 9, 64, 1000] {
@@ -209,6 +209,10 @@ fn long_lists_answer_as_short_ones_do() {
         }
         assert_eq!(map.map_host(HostUid::from(5000000)).unwrap(), GuestUid::from(5000000));
     }
+    let map = many();
+    let copy = map.clone();
+    drop(map);
+    assert_eq!(copy.map_guest(GuestUid::from(9990)).unwrap(), HostUid::from(5000999));
     let list = (0..20).map(|i| cmdline::IdMap::ForbidGuest { from_guest: 2 * i, count: 1 });
     let map = Groups::try_from(list.collect::<Vec<_>>()).unwrap();
     assert!(map.map_guest(GuestGid::from(38)).is_err() && map.map_guest(GuestGid::from(39)).is_ok());
@@ -450,6 +454,63 @@ fn lists_of_any_length_are_answered() {
     assert_eq!(listed(&map, &list), wanted);
 }
 
+/// Equal rules, in whatever words; and other rules that do the same to all names.
+#[test]
+fn maps_are_equal_where_their_rules_are() {
+    let one = rules(":map:trusted.:user.virtiofs.:");
+    let same = ":prefix:all:trusted.:user.virtiofs.: /bad/all/user.virtiofs./trusted./ =ok=all===";
+    assert_eq!(one, rules(same));
+    assert_eq!(one.clone(), one);
+    assert_ne!(one, rules(":map:trusted.:user.virtiofs:"));
+    assert_ne!(rules(":ok:all:::"), rules(":ok:all::: :bad:all:::"));
+    assert_ne!(rules(":bad:all:::"), rules(":unsupported:all:::"));
+    assert_ne!(rules(":ok:client:a::"), rules(":ok:all:a::"));
+    assert_ne!(rules(":ok:all:a:b:"), rules(":ok:all:b:a:"));
+    assert_eq!(format!("{one:?}"), "XattrMap { .. }");
+}
+
+// ---- questions about all names ----
+
+fn no(text: &[u8]) -> Audit {
+    Audit::No(name(text))
+}
+
+#[test]
+fn a_map_is_terminated_or_not() {
+    for (text, wanted) in [
+        (":ok:all:::", true),
+        (":map:a:b:", true),
+        (":ok:client:::", false),
+        (":ok:client:a:: :ok:server::a:", false),
+    ] {
+        assert_eq!(rules(text).is_terminated(), wanted, "{text}");
+    }
+}
+
+#[test]
+fn audits_tell_the_least_name() {
+    assert_eq!(rules(":map:trusted.:user.virtiofs.:").audit().unwrap(), Audit::Yes);
+    assert_eq!(rules(":prefix:client:trusted.:user.: :ok:all:::").audit().unwrap(), no(b"trusted."));
+    assert_eq!(rules(":ok:client:::").audit().unwrap(), no(b"\x01"));
+    assert_eq!(rules(":map:trusted.:user.virtiofs.:").audit_listed().unwrap(), no(b"user.virtiofs."));
+    assert_eq!(rules(":map::a.:").audit_listed().unwrap(), Audit::Yes);
+    assert_eq!(rules(":map::a.:").keeps_apart(&rules(":map::b.:")).unwrap(), Audit::Yes);
+    assert_eq!(rules(":map::a.:").keeps_apart(&rules(":map::a.b.:")).unwrap(), no(b"b."));
+    assert_eq!(rules(":map::a.b.:").keeps_apart(&rules(":map::a.:")).unwrap(), no(b""));
+    let map = rules(":ok:all:::");
+    assert_eq!(map.keeps_apart(&map).unwrap(), no(b"\x01"));
+}
+
+/// The least name has just the room that a decision asks for first, one byte more, and many.
+#[test]
+fn names_of_audits_have_any_length() {
+    for len in [254, 255, 256, 257, 258, 5000] {
+        let key = "k".repeat(len);
+        let map = rules(&format!(":prefix:client:{key}:user.: :ok:all:::"));
+        assert_eq!(map.audit().unwrap(), no(key.as_bytes()), "{len}");
+    }
+}
+
 // ---- threads ----
 
 const THREADS: u32 = 8;
@@ -516,9 +577,8 @@ fn maps_come_and_go() {
     }
 }
 
-/// A lookup in the last moments of a thread finds that the thread's list of handles is gone.
 #[test]
-fn more_maps_than_places_are_asked_in_turns() {
+fn many_maps_are_asked_in_turns() {
     let mut maps: Vec<XattrMap> = (0..30).map(|i| rules(&format!(":map::user.{i}.:"))).collect();
     let ask_all = |maps: &[XattrMap], step: usize| {
         maps.iter().enumerate().all(|(i, map)| client(map, c"x") == pass(format!("user.{}.x", step * i).as_bytes()))
@@ -528,7 +588,7 @@ fn more_maps_than_places_are_asked_in_turns() {
         let others: Vec<_> = (0..4).map(|_| scope.spawn(|| (0..100).all(|_| ask_all(&maps, 1)))).collect();
         assert!(others.into_iter().all(|other| other.join().unwrap()));
     });
-    // (every other one goes, and new ones come, whose numbers have the same places)
+    // (every other one goes, and new ones come)
     let mut i = 0;
     maps.retain(|_| (i % 2 == 0, i += 1).0);
     let fresh: Vec<XattrMap> = (0..30).map(|i| rules(&format!(":map::user.{i}.:"))).collect();

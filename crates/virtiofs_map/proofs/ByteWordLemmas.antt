@@ -1,7 +1,8 @@
 -- A number of eight bytes is read back from its bytes, wherever they stand, and a row of three from its place among rows.
-use Rattle.std.proofs.Common.{◌≡◌, ℕ, ◌+◌, ◌*◌, ◌/◌, ◌%◌, ◌^◌, ◌<◌, zero, suc, List, [], ◌∷◌, ◌++◌, length, get_or, take, drop, refl, ap, subst, ◌∙◌, arith, append_assoc, append-nil, length-append}
+use Rattle.std.proofs.Common.{◌≡◌, ℕ, ◌+◌, ◌*◌, ◌/◌, ◌%◌, ◌^◌, ◌<◌, zero, suc, List, [], ◌∷◌, ◌++◌, All, length, get_or, take, drop, refl, ap, subst, ◌∙◌, arith, append_assoc, append-nil, length-append}
 use Rattle.std.proofs.Math.Seq.{drop-append-add, take-append_seam}
 use Rattle.std.proofs.lemmas.Nat.{from_le_bytes-to_le_bytes_8}
+use Rattle.std.proofs.lemmas.List.Elements.{All-head, All-tail}
 use Rattle.std.specs.Int.{w64, from_le_bytes}
 use Rattle.std.specs.List.{flat_map}
 use Rattle.virtiofs_map.specs.ByteWordParts.{word_at, word_bytes}
@@ -79,3 +80,25 @@ module _ {X : Type 0} (row : X → List ℕ) (size : (x : X) → length (row x) 
   row_at (x ∷ xs) zero d below =
       subst (λ (n : ℕ). take n (row x ++ flat_map row xs) ≡ row x) (size x) (take-append_seam (row x) (flat_map row xs))
   row_at (x ∷ xs) (suc at) d below = ap (take 24) (drop_row x (flat_map row xs) at) ∙ row_at xs at d (omega arith)
+
+-- ---- numbers one after the other
+
+pub length-words : (ws : List ℕ) → length (flat_map word_bytes ws) ≡ 8 * length ws
+length-words [] = refl
+length-words (w ∷ ws) =
+    let split = length-append (word_bytes w) (flat_map word_bytes ws) in
+    let one = length-word_bytes w in
+    let more = length-words ws in
+    omega arith
+
+pub word_of_words : (ws rest : List ℕ) (k : ℕ) → k < length ws → All (λ w. w < 2 ^ 64) ws → word_at (flat_map word_bytes ws ++ rest) (8 * k) ≡ get_or ws k 0
+word_of_words [] rest k below fit = absurd (omega arith)
+word_of_words (w ∷ ws) rest zero below fit =
+    ap (λ (l : List ℕ). word_at l 0) (append_assoc (word_bytes w) (flat_map word_bytes ws) rest)
+    ∙ word_at-front w (flat_map word_bytes ws ++ rest) (All-head (λ w. w < 2 ^ 64) w ws fit)
+word_of_words (w ∷ ws) rest (suc k) below fit =
+    let place : 8 * suc k ≡ 8 + 8 * k = omega arith in
+    ap (λ (l : List ℕ). word_at l (8 * suc k)) (append_assoc (word_bytes w) (flat_map word_bytes ws) rest)
+    ∙ ap (word_at (word_bytes w ++ (flat_map word_bytes ws ++ rest))) place
+    ∙ word_at-next w (flat_map word_bytes ws ++ rest) (8 * k)
+    ∙ word_of_words ws rest k (omega arith) (All-tail (λ w. w < 2 ^ 64) w ws fit)

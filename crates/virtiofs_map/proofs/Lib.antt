@@ -28,6 +28,10 @@ mod ListingLemmas
 mod MadeRuleLemmas
 mod MapRuleLemmas
 mod MappingLawLemmas
+mod NamesDecisionLemmas
+mod NamesImageLemmas
+mod NamesListLemmas
+mod NamesMadeLemmas
 mod NamespaceLemmas
 mod NamespacePrintedLemmas
 mod NoZeroLemmas
@@ -40,6 +44,7 @@ mod PlacedLemmas
 mod ReadSoFarLemmas
 mod ReaderLemmas
 mod RowLemmas
+mod RuleRowLemmas
 mod RuleEqualityLemmas
 mod RuleFieldLemmas
 mod RuleReadingLemmas

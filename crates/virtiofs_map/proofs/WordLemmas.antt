@@ -1,14 +1,16 @@
 -- What the words of a map say of a number, by a search of its ranges.
-use Rattle.std.proofs.Common.{rules, [], ◌≡◌, inl, inr, ℕ, zero, suc, ◌+◌, ◌-◌, ◌/◌, ◌<◌, ◌≤◌, List, length, get_or, slice_index, AllPairs, All, Contains, Some, None, slice_get, min, refl, sym, ◌∙◌, arith, add-one}
+use Rattle.std.proofs.Common.{rules, [], ◌≡◌, inl, inr, ℕ, zero, suc, ◌+◌, ◌-◌, ◌/◌, ◌<◌, ◌≤◌, List, length, get_or, slice_index, AllPairs, All, Contains, Option, Some, None, slice_get, min, subst, refl, sym, ◌∙◌, arith, add-one}
 use Rattle.std.proofs.lemmas.Bool.{cases_order}
 use Rattle.std.proofs.lemmas.List.Elements.{All-contains, Contains-get_or}
 use Rattle.std.proofs.lemmas.Option.{same_Some, slice_get-get_or}
-use Rattle.virtiofs_map.specs.Build.{HasTarget}
+use Rattle.virtiofs_map.specs.Build.{HasTarget, Accepted}
+use Rattle.virtiofs_map.specs.ImageAnswer.{SaysValue, SaysIn, SaysLeadsBack}
 use Rattle.virtiofs_map.specs.LookupSteps.{acting, halvings_within, binary_digits}
 use Rattle.virtiofs_map.specs.Mapping.{first_of, count_of, EntryCovers, target_of, Becomes}
+use Rattle.virtiofs_map.specs.MappingLaws.{IsMappedBothWays}
 use Rattle.virtiofs_map.specs.RangeParts.{Precedes, HasNumbers, AreRanges}
 use Rattle.virtiofs_map.specs.Steps.{count_after, CountsBetween}
-use Rattle.virtiofs_map.specs.WordParts.{Table, IsAt, HasRanges, IsOfWords, table_in, before, Searches, SaysEntry, SaysIn}
+use Rattle.virtiofs_map.specs.WordParts.{Table, IsAt, HasRanges, IsOfWords, table_in, before, Searches, SaysEntry}
 use Rattle.virtiofs_map.specs.declared.cmdline.IdMap.{IdMap}
 use Rattle.virtiofs_map.specs.declared.soft_idmap.entry.Direction.{Direction}
 use Rattle.virtiofs_map.specs.declared.soft_idmap.entry.Direction.TheVariants.{GuestToHost, HostToGuest}
@@ -16,6 +18,7 @@ use Rattle.virtiofs_map.specs.declared.soft_idmap.entry.Entry.{Entry}
 use Rattle.virtiofs_map.specs.declared.soft_idmap.entry.Entry.TheVariants.{Fail}
 use Rattle.virtiofs_map.specs.declared.soft_idmap.row.Answer.{Answer}
 use Rattle.virtiofs_map.specs.declared.soft_idmap.row.Answer.TheVariants as answers
+use Rattle.virtiofs_map.proofs.MappingLawLemmas.{HasOneValue-accepted, LeadsBack-mapped}
 use Rattle.virtiofs_map.proofs.SearchLemmas.{Searched-start, Searched-right, Searched-left, Searched-wider, Searched-finds}
 use Rattle.virtiofs_map.proofs.StoredLemmas.{Becomes-itself, Becomes-by_range}
 
@@ -224,3 +227,15 @@ SaysIn-fails specs direction n (value, becomes, is) = rw is at becomes
 
 pub SaysIn-no_image : (specs : List IdMap) (direction : Direction) (n : ℕ) → ¬ SaysIn specs direction n answers.NoImage
 SaysIn-no_image specs direction n (value, becomes, is) = is
+
+-- an accepted list makes one thing of a number, so the answer says that
+pub SaysIn-exact : (specs : List IdMap) (direction : Direction) (n : ℕ) (value : Option ℕ) (answer : Answer) → Accepted specs → SaysIn specs direction n answer → Becomes specs direction n value → SaysValue value answer
+SaysIn-exact specs direction n value answer accepted (own, becomes, says) other =
+    subst (λ (v : Option ℕ). SaysValue v answer) (HasOneValue-accepted specs accepted direction n own value becomes other) says
+
+pub SaysIn-leads_back : (specs : List IdMap) (direction : Direction) (n : ℕ) (answer : Answer) → Accepted specs → IsMappedBothWays specs direction n → SaysIn specs direction n answer → SaysLeadsBack specs direction n answer
+SaysIn-leads_back specs direction n (answers.Becomes m) accepted mapped (value, becomes, is) =
+    rw is at (LeadsBack-mapped specs direction n value accepted mapped becomes)
+SaysIn-leads_back specs direction n answers.Fails accepted mapped (value, becomes, is) =
+    rw is at (LeadsBack-mapped specs direction n value accepted mapped becomes)
+SaysIn-leads_back specs direction n answers.NoImage accepted mapped (value, becomes, is) = is

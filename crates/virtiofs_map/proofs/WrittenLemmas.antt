@@ -1,10 +1,14 @@
 -- What was written for the entries that were placed is the image of a map.
-use Rattle.std.proofs.Common.{◌≡◌, ℕ, ◌+◌, ◌*◌, ◌<◌, ◌≤◌, List, length, map, slice_index, slice_get, Some, sym, ◌∙◌, arith}
+use Rattle.std.proofs.Common.{◌≡◌, ℕ, ◌+◌, ◌*◌, ◌<◌, ◌≤◌, List, ◌++◌, length, drop, map, slice_index, slice_get, Some, refl, sym, ap, ◌∙◌, arith}
+use Rattle.std.proofs.Math.Seq.{take-length, take-append_seam, drop-append_seam}
 use Rattle.std.proofs.lemmas.List.{length-map}
+use Rattle.std.proofs.lemmas.List.Sums.{count_by-le-length}
 use Rattle.std.proofs.lemmas.Option.{slice_get_within}
 use Rattle.virtiofs_map.specs.Build.{Accepted}
-use Rattle.virtiofs_map.specs.Image.{IsImage}
-use Rattle.virtiofs_map.specs.RangeParts.{PlacesInOrder}
+use Rattle.virtiofs_map.specs.Image.{IsImage, image_length, IsWritten}
+use Rattle.virtiofs_map.specs.LookupSteps.{covers_some, acting}
+use Rattle.virtiofs_map.specs.Mapping.{entry_of}
+use Rattle.virtiofs_map.specs.RangeParts.{PlacesInOrder, ArePlaced}
 use Rattle.virtiofs_map.specs.WordParts.{AreFirstsBelow, AreRowsBelow, KeepsBefore, IsAt, HasRanges}
 use Rattle.virtiofs_map.specs.declared.cmdline.IdMap.{IdMap}
 use Rattle.virtiofs_map.specs.declared.soft_idmap.entry.Direction.{Direction}
@@ -70,3 +74,34 @@ IsImage-written specs guests hosts words accepted from_guest from_host kind many
 pub placed-count : (specs : List IdMap) (direction : Direction) (placed : List Placed) → Accepted specs → PlacesInOrder specs direction placed → length placed < 4294967296
 placed-count specs direction placed accepted sorted =
     omega (arith, AreRanges-count (entries placed) (AreRanges-placed specs direction placed accepted sorted), length-map placed (λ (one : Placed). one.entry))
+
+-- and as many as specifications act
+pub placed-acting : (specs : List IdMap) (direction : Direction) (placed : List Placed) → PlacesInOrder specs direction placed → length placed ≡ acting specs direction
+placed-acting specs direction placed sorted = sorted.places.counted ∙ ap (λ (list : List IdMap). acting list direction) (take-length specs)
+
+-- how long an image is
+pub image-length : (specs : List IdMap) (guests hosts : List Placed) (len : ℕ) → ArePlaced specs guests hosts → len ≡ 3 + 4 * length guests + 4 * length hosts → len ≡ image_length specs
+image-length specs guests hosts len placed is =
+    rw (placed-acting specs GuestToHost guests placed.from_guest, placed-acting specs HostToGuest hosts placed.from_host) at is
+
+pub image-bound : (specs : List IdMap) → image_length specs ≤ 3 + 8 * length specs
+image-bound specs =
+    let guests : acting specs GuestToHost ≤ length specs = count_by-le-length (λ (spec : IdMap). covers_some (entry_of spec GuestToHost)) specs in
+    let hosts : acting specs HostToGuest ≤ length specs = count_by-le-length (λ (spec : IdMap). covers_some (entry_of spec HostToGuest)) specs in
+    omega arith
+
+-- an image that was written to a front
+pub IsWritten-front : (specs : List IdMap) (old front new : List ℕ) (len : ℕ) → len ≡ image_length specs → len ≤ length old → length front ≡ len → new ≡ front ++ drop len old → IsImage specs front → IsWritten specs old new
+IsWritten-front specs old front new len is within long made image = record {
+  image = λ _. rw (← is, made, ← long, take-append_seam) image;
+  rest = λ _. rw (← is, made, ← long) (drop-append_seam front (drop (length front) old));
+  no_room = λ short. absurd (omega arith);
+}
+
+-- and where there is no room for one
+pub IsWritten-none : (specs : List IdMap) (words : List ℕ) (len : ℕ) → len ≡ image_length specs → length words < len → IsWritten specs words words
+IsWritten-none specs words len is short = record {
+  image = λ within. absurd (omega arith);
+  rest = λ within. absurd (omega arith);
+  no_room = λ _. refl;
+}

@@ -8,6 +8,7 @@ pub mod ByteWordParts
 pub mod FirstRule
 pub mod GrowthParts
 pub mod Image
+pub mod ImageAnswer
 pub mod Listing
 pub mod LookupAnswers
 pub mod LookupSteps
@@ -15,6 +16,8 @@ pub mod MapRule
 pub mod Mapping
 pub mod MappingLaws
 pub mod Names
+pub mod NamesImage
+pub mod NamesImageParts
 pub mod NamespaceParts
 pub mod NamespaceText
 pub mod Numeral

@@ -84,6 +84,12 @@ pub record PlacesInOrder (specs : List IdMap) (direction : Direction) (placed : 
   pub places : Places specs direction (length specs) placed
   pub rising : IsNonDecreasingBy (λ one. first_of one.entry) placed
 
+-- the specifications are accepted, and these are their entries in the two directions
+pub record ArePlaced (specs : List IdMap) (guests hosts : List Placed) : Type 0 where
+  pub accepted : Accepted specs
+  pub from_guest : PlacesInOrder specs GuestToHost guests
+  pub from_host : PlacesInOrder specs HostToGuest hosts
+
 -- the entries of the specifications up to that number of them precede one another
 abbrev pub ArePrecedingBelow : ℕ → List Placed → Type 0
 ArePrecedingBelow count placed =

@@ -2,7 +2,8 @@
 -- IsImage cite these words.
 use Rattle.std.specs.Prelude.{◌≡◌, ◌⊎◌, ℕ, zero, suc, ◌+◌, ◌*◌, ◌<◌, ◌≤◌, List, length, slice_index, slice_get, Option, Some, None}
 use Rattle.virtiofs_map.specs.Build.{Accepted}
-use Rattle.virtiofs_map.specs.Mapping.{first_of, EntryCovers, target_of, Becomes}
+use Rattle.virtiofs_map.specs.ImageAnswer.{SaysValue}
+use Rattle.virtiofs_map.specs.Mapping.{first_of, EntryCovers, target_of}
 use Rattle.virtiofs_map.specs.RangeParts.{AreRanges, Stores, Searched}
 use Rattle.virtiofs_map.specs.declared.cmdline.IdMap.{IdMap}
 use Rattle.virtiofs_map.specs.declared.soft_idmap.entry.Direction.{Direction}
@@ -10,7 +11,6 @@ use Rattle.virtiofs_map.specs.declared.soft_idmap.entry.Direction.TheVariants.{G
 use Rattle.virtiofs_map.specs.declared.soft_idmap.entry.Entry.{Entry}
 use Rattle.virtiofs_map.specs.declared.soft_idmap.entry.Entry.TheVariants.{Map, Squash, Fail}
 use Rattle.virtiofs_map.specs.declared.soft_idmap.row.Answer.{Answer}
-use Rattle.virtiofs_map.specs.declared.soft_idmap.row.Answer.TheVariants as answers
 
 -- ---- the words
 
@@ -109,18 +109,8 @@ Searches table n low high =
 
 -- ---- an answer
 
--- the answer says that of a number
-abbrev pub SaysValue : Option ℕ → Answer → Type 0
-SaysValue value (answers.Becomes n) = value ≡ Some n
-SaysValue value answers.Fails = value ≡ None
-SaysValue value answers.NoImage = ⊥
-
 -- the answer says what the range makes of a number that it covers, or that the number stays itself
 abbrev pub SaysEntry : Entry → ℕ → Answer → Type 0
 SaysEntry entry n answer =
     (EntryCovers entry n × SaysValue (target_of entry n) answer)
     ⊎ ((¬ EntryCovers entry n) × SaysValue (Some n) answer)
-
--- the answer says what the specifications make of a number
-abbrev pub SaysIn : List IdMap → Direction → ℕ → Answer → Type 0
-SaysIn specs direction n answer = (value : Option ℕ) × Becomes specs direction n value × SaysValue value answer

@@ -26,6 +26,7 @@ use words::{Ranges, Words};
 mod build;
 mod entry;
 mod errors;
+pub mod image;
 pub mod laws;
 mod lookup;
 mod placed;

@@ -42,6 +42,7 @@ mod client;
 mod errors;
 mod fronts;
 mod growth;
+pub mod image;
 pub mod laws;
 mod listed;
 mod lookup;

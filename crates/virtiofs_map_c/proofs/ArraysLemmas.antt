@@ -1,6 +1,7 @@
 -- The array is read one specification after the other; it says one list at most, and has one fault at most.
-use Rattle.std.proofs.Common.{◌≡◌, ℕ, ◌+◌, ◌<◌, List, [], ◌∷◌, ◌++◌, length, take, get_or, Option, Some, None, IsSomeAnd, false, sym, ap, subst}
+use Rattle.std.proofs.Common.{◌≡◌, ℕ, ◌+◌, ◌<◌, List, [], ◌∷◌, ◌++◌, length, take, get_or, Option, Some, None, IsSomeAnd, sym, ap, subst}
 use Rattle.std.proofs.lemmas.Option.{slice_get-get_or}
+use Rattle.std.proofs.lemmas.Slice.Zip.{AllZip-long}
 use Rattle.virtiofs_map.specs.Build.{Accepted, BuildFault, HasFirstFault}
 use Rattle.virtiofs_map.specs.Refusal.{OutOfMemoryOr}
 use Rattle.virtiofs_map.specs.declared.cmdline.IdMap.{IdMap as Specification}
@@ -20,6 +21,10 @@ pub AreSaid-more : (specs : List Spec) (list : List Specification) (i : ℕ) (d 
     → AreSaid (take (i + 1) specs) (list ++ one ∷ [])
 AreSaid-more specs list i d one below are here =
     rw (take_more specs i d below) (AllZip-push (λ spec said_one. said spec ≡ Some said_one) (take i specs) list (get_or specs i d) one are (sym here))
+
+-- the list is as long as the array
+pub AreSaid-long : (specs : List Spec) (list : List Specification) → AreSaid specs list → length list ≡ length specs
+AreSaid-long specs list are = AllZip-long (λ spec said_one. said spec ≡ Some said_one) specs list are
 
 -- one whose kind is none, after those that are read
 pub unknown-here : (specs : List Spec) (list : List Specification) (i : ℕ) (d : Spec)
@@ -68,13 +73,9 @@ HasArrayFault-one specs (UnbuiltArray fault) (UnbuiltArray other) first second =
 
 -- ---- what a call tells of an array
 
-pub IsAccepted-made : (specs : List Spec) (list : Option (List Specification)) → IsSomeAnd list (AreSaid specs) → IsSomeAnd list Accepted → IsAccepted specs
-IsAccepted-made specs None are accepted = absurd are
-IsAccepted-made specs (Some list) are accepted = record { list = list; are = are; accepted = accepted }
+pub array_complete : (specs : List Spec) (made : Type 0) (code : ℕ) (told : Fault) → TellsFault (HasArrayFault specs) (IsArrayTold code told) → IsAccepted specs → MakesOrTells made (IsArrayTold code told)
+array_complete specs made code told tells is = refused_complete made (HasArrayFault specs) (IsArrayTold code told) tells (IsAccepted-no_fault specs is)
 
-pub array_complete : (specs : List Spec) (told : Fault) → TellsFault (HasArrayFault specs) (IsArrayTold told) → IsAccepted specs → MakesOrTells false (IsArrayTold told)
-array_complete specs told tells is = refused_complete (HasArrayFault specs) (IsArrayTold told) tells (IsAccepted-no_fault specs is)
-
-pub array_faulty : (specs : List Spec) (told : Fault) → TellsFault (HasArrayFault specs) (IsArrayTold told) → (wrong : ArrayFault) → HasArrayFault specs wrong → TellsThis false (IsArrayTold told) wrong
-array_faulty specs told tells wrong has =
-    refused_faulty (HasArrayFault specs) (IsArrayTold told) tells wrong (λ other it. HasArrayFault-one specs other wrong it has)
+pub array_faulty : (specs : List Spec) (code : ℕ) (told : Fault) → TellsFault (HasArrayFault specs) (IsArrayTold code told) → (wrong : ArrayFault) → HasArrayFault specs wrong → TellsThis (IsArrayTold code told) wrong
+array_faulty specs code told tells wrong has =
+    refused_faulty (HasArrayFault specs) (IsArrayTold code told) tells wrong (λ other it. HasArrayFault-one specs other wrong it has)

@@ -1,5 +1,5 @@
 -- A text of rules in bytes says one list of rules at most, and has one fault at most.
-use Rattle.std.proofs.Common.{◌≡◌, ℕ, List, Option, Some, None, IsSomeAnd, false, refl, ap}
+use Rattle.std.proofs.Common.{◌≡◌, ℕ, List, refl, ap}
 use Rattle.std.specs.Str.{chars}
 use Rattle.virtiofs_map.proofs.ForCallers.{rules_no_fault, rules_one_fault}
 use Rattle.virtiofs_map.specs.Rule.{MappingRule}
@@ -18,15 +18,10 @@ HasBytesFault-one bytes NotUtf8 (OfRules other) first second = absurd (first sec
 HasBytesFault-one bytes (OfRules fault) NotUtf8 first second = absurd (second first.0)
 HasBytesFault-one bytes (OfRules fault) (OfRules other) first second = ap OfRules (rules_one_fault (chars bytes) fault other first.1 second.1)
 
-pub rules_complete : (bytes : List ℕ) (told : Fault) (old new : List ℕ) → TellsFault (HasBytesFault bytes) (IsBytesTold told old new) → (rules : List MappingRule) → BytesSayRules bytes rules → MakesOrTells false (IsBytesTold told old new)
-rules_complete bytes told old new tells rules says =
-    refused_complete (HasBytesFault bytes) (IsBytesTold told old new) tells (λ fault. BytesSayRules-no_fault bytes rules fault says)
+pub rules_complete : (bytes : List ℕ) (made : Type 0) (code : ℕ) (told : Fault) (old new : List ℕ) → TellsFault (HasBytesFault bytes) (IsBytesTold code told old new) → (rules : List MappingRule) → BytesSayRules bytes rules → MakesOrTells made (IsBytesTold code told old new)
+rules_complete bytes made code told old new tells rules says =
+    refused_complete made (HasBytesFault bytes) (IsBytesTold code told old new) tells (λ fault. BytesSayRules-no_fault bytes rules fault says)
 
-pub rules_faulty : (bytes : List ℕ) (told : Fault) (old new : List ℕ) → TellsFault (HasBytesFault bytes) (IsBytesTold told old new) → (wrong : BytesFault) → HasBytesFault bytes wrong → TellsThis false (IsBytesTold told old new) wrong
-rules_faulty bytes told old new tells wrong has =
-    refused_faulty (HasBytesFault bytes) (IsBytesTold told old new) tells wrong (λ other it. HasBytesFault-one bytes other wrong it has)
-
--- a map was made of it
-pub BytesSayRules-made : (bytes : List ℕ) (rules : Option (List MappingRule)) → IsSomeAnd rules (BytesSayRules bytes) → (wrong : BytesFault) → ¬ HasBytesFault bytes wrong
-BytesSayRules-made bytes None says wrong has = says
-BytesSayRules-made bytes (Some rules) says wrong has = BytesSayRules-no_fault bytes rules wrong says has
+pub rules_faulty : (bytes : List ℕ) (code : ℕ) (told : Fault) (old new : List ℕ) → TellsFault (HasBytesFault bytes) (IsBytesTold code told old new) → (wrong : BytesFault) → HasBytesFault bytes wrong → TellsThis (IsBytesTold code told old new) wrong
+rules_faulty bytes code told old new tells wrong has =
+    refused_faulty (HasBytesFault bytes) (IsBytesTold code told old new) tells wrong (λ other it. HasBytesFault-one bytes other wrong it has)

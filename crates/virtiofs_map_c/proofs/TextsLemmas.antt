@@ -1,7 +1,8 @@
 -- Texts are read one after the other; they say one list at most, and have one fault at most.
-use Rattle.std.proofs.Common.{◌≡◌, ℕ, ◌+◌, ◌<◌, List, [], ◌∷◌, ◌++◌, length, take, get_or, slice_get, Option, Some, None, IsSomeAnd, false, Bor, refl, sym, ap, subst}
+use Rattle.std.proofs.Common.{◌≡◌, ℕ, ◌+◌, ◌<◌, List, [], ◌∷◌, ◌++◌, length, take, get_or, slice_get, Option, Some, None, IsSomeAnd, Bor, refl, sym, ap, subst}
 use Rattle.std.proofs.lemmas.List.{take_more}
 use Rattle.std.proofs.lemmas.Option.{slice_get-get_or}
+use Rattle.std.proofs.lemmas.Slice.Zip.{AllZip-long}
 use Rattle.std.specs.Option.{option_map}
 use Rattle.std.specs.Str.{chars}
 use Rattle.virtiofs_map.proofs.ForCallers.{AllZip-push, AllZip-one, specification_one_value, specification_no_fault, specification_one_fault, build_no_fault, build_one_fault}
@@ -46,6 +47,10 @@ pub AllSaySpecs-more : (texts : List (Bor (List ℕ))) (list : List Specificatio
     → AllSaySpecs (take (i + 1) texts) (list ++ spec ∷ [])
 AllSaySpecs-more texts list i d spec below say here =
     rw (take_more texts i d below) (AllZip-push Goes (take i texts) list (get_or texts i d) spec say here)
+
+-- the list is as long as the array
+pub AllSaySpecs-long : (texts : List (Bor (List ℕ))) (list : List Specification) → AllSaySpecs texts list → length list ≡ length texts
+AllSaySpecs-long texts list say = AllZip-long Goes texts list say
 
 pub AllSaySpecs-one : (texts : List (Bor (List ℕ))) (list others : List Specification) → AllSaySpecs texts list → AllSaySpecs texts others → list ≡ others
 AllSaySpecs-one = AllZip-one Goes (λ text. SaysSpec-one text.now)
@@ -94,22 +99,18 @@ HasTextsFault-one texts (UnbuiltTexts fault) (UnbuiltTexts other) first second =
 
 -- ---- what a call tells of texts
 
-pub AreAccepted-made : (texts : List (Bor (List ℕ))) (list : Option (List Specification)) → IsSomeAnd list (AllSaySpecs texts) → IsSomeAnd list Accepted → AreAccepted texts
-AreAccepted-made texts None say accepted = absurd say
-AreAccepted-made texts (Some list) say accepted = record { list = list; say = say; accepted = accepted }
+pub texts_complete : (texts : List (Bor (List ℕ))) (made : Type 0) (code : ℕ) (told : Fault) (old new : List ℕ) → TellsFault (HasTextsFault texts) (AreTextsTold code told old new) → AreAccepted texts → MakesOrTells made (AreTextsTold code told old new)
+texts_complete texts made code told old new tells are =
+    refused_complete made (HasTextsFault texts) (AreTextsTold code told old new) tells (AreAccepted-no_fault texts are)
 
-pub texts_complete : (texts : List (Bor (List ℕ))) (told : Fault) (old new : List ℕ) → TellsFault (HasTextsFault texts) (AreTextsTold told old new) → AreAccepted texts → MakesOrTells false (AreTextsTold told old new)
-texts_complete texts told old new tells are =
-    refused_complete (HasTextsFault texts) (AreTextsTold told old new) tells (AreAccepted-no_fault texts are)
+pub texts_faulty : (texts : List (Bor (List ℕ))) (code : ℕ) (told : Fault) (old new : List ℕ) → TellsFault (HasTextsFault texts) (AreTextsTold code told old new) → (wrong : TextsFault) → HasTextsFault texts wrong → TellsThis (AreTextsTold code told old new) wrong
+texts_faulty texts code told old new tells wrong has =
+    refused_faulty (HasTextsFault texts) (AreTextsTold code told old new) tells wrong (λ other it. HasTextsFault-one texts other wrong it has)
 
-pub texts_faulty : (texts : List (Bor (List ℕ))) (told : Fault) (old new : List ℕ) → TellsFault (HasTextsFault texts) (AreTextsTold told old new) → (wrong : TextsFault) → HasTextsFault texts wrong → TellsThis false (AreTextsTold told old new) wrong
-texts_faulty texts told old new tells wrong has =
-    refused_faulty (HasTextsFault texts) (AreTextsTold told old new) tells wrong (λ other it. HasTextsFault-one texts other wrong it has)
+pub text_complete : (bytes : List ℕ) (made : Type 0) (code : ℕ) (told : Fault) (old new : List ℕ) → TellsFault (HasTextFault bytes) (IsTextTold code told old new) → (one : Specification) → SaysSpec bytes one → MakesOrTells made (IsTextTold code told old new)
+text_complete bytes made code told old new tells one says =
+    refused_complete made (HasTextFault bytes) (IsTextTold code told old new) tells (λ fault. SaysSpec-no_fault bytes one fault says)
 
-pub text_complete : (bytes : List ℕ) (told : Fault) (old new : List ℕ) → TellsFault (HasTextFault bytes) (IsTextTold told old new) → (one : Specification) → SaysSpec bytes one → MakesOrTells false (IsTextTold told old new)
-text_complete bytes told old new tells one says =
-    refused_complete (HasTextFault bytes) (IsTextTold told old new) tells (λ fault. SaysSpec-no_fault bytes one fault says)
-
-pub text_faulty : (bytes : List ℕ) (told : Fault) (old new : List ℕ) → TellsFault (HasTextFault bytes) (IsTextTold told old new) → (wrong : TextFault) → HasTextFault bytes wrong → TellsThis false (IsTextTold told old new) wrong
-text_faulty bytes told old new tells wrong has =
-    refused_faulty (HasTextFault bytes) (IsTextTold told old new) tells wrong (λ other it. HasTextFault-one bytes other wrong it has)
+pub text_faulty : (bytes : List ℕ) (code : ℕ) (told : Fault) (old new : List ℕ) → TellsFault (HasTextFault bytes) (IsTextTold code told old new) → (wrong : TextFault) → HasTextFault bytes wrong → TellsThis (IsTextTold code told old new) wrong
+text_faulty bytes code told old new tells wrong has =
+    refused_faulty (HasTextFault bytes) (IsTextTold code told old new) tells wrong (λ other it. HasTextFault-one bytes other wrong it has)

@@ -24,6 +24,15 @@ of_kind kind first to count =
 abbrev pub said : Spec → Option Specification
 said spec = of_kind spec.kind spec.first spec.to spec.count
 
+-- the specification, as C has it
+abbrev pub spec_as_c : Specification → Spec
+spec_as_c (Guest first to count) = record { kind = 0; first = first; to = to; count = count }
+spec_as_c (Host first to count) = record { kind = 1; first = first; to = to; count = count }
+spec_as_c (SquashGuest first to count) = record { kind = 2; first = first; to = to; count = count }
+spec_as_c (SquashHost first to count) = record { kind = 3; first = first; to = to; count = count }
+spec_as_c (Bidirectional guest host count) = record { kind = 4; first = guest; to = host; count = count }
+spec_as_c (ForbidGuest first count) = record { kind = 5; first = first; to = 0; count = count }
+
 -- what is not read of a forbidden range is 0
 abbrev pub HasNoTarget : Spec → Type 0
 HasNoTarget spec = spec.kind ≡ 5 → spec.to ≡ 0

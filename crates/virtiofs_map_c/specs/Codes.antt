@@ -1,4 +1,4 @@
--- The numbers that calls answer, under the names that the header has for them in small letters; YES and NO are `answer_yes` and `answer_no`.
+-- The numbers that calls answer, under the names that the header has for them in small letters.
 use Rattle.std.specs.Prelude.{ℕ}
 
 abbrev pub ok : ℕ
@@ -19,23 +19,17 @@ unsupported = 4
 abbrev pub unterminated : ℕ
 unterminated = 5
 
-abbrev pub answer_yes : ℕ
-answer_yes = 6
-
-abbrev pub answer_no : ℕ
-answer_no = 7
+abbrev pub refused : ℕ
+refused = 6
 
 abbrev pub no_room : ℕ
-no_room = 8
+no_room = 7
 
 abbrev pub no_memory : ℕ
-no_memory = 9
+no_memory = 8
 
 abbrev pub no_map : ℕ
-no_map = 10
+no_map = 9
 
 abbrev pub no_name : ℕ
-no_name = 11
-
-abbrev pub not_accepted : ℕ
-not_accepted = 12
+no_name = 10

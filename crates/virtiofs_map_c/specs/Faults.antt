@@ -5,17 +5,23 @@ use Rattle.virtiofs_map.specs.declared.soft_idmap.entry.Direction.{Direction}
 use Rattle.virtiofs_map.specs.declared.soft_idmap.entry.Direction.TheVariants.{GuestToHost, HostToGuest}
 use Rattle.virtiofs_map.specs.declared.soft_idmap.errors.RangeEnd.{RangeEnd}
 use Rattle.virtiofs_map.specs.declared.soft_idmap.errors.RangeEnd.TheVariants.{Source, Target}
-use Rattle.virtiofs_map_c.specs.Arrays.{ArrayFault, UnknownKind, UnbuiltArray}
+use Rattle.virtiofs_map_c.specs.Arrays.{spec_as_c, ArrayFault, UnknownKind, UnbuiltArray}
+use Rattle.virtiofs_map_c.specs.Codes.{no_memory, refused}
+use Rattle.virtiofs_map_c.specs.declared.arrays.spec.Spec.{Spec}
 use Rattle.virtiofs_map_c.specs.declared.fault.Fault.{Fault}
+
+-- no specification
+abbrev pub no_spec : Spec
+no_spec = record { kind = 0; first = 0; to = 0; count = 0 }
+
+-- a fault at a place, with the bytes that are quoted of the text at fault, and how many it has
+abbrev pub told_at : ℕ → ℕ → ℕ → ℕ → Fault
+told_at kind place quoted wanted =
+    record { kind = kind; direction = 0; end = 0; place = place; expected = 0; seen = 0; quoted = quoted; wanted = wanted; spec = no_spec }
 
 -- a fault that its kind tells whole
 abbrev pub fault_of_kind : ℕ → Fault
-fault_of_kind kind = record { kind = kind; direction = 0; end = 0; place = 0; expected = 0; seen = 0; quoted = 0 }
-
--- a fault of the rule of that number, of which so many bytes are quoted
-abbrev pub fault_of_rule : ℕ → ℕ → ℕ → Fault
-fault_of_rule kind number quoted =
-    record { kind = kind; direction = 0; end = 0; place = number; expected = 0; seen = 0; quoted = quoted }
+fault_of_kind kind = told_at kind 0 0 0
 
 -- nothing is wrong
 abbrev pub no_fault : Fault
@@ -38,13 +44,17 @@ end_number Target = 1
 -- what is told of a list of which no map is made
 abbrev pub build_told : BuildFault → Fault
 build_told (RangeOverflow spec index direction range_end) =
-    record { kind = 4; direction = direction_number direction; end = end_number range_end; place = index; expected = 0; seen = 0; quoted = 0 }
+    record { kind = 4; direction = direction_number direction; end = end_number range_end; place = index; expected = 0; seen = 0; quoted = 0; wanted = 0; spec = spec_as_c spec }
 build_told (Intersects spec index direction) =
-    record { kind = 5; direction = direction_number direction; end = 0; place = index; expected = 0; seen = 0; quoted = 0 }
+    record { kind = 5; direction = direction_number direction; end = 0; place = index; expected = 0; seen = 0; quoted = 0; wanted = 0; spec = spec_as_c spec }
 
 -- what is told of an array, or of want of memory where there is no fault
 abbrev pub array_told : Option ArrayFault → Fault
 array_told None = memory_fault
-array_told (Some (UnknownKind index)) =
-    record { kind = 3; direction = 0; end = 0; place = index; expected = 0; seen = 0; quoted = 0 }
+array_told (Some (UnknownKind index)) = told_at 3 index 0 0
 array_told (Some (UnbuiltArray fault)) = build_told fault
+
+-- the code of a call that failed: want of memory where there is no fault
+abbrev pub failure_code : {F : Type 0} → Option F → ℕ
+failure_code None = no_memory
+failure_code (Some fault) = refused

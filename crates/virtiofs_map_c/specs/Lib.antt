@@ -1,14 +1,10 @@
 pub mod Arrays
 pub mod Codes
 pub mod Faults
-pub mod Handles
 pub mod Ids
-pub mod Kinds
 pub mod Makes
 pub mod Names
-pub mod Plain
 pub mod Ranges
 pub mod Replies
 pub mod Rules
-pub mod Slot
 pub mod Texts

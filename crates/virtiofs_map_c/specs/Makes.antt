@@ -1,45 +1,42 @@
--- What a call tells that makes a map, or shares one.
-use Rattle.std.specs.Prelude.{◌≡◌, ◌⊎◌, ℕ, Bool, IsTrue, List, Option, Some, None}
+-- What a call tells that reads or makes something.
+use Rattle.std.specs.Prelude.{◌≡◌, ◌⊎◌, ℕ, ◌<◌, ◌≤◌, List, length, take, drop, Option, Some, None}
 use Rattle.virtiofs_map.specs.Build.{Accepted}
+use Rattle.virtiofs_map.specs.Image.{IsImage, image_length}
 use Rattle.virtiofs_map.specs.Refusal.{OutOfMemoryOr}
 use Rattle.virtiofs_map.specs.declared.cmdline.IdMap.{IdMap as Specification}
 use Rattle.virtiofs_map_c.specs.Arrays.{ArrayFault, AreSaid}
-use Rattle.virtiofs_map_c.specs.Codes.{ok, no_map, no_memory}
-use Rattle.virtiofs_map_c.specs.Faults.{array_told}
-use Rattle.virtiofs_map_c.specs.Kinds.{uids_in, gids_in, rules_in, only_uids, only_gids, only_names}
+use Rattle.virtiofs_map_c.specs.Codes.{ok, no_room}
+use Rattle.virtiofs_map_c.specs.Faults.{array_told, failure_code}
 use Rattle.virtiofs_map_c.specs.declared.arrays.spec.Spec.{Spec}
 use Rattle.virtiofs_map_c.specs.declared.fault.Fault.{Fault}
-use Rattle.virtiofs_map_c.specs.declared.slot.kept.Kept.{Kept}
 
 -- a fault that there is, is told, or want of memory
 abbrev pub TellsFault : {F : Type 0} → (F → Type 0) → (Option F → Type 0) → Type 0
 TellsFault {F} has is_told = (fault : Option F) × OutOfMemoryOr fault has × is_told fault
 
 -- where there is no fault: what was asked for is made, or want of memory is told
-abbrev pub MakesOrTells : {F : Type 0} → Bool → (Option F → Type 0) → Type 0
-MakesOrTells made is_told = IsTrue made ⊎ is_told None
+abbrev pub MakesOrTells : {F : Type 0} → Type 0 → (Option F → Type 0) → Type 0
+MakesOrTells made is_told = made ⊎ is_told None
 
--- where there is this fault: nothing is made, and the fault is told, or want of memory
-abbrev pub TellsThis : {F : Type 0} → Bool → (Option F → Type 0) → F → Type 0
-TellsThis made is_told fault = (¬ IsTrue made) × (is_told (Some fault) ⊎ is_told None)
+-- where there is this fault, it is told, or want of memory
+abbrev pub TellsThis : {F : Type 0} → (Option F → Type 0) → F → Type 0
+TellsThis is_told fault = is_told (Some fault) ⊎ is_told None
 
--- what is wrong with an array of specifications, or want of memory, is told
-abbrev pub IsArrayTold : Fault → Option ArrayFault → Type 0
-IsArrayTold told fault = told ≡ array_told fault
+-- what is wrong with an array of specifications, or want of memory, is told, with its code
+pub record IsArrayTold (code : ℕ) (told : Fault) (fault : Option ArrayFault) : Type 0 where
+  pub code_told : code ≡ failure_code fault
+  pub numbers : told ≡ array_told fault
 
--- the other handle holds the map too; where there is none, or no memory, it holds what it held
-abbrev pub Shares : {S : Type 0} → Option S → Option S → ℕ → Option S → Type 0
-Shares None old code new = (code ≡ no_map) × (new ≡ old)
-Shares (Some map) old code new = ((code ≡ ok) × (new ≡ Some map)) ⊎ ((code ≡ no_memory) × (new ≡ old))
+-- there was no failure: the map is made, or does not fit
+abbrev pub IsAnswered : ℕ → Type 0
+IsAnswered code = (code ≡ ok) ⊎ (code ≡ no_room)
 
--- both hold maps of one kind that say the same
-pub record IsShared (kept other : Kept) : Type 0 where
-  pub uids : uids_in (Some other) ≡ uids_in (Some kept)
-  pub gids : gids_in (Some other) ≡ gids_in (Some kept)
-  pub rules : rules_in (Some other) ≡ rules_in (Some kept)
-  pub are_uids : only_uids (Some other) ≡ only_uids (Some kept)
-  pub are_gids : only_gids (Some other) ≡ only_gids (Some kept)
-  pub are_names : only_names (Some other) ≡ only_names (Some kept)
+-- The length of the image of the specifications is told. Where it fits it is the front of the words, and the rest of them is as it was; else all of them are.
+pub record TellsImage (specs : List Specification) (old : List ℕ) (code wanted : ℕ) (new : List ℕ) : Type 0 where
+  pub accepted : Accepted specs
+  pub length_told : wanted ≡ image_length specs
+  pub fits : image_length specs ≤ length old → (code ≡ ok) × IsImage specs (take wanted new) × (drop wanted new ≡ drop wanted old)
+  pub does_not_fit : length old < image_length specs → (code ≡ no_room) × (new ≡ old)
 
 -- the array says an accepted list
 pub record IsAccepted (specs : List Spec) : Type 0 where

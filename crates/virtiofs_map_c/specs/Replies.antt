@@ -1,5 +1,5 @@
 -- How an answer in bytes comes to the caller's buffer.
-use Rattle.std.specs.Prelude.{◌≡◌, ℕ, ◌<◌, ◌≤◌, List, ◌++◌, length, drop}
+use Rattle.std.specs.Prelude.{◌≡◌, ℕ, ◌<◌, ◌≤◌, nat_lt, if◌then◌else◌, List, ◌++◌, length, drop}
 use Rattle.virtiofs_map_c.specs.Codes.{no_room}
 
 -- The length is told. Where the bytes fit they are the front of the buffer, and the rest of it is as it was; else all of it is.
@@ -13,6 +13,10 @@ pub record TellsCode (told : ℕ) (old : List ℕ) (code len : ℕ) (new : List 
   pub code_told : code ≡ told
   pub no_length : len ≡ 0
   pub untouched : new ≡ old
+
+-- that many bytes, where there is room for them, and else none
+abbrev pub fitting : ℕ → ℕ → ℕ
+fitting room count = if nat_lt room count then 0 else count
 
 -- Bytes that are quoted: where they fit they are the front of the buffer, and the rest of it is as it was; else all of it is.
 pub record IsQuoted (bytes old new : List ℕ) : Type 0 where

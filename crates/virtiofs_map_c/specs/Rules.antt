@@ -6,8 +6,8 @@ use Rattle.virtiofs_map.specs.Rule.{MappingRule}
 use Rattle.virtiofs_map.specs.RuleText.{SaysRules}
 use Rattle.virtiofs_map.specs.RulesFault.{RulesFault, NoRules, InRule, NotOfText, RuleFault, InvalidScope, InvalidType, IncompleteRule, MapRuleViolation, NulInPattern, HasRulesFault, rules_fault_of}
 use Rattle.virtiofs_map.specs.declared.xattrmap.errors.PatternField.TheVariants.{Key, Prepend}
-use Rattle.virtiofs_map_c.specs.Faults.{no_fault, memory_fault, fault_of_kind, fault_of_rule}
-use Rattle.virtiofs_map_c.specs.Replies.{IsQuoted}
+use Rattle.virtiofs_map_c.specs.Faults.{no_fault, memory_fault, fault_of_kind, told_at, failure_code}
+use Rattle.virtiofs_map_c.specs.Replies.{IsQuoted, fitting}
 use Rattle.virtiofs_map_c.specs.declared.fault.Fault.{Fault}
 use Rattle.virtiofs_map_c.specs.declared.names.reading.ReadError.{ReadError}
 use Rattle.virtiofs_map_c.specs.declared.names.reading.ReadError.TheVariants as errors
@@ -49,13 +49,14 @@ rule_quoted IncompleteRule = []
 rule_quoted MapRuleViolation = []
 rule_quoted (NulInPattern field) = []
 
--- what is told of what is wrong with a text of rules, or of want of memory
-abbrev pub bytes_told : Option BytesFault → Fault
-bytes_told None = memory_fault
-bytes_told (Some NotUtf8) = fault_of_kind 2
-bytes_told (Some (OfRules NoRules)) = fault_of_kind 16
-bytes_told (Some (OfRules (InRule k fault))) = fault_of_rule (rule_kind fault) k (length (rule_quoted fault))
-bytes_told (Some (OfRules NotOfText)) = no_fault
+-- what is told of what is wrong with a text of rules, or of want of memory, where there is room for so many bytes
+abbrev pub bytes_told : ℕ → Option BytesFault → Fault
+bytes_told room None = memory_fault
+bytes_told room (Some NotUtf8) = fault_of_kind 2
+bytes_told room (Some (OfRules NoRules)) = fault_of_kind 16
+bytes_told room (Some (OfRules (InRule k fault))) =
+    told_at (rule_kind fault) k (fitting room (length (rule_quoted fault))) (length (rule_quoted fault))
+bytes_told room (Some (OfRules NotOfText)) = no_fault
 
 -- what is quoted of it
 abbrev pub bytes_quoted : Option BytesFault → List ℕ
@@ -66,6 +67,7 @@ bytes_quoted (Some (OfRules (InRule k fault))) = rule_quoted fault
 bytes_quoted (Some (OfRules NotOfText)) = []
 
 -- what is wrong with a text of rules, or want of memory, is told and quoted
-pub record IsBytesTold (told : Fault) (old new : List ℕ) (fault : Option BytesFault) : Type 0 where
-  pub numbers : told ≡ bytes_told fault
+pub record IsBytesTold (code : ℕ) (told : Fault) (old new : List ℕ) (fault : Option BytesFault) : Type 0 where
+  pub code_told : code ≡ failure_code fault
+  pub numbers : told ≡ bytes_told (length old) fault
   pub bytes : IsQuoted (bytes_quoted fault) old new

@@ -7,8 +7,8 @@ use Rattle.std.specs.Str.{chars, IsUtf8}
 use Rattle.virtiofs_map.specs.Build.{Accepted, BuildFault, HasFirstFault, build_fault_of}
 use Rattle.virtiofs_map.specs.SpecificationText.{Says, SpecificationFault, InvalidPrefix, InvalidLength, InvalidValue, HasSpecificationFault, specification_fault_of}
 use Rattle.virtiofs_map.specs.declared.cmdline.IdMap.{IdMap as Specification}
-use Rattle.virtiofs_map_c.specs.Faults.{memory_fault, build_told}
-use Rattle.virtiofs_map_c.specs.Replies.{IsQuoted}
+use Rattle.virtiofs_map_c.specs.Faults.{told_at, memory_fault, build_told, failure_code}
+use Rattle.virtiofs_map_c.specs.Replies.{IsQuoted, fitting}
 use Rattle.virtiofs_map_c.specs.declared.fault.Fault.{Fault}
 use Rattle.virtiofs_map_c.specs.declared.texts.errors.TextError.{TextError}
 use Rattle.virtiofs_map_c.specs.declared.texts.errors.TextError.TheVariants as text_errors
@@ -36,16 +36,15 @@ abbrev pub text_fault_of : TextError → Option TextFault
 text_fault_of text_errors.NotUtf8 = Some NotUtf8
 text_fault_of (text_errors.Spec error) = option_map OfText (specification_fault_of error)
 
--- what is told of the text at that place
-abbrev pub fault_told : ℕ → TextFault → Fault
-fault_told place NotUtf8 =
-    record { kind = 2; direction = 0; end = 0; place = place; expected = 0; seen = 0; quoted = 0 }
-fault_told place (OfText (InvalidPrefix word)) =
-    record { kind = 6; direction = 0; end = 0; place = place; expected = 0; seen = 0; quoted = length (encode_utf8_all word) }
-fault_told place (OfText (InvalidLength expected seen)) =
-    record { kind = 7; direction = 0; end = 0; place = place; expected = expected; seen = seen; quoted = 0 }
-fault_told place (OfText (InvalidValue field)) =
-    record { kind = 8; direction = 0; end = 0; place = place; expected = 0; seen = 0; quoted = length (encode_utf8_all field) }
+-- what is told of the text at that place, where there is room for so many bytes of it
+abbrev pub fault_told : ℕ → ℕ → TextFault → Fault
+fault_told place room NotUtf8 = told_at 2 place 0 0
+fault_told place room (OfText (InvalidPrefix word)) =
+    told_at 6 place (fitting room (length (encode_utf8_all word))) (length (encode_utf8_all word))
+fault_told place room (OfText (InvalidLength expected seen)) =
+    record (told_at 7 place 0 0) { expected = expected; seen = seen }
+fault_told place room (OfText (InvalidValue field)) =
+    told_at 8 place (fitting room (length (encode_utf8_all field))) (length (encode_utf8_all field))
 
 -- what is quoted of it
 abbrev pub fault_quoted : TextFault → List ℕ
@@ -55,15 +54,16 @@ fault_quoted (OfText (InvalidLength expected seen)) = []
 fault_quoted (OfText (InvalidValue field)) = encode_utf8_all field
 
 -- the same, or want of memory
-abbrev pub text_told : ℕ → Option TextFault → Fault
-text_told place fault = option_map_or (fault_told place) fault memory_fault
+abbrev pub text_told : ℕ → ℕ → Option TextFault → Fault
+text_told place room fault = option_map_or (fault_told place room) fault memory_fault
 
 abbrev pub text_quoted : Option TextFault → List ℕ
 text_quoted fault = option_map_or fault_quoted fault []
 
 -- what is wrong with one text, or want of memory, is told and quoted
-pub record IsTextTold (told : Fault) (old new : List ℕ) (fault : Option TextFault) : Type 0 where
-  pub numbers : told ≡ text_told 0 fault
+pub record IsTextTold (code : ℕ) (told : Fault) (old new : List ℕ) (fault : Option TextFault) : Type 0 where
+  pub code_told : code ≡ failure_code fault
+  pub numbers : told ≡ text_told 0 (length old) fault
   pub bytes : IsQuoted (text_quoted fault) old new
 
 -- ---- an array of texts
@@ -106,10 +106,10 @@ texts_fault_of (errors.Text place cause) = option_map (UnreadText place) (text_f
 texts_fault_of (errors.Build error) = option_map UnbuiltTexts (build_fault_of error)
 
 -- what is told of such an array, or want of memory
-abbrev pub texts_told : Option TextsFault → Fault
-texts_told None = memory_fault
-texts_told (Some (UnreadText index fault)) = fault_told index fault
-texts_told (Some (UnbuiltTexts fault)) = build_told fault
+abbrev pub texts_told : ℕ → Option TextsFault → Fault
+texts_told room None = memory_fault
+texts_told room (Some (UnreadText index fault)) = fault_told index room fault
+texts_told room (Some (UnbuiltTexts fault)) = build_told fault
 
 -- what is quoted of it
 abbrev pub texts_quoted : Option TextsFault → List ℕ
@@ -118,6 +118,7 @@ texts_quoted (Some (UnreadText index fault)) = fault_quoted fault
 texts_quoted (Some (UnbuiltTexts fault)) = []
 
 -- what is wrong with an array of texts, or want of memory, is told and quoted
-pub record AreTextsTold (told : Fault) (old new : List ℕ) (fault : Option TextsFault) : Type 0 where
-  pub numbers : told ≡ texts_told fault
+pub record AreTextsTold (code : ℕ) (told : Fault) (old new : List ℕ) (fault : Option TextsFault) : Type 0 where
+  pub code_told : code ≡ failure_code fault
+  pub numbers : told ≡ texts_told (length old) fault
   pub bytes : IsQuoted (texts_quoted fault) old new

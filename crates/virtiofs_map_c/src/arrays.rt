@@ -1,22 +1,23 @@
-//! Specifications of ids as C hands them over, and the maps that are made of them.
-ghost use Rattle.std.specs.Prelude.{◌≡◌, List, IfOk, IfErr, MatchResult};
+//! Specifications of ids as C hands them over.
+ghost use Rattle.std.specs.Prelude.{◌≡◌, Some, IfOk, IfErr};
 ghost use Rattle.std.specs.Option.{option_map_or};
-ghost use Rattle.virtiofs_map.specs.Build.{Accepted, build_fault_of};
-ghost use Rattle.virtiofs_map.specs.Refusal.{IsOutOfMemory, OutOfMemoryOr};
-ghost use Rattle.virtiofs_map.specs.declared.cmdline.IdMap.{IdMap as Specification};
-ghost use Rattle.virtiofs_map_c.specs.Arrays.{said, AreSaid, ArrayFault, HasArrayFault, array_fault_of};
-ghost use Rattle.virtiofs_map_c.specs.Faults.{array_told, build_told, direction_number, memory_fault};
+ghost use Rattle.virtiofs_map.specs.Build.{build_fault_of};
+ghost use Rattle.virtiofs_map.specs.Refusal.{OutOfMemoryOr};
+ghost use Rattle.virtiofs_map_c.specs.Arrays.{said, spec_as_c, HasNoTarget, AreSaid, HasArrayFault, array_fault_of};
+ghost use Rattle.virtiofs_map_c.specs.Faults.{build_told, direction_number, memory_fault, failure_code};
+ghost use Rattle.virtiofs_map_c.specs.Makes.{IsArrayTold};
 
 mod errors;
 mod spec;
 
+use crate::buffer::Quoted;
+use crate::codes::{NO_MEMORY, REFUSED};
 use crate::fault::Fault;
 pub use errors::ArrayError;
 pub use spec::Spec;
 use std::alloc::Global;
 use virtiofs_map::cmdline;
-use virtiofs_map::id_types::{GuestId, HostId};
-use virtiofs_map::soft_idmap::{Direction, IdMap, IdMapBuildError, RangeEnd};
+use virtiofs_map::soft_idmap::{Direction, IdMapBuildError, RangeEnd};
 
 /// The specification that one of C's is; `None` where there is no such kind.
 pub fn read(spec: &Spec) -> Option<cmdline::IdMap>
@@ -63,7 +64,7 @@ pub fn read(spec: &Spec) -> Option<cmdline::IdMap>
 }
 
 /// The specifications of an array, in its order, up to the first whose kind is none.
-fn read_all(alloc: Global, specs: &[Spec]) -> Result<Vec<cmdline::IdMap>, ArrayError>
+pub fn read_all(alloc: Global, specs: &[Spec]) -> Result<Vec<cmdline::IdMap>, ArrayError>
     ensures read { IfOk result (λ list. AreSaid specs.now list.items) }
     ensures refused { IfErr result (λ e.
         OutOfMemoryOr (array_fault_of e) (HasArrayFault specs.now)) }
@@ -78,31 +79,67 @@ fn read_all(alloc: Global, specs: &[Spec]) -> Result<Vec<cmdline::IdMap>, ArrayE
     Ok(list)
 }
 
-/// The map of an array of specifications.
-pub fn map_from<Guest: GuestId<HostType = Host>, Host: HostId<GuestType = Guest>>(
-    alloc: Global,
-    specs: &[Spec],
-) -> Result<IdMap<Guest, Host>, ArrayError>
-    ensures read { IfOk result (AreSaid specs.now) }
-    ensures accepted { IfOk result Accepted }
-    ensures refused { IfErr result (λ e.
-        OutOfMemoryOr (array_fault_of e) (HasArrayFault specs.now)) }
+/// The specification, as C has it.
+pub fn spec_of(spec: cmdline::IdMap) -> Spec
+    ensures same { result ≡ spec_as_c spec }
+    ensures said { said result ≡ Some spec }
+    ensures no_target { HasNoTarget result }
 {
-    let list = read_all(alloc, specs)?;
-    let map = IdMap::try_from(alloc, list)?;
-    Ok(map)
+    let (kind, first, to, count) = match spec {
+        cmdline::IdMap::Guest {
+            from_guest,
+            to_host,
+            count,
+        } => (0, from_guest, to_host, count),
+        cmdline::IdMap::Host {
+            from_host,
+            to_guest,
+            count,
+        } => (1, from_host, to_guest, count),
+        cmdline::IdMap::SquashGuest {
+            from_guest,
+            to_host,
+            count,
+        } => { (2, from_guest, to_host, count) }
+        cmdline::IdMap::SquashHost {
+            from_host,
+            to_guest,
+            count,
+        } => { (3, from_host, to_guest, count) }
+        cmdline::IdMap::Bidirectional { guest, host, count } => (4, guest, host, count),
+        cmdline::IdMap::ForbidGuest { from_guest, count } => (5, from_guest, 0, count),
+    };
+    Spec {
+        kind,
+        first,
+        to,
+        count,
+    }
 }
 
-/// What C is told of an error.
-pub fn told(error: &ArrayError) -> Fault
-    ensures { result ≡ array_told (array_fault_of error.now) }
+/// Tells C of an error, and answers its code.
+pub fn tell(error: &ArrayError, fault: &mut Fault) -> u32
+    ensures { IsArrayTold result fault.new (array_fault_of error.now) }
 {
     match error {
-        ArrayError::UnknownKind { index } => Fault {
-            place: *index,
-            ..Fault::of_kind(3)
-        },
-        ArrayError::Build(error) => told_of_build(error),
+        ArrayError::UnknownKind { index } => {
+            *fault = Fault::at(3, *index, Quoted::nothing());
+            REFUSED
+        }
+        ArrayError::Build(error) => {
+            *fault = told_of_build(error);
+            code_of_build(error)
+        }
+    }
+}
+
+/// The code of a call that makes no map of a list.
+pub fn code_of_build(error: &IdMapBuildError) -> u32
+    ensures { result ≡ failure_code (build_fault_of error.now) }
+{
+    match error {
+        IdMapBuildError::OutOfMemory => NO_MEMORY,
+        IdMapBuildError::RangeOverflow { .. } | IdMapBuildError::Intersects { .. } => REFUSED,
     }
 }
 
@@ -113,10 +150,10 @@ pub fn told_of_build(error: &IdMapBuildError) -> Fault
     match error {
         IdMapBuildError::OutOfMemory => Fault::of_kind(1),
         IdMapBuildError::RangeOverflow {
+            spec,
             index,
             direction,
             range_end,
-            ..
         } => Fault {
             direction: number_of(*direction),
             end: match range_end {
@@ -124,15 +161,17 @@ pub fn told_of_build(error: &IdMapBuildError) -> Fault
                 RangeEnd::Target => 1,
             },
             place: *index,
+            spec: spec_of(*spec),
             ..Fault::of_kind(4)
         },
         IdMapBuildError::Intersects {
+            spec,
             index,
             direction,
-            ..
         } => Fault {
             direction: number_of(*direction),
             place: *index,
+            spec: spec_of(*spec),
             ..Fault::of_kind(5)
         },
     }

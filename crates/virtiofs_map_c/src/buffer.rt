@@ -1,7 +1,8 @@
 //! Answers in bytes, in a buffer of the caller's.
-ghost use Rattle.std.specs.Prelude.{◌≡◌, length, encode_utf8_all};
+ghost use Rattle.std.specs.Prelude.{◌≡◌, ◌++◌, length, encode_utf8_all};
 ghost use Rattle.std.specs.Str.{chars};
-ghost use Rattle.virtiofs_map_c.specs.Replies.{TellsBytes, IsQuoted};
+ghost use Rattle.virtiofs_map_c.specs.Codes.{ok};
+ghost use Rattle.virtiofs_map_c.specs.Replies.{TellsBytes, IsQuoted, fitting};
 
 use crate::codes::{NO_ROOM, OK};
 
@@ -18,6 +19,23 @@ pub fn write(bytes: &[u8], done: u32, out: &mut [u8], len: &mut usize) -> u32
     done
 }
 
+/// Writes two rows of bytes, one after the other, and the length of both; or tells the length that
+/// is needed.
+pub fn write_joined(front: &[u8], rest: &[u8], out: &mut [u8], len: &mut usize) -> u32
+    ensures { TellsBytes (front.now ++ rest.now) ok out.old result len.new out.new }
+{
+    let count = front.len() + rest.len();
+    *len = count;
+    if out.len() < count {
+        return NO_ROOM;
+    }
+    let (first, after) = out.split_at_mut(front.len());
+    first.copy_from_slice(front);
+    let (second, _) = after.split_at_mut(rest.len());
+    second.copy_from_slice(rest);
+    OK
+}
+
 /// Answers a code that comes with no bytes.
 pub fn nothing(code: u32, len: &mut usize) -> u32
     ensures told { result ≡ code }
@@ -27,12 +45,45 @@ pub fn nothing(code: u32, len: &mut usize) -> u32
     code
 }
 
-/// Quotes a text, and tells how many bytes it has.
-pub fn quote(text: &str, quoted: &mut [u8]) -> usize
-    ensures len { result ≡ length (encode_utf8_all (chars text.now)) }
+/// What was quoted of a text.
+#[derive(Clone, Copy)]
+pub struct Quoted {
+    /// How many bytes were written.
+    pub written: usize,
+    /// How many bytes the text has.
+    pub wanted: usize,
+}
+
+impl Quoted {
+    /// Nothing is quoted.
+    pub fn nothing() -> Quoted
+        ensures written { result.written ≡ 0 }
+        ensures wanted { result.wanted ≡ 0 }
+    {
+        Quoted {
+            written: 0,
+            wanted: 0,
+        }
+    }
+}
+
+/// That many bytes, where there is room for them; else none.
+fn fitting(room: usize, count: usize) -> usize
+    ensures { result ≡ fitting room count }
+{
+    if room < count { 0 } else { count }
+}
+
+/// Quotes a text whole, where there is room for it.
+pub fn quote(text: &str, quoted: &mut [u8]) -> Quoted
+    ensures written { result.written
+        ≡ fitting (length quoted.old) (length (encode_utf8_all (chars text.now))) }
+    ensures wanted { result.wanted ≡ length (encode_utf8_all (chars text.now)) }
     ensures quoted { IsQuoted (encode_utf8_all (chars text.now)) quoted.old quoted.new }
 {
-    let mut len = 0;
-    write(text.as_bytes(), OK, quoted, &mut len);
-    len
+    let room = quoted.len();
+    let mut wanted = 0;
+    write(text.as_bytes(), OK, quoted, &mut wanted);
+    let written = fitting(room, wanted);
+    Quoted { written, wanted }
 }

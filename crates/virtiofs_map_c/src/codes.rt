@@ -18,23 +18,17 @@ pub const UNSUPPORTED: u32 = 4;
 /// No rule decides the name, or one of the list.
 pub const UNTERMINATED: u32 = 5;
 
-/// What was asked holds of all names.
-pub const YES: u32 = 6;
-
-/// What was asked does not hold of all names.
-pub const NO: u32 = 7;
+/// What was to be read or made has a fault.
+pub const REFUSED: u32 = 6;
 
 /// The buffer is too short.
-pub const NO_ROOM: u32 = 8;
+pub const NO_ROOM: u32 = 7;
 
 /// A request for memory was refused.
-pub const NO_MEMORY: u32 = 9;
+pub const NO_MEMORY: u32 = 8;
 
-/// The handle holds no map.
-pub const NO_MAP: u32 = 10;
+/// The numbers are no map.
+pub const NO_MAP: u32 = 9;
 
 /// The bytes are no name.
-pub const NO_NAME: u32 = 11;
-
-/// No map is made of the specifications.
-pub const NOT_ACCEPTED: u32 = 12;
+pub const NO_NAME: u32 = 10;

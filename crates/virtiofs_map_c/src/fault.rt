@@ -1,5 +1,8 @@
 //! Why a map is not made, as C gets it.
 
+use crate::arrays::Spec;
+use crate::buffer::Quoted;
+
 /// The first fault. It is C's `struct virtiofs_fault`; what a kind does not use is 0.
 #[repr(C)]
 #[derive(Clone, Copy)]
@@ -16,13 +19,17 @@ pub struct Fault {
     pub expected: usize,
     /// How many numbers there are.
     pub seen: usize,
-    /// How many bytes the text at fault has.
+    /// How many bytes of the text at fault were written.
     pub quoted: usize,
+    /// How many bytes it has.
+    pub wanted: usize,
+    /// The specification at fault.
+    pub spec: Spec,
 }
 
 impl Fault {
     ghost use Rattle.std.specs.Prelude.{◌≡◌};
-    ghost use Rattle.virtiofs_map_c.specs.Faults.{no_fault, fault_of_kind, fault_of_rule};
+    ghost use Rattle.virtiofs_map_c.specs.Faults.{no_fault, fault_of_kind, told_at};
 
     /// Nothing is wrong.
     pub fn none() -> Fault
@@ -43,16 +50,24 @@ impl Fault {
             expected: 0,
             seen: 0,
             quoted: 0,
+            wanted: 0,
+            spec: Spec {
+                kind: 0,
+                first: 0,
+                to: 0,
+                count: 0,
+            },
         }
     }
 
-    /// A fault of a rule: its kind, the number of the rule, and how many bytes are quoted.
-    pub fn of_rule(kind: u32, number: usize, quoted: usize) -> Fault
-        ensures { result ≡ fault_of_rule kind number quoted }
+    /// A fault at a place: its kind, the place, and what is quoted of the text at fault.
+    pub fn at(kind: u32, place: usize, text: Quoted) -> Fault
+        ensures { result ≡ told_at kind place text.written text.wanted }
     {
         Fault {
-            place: number,
-            quoted,
+            place,
+            quoted: text.written,
+            wanted: text.wanted,
             ..Fault::of_kind(kind)
         }
     }

@@ -1,61 +1,204 @@
-//! What lookups of ids share.
-ghost use Rattle.std.specs.Prelude.{◌≡◌, ℕ, Option, Some};
+//! Maps of ids in words of the caller's.
+ghost use Rattle.std.specs.Prelude.{◌≡◌, ◌⊎◌, ℕ, ◌+◌, ◌*◌, ◌≤◌, length, min, List, Option, IfOk, IfErr, OnErr};
+ghost use Rattle.virtiofs_map.specs.Build.{HasFirstFault, build_fault_of};
+ghost use Rattle.virtiofs_map.specs.Image.{HasKind, IsImage};
 ghost use Rattle.virtiofs_map.specs.Mapping.{Becomes};
-ghost use Rattle.virtiofs_map.specs.MappingLaws.{IsMappedBothWays, LeadsBack};
+ghost use Rattle.virtiofs_map.specs.Refusal.{OutOfMemoryOr};
+ghost use Rattle.virtiofs_map.specs.declared.cmdline.IdMap.{IdMap as Specification};
 ghost use Rattle.virtiofs_map.specs.declared.soft_idmap.entry.Direction.TheVariants.{GuestToHost, HostToGuest};
-ghost use Rattle.virtiofs_map_c.specs.Ids.{AnswersId, TellsId, LeadsBackIfMapped};
+ghost use Rattle.virtiofs_map_c.specs.Arrays.{AreSaid, ArrayFault, HasArrayFault, array_fault_of};
+ghost use Rattle.virtiofs_map_c.specs.Codes.{no_map};
+ghost use Rattle.virtiofs_map_c.specs.Faults.{no_fault};
+ghost use Rattle.virtiofs_map_c.specs.Ids.{AnswersId, TellsId, LeadsBackIfMapped, IsIdCode, IsAnswerTold};
+ghost use Rattle.virtiofs_map_c.specs.Makes.{TellsFault, MakesOrTells, TellsThis, IsArrayTold, IsAnswered, TellsImage, IsAccepted};
+ghost use Rattle.virtiofs_map_c.specs.Texts.{AllSaySpecs, AreAccepted, TextsFault, HasTextsFault, texts_fault_of, AreTextsTold};
 
-use crate::codes::{FORBIDDEN, OK};
-use virtiofs_map::id_types::{GuestId, HostId, Id, IdNumber};
-use virtiofs_map::soft_idmap::IdMap;
+use crate::arrays::{ArrayError, Spec, read_all, tell};
+use crate::codes::{FORBIDDEN, NO_MAP, NO_ROOM, OK};
+use crate::fault::Fault;
+use crate::texts::{TextsError, read_all as read_texts, tell_of_texts};
+use std::alloc::Global;
+use virtiofs_map::cmdline;
+use virtiofs_map::soft_idmap::image::{Answer, look_up, most_words, write_image};
+use virtiofs_map::soft_idmap::{Direction, IdMapBuildError};
 
-/// Writes the number of the host's id for a guest's, or nothing where the use of the id fails.
-pub fn guest_of<Guest: GuestId<HostType = Host>, Host: HostId<GuestType = Guest>>(
-    map: &IdMap<Guest, Host>,
-    id: Guest,
-    host: &mut u32,
-) -> u32
-    ensures answer { AnswersId
-        (Some map.now) GuestToHost (Guest.number id) host.old result host.new }
-    ensures exact { (value : Option ℕ) → Becomes map.now GuestToHost (Guest.number id) value
-        → TellsId value host.old result host.new }
-    ensures leads_back { LeadsBackIfMapped
-        (Some map.now) GuestToHost (Guest.number id) result host.new }
+/// How many words the map of so many specifications has at most.
+#[unsafe(no_mangle)]
+pub extern "C" fn virtiofs_map_ids_bound(count: usize) -> usize
+    ensures { result ≡ min (3 + 8 * count) 18446744073709551615 }
 {
-    match map.map_guest(id) {
-        Ok(id) => {
-            *host = number_of(id);
-            OK
-        }
-        Err(_) => FORBIDDEN,
+    most_words(count)
+}
+
+/// Writes the map of a list, and tells how many words it has.
+fn make(
+    alloc: Global,
+    list: &[cmdline::IdMap],
+    words: &mut [u32],
+    wanted: &mut usize,
+) -> Result<u32, IdMapBuildError>
+    ensures made { IfOk result (λ code. TellsImage list.now words.old code wanted.new words.new) }
+    ensures bound { IfOk result (λ _. wanted.new ≤ 3 + 8 * length list.now) }
+    ensures refused { IfErr result (λ e.
+        OutOfMemoryOr (build_fault_of e) (HasFirstFault list.now)) }
+    ensures keeps { OnErr result (words.new ≡ words.old) }
+{
+    let len = write_image(alloc, list, words)?;
+    *wanted = len;
+    if words.len() < len {
+        Ok(NO_ROOM)
+    } else {
+        Ok(OK)
     }
 }
 
-/// Writes the number of the guest's id for a host's, or nothing where the use of the id fails.
-pub fn host_of<Guest: GuestId<HostType = Host>, Host: HostId<GuestType = Guest>>(
-    map: &IdMap<Guest, Host>,
-    id: Host,
-    guest: &mut u32,
-) -> u32
-    ensures answer { AnswersId
-        (Some map.now) HostToGuest (Host.number id) guest.old result guest.new }
-    ensures exact { (value : Option ℕ) → Becomes map.now HostToGuest (Host.number id) value
-        → TellsId value guest.old result guest.new }
-    ensures leads_back { LeadsBackIfMapped
-        (Some map.now) HostToGuest (Host.number id) result guest.new }
+/// Writes the map of an array of specifications, and tells how many words it has.
+fn make_of_array(
+    alloc: Global,
+    specs: &[Spec],
+    words: &mut [u32],
+    wanted: &mut usize,
+) -> Result<u32, ArrayError>
+    ensures made { IfOk result (λ code. (list : List Specification) × AreSaid specs.now list
+        × TellsImage list words.old code wanted.new words.new) }
+    ensures bound { IfOk result (λ _. wanted.new ≤ 3 + 8 * length specs.now) }
+    ensures refused { IfErr result (λ e.
+        OutOfMemoryOr (array_fault_of e) (HasArrayFault specs.now)) }
+    ensures keeps { OnErr result (words.new ≡ words.old) }
 {
-    match map.map_host(id) {
-        Ok(id) => {
-            *guest = number_of(id);
-            OK
+    let list = read_all(alloc, specs)?;
+    let code = make(alloc, &list, words, wanted)?;
+    Ok(code)
+}
+
+/// Makes a map of an array of specifications.
+#[unsafe(no_mangle)]
+pub extern "C" fn virtiofs_map_ids_make(
+    alloc: Global,
+    specs: &[Spec],
+    words: &mut [u32],
+    wanted: &mut usize,
+    fault: &mut Fault,
+) -> u32
+    ensures made { IsAnswered result → (list : List Specification) × AreSaid specs.now list
+        × TellsImage list words.old result wanted.new words.new }
+    ensures no_fault { IsAnswered result → fault.new ≡ no_fault }
+    ensures bound { wanted.new ≤ 3 + 8 * length specs.now }
+    ensures keeps { (¬ IsAnswered result) → (wanted.new ≡ 0) × (words.new ≡ words.old) }
+    ensures refused { (¬ IsAnswered result) →
+        TellsFault (HasArrayFault specs.now) (IsArrayTold result fault.new) }
+    ensures complete { IsAccepted specs.now
+        → MakesOrTells (IsAnswered result) (IsArrayTold result fault.new) }
+    ensures faulty { (wrong : ArrayFault) → HasArrayFault specs.now wrong
+        → TellsThis (IsArrayTold result fault.new) wrong }
+{
+    match make_of_array(alloc, specs, words, wanted) {
+        Ok(code) => {
+            *fault = Fault::none();
+            code
         }
-        Err(_) => FORBIDDEN,
+        Err(error) => {
+            *wanted = 0;
+            tell(&error, fault)
+        }
     }
 }
 
-/// The number of an id.
-fn number_of<I: Id>(id: I) -> u32
-    ensures { result ≡ I.number id }
+/// Writes the map of texts, and tells how many words it has.
+fn make_of_texts(
+    alloc: Global,
+    texts: &[&[u8]],
+    words: &mut [u32],
+    wanted: &mut usize,
+) -> Result<u32, TextsError>
+    ensures made { IfOk result (λ code. (list : List Specification) × AllSaySpecs texts.now list
+        × TellsImage list words.old code wanted.new words.new) }
+    ensures bound { IfOk result (λ _. wanted.new ≤ 3 + 8 * length texts.now) }
+    ensures refused { IfErr result (λ e.
+        OutOfMemoryOr (texts_fault_of e) (HasTextsFault texts.now)) }
+    ensures keeps { OnErr result (words.new ≡ words.old) }
 {
-    id.into_inner().to_u32()
+    let list = read_texts(alloc, texts)?;
+    let code = make(alloc, &list, words, wanted)?;
+    Ok(code)
+}
+
+/// Makes a map of an array of texts.
+#[unsafe(no_mangle)]
+pub extern "C" fn virtiofs_map_ids_make_texts(
+    alloc: Global,
+    texts: &[&[u8]],
+    words: &mut [u32],
+    wanted: &mut usize,
+    fault: &mut Fault,
+    quoted: &mut [u8],
+) -> u32
+    ensures made { IsAnswered result → (list : List Specification) × AllSaySpecs texts.now list
+        × TellsImage list words.old result wanted.new words.new }
+    ensures no_fault { IsAnswered result → fault.new ≡ no_fault }
+    ensures unquoted { IsAnswered result → quoted.new ≡ quoted.old }
+    ensures bound { wanted.new ≤ 3 + 8 * length texts.now }
+    ensures keeps { (¬ IsAnswered result) → (wanted.new ≡ 0) × (words.new ≡ words.old) }
+    ensures refused { (¬ IsAnswered result) →
+        TellsFault (HasTextsFault texts.now)
+        (AreTextsTold result fault.new quoted.old quoted.new) }
+    ensures complete { AreAccepted texts.now → MakesOrTells (IsAnswered result)
+        (AreTextsTold result fault.new quoted.old quoted.new) }
+    ensures faulty { (wrong : TextsFault) → HasTextsFault texts.now wrong
+        → TellsThis (AreTextsTold result fault.new quoted.old quoted.new) wrong }
+{
+    match make_of_texts(alloc, texts, words, wanted) {
+        Ok(code) => {
+            *fault = Fault::none();
+            code
+        }
+        Err(error) => {
+            *wanted = 0;
+            tell_of_texts(&error, fault, quoted)
+        }
+    }
+}
+
+/// Writes what an answer says of a number.
+fn tell_answer(answer: Answer, place: &mut u32) -> u32
+    ensures { IsAnswerTold answer place.old result place.new }
+{
+    match answer {
+        Answer::Becomes(value) => {
+            *place = value;
+            OK
+        }
+        Answer::Fails => FORBIDDEN,
+        Answer::NoImage => NO_MAP,
+    }
+}
+
+/// The host's id for a guest's.
+#[unsafe(no_mangle)]
+pub extern "C" fn virtiofs_map_ids_guest(words: &[u32], guest: u32, host: &mut u32) -> u32
+    ensures answer { (specs : List Specification) → IsImage specs words.now
+        → AnswersId specs GuestToHost guest host.old result host.new }
+    ensures exact { (specs : List Specification) (value : Option ℕ) → IsImage specs words.now
+        → Becomes specs GuestToHost guest value → TellsId value host.old result host.new }
+    ensures leads_back { (specs : List Specification) → IsImage specs words.now
+        → LeadsBackIfMapped specs GuestToHost guest result host.new }
+    ensures code { IsIdCode host.old result host.new }
+    ensures no_map { (¬ HasKind words.now) → result ≡ no_map }
+{
+    tell_answer(look_up(words, Direction::GuestToHost, guest), host)
+}
+
+/// The guest's id for a host's.
+#[unsafe(no_mangle)]
+pub extern "C" fn virtiofs_map_ids_host(words: &[u32], host: u32, guest: &mut u32) -> u32
+    ensures answer { (specs : List Specification) → IsImage specs words.now
+        → AnswersId specs HostToGuest host guest.old result guest.new }
+    ensures exact { (specs : List Specification) (value : Option ℕ) → IsImage specs words.now
+        → Becomes specs HostToGuest host value → TellsId value guest.old result guest.new }
+    ensures leads_back { (specs : List Specification) → IsImage specs words.now
+        → LeadsBackIfMapped specs HostToGuest host result guest.new }
+    ensures code { IsIdCode guest.old result guest.new }
+    ensures no_map { (¬ HasKind words.now) → result ≡ no_map }
+{
+    tell_answer(look_up(words, Direction::HostToGuest, host), guest)
 }

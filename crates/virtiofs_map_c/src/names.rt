@@ -1,225 +1,203 @@
-//! Maps of attribute names, for C.
-ghost use Rattle.std.specs.Prelude.{◌≡◌, ◌≢◌, List, Some, None, Contains, IsTrue, IsSomeAnd};
+//! Maps of attribute names in bytes of the caller's.
+ghost use Rattle.std.specs.Prelude.{◌≡◌, ◌≢◌, ◌↔◌, ◌+◌, ◌*◌, ℕ, List, Contains, IsTrue, false, min};
+ghost use Rattle.virtiofs_map.specs.Audit.{IsLost, IsStray, IsSeen, Terminated};
+ghost use Rattle.virtiofs_map.specs.LookupAnswers.{IsDecidedBy};
+ghost use Rattle.virtiofs_map.specs.Names.{server_answer};
+ghost use Rattle.virtiofs_map.specs.NamesImage.{IsImage, IsNoImage};
 ghost use Rattle.virtiofs_map.specs.Rule.{MappingRule, Okay, Prefix};
-ghost use Rattle.virtiofs_map_c.specs.Codes.{as_it_is, no_memory};
+ghost use Rattle.virtiofs_map_c.specs.Codes.{ok, as_it_is, no_map};
 ghost use Rattle.virtiofs_map_c.specs.Faults.{no_fault};
-ghost use Rattle.virtiofs_map_c.specs.Handles.{rules_of};
-ghost use Rattle.virtiofs_map_c.specs.Kinds.{only_names, rules_in};
-ghost use Rattle.virtiofs_map_c.specs.Makes.{TellsFault, MakesOrTells, TellsThis, Shares};
-ghost use Rattle.virtiofs_map_c.specs.Names.{IsDecidedIn, AnswersClient, AnswersServer, AnswersAudit, AnswersApart, AnswersTerminated};
+ghost use Rattle.virtiofs_map_c.specs.Makes.{IsAnswered, TellsFault, MakesOrTells, TellsThis};
+ghost use Rattle.virtiofs_map_c.specs.Names.{AnswersClient, IsClientCode, TellsNames, TellsServer, TellsLeast};
 ghost use Rattle.virtiofs_map_c.specs.Rules.{BytesSayRules, BytesFault, HasBytesFault, IsBytesTold};
-ghost use Rattle.virtiofs_map.specs.Audit.{IsLost, IsStray, IsSeen};
 
-mod handle;
 mod lookups;
 mod made;
 mod reading;
 
 use crate::buffer::nothing;
-use crate::codes::{NO_MAP, NO_MEMORY, OK};
+use crate::codes::{NO_MAP, NO_MEMORY, NO_NAME, NO_ROOM, OK, UNTERMINATED};
 use crate::fault::Fault;
-use crate::slot::{Kept, share};
-pub use handle::Names;
-use lookups::{client, server, tell, tell_terminated};
-use made::{boxed, told};
+use lookups::{tell, tell_client, tell_none};
+use made::{made, tell_of_rules};
 use std::alloc::Global;
 use virtiofs_map::audit::{audit, audit_listed, keeps_apart};
-use virtiofs_map::xattrmap::XattrMap;
+use virtiofs_map::xattrmap::image::{Decision, ListWritten, decide, is_terminated, write_list};
+use virtiofs_map::xattrmap::{Side, XattrMap};
 
-/// The map that a handle of attribute names leads to.
-fn map_of(kept: &Kept) -> &XattrMap
-    requires { IsTrue (only_names (Some kept.now)) }
-    ensures { Some result.now ≡ rules_in (Some kept.now) }
+/// How many bytes the map of a text of that length has at most.
+#[unsafe(no_mangle)]
+pub extern "C" fn virtiofs_map_names_bound(text_len: usize) -> usize
+    ensures { result ≡ min (512 + 64 * text_len) 18446744073709551615 }
 {
-    match kept {
-        Kept::Names(map) => map,
-        _ => unreachable!(),
-    }
+    text_len.saturating_mul(64).saturating_add(512)
 }
 
 /// Makes a map of a text of rules.
 #[unsafe(no_mangle)]
-pub extern "C" fn virtiofs_names_make(
+pub extern "C" fn virtiofs_map_names_make(
     alloc: Global,
     text: &[u8],
-    map: &mut Names,
+    bytes: &mut [u8],
+    wanted: &mut usize,
     fault: &mut Fault,
     quoted: &mut [u8],
-) -> bool
-    ensures made { IsTrue result → IsSomeAnd (rules_of map.new) (BytesSayRules text.now) }
-    ensures no_fault { IsTrue result → fault.new ≡ no_fault }
-    ensures unquoted { IsTrue result → quoted.new ≡ quoted.old }
-    ensures keeps { (¬ IsTrue result) → rules_of map.new ≡ rules_of map.old }
-    ensures refused { (¬ IsTrue result) →
-        TellsFault (HasBytesFault text.now) (IsBytesTold fault.new quoted.old quoted.new) }
+) -> u32
+    ensures made { IsAnswered result → (rules : List MappingRule) × BytesSayRules text.now rules
+        × TellsNames rules bytes.old result wanted.new bytes.new }
+    ensures no_fault { IsAnswered result → fault.new ≡ no_fault }
+    ensures unquoted { IsAnswered result → quoted.new ≡ quoted.old }
+    ensures keeps { (¬ IsAnswered result) → (wanted.new ≡ 0) × (bytes.new ≡ bytes.old) }
+    ensures refused { (¬ IsAnswered result) →
+        TellsFault (HasBytesFault text.now) (IsBytesTold result fault.new quoted.old quoted.new) }
     ensures complete { (rules : List MappingRule) → BytesSayRules text.now rules
-        → MakesOrTells result (IsBytesTold fault.new quoted.old quoted.new) }
+        → MakesOrTells (IsAnswered result) (IsBytesTold result fault.new quoted.old quoted.new) }
     ensures faulty { (wrong : BytesFault) → HasBytesFault text.now wrong
-        → TellsThis result (IsBytesTold fault.new quoted.old quoted.new) wrong }
+        → TellsThis (IsBytesTold result fault.new quoted.old quoted.new) wrong }
 {
-    match boxed(alloc, text) {
-        Ok(kept) => {
-            drop(map.take(alloc));
-            map.put(kept);
+    match made(alloc, text, bytes, wanted) {
+        Ok(code) => {
             *fault = Fault::none();
-            true
+            code
         }
         Err(error) => {
-            *fault = told(&error, quoted);
-            false
+            *wanted = 0;
+            tell_of_rules(&error, fault, quoted)
         }
     }
 }
 
-/// Has another handle hold the same map.
+/// The host's name for a name that the guest asks for.
 #[unsafe(no_mangle)]
-pub extern "C" fn virtiofs_names_share(alloc: Global, map: &mut Names, other: &mut Names) -> u32
-    ensures keeps { rules_of map.new ≡ rules_of map.old }
-    ensures shares { Shares (rules_of map.old) (rules_of other.old) result (rules_of other.new) }
-{
-    let Some(kept) = map.take(alloc) else {
-        return NO_MAP;
-    };
-    let shared = share(alloc, &kept);
-    map.put(kept);
-    let Some(shared) = shared else {
-        return NO_MEMORY;
-    };
-    drop(other.take(alloc));
-    other.put(shared);
-    OK
-}
-
-/// Lets the map of a handle go.
-#[unsafe(no_mangle)]
-pub extern "C" fn virtiofs_names_free(alloc: Global, map: &mut Names)
-    ensures { rules_of map.new ≡ None }
-{
-    let gone = map.take(alloc);
-    drop(gone);
-}
-
-/// As what a name of the guest goes to the host.
-#[unsafe(no_mangle)]
-pub extern "C" fn virtiofs_names_client(
-    alloc: Global,
-    map: &mut Names,
+pub extern "C" fn virtiofs_map_names_client(
+    bytes: &[u8],
     name: &[u8],
     out: &mut [u8],
     len: &mut usize,
 ) -> u32
-    ensures keeps { rules_of map.new ≡ rules_of map.old }
-    ensures answer { AnswersClient
-        (rules_of map.old) name.now out.old result len.new out.new }
-    ensures okay { IsDecidedIn Okay (rules_of map.old) name.now → (¬ Contains name.now 0)
-        → result ≡ as_it_is }
-    ensures prefix { IsDecidedIn Prefix (rules_of map.old) name.now → result ≢ as_it_is }
-    ensures memory { result ≡ no_memory → IsDecidedIn Prefix (rules_of map.old) name.now }
+    ensures answer { (rules : List MappingRule) → IsImage rules bytes.now
+        → AnswersClient rules name.now out.old result len.new out.new }
+    ensures okay { (rules : List MappingRule) → IsImage rules bytes.now
+        → IsDecidedBy Okay rules name.now → (¬ Contains name.now 0) → result ≡ as_it_is }
+    ensures prefix { (rules : List MappingRule) → IsImage rules bytes.now
+        → IsDecidedBy Prefix rules name.now → result ≢ as_it_is }
+    ensures code { IsClientCode result }
+    ensures no_map { IsNoImage bytes.now → result ≡ no_map }
 {
-    let Some(kept) = map.take(alloc) else {
-        return nothing(NO_MAP, len);
-    };
-    let code = client(alloc, map_of(&kept), name, out, len);
-    map.put(kept);
-    code
+    match decide(bytes, Side::Client, name) {
+        Decision::NoMap => nothing(NO_MAP, len),
+        _ if name.contains(&0) => nothing(NO_NAME, len),
+        decision => tell_client(decision, name, out, len),
+    }
 }
 
 /// The list that the guest gets for the host's.
 #[unsafe(no_mangle)]
-pub extern "C" fn virtiofs_names_server(
-    alloc: Global,
-    map: &mut Names,
+pub extern "C" fn virtiofs_map_names_server(
+    bytes: &[u8],
     list: &[u8],
     out: &mut [u8],
     len: &mut usize,
 ) -> u32
-    ensures keeps { rules_of map.new ≡ rules_of map.old }
-    ensures answer { AnswersServer
-        (rules_of map.old) list.now out.old result len.new out.new }
+    ensures answer { (rules : List MappingRule) → IsImage rules bytes.now
+        → TellsServer (server_answer rules list.now) out.old result len.new out.new }
+    ensures no_map { IsNoImage bytes.now → result ≡ no_map }
 {
-    let Some(kept) = map.take(alloc) else {
-        return nothing(NO_MAP, len);
-    };
-    let code = server(alloc, map_of(&kept), list, out, len);
-    map.put(kept);
-    code
+    match write_list(bytes, list, out) {
+        ListWritten::NoMap => nothing(NO_MAP, len),
+        ListWritten::Undecided => nothing(UNTERMINATED, len),
+        ListWritten::Written(count) => {
+            *len = count;
+            OK
+        }
+        ListWritten::NoRoom(count) => {
+            *len = count;
+            NO_ROOM
+        }
+    }
 }
 
 /// Whether no name is ever left without a rule.
 #[unsafe(no_mangle)]
-pub extern "C" fn virtiofs_names_terminated(alloc: Global, map: &mut Names) -> u32
-    ensures keeps { rules_of map.new ≡ rules_of map.old }
-    ensures answer { AnswersTerminated (rules_of map.old) result }
+pub extern "C" fn virtiofs_map_names_terminated(bytes: &[u8], all: &mut bool) -> u32
+    ensures done { (rules : List MappingRule) → IsImage rules bytes.now → result ≡ ok }
+    ensures answer { (rules : List MappingRule) → IsImage rules bytes.now
+        → IsTrue all.new ↔ Terminated rules }
+    ensures no_map { IsNoImage bytes.now → result ≡ no_map }
+    ensures none { result ≡ no_map → all.new ≡ false }
 {
-    let Some(kept) = map.take(alloc) else {
-        return NO_MAP;
-    };
-    let code = tell_terminated(map_of(&kept));
-    map.put(kept);
-    code
+    match is_terminated(bytes) {
+        Some(terminated) => {
+            *all = terminated;
+            OK
+        }
+        None => {
+            *all = false;
+            NO_MAP
+        }
+    }
 }
 
 /// Whether each name that passes lists back.
 #[unsafe(no_mangle)]
-pub extern "C" fn virtiofs_names_audit(
+pub extern "C" fn virtiofs_map_names_audit(
     alloc: Global,
-    map: &mut Names,
+    bytes: &[u8],
+    all: &mut bool,
     out: &mut [u8],
     len: &mut usize,
 ) -> u32
-    ensures keeps { rules_of map.new ≡ rules_of map.old }
-    ensures answer { AnswersAudit IsLost (rules_of map.old) out.old result len.new out.new }
+    ensures answer { (rules : List MappingRule) → IsImage rules bytes.now
+        → TellsLeast (IsLost rules) out.old result all.new len.new out.new }
 {
-    let Some(kept) = map.take(alloc) else {
-        return nothing(NO_MAP, len);
-    };
-    let code = tell(audit(alloc, map_of(&kept)), out, len);
-    map.put(kept);
-    code
+    match XattrMap::of_image(alloc, bytes) {
+        Ok(Some(map)) => tell(audit(alloc, &map), all, out, len),
+        Ok(None) => tell_none(NO_MAP, all, len),
+        Err(_) => tell_none(NO_MEMORY, all, len),
+    }
 }
 
 /// Whether each name of the host that is listed is opened by the name under which it is.
 #[unsafe(no_mangle)]
-pub extern "C" fn virtiofs_names_audit_listed(
+pub extern "C" fn virtiofs_map_names_audit_listed(
     alloc: Global,
-    map: &mut Names,
+    bytes: &[u8],
+    all: &mut bool,
     out: &mut [u8],
     len: &mut usize,
 ) -> u32
-    ensures keeps { rules_of map.new ≡ rules_of map.old }
-    ensures answer { AnswersAudit IsStray (rules_of map.old) out.old result len.new out.new }
+    ensures answer { (rules : List MappingRule) → IsImage rules bytes.now
+        → TellsLeast (IsStray rules) out.old result all.new len.new out.new }
 {
-    let Some(kept) = map.take(alloc) else {
-        return nothing(NO_MAP, len);
-    };
-    let code = tell(audit_listed(alloc, map_of(&kept)), out, len);
-    map.put(kept);
-    code
+    match XattrMap::of_image(alloc, bytes) {
+        Ok(Some(map)) => tell(audit_listed(alloc, &map), all, out, len),
+        Ok(None) => tell_none(NO_MAP, all, len),
+        Err(_) => tell_none(NO_MEMORY, all, len),
+    }
 }
 
 /// Whether a guest of the first map is kept apart from one that is shown names by the second.
 #[unsafe(no_mangle)]
-pub extern "C" fn virtiofs_names_apart(
+pub extern "C" fn virtiofs_map_names_apart(
     alloc: Global,
-    first: &mut Names,
-    second: &mut Names,
+    first: &[u8],
+    second: &[u8],
+    all: &mut bool,
     out: &mut [u8],
     len: &mut usize,
 ) -> u32
-    ensures keeps_first { rules_of first.new ≡ rules_of first.old }
-    ensures keeps_second { rules_of second.new ≡ rules_of second.old }
-    ensures answer { AnswersApart IsSeen
-        (rules_of first.old) (rules_of second.old) out.old result len.new out.new }
+    ensures answer { (rules others : List MappingRule) → IsImage rules first.now
+        → IsImage others second.now
+        → TellsLeast (IsSeen rules others) out.old result all.new len.new out.new }
 {
-    let Some(kept) = first.take(alloc) else {
-        return nothing(NO_MAP, len);
+    let one = match XattrMap::of_image(alloc, first) {
+        Ok(Some(map)) => map,
+        Ok(None) => return tell_none(NO_MAP, all, len),
+        Err(_) => return tell_none(NO_MEMORY, all, len),
     };
-    let Some(other) = second.take(alloc) else {
-        first.put(kept);
-        return nothing(NO_MAP, len);
-    };
-    let code = tell(keeps_apart(alloc, map_of(&kept), map_of(&other)), out, len);
-    first.put(kept);
-    second.put(other);
-    code
+    match XattrMap::of_image(alloc, second) {
+        Ok(Some(other)) => tell(keeps_apart(alloc, &one, &other), all, out, len),
+        Ok(None) => tell_none(NO_MAP, all, len),
+        Err(_) => tell_none(NO_MEMORY, all, len),
+    }
 }

@@ -1,27 +1,26 @@
 //! Texts of ids, as C hands them over: specifications, and ranges of a namespace.
-ghost use Rattle.std.specs.Prelude.{◌≡◌, ℕ, Some, IsTrue, IsSomeAnd, IfOk, IfErr};
-ghost use Rattle.virtiofs_map.specs.Build.{Accepted};
+ghost use Rattle.std.specs.Prelude.{◌≡◌, ◌≢◌, ℕ, length, IsSomeAnd, IfOk, IfErr};
 ghost use Rattle.virtiofs_map.specs.NamespaceText.{namespace_fault_of};
 ghost use Rattle.virtiofs_map.specs.Refusal.{OutOfMemoryOr};
 ghost use Rattle.virtiofs_map.specs.declared.cmdline.IdMap.{IdMap as Specification};
 ghost use Rattle.virtiofs_map_c.specs.Arrays.{said, HasNoTarget};
-ghost use Rattle.virtiofs_map_c.specs.Faults.{no_fault};
+ghost use Rattle.virtiofs_map_c.specs.Codes.{ok, refused};
+ghost use Rattle.virtiofs_map_c.specs.Faults.{no_fault, failure_code};
 ghost use Rattle.virtiofs_map_c.specs.Makes.{TellsFault, MakesOrTells, TellsThis};
 ghost use Rattle.virtiofs_map_c.specs.Ranges.{SaysRange, RangeFault, HasRangeFault, range_kind, range_told};
 ghost use Rattle.virtiofs_map_c.specs.Replies.{IsQuoted};
-ghost use Rattle.virtiofs_map_c.specs.Texts.{SaysSpec, TextFault, HasTextFault, text_fault_of, text_told, text_quoted, IsTextTold, AllSaySpecs, HasTextsFault, texts_fault_of, texts_told, texts_quoted};
+ghost use Rattle.virtiofs_map_c.specs.Texts.{SaysSpec, TextFault, HasTextFault, text_fault_of, text_told, text_quoted, IsTextTold, AllSaySpecs, HasTextsFault, texts_fault_of, AreTextsTold};
 
 mod errors;
 mod range;
 
-use crate::arrays::{Spec, told_of_build};
-use crate::buffer::quote;
+use crate::arrays::{Spec, code_of_build, spec_of, told_of_build};
+use crate::buffer::{Quoted, quote};
+use crate::codes::{NO_MEMORY, OK, REFUSED};
 use crate::fault::Fault;
 pub use errors::{TextError, TextsError};
 pub use range::Range;
 use std::alloc::Global;
-use virtiofs_map::id_types::{GuestId, HostId};
-use virtiofs_map::soft_idmap::IdMap;
 use virtiofs_map::{cmdline, idmap};
 
 /// The specification of a text in bytes.
@@ -41,7 +40,7 @@ fn read(alloc: Global, text: &[u8]) -> Result<cmdline::IdMap, TextError>
 }
 
 /// The specifications of texts, in their order, up to the first that is not read.
-fn read_all(alloc: Global, texts: &[&[u8]]) -> Result<Vec<cmdline::IdMap>, TextsError>
+pub fn read_all(alloc: Global, texts: &[&[u8]]) -> Result<Vec<cmdline::IdMap>, TextsError>
     ensures read { IfOk result (λ list. AllSaySpecs texts.now list.items) }
     ensures refused { IfErr result (λ e.
         OutOfMemoryOr (texts_fault_of e) (HasTextsFault texts.now)) }
@@ -56,152 +55,107 @@ fn read_all(alloc: Global, texts: &[&[u8]]) -> Result<Vec<cmdline::IdMap>, Texts
     Ok(list)
 }
 
-/// The map of texts.
-pub fn map_from_texts<Guest: GuestId<HostType = Host>, Host: HostId<GuestType = Guest>>(
-    alloc: Global,
-    texts: &[&[u8]],
-) -> Result<IdMap<Guest, Host>, TextsError>
-    ensures read { IfOk result (AllSaySpecs texts.now) }
-    ensures accepted { IfOk result Accepted }
-    ensures refused { IfErr result (λ e.
-        OutOfMemoryOr (texts_fault_of e) (HasTextsFault texts.now)) }
-{
-    let list = read_all(alloc, texts)?;
-    let map = IdMap::try_from(alloc, list)?;
-    Ok(map)
-}
-
-/// What C is told of texts of which no map is made.
-pub fn told_of_texts(error: &TextsError, quoted: &mut [u8]) -> Fault
-    ensures told { result ≡ texts_told (texts_fault_of error.now) }
-    ensures quoted { IsQuoted (texts_quoted (texts_fault_of error.now)) quoted.old quoted.new }
+/// Tells C of texts of which no map is made, and answers the code.
+pub fn tell_of_texts(error: &TextsError, fault: &mut Fault, quoted: &mut [u8]) -> u32
+    ensures { AreTextsTold result fault.new quoted.old quoted.new (texts_fault_of error.now) }
 {
     match error {
-        TextsError::Text { place, cause } => told_of_text(cause, *place, quoted),
-        TextsError::Build(error) => told_of_build(error),
+        TextsError::Text { place, cause } => {
+            *fault = told_of_text(cause, *place, quoted);
+            code_of_text(cause)
+        }
+        TextsError::Build(error) => {
+            *fault = told_of_build(error);
+            code_of_build(error)
+        }
+    }
+}
+
+/// The code of a text that is not read.
+fn code_of_text(error: &TextError) -> u32
+    ensures { result ≡ failure_code (text_fault_of error.now) }
+{
+    match error {
+        TextError::Spec(cmdline::IdMapError::OutOfMemory) => NO_MEMORY,
+        _ => REFUSED,
     }
 }
 
 /// What C is told of the text at a place.
 fn told_of_text(error: &TextError, place: usize, quoted: &mut [u8]) -> Fault
-    ensures told { result ≡ text_told place (text_fault_of error.now) }
+    ensures told { result ≡ text_told place (length quoted.old) (text_fault_of error.now) }
     ensures quoted { IsQuoted (text_quoted (text_fault_of error.now)) quoted.old quoted.new }
 {
     match error {
-        TextError::NotUtf8 => Fault {
-            place,
-            ..Fault::of_kind(2)
-        },
-        TextError::Spec(cmdline::IdMapError::InvalidPrefix(word)) => Fault {
-            place,
-            quoted: quote(word, quoted),
-            ..Fault::of_kind(6)
-        },
+        TextError::NotUtf8 => Fault::at(2, place, Quoted::nothing()),
+        TextError::Spec(cmdline::IdMapError::InvalidPrefix(word)) => {
+            Fault::at(6, place, quote(word, quoted))
+        }
         TextError::Spec(cmdline::IdMapError::InvalidLength { expected, seen }) => Fault {
-            place,
             expected: *expected,
             seen: *seen,
-            ..Fault::of_kind(7)
+            ..Fault::at(7, place, Quoted::nothing())
         },
-        TextError::Spec(cmdline::IdMapError::InvalidValue { value, .. }) => Fault {
-            place,
-            quoted: quote(value, quoted),
-            ..Fault::of_kind(8)
-        },
+        TextError::Spec(cmdline::IdMapError::InvalidValue { value, .. }) => {
+            Fault::at(8, place, quote(value, quoted))
+        }
         TextError::Spec(cmdline::IdMapError::OutOfMemory) => Fault::of_kind(1),
-    }
-}
-
-/// The specification, as C has it.
-fn spec_of(spec: cmdline::IdMap) -> Spec
-    ensures said { said result ≡ Some spec }
-    ensures no_target { HasNoTarget result }
-{
-    let (kind, first, to, count) = match spec {
-        cmdline::IdMap::Guest {
-            from_guest,
-            to_host,
-            count,
-        } => (0, from_guest, to_host, count),
-        cmdline::IdMap::Host {
-            from_host,
-            to_guest,
-            count,
-        } => (1, from_host, to_guest, count),
-        cmdline::IdMap::SquashGuest {
-            from_guest,
-            to_host,
-            count,
-        } => { (2, from_guest, to_host, count) }
-        cmdline::IdMap::SquashHost {
-            from_host,
-            to_guest,
-            count,
-        } => { (3, from_host, to_guest, count) }
-        cmdline::IdMap::Bidirectional { guest, host, count } => (4, guest, host, count),
-        cmdline::IdMap::ForbidGuest { from_guest, count } => (5, from_guest, 0, count),
-    };
-    Spec {
-        kind,
-        first,
-        to,
-        count,
     }
 }
 
 /// Reads the text of one specification.
 #[unsafe(no_mangle)]
-pub extern "C" fn virtiofs_spec_read(
+pub extern "C" fn virtiofs_map_spec_read(
     alloc: Global,
     text: &[u8],
     spec: &mut Spec,
     fault: &mut Fault,
     quoted: &mut [u8],
-) -> bool
-    ensures read { IsTrue result → IsSomeAnd (said spec.new) (SaysSpec text.now) }
-    ensures no_target { IsTrue result → HasNoTarget spec.new }
-    ensures no_fault { IsTrue result → fault.new ≡ no_fault }
-    ensures unquoted { IsTrue result → quoted.new ≡ quoted.old }
-    ensures keeps { (¬ IsTrue result) → spec.new ≡ spec.old }
-    ensures refused { (¬ IsTrue result) →
-        TellsFault (HasTextFault text.now) (IsTextTold fault.new quoted.old quoted.new) }
+) -> u32
+    ensures read { result ≡ ok → IsSomeAnd (said spec.new) (SaysSpec text.now) }
+    ensures no_target { result ≡ ok → HasNoTarget spec.new }
+    ensures no_fault { result ≡ ok → fault.new ≡ no_fault }
+    ensures unquoted { result ≡ ok → quoted.new ≡ quoted.old }
+    ensures keeps { result ≢ ok → spec.new ≡ spec.old }
+    ensures refused { result ≢ ok →
+        TellsFault (HasTextFault text.now) (IsTextTold result fault.new quoted.old quoted.new) }
     ensures complete { (one : Specification) → SaysSpec text.now one
-        → MakesOrTells result (IsTextTold fault.new quoted.old quoted.new) }
+        → MakesOrTells (result ≡ ok) (IsTextTold result fault.new quoted.old quoted.new) }
     ensures faulty { (wrong : TextFault) → HasTextFault text.now wrong
-        → TellsThis result (IsTextTold fault.new quoted.old quoted.new) wrong }
+        → TellsThis (IsTextTold result fault.new quoted.old quoted.new) wrong }
 {
     match read(alloc, text) {
         Ok(found) => {
             *spec = spec_of(found);
             *fault = Fault::none();
-            true
+            OK
         }
         Err(error) => {
             *fault = told_of_text(&error, 0, quoted);
-            false
+            code_of_text(&error)
         }
     }
 }
 
 /// Reads the text of one range of a namespace.
 #[unsafe(no_mangle)]
-pub extern "C" fn virtiofs_range_read(text: &[u8], range: &mut Range, fault: &mut Fault) -> bool
-    ensures read { IsTrue result →
+pub extern "C" fn virtiofs_map_range_read(text: &[u8], range: &mut Range, fault: &mut Fault) -> u32
+    ensures read { result ≡ ok →
         SaysRange text.now range.new.inside range.new.outside range.new.count }
-    ensures no_fault { IsTrue result → fault.new ≡ no_fault }
-    ensures keeps { (¬ IsTrue result) → range.new ≡ range.old }
-    ensures refused { (¬ IsTrue result) →
-        (wrong : RangeFault) × HasRangeFault text.now wrong × (fault.new ≡ range_told wrong) }
+    ensures no_fault { result ≡ ok → fault.new ≡ no_fault }
+    ensures keeps { result ≢ ok → range.new ≡ range.old }
+    ensures refused { result ≢ ok → (result ≡ refused)
+        × ((wrong : RangeFault) × HasRangeFault text.now wrong × (fault.new ≡ range_told wrong)) }
     ensures complete { (inside outside count : ℕ) → SaysRange text.now inside outside count
-        → IsTrue result }
+        → result ≡ ok }
     ensures faulty { (wrong : RangeFault) → HasRangeFault text.now wrong
-        → (¬ IsTrue result) × (fault.new ≡ range_told wrong) }
+        → (result ≡ refused) × (fault.new ≡ range_told wrong) }
 {
     let text = match str::from_utf8(text) {
         Ok(text) => text,
         Err(_) => {
             *fault = Fault::of_kind(2);
-            return false;
+            return REFUSED;
         }
     };
     match idmap::UidMap::from_str(text) {
@@ -212,11 +166,11 @@ pub extern "C" fn virtiofs_range_read(text: &[u8], range: &mut Range, fault: &mu
                 count: found.count,
             };
             *fault = Fault::none();
-            true
+            OK
         }
         Err(error) => {
             *fault = Fault::of_kind(kind_of(&error));
-            false
+            REFUSED
         }
     }
 }

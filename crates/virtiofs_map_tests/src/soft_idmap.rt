@@ -2,6 +2,7 @@
 
 mod errors;
 mod example;
+mod image;
 
 use crate::id_types::projects::{GuestProject, HostProject, ProjectNumber};
 use std::alloc::Global;

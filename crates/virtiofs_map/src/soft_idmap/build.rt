@@ -3,7 +3,7 @@ ghost use Rattle.std.specs.Prelude.{◌↔◌, ◌≤◌, All, IsTrue, MatchResu
 ghost use Rattle.virtiofs_map.specs.Mapping.{entry_of};
 ghost use Rattle.virtiofs_map.specs.Build.{Accepted, Fits, HasFirstFault, build_fault_of};
 ghost use Rattle.virtiofs_map.specs.BuildParts.{EntryMeets, EntryMeetsEarlier, IsFaultHere};
-ghost use Rattle.virtiofs_map.specs.RangeParts.{PlacesInOrder, HasRoom, HasRoomBothWays, IsLongestAccepted};
+ghost use Rattle.virtiofs_map.specs.RangeParts.{PlacesInOrder, ArePlaced, HasRoom, HasRoomBothWays, IsLongestAccepted};
 ghost use Rattle.virtiofs_map.specs.Refusal.{OutOfMemoryOr};
 ghost use Rattle.virtiofs_map.specs.WordParts.{IsOfWords};
 ghost use Rattle.virtiofs_map.specs.declared.soft_idmap.entry.Direction.TheVariants.{GuestToHost, HostToGuest};
@@ -156,6 +156,22 @@ fn check(specs: &[IdMap], guests: &[Placed], hosts: &[Placed]) -> Result<(), IdM
     Ok(())
 }
 
+/// The entries of a list of specifications that is accepted, from guest to host and from host to
+/// guest.
+pub(crate) fn placed_both<A: Allocator + Copy>(
+    alloc: A,
+    specs: &[IdMap],
+) -> Result<(Vec<Placed, A>, Vec<Placed, A>), IdMapBuildError>
+    ensures { MatchResult result
+        (λ both. ArePlaced specs.now both.0.items both.1.items)
+        (λ e. OutOfMemoryOr (build_fault_of e) (HasFirstFault specs.now)) }
+{
+    let guests = place(alloc, specs, Direction::GuestToHost)?;
+    let hosts = place(alloc, specs, Direction::HostToGuest)?;
+    check(specs, &guests, &hosts)?;
+    Ok((guests, hosts))
+}
+
 /// The words of a list of specifications that is accepted.
 pub(crate) fn words_of<A: Allocator + Copy>(
     alloc: A,
@@ -165,9 +181,7 @@ pub(crate) fn words_of<A: Allocator + Copy>(
         (IsOfWords specs.now)
         (λ e. OutOfMemoryOr (build_fault_of e) (HasFirstFault specs.now)) }
 {
-    let guests = place(alloc, specs, Direction::GuestToHost)?;
-    let hosts = place(alloc, specs, Direction::HostToGuest)?;
-    check(specs, &guests, &hosts)?;
+    let (guests, hosts) = placed_both(alloc, specs)?;
     let words = Words::of(alloc, &guests, &hosts)?;
     Ok(words)
 }

@@ -1,8 +1,9 @@
 //! What a number becomes by the ranges of a direction.
 ghost use Rattle.std.specs.Prelude.{List, min};
+ghost use Rattle.virtiofs_map.specs.ImageAnswer.{SaysIn};
 ghost use Rattle.virtiofs_map.specs.LookupSteps.{binary_digits};
 ghost use Rattle.virtiofs_map.specs.Steps.{CountsBetween};
-ghost use Rattle.virtiofs_map.specs.WordParts.{HasRanges, SaysIn};
+ghost use Rattle.virtiofs_map.specs.WordParts.{HasRanges};
 ghost use Rattle.virtiofs_map.specs.declared.cmdline.IdMap.{IdMap as Specification};
 ghost use Rattle.virtiofs_map.specs.declared.soft_idmap.entry.Direction.{Direction};
 

@@ -4,8 +4,9 @@
 //! are from guest to host, and the third how many from host to guest. Then come the first numbers
 //! of the ranges from guest to host, in order, and of those from host to guest: a search reads
 //! these alone. The rows of the ranges follow, in the same order (`row.rt`).
-ghost use Rattle.std.specs.Prelude.{◌≡◌, ◌+◌, ◌*◌, ◌-◌, ◌<◌, ◌≤◌, List, [], length, slice_index, IfOk};
+ghost use Rattle.std.specs.Prelude.{◌≡◌, ◌+◌, ◌*◌, ◌-◌, ◌<◌, ◌≤◌, List, [], length, slice_index, IfOk, IfSome, IsSome};
 ghost use Rattle.virtiofs_map.specs.Build.{Accepted, HasTarget};
+ghost use Rattle.virtiofs_map.specs.Image.{HasKind, IsImage};
 ghost use Rattle.virtiofs_map.specs.RangeParts.{HasNumbers, PlacesInOrder};
 ghost use Rattle.virtiofs_map.specs.Steps.{count_after};
 ghost use Rattle.virtiofs_map.specs.WordParts.{Table, IsTable, IsAt, HasWords, table_in, IsOfWords, SaysEntry};
@@ -16,7 +17,7 @@ ghost use Rattle.virtiofs_map.specs.declared.soft_idmap.entry.Entry.{Entry};
 use super::Direction;
 use super::placed::Placed;
 use super::row::{Answer, ones_if_below, say};
-use super::write::write_words;
+use super::write::{KIND, write_words};
 use crate::Steps;
 use std::alloc::{AllocError, Allocator};
 use std::marker::Model;
@@ -115,6 +116,21 @@ impl<A: Allocator> Words<A> {
         }
         ranges_in(&self.items, direction)
     }
+}
+
+/// The ranges of a direction, in any words; `None` where these are no image.
+pub(crate) fn image_ranges(words: &[u32], direction: Direction) -> Option<Ranges<'_>>
+    ensures kind { IsSome result → HasKind words.now }
+    ensures ranges { IfSome result (λ ranges. ranges ≡ table_in words.now direction) }
+    ensures image { (specs : List Specification) → IsImage specs words.now → IsSome result }
+{
+    if words.len() < 3 || words[0] != KIND {
+        return None;
+    }
+    if words.len() < 3 + 4 * words[1] as usize + 4 * words[2] as usize {
+        return None;
+    }
+    Some(ranges_in(words, direction))
 }
 
 /// The ranges of a direction, in words that have room for them.

@@ -1,6 +1,6 @@
 //! The host's names as the guest sees them, one at a time and where they stand.
 
-ghost use Rattle.std.specs.Prelude.{◌≡◌, ◌==◌, ◌<◌, length, IfOk, IfErr, MatchOption};
+ghost use Rattle.std.specs.Prelude.{◌≡◌, ◌==◌, ◌+◌, ◌<◌, ◌≤◌, length, IfOk, IfErr, MatchOption};
 ghost use Rattle.std.specs.List.{before_first, after_first};
 ghost use Rattle.virtiofs_map.specs.Listing.{listing, list_of};
 ghost use Rattle.virtiofs_map.specs.Names.{IsListed, IsHidden, IsUndecided, host_answer, server_answer};
@@ -14,10 +14,13 @@ use std::iter::FusedIterator;
 use std::marker::Model;
 
 /// The first name of a list, up to a zero or to the end, and the rest of the list after that zero.
-fn cut_name(list: &[u8]) -> (&[u8], &[u8])
+pub(crate) fn cut_name(list: &[u8]) -> (&[u8], &[u8])
     ensures name { result.0.now ≡ before_first (λ byte. byte == 0) list.now }
     ensures rest { result.1.now ≡ after_first (λ byte. byte == 0) list.now }
     ensures shorter { 0 < length list.now → length result.1.now < length list.now }
+    ensures within { length result.0.now + length result.1.now ≤ length list.now }
+    ensures zero { 0 < length result.1.now
+        → length result.0.now + length result.1.now < length list.now }
 {
     match list.iter().position(|byte| *byte == 0) {
         Some(end) => (&list[..end], &list[end + 1..]),

@@ -1,80 +1,57 @@
 //! What lookups of names and audits tell C.
-ghost use Rattle.std.specs.Prelude.{◌≡◌, ◌≢◌, Some, Contains, MatchResult};
-ghost use Rattle.virtiofs_map.specs.LookupAnswers.{IsDecidedBy, of_no_rule};
-ghost use Rattle.virtiofs_map.specs.Rule.{Okay, Prefix};
-ghost use Rattle.virtiofs_map_c.specs.Codes.{as_it_is, no_memory, unterminated};
-ghost use Rattle.virtiofs_map_c.specs.Names.{AnswersClient, AnswersServer, AnswersTerminated, TellsFound};
-ghost use Rattle.virtiofs_map_c.specs.Replies.{TellsCode};
+ghost use Rattle.std.specs.Prelude.{◌≡◌, ◌++◌, false, MatchResult};
+ghost use Rattle.virtiofs_map_c.specs.Codes.{ok, no_memory};
+ghost use Rattle.virtiofs_map_c.specs.Names.{TellsDecision, TellsFound, TellsNo};
+ghost use Rattle.virtiofs_map_c.specs.Replies.{TellsBytes};
 
-use crate::buffer::{nothing, write};
-use crate::codes::{AS_IT_IS, DENIED, NO, NO_MEMORY, NO_NAME, OK, UNSUPPORTED, UNTERMINATED, YES};
-use std::alloc::{AllocError, Global};
+use crate::buffer::{nothing, write, write_joined};
+use crate::codes::{AS_IT_IS, DENIED, NO_MAP, NO_MEMORY, OK, UNSUPPORTED, UNTERMINATED};
+use std::alloc::AllocError;
 use virtiofs_map::audit::Audit;
-use virtiofs_map::xattrmap::{AppliedRule, Error, ErrorKind, PassedName, XattrMap, XattrName};
+use virtiofs_map::xattrmap::image::Decision;
 
-/// As what a name of the guest goes to the host.
-pub fn client(alloc: Global, map: &XattrMap, name: &[u8], out: &mut [u8], len: &mut usize) -> u32
-    ensures answer { AnswersClient (Some map.now) name.now out.old result len.new out.new }
-    ensures okay { IsDecidedBy Okay map.now name.now → (¬ Contains name.now 0)
-        → result ≡ as_it_is }
-    ensures prefix { IsDecidedBy Prefix map.now name.now → result ≢ as_it_is }
-    ensures memory { result ≡ no_memory → IsDecidedBy Prefix map.now name.now }
+/// Tells what becomes of a name that the guest asks for.
+pub fn tell_client(decision: Decision<'_>, name: &[u8], out: &mut [u8], len: &mut usize) -> u32
+    ensures { TellsDecision decision.entry name.now out.old result len.new out.new }
 {
-    let Some(name) = XattrName::new(name) else {
-        return nothing(NO_NAME, len);
-    };
-    match map.map_client_xattr(alloc, name) {
-        Ok(AppliedRule::Pass(PassedName::Borrowed(_))) => nothing(AS_IT_IS, len),
-        Ok(AppliedRule::Pass(PassedName::Owned(name))) => {
-            write(name.as_name().as_bytes(), OK, out, len)
-        }
-        Ok(AppliedRule::Deny) => nothing(DENIED, len),
-        Ok(AppliedRule::Unsupported) => nothing(UNSUPPORTED, len),
-        Err(error) => nothing(code_of(&error), len),
+    match decision {
+        Decision::NoMap => nothing(NO_MAP, len),
+        Decision::Undecided => nothing(UNTERMINATED, len),
+        Decision::Okay => nothing(AS_IT_IS, len),
+        Decision::Prefix(prepend) => write_joined(prepend, name, out, len),
+        Decision::Bad => nothing(DENIED, len),
+        Decision::Unsupported => nothing(UNSUPPORTED, len),
     }
 }
 
-/// The code of the error of a lookup.
-fn code_of(error: &Error) -> u32
-    ensures unterminated { error.now ≡ of_no_rule ErrorKind.UnterminatedMapping
-        → result ≡ unterminated }
-    ensures memory { error.now ≡ of_no_rule ErrorKind.OutOfMemory → result ≡ no_memory }
-{
-    match error.cause {
-        ErrorKind::UnterminatedMapping => UNTERMINATED,
-        _ => NO_MEMORY,
-    }
-}
-
-/// The list that the guest gets for the host's.
-pub fn server(alloc: Global, map: &XattrMap, list: &[u8], out: &mut [u8], len: &mut usize) -> u32
-    ensures { AnswersServer (Some map.now) list.now out.old result len.new out.new }
-{
-    let Ok(names) = Vec::from_slice(alloc, list) else {
-        return nothing(NO_MEMORY, len);
-    };
-    match map.map_server_xattrlist(alloc, names) {
-        Ok(list) => write(list.as_slice(), OK, out, len),
-        Err(error) => nothing(code_of(&error), len),
-    }
-}
-
-/// What an audit found.
-pub fn tell(found: Result<Audit, AllocError>, out: &mut [u8], len: &mut usize) -> u32
+/// Tells what an audit found.
+pub fn tell(
+    found: Result<Audit, AllocError>,
+    all: &mut bool,
+    out: &mut [u8],
+    len: &mut usize,
+) -> u32
     ensures { MatchResult found
-        (λ audit. TellsFound audit out.old result len.new out.new)
-        (λ _. TellsCode no_memory out.old result len.new out.new) }
+        (λ audit. TellsFound audit out.old result all.new len.new out.new)
+        (λ _. TellsNo no_memory out.old result all.new len.new out.new) }
 {
+    *all = false;
     match found {
-        Ok(Audit::Yes) => nothing(YES, len),
-        Ok(Audit::No(name)) => write(name.as_name().as_bytes(), NO, out, len),
-        Err(_) => nothing(NO_MEMORY, len),
+        Ok(Audit::Yes) => {
+            *all = true;
+            nothing(OK, len)
+        }
+        Ok(Audit::No(name)) => write(name.as_name().as_bytes(), OK, out, len),
+        Err(_) => tell_none(NO_MEMORY, all, len),
     }
 }
 
-/// Whether each name is decided by some rule.
-pub fn tell_terminated(map: &XattrMap) -> u32
-    ensures { AnswersTerminated (Some map.now) result }
+/// Answers a code that comes with no answer.
+pub fn tell_none(code: u32, all: &mut bool, len: &mut usize) -> u32
+    ensures told { result ≡ code }
+    ensures none { all.new ≡ false }
+    ensures len { len.new ≡ 0 }
 {
-    if map.is_terminated() { YES } else { NO }
+    *all = false;
+    nothing(code, len)
 }

@@ -1,18 +1,20 @@
-//! The map of a text of rules in bytes, and what C is told where there is none.
-ghost use Rattle.std.specs.Prelude.{◌≡◌, Some, None, IsTrue, IsSomeAnd, IfOk, IfErr};
+//! The map of a text of rules, written as bytes, and what C is told where there is none.
+ghost use Rattle.std.specs.Prelude.{◌≡◌, ℕ, List, length, Some, None, IfOk, IfErr, OnErr};
 ghost use Rattle.virtiofs_map.specs.Refusal.{OutOfMemoryOr};
-ghost use Rattle.virtiofs_map_c.specs.Kinds.{only_names, rules_in};
-ghost use Rattle.virtiofs_map_c.specs.Rules.{BytesSayRules, OfRules, HasBytesFault, bytes_fault_of, bytes_told, bytes_quoted};
+ghost use Rattle.virtiofs_map.specs.Rule.{MappingRule};
+ghost use Rattle.virtiofs_map_c.specs.Names.{TellsNames};
+ghost use Rattle.virtiofs_map_c.specs.Rules.{BytesSayRules, OfRules, HasBytesFault, bytes_fault_of, bytes_told, bytes_quoted, IsBytesTold};
+ghost use Rattle.virtiofs_map_c.specs.Faults.{failure_code};
 ghost use Rattle.virtiofs_map_c.specs.Replies.{IsQuoted};
 ghost use Rattle.virtiofs_map.specs.RulesFault.{fault_at};
 ghost use Rattle.std.specs.Option.{option_map};
 
 use super::reading::ReadError;
-use crate::buffer::quote;
+use crate::buffer::{Quoted, quote};
+use crate::codes::{NO_MEMORY, NO_ROOM, OK, REFUSED};
 use crate::fault::Fault;
-use crate::slot::Kept;
 use std::alloc::Global;
-use std::sync::Arc;
+use virtiofs_map::xattrmap::image::ImageWritten;
 use virtiofs_map::xattrmap::{ErrorKind, PatternField, XattrMap};
 
 /// The map of a text in bytes.
@@ -31,42 +33,52 @@ fn read(alloc: Global, text: &[u8]) -> Result<XattrMap, ReadError>
     }
 }
 
-/// The map of a text in bytes, in a box.
-pub fn boxed(alloc: Global, text: &[u8]) -> Result<Box<Kept>, ReadError>
-    ensures kind { IfOk result (λ kept. IsTrue (only_names (Some kept.value))) }
-    ensures read { IfOk result (λ kept.
-        IsSomeAnd (rules_in (Some kept.value)) (BytesSayRules text.now)) }
+/// Writes the map of a text, and tells how many bytes it has.
+pub fn made(
+    alloc: Global,
+    text: &[u8],
+    bytes: &mut [u8],
+    wanted: &mut usize,
+) -> Result<u32, ReadError>
+    ensures made { IfOk result (λ code. (rules : List MappingRule) × BytesSayRules text.now rules
+        × TellsNames rules bytes.old code wanted.new bytes.new) }
     ensures refused { IfErr result (λ e.
         OutOfMemoryOr (bytes_fault_of e) (HasBytesFault text.now)) }
+    ensures keeps { OnErr result (bytes.new ≡ bytes.old) }
 {
     let map = read(alloc, text)?;
-    let Ok(shared) = Arc::new(alloc, map) else {
-        return Err(ReadError::OutOfMemory);
-    };
-    let Ok(kept) = Box::new(alloc, Kept::Names(shared)) else {
-        return Err(ReadError::OutOfMemory);
-    };
-    Ok(kept)
+    match map.write_image(bytes) {
+        ImageWritten::Written(count) => {
+            *wanted = count;
+            Ok(OK)
+        }
+        ImageWritten::NoRoom(count) => {
+            *wanted = count;
+            Ok(NO_ROOM)
+        }
+        ImageWritten::TooLong => Err(ReadError::OutOfMemory),
+    }
 }
 
 /// What C is told of an error that blames a rule.
 fn told_of_rule(number: usize, cause: &ErrorKind, quoted: &mut [u8]) -> Fault
-    ensures told { result ≡ bytes_told (option_map OfRules (fault_at (Some number) cause.now)) }
+    ensures told { result ≡ bytes_told
+        (length quoted.old) (option_map OfRules (fault_at (Some number) cause.now)) }
     ensures quoted { IsQuoted
         (bytes_quoted (option_map OfRules (fault_at (Some number) cause.now)))
         quoted.old quoted.new }
 {
     match cause {
-        ErrorKind::InvalidScope { got, .. } => Fault::of_rule(12, number, quote(got, quoted)),
-        ErrorKind::InvalidType { got, .. } => Fault::of_rule(13, number, quote(got, quoted)),
-        ErrorKind::IncompleteRule => Fault::of_rule(14, number, 0),
-        ErrorKind::MapRuleViolation => Fault::of_rule(15, number, 0),
+        ErrorKind::InvalidScope { got, .. } => Fault::at(12, number, quote(got, quoted)),
+        ErrorKind::InvalidType { got, .. } => Fault::at(13, number, quote(got, quoted)),
+        ErrorKind::IncompleteRule => Fault::at(14, number, Quoted::nothing()),
+        ErrorKind::MapRuleViolation => Fault::at(15, number, Quoted::nothing()),
         ErrorKind::NulInPattern {
             pattern: PatternField::Key,
-        } => Fault::of_rule(17, number, 0),
+        } => Fault::at(17, number, Quoted::nothing()),
         ErrorKind::NulInPattern {
             pattern: PatternField::Prepend,
-        } => Fault::of_rule(18, number, 0),
+        } => Fault::at(18, number, Quoted::nothing()),
         ErrorKind::NoRulesProvided => Fault::none(),
         ErrorKind::OutOfMemory => Fault::none(),
         ErrorKind::InvalidDelimiter => Fault::none(),
@@ -76,7 +88,8 @@ fn told_of_rule(number: usize, cause: &ErrorKind, quoted: &mut [u8]) -> Fault
 
 /// What C is told of an error that blames no rule.
 fn told_of_none(cause: &ErrorKind) -> Fault
-    ensures { result ≡ bytes_told (option_map OfRules (fault_at None cause.now)) }
+    ensures { (room : ℕ) → result ≡ bytes_told
+        room (option_map OfRules (fault_at None cause.now)) }
 {
     match cause {
         ErrorKind::NoRulesProvided => Fault::of_kind(16),
@@ -92,8 +105,8 @@ fn told_of_none(cause: &ErrorKind) -> Fault
 }
 
 /// What C is told of an error.
-pub fn told(error: &ReadError, quoted: &mut [u8]) -> Fault
-    ensures told { result ≡ bytes_told (bytes_fault_of error.now) }
+fn told(error: &ReadError, quoted: &mut [u8]) -> Fault
+    ensures told { result ≡ bytes_told (length quoted.old) (bytes_fault_of error.now) }
     ensures quoted { IsQuoted (bytes_quoted (bytes_fault_of error.now)) quoted.old quoted.new }
 {
     match error {
@@ -104,4 +117,26 @@ pub fn told(error: &ReadError, quoted: &mut [u8]) -> Fault
             Some(number) => told_of_rule(number, &error.cause, quoted),
         },
     }
+}
+
+/// The code of a text of which no map is made.
+fn code_of(error: &ReadError) -> u32
+    ensures { result ≡ failure_code (bytes_fault_of error.now) }
+{
+    match error {
+        ReadError::NotUtf8 => REFUSED,
+        ReadError::OutOfMemory => NO_MEMORY,
+        ReadError::Rules(error) => match (error.rule, &error.cause) {
+            (None, ErrorKind::OutOfMemory) => NO_MEMORY,
+            _ => REFUSED,
+        },
+    }
+}
+
+/// Tells C of an error, and answers its code.
+pub fn tell_of_rules(error: &ReadError, fault: &mut Fault, quoted: &mut [u8]) -> u32
+    ensures { IsBytesTold result fault.new quoted.old quoted.new (bytes_fault_of error.now) }
+{
+    *fault = told(error, quoted);
+    code_of(error)
 }

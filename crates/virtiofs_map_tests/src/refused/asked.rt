@@ -13,6 +13,8 @@ pub(super) enum Asked {
     Specification(&'static str),
     /// `IdMap::try_from` of the specifications of these texts.
     Build(&'static str),
+    /// `image::write_image` of the specifications of these texts.
+    Image(&'static str),
     /// `IdMap::from_specs` of these texts.
     Texts(&'static str),
     /// `XattrMap::try_from` of this text.
@@ -28,6 +30,7 @@ impl Asked {
         match *self {
             Asked::Specification(text) => ids::specification(ample, alloc, text),
             Asked::Build(texts) => ids::build(ample, alloc, texts),
+            Asked::Image(texts) => ids::image(ample, alloc, texts),
             Asked::Texts(texts) => ids::texts(ample, alloc, texts),
             Asked::Rules(rules) => maps::rules(ample, alloc, rules),
             Asked::Of(rules, question) => questions::of(ample, alloc, rules, question),

@@ -4,6 +4,7 @@ use crate::told::{Heap, Told};
 use std::alloc::AllocError;
 use virtiofs_map::cmdline;
 use virtiofs_map::id_types::{GuestUid, HostUid};
+use virtiofs_map::soft_idmap::image::write_image;
 use virtiofs_map::soft_idmap::{IdMap, IdMapBuildError, SpecsError};
 
 /// A map of users with the memory of these tests.
@@ -61,6 +62,21 @@ pub(super) fn build<'h>(ample: Heap<'h>, alloc: Heap<'h>, texts: &str) -> Told<'
         Ok(map) => lookups(ample, &map),
         Err(IdMapBuildError::OutOfMemory) => Told::OutOfMemory,
         Err(error) => Told::of(ample, &error),
+    }
+}
+
+/// Writes the image of a map of specifications, which a refusal leaves unwritten.
+pub(super) fn image<'h>(ample: Heap<'h>, alloc: Heap<'h>, texts: &str) -> Told<'h> {
+    let Some(specs) = specs_of(ample, texts) else {
+        return Told::Trouble;
+    };
+    let mut words = [0; 40];
+    let len = write_image(alloc, &specs, &mut words);
+    let written = words.iter().any(|word| *word != 0);
+    match len {
+        Err(IdMapBuildError::OutOfMemory) if written => Told::Trouble,
+        Err(IdMapBuildError::OutOfMemory) => Told::OutOfMemory,
+        answer => Told::of(ample, &answer),
     }
 }
 

@@ -2,11 +2,11 @@
 
 use crate::refused::asked::Asked;
 use crate::refused::questions::Question;
-use Asked::{Build, Of, Rules, Specification, Texts};
+use Asked::{Build, Image, Of, Rules, Specification, Texts};
 use Question::{Apart, Audit, AuditCounted, AuditListed, Client, Clone, Server};
 
 /// Calls that cannot do without memory.
-pub(super) const TAKE: [Asked; 51] = [
+pub(super) const TAKE: [Asked; 53] = [
     Specification("foo:x"),
     Specification("foo:1"),
     Specification("foo"),
@@ -19,6 +19,8 @@ pub(super) const TAKE: [Asked; 51] = [
     Build("guest:0:100:10|guest:5:200:1"),
     Build("squash-guest:20:7:5|map:0:1000:10|host:5000:1:2"),
     Build("host:5000:1:2|squash-guest:20:7:5|map:0:1000:10"),
+    Image("guest:0:100:10|guest:5:200:1"),
+    Image("squash-guest:20:7:5|map:0:1000:10|host:5000:1:2"),
     Texts("guest:0:100:10|guest:5:200:1"),
     Texts("squash-guest:20:7:5|map:0:1000:10|host:5000:1:2"),
     Texts("squash-guest:20:7:5|host:5000:1:2|map:0:1000:10"),
@@ -70,9 +72,10 @@ pub(super) const TAKE: [Asked; 51] = [
 ];
 
 /// Calls that may take memory or not.
-pub(super) const MAY_TAKE: [Asked; 10] = [
+pub(super) const MAY_TAKE: [Asked; 11] = [
     Specification(""),
     Build("guest:0:1:0"),
+    Image("guest:0:1:0"),
     Rules(" "),
     Rules(":"),
     Rules(":prefix:all:a:b"),

@@ -1,0 +1,110 @@
+-- An image of a map of names: bytes that are written once, and then only read.
+use Rattle.std.specs.Prelude.{◌≡◌, ◌≢◌, ◌⊎◌, ℕ, ◌+◌, ◌-◌, ◌*◌, ◌<◌, ◌≤◌, if◌then◌else◌, List, [], ◌∷◌, ◌++◌, length, take, drop, All, Option, Some, None, IsSomeAnd}
+use Rattle.virtiofs_map.specs.BranchParts.{AreSpans, IsTrieIn}
+use Rattle.virtiofs_map.specs.ByteWordParts.{word_at, word_bytes}
+use Rattle.virtiofs_map.specs.Names.{deciding}
+use Rattle.virtiofs_map.specs.Rule.{MappingRule, HasNoZero, type_number}
+use Rattle.virtiofs_map.specs.Rule as types
+use Rattle.virtiofs_map.specs.declared.xattrmap.image.Decision.{Decision}
+use Rattle.virtiofs_map.specs.declared.xattrmap.image.Decision.TheVariants as decisions
+use Rattle.virtiofs_map.specs.declared.xattrmap.image.ImageWritten.{ImageWritten}
+use Rattle.virtiofs_map.specs.declared.xattrmap.image.ImageWritten.TheVariants as images
+use Rattle.virtiofs_map.specs.declared.xattrmap.image.ListWritten.{ListWritten}
+use Rattle.virtiofs_map.specs.declared.xattrmap.image.ListWritten.TheVariants as lists
+use Rattle.virtiofs_map.specs.declared.xattrmap.scopes.Side.{Side}
+use Rattle.virtiofs_map.specs.declared.xattrmap.scopes.Side.TheVariants.{Client, Server}
+use Rattle.virtiofs_map.specs.declared.xattrmap.spans.Span.{Span}
+
+-- ---- parts
+
+-- the number with which an image of names begins: the letters vfsname, and the version 1
+abbrev pub image_kind : ℕ
+image_kind = 100606831918016118
+
+-- after it stand five numbers: where the four parts begin, one after the other, and where the last one ends
+abbrev pub part_start : List ℕ → ℕ → ℕ
+part_start image which = word_at image (8 * which + 8)
+
+abbrev pub part_end : List ℕ → ℕ → ℕ
+part_end image which = word_at image (8 * which + 16)
+
+-- the part of that number: 0 is the rows of the client's trie, 1 those of the server's, 2 the rows of the rules, and 3 the bytes of all patterns
+abbrev pub part : List ℕ → ℕ → List ℕ
+part image which = take (part_end image which - part_start image which) (drop (part_start image which) image)
+
+-- the part is all there
+pub record HasPart (image : List ℕ) (which : ℕ) : Type 0 where
+  pub rising : part_start image which ≤ part_end image which
+  pub within : part_end image which ≤ length image
+
+-- ---- rules as rows of bytes
+
+-- what a rule does, and on which sides, as a number
+abbrev pub acts_number : MappingRule → ℕ
+acts_number rule = type_number rule.kind + 4 * (if rule.client then 1 else 0) + 8 * (if rule.server then 1 else 0)
+
+-- the 24 bytes of a rule whose patterns stand there
+unfoldable pub rule_row : MappingRule → Span → List ℕ
+rule_row rule span = word_bytes (span.key + 281474976710656 * acts_number rule) ++ word_bytes span.prepend ++ word_bytes span.end
+
+-- the rows of rules
+abbrev pub rule_rows : List MappingRule → List Span → List ℕ
+rule_rows [] spans = []
+rule_rows (rule ∷ rules) [] = []
+rule_rows (rule ∷ rules) (span ∷ spans) = rule_row rule span ++ rule_rows rules spans
+
+-- the rows are those of the rules, whose patterns stand among the bytes
+pub record AreRuleRows (rules : List MappingRule) (rows bytes : List ℕ) : Type 0 where
+  pub spans : List Span
+  pub stand : AreSpans bytes rules spans
+  pub are : rows ≡ rule_rows rules spans
+  -- so few bytes that a place takes no more than its share of eight
+  pub few : length bytes < 281474976710656
+
+-- ---- what an image says
+
+-- the bytes are an image of a map of these rules
+pub record IsImage (rules : List MappingRule) (image : List ℕ) : Type 0 where
+  -- it begins with six numbers, the first of which says what it is
+  pub begun : 48 ≤ length image
+  pub kind : word_at image 0 ≡ image_kind
+  -- the parts that the others name are all there
+  pub parts : (which : ℕ) → which < 4 → HasPart image which
+  -- it has a trie of what names are compared with, for each side
+  pub client : IsTrieIn Client rules (part image 0) (part image 3)
+  pub server : IsTrieIn Server rules (part image 1) (part image 3)
+  -- it has the rules themselves, and no pattern holds a zero
+  pub stored : AreRuleRows rules (part image 2) (part image 3)
+  pub no_zero : All HasNoZero rules
+
+-- the bytes do not begin as an image does
+abbrev pub IsNoImage : List ℕ → Type 0
+IsNoImage image = (length image < 48) ⊎ (word_at image 0 ≢ image_kind)
+
+-- there is an image of the rules that has so many bytes
+abbrev pub HasImage : List MappingRule → ℕ → Type 0
+HasImage rules count = (image : List ℕ) × (length image ≡ count) × IsImage rules image
+
+-- ---- what the calls say
+
+-- what came of writing an image into bytes that were old and are new
+abbrev pub WritesImage : List MappingRule → List ℕ → List ℕ → ImageWritten → Type 0
+WritesImage rules old new (images.Written count) = (count ≤ length old) × IsImage rules (take count new) × (drop count new ≡ drop count old)
+WritesImage rules old new (images.NoRoom count) = (length old < count) × HasImage rules count × (new ≡ old)
+WritesImage rules old new images.TooLong = new ≡ old
+
+-- the decision says which rule decides the name: the first that fits it, or none
+abbrev pub Says : Side → List MappingRule → List ℕ → Decision → Type 0
+Says side rules name decisions.NoMap = ⊥
+Says side rules name decisions.Undecided = deciding side rules name ≡ None
+Says side rules name decisions.Okay = IsSomeAnd (deciding side rules name) (λ rule. rule.kind ≡ types.Okay)
+Says side rules name (decisions.Prefix prepend) = IsSomeAnd (deciding side rules name) (λ rule. (rule.kind ≡ types.Prefix) × (rule.prepend ≡ prepend.now))
+Says side rules name decisions.Bad = IsSomeAnd (deciding side rules name) (λ rule. rule.kind ≡ types.Bad)
+Says side rules name decisions.Unsupported = IsSomeAnd (deciding side rules name) (λ rule. rule.kind ≡ types.Unsupported)
+
+-- what came of writing a list, if there is one, into bytes that were old and are new
+abbrev pub WritesList : Option (List ℕ) → List ℕ → List ℕ → ListWritten → Type 0
+WritesList answer old new lists.NoMap = ⊥
+WritesList answer old new lists.Undecided = answer ≡ None
+WritesList answer old new (lists.Written count) = (list : List ℕ) × (answer ≡ Some list) × (count ≡ length list) × (new ≡ list ++ drop count old)
+WritesList answer old new (lists.NoRoom count) = (list : List ℕ) × (answer ≡ Some list) × (count ≡ length list) × (length old < count)

@@ -1,0 +1,84 @@
+//! A map of ids as plain numbers: an image, which any number of readers may ask at once.
+//!
+//! [`write_image`] writes one into memory of the caller's, and [`look_up`] only reads it. What the
+//! numbers are is private, and may change with the version of the library.
+ghost use Rattle.std.specs.Prelude.{◌≡◌, ℕ, ◌+◌, ◌*◌, ◌≤◌, List, length, min, Option, IfOk, IfErr, OnOk, OnErr, MatchResult, ⊤};
+ghost use Rattle.virtiofs_map.specs.Build.{Accepted, BuildFault, HasFirstFault, build_fault_of};
+ghost use Rattle.virtiofs_map.specs.Image.{HasKind, IsImage, image_length, IsWritten};
+ghost use Rattle.virtiofs_map.specs.ImageAnswer.{SaysValue, SaysIn, SaysLeadsBack};
+ghost use Rattle.virtiofs_map.specs.Mapping.{Becomes};
+ghost use Rattle.virtiofs_map.specs.MappingLaws.{IsMappedBothWays};
+ghost use Rattle.virtiofs_map.specs.Refusal.{IsOutOfMemory, OutOfMemoryOr};
+ghost use Rattle.virtiofs_map.specs.declared.cmdline.IdMap.{IdMap as Specification};
+
+use super::build::placed_both;
+pub use super::row::Answer;
+use super::words::image_ranges;
+use super::write::write_words;
+use super::{Direction, IdMapBuildError, lookup};
+use crate::Steps;
+use crate::cmdline::IdMap;
+use std::alloc::Allocator;
+
+/// How many words the image of a map of so many specifications has at most.
+///
+/// Where there can be no such list, it is [`usize::MAX`].
+pub fn most_words(specs: usize) -> usize
+    ensures { result ≡ min (3 + 8 * specs) 18446744073709551615 }
+{
+    specs.saturating_mul(8).saturating_add(3)
+}
+
+/// Writes the image of the map of a list of specifications, and says how many words it has.
+///
+/// Where there are fewer words than that, nothing is written. Where there are more, the others stay
+/// as they were. The faults of a list, and the order in which they are found, are those of
+/// [`super::IdMap::try_from`]. Where a request for memory is refused, the error is
+/// [`IdMapBuildError::OutOfMemory`].
+pub fn write_image<A: Allocator + Copy>(
+    alloc: A,
+    specs: &[IdMap],
+    words: &mut [u32],
+) -> Result<usize, IdMapBuildError>
+    ensures accepted { OnOk result (Accepted specs.now) }
+    ensures len { IfOk result (λ len. len ≡ image_length specs.now) }
+    ensures bound { IfOk result (λ len. len ≤ 3 + 8 * length specs.now) }
+    ensures written { OnOk result (IsWritten specs.now words.old words.new) }
+    ensures complete { Accepted specs.now → MatchResult result (λ _. ⊤)
+        (λ e. IsOutOfMemory (build_fault_of e)) }
+    ensures refused { IfErr result (λ e.
+        OutOfMemoryOr (build_fault_of e) (HasFirstFault specs.now)) }
+    ensures faulty { (fault : BuildFault) → HasFirstFault specs.now fault
+        → MatchResult result (λ _. ⊥)
+        (λ e. OutOfMemoryOr (build_fault_of e) (λ told. told ≡ fault)) }
+    ensures keeps { OnErr result (words.new ≡ words.old) }
+{
+    let (guests, hosts) = placed_both(alloc, specs)?;
+    let len = 3 + 4 * guests.len() + 4 * hosts.len();
+    if words.len() < len {
+        return Ok(len);
+    }
+    let (front, _) = words.split_at_mut(len);
+    write_words(front, &guests, &hosts);
+    Ok(len)
+}
+
+/// What an image says of a number in a direction.
+///
+/// Any words may be passed. Where they begin with another word than an image of this version, or
+/// are too few for the ranges of which they speak, the answer is [`Answer::NoImage`]. It takes no
+/// memory.
+pub fn look_up(words: &[u32], direction: Direction, n: u32) -> Answer
+    ensures says { (specs : List Specification) → IsImage specs words.now
+        → SaysIn specs direction n result }
+    ensures exact { (specs : List Specification) (value : Option ℕ) → IsImage specs words.now
+        → Becomes specs direction n value → SaysValue value result }
+    ensures leads_back { (specs : List Specification) → IsImage specs words.now
+        → IsMappedBothWays specs direction n → SaysLeadsBack specs direction n result }
+    ensures no_image { (¬ HasKind words.now) → result ≡ Answer.NoImage }
+{
+    let Some(ranges) = image_ranges(words, direction) else {
+        return Answer::NoImage;
+    };
+    lookup::look_up(&ranges, n, &mut Steps::new())
+}

@@ -1,0 +1,140 @@
+//! Images of maps of names: bytes that are written once, and then only read.
+//!
+//! An image takes no memory but its own bytes, and may be read by any number of threads at once.
+//! It begins with six numbers of eight bytes, the lowest byte first: what it is, and where its four
+//! parts begin and end. The parts are the rows of the client's trie, those of the server's, the rows
+//! of the rules, and the bytes of all patterns. The functions that read one take any bytes, and read
+//! none outside: bytes that do not begin as an image does are no map.
+
+ghost use Rattle.std.specs.Prelude.{◌≡◌, ◌↔◌, List, IfSome, IsSomeAnd, IsTrue, IsNone};
+ghost use Rattle.virtiofs_map.specs.Audit.{Terminated};
+ghost use Rattle.virtiofs_map.specs.NamesImage.{HasImage, IsImage, IsNoImage, Says, WritesImage};
+ghost use Rattle.virtiofs_map.specs.Rule.{MappingRule};
+
+mod fill;
+mod header;
+mod list;
+mod made;
+pub(crate) mod parts;
+mod stored;
+mod write;
+
+use crate::xattrmap::XattrMap;
+use crate::xattrmap::scopes::Side;
+pub use list::write_list;
+use parts::Parts;
+use std::alloc::Allocator;
+use write::{places_of, write_parts};
+
+/// What an image says of a name.
+#[derive(Clone, Copy, PartialEq, Eq, Debug)]
+pub enum Decision<'m> {
+    /// The bytes are no image of a map.
+    NoMap,
+    /// No rule fits the name.
+    Undecided,
+    /// The name passes as it is, or is listed as it is.
+    Okay,
+    /// The name passes with this prepend before it, or is listed without it.
+    Prefix(&'m [u8]),
+    /// The name is denied, or hidden.
+    Bad,
+    /// The name is refused as unsupported, or hidden.
+    Unsupported,
+}
+
+/// What came of writing an image.
+#[derive(Clone, Copy, PartialEq, Eq, Debug)]
+pub enum ImageWritten {
+    /// The image has so many bytes, and stands at the front.
+    Written(usize),
+    /// Nothing was written: the image needs room for so many bytes.
+    NoRoom(usize),
+    /// Nothing was written: an image has 281474976710655 bytes at most.
+    TooLong,
+}
+
+/// What came of writing a list.
+#[derive(Clone, Copy, PartialEq, Eq, Debug)]
+pub enum ListWritten {
+    /// The bytes are no image of a map.
+    NoMap,
+    /// No rule decides one of the names.
+    Undecided,
+    /// The list has so many bytes, and stands at the front.
+    Written(usize),
+    /// The list needs room for so many bytes.
+    NoRoom(usize),
+}
+
+impl<A: Allocator> XattrMap<A> {
+    /// How many bytes an image of the map has; `None` where these are more than an image may have,
+    /// which is 281474976710655.
+    pub fn image_len(&self) -> Option<usize>
+        ensures { IfSome result (HasImage self.now) }
+    {
+        let (client, server) = (self.client.as_slice(), self.server.as_slice());
+        let places = places_of(client, server, &self.rules)?;
+        Some(places.end)
+    }
+
+    /// Writes an image of the map to the front, and leaves what stands behind it. It takes no
+    /// memory. Where there is no room, nothing is written.
+    pub fn write_image(&self, out: &mut [u8]) -> ImageWritten
+        ensures { WritesImage self.now out.old out.new result }
+    {
+        let (client, server) = (self.client.as_slice(), self.server.as_slice());
+        let Some(places) = places_of(client, server, &self.rules) else {
+            return ImageWritten::TooLong;
+        };
+        if out.len() < places.end {
+            return ImageWritten::NoRoom(places.end);
+        }
+        write_parts(client, server, &self.rules, places, out);
+        ImageWritten::Written(places.end)
+    }
+}
+
+/// What an image says of a name of that side: what the first rule that fits it does. It takes no
+/// memory.
+///
+/// The answer is `NoMap` where the bytes do not begin as an image does. For any other bytes that are
+/// no image the answer may be any, and what it holds is a part of them.
+#[inline]
+pub fn decide<'m>(image: &'m [u8], side: Side, name: &[u8]) -> Decision<'m>
+    ensures closed { IsNoImage image.now → result ≡ Decision.NoMap }
+    ensures says { (rules : List MappingRule) → IsImage rules image.now
+        → Says side rules name.now result }
+{
+    match Parts::of(image, side) {
+        Some(parts) => parts.decide(name),
+        None => Decision::NoMap,
+    }
+}
+
+/// Whether no name is ever left without a rule; `None` where the bytes are no image. It takes no
+/// memory.
+///
+/// A rule that fits a name fits all names that begin with it. So the empty name decides for the
+/// guest, and the names of one byte decide for the host, whose names are not empty.
+pub fn is_terminated(image: &[u8]) -> Option<bool>
+    ensures closed { IsNoImage image.now → IsNone result }
+    ensures terminated { (rules : List MappingRule) → IsImage rules image.now
+        → IsSomeAnd result (λ terminated. IsTrue terminated ↔ Terminated rules) }
+{
+    let Some(client) = Parts::of(image, Side::Client) else {
+        return None;
+    };
+    let Some(server) = Parts::of(image, Side::Server) else {
+        return None;
+    };
+    if !client.is_decided(b"") {
+        return Some(false);
+    }
+    for byte in 1..=u8::MAX {
+        if !server.is_decided(&[byte]) {
+            return Some(false);
+        }
+    }
+    Some(true)
+}

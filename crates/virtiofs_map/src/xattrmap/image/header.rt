@@ -1,0 +1,39 @@
+//! The front of an image: what it is, and where its parts stand.
+
+ghost use Rattle.std.specs.Prelude.{◌≡◌, ◌<◌, ◌≤◌, ◌↔◌, length, IfSome, IsSome, IsFalse};
+ghost use Rattle.virtiofs_map.specs.NamesImage.{HasPart, IsNoImage, part};
+
+use crate::xattrmap::words::word_at;
+
+/// What an image begins with: the letters `vfsname`, and the version 1.
+pub(crate) const KIND: u64 = 100606831918016118;
+
+/// How many bytes stand before the first part.
+pub(crate) const HEADER: usize = 48;
+
+/// Whether the bytes begin as an image does.
+#[inline(always)]
+pub(crate) fn is_image(image: &[u8]) -> bool
+    ensures { IsFalse result ↔ IsNoImage image.now }
+{
+    image.len() >= HEADER && word_at(image, 0) == KIND
+}
+
+/// The part of that number, where it is all there.
+#[inline(always)]
+pub(crate) fn part(image: &[u8], which: usize) -> Option<&[u8]>
+    requires { which < 4 }
+    ensures part { IfSome result (λ bytes. bytes.now ≡ part image.now which) }
+    ensures there { 48 ≤ length image.now → HasPart image.now which → IsSome result }
+{
+    if image.len() < HEADER {
+        return None;
+    }
+    let from = word_at(image, 8 * which + 8) as usize;
+    let to = word_at(image, 8 * which + 16) as usize;
+    if from <= to && to <= image.len() {
+        Some(&image[from..to])
+    } else {
+        None
+    }
+}

@@ -1,0 +1,11 @@
+//! Which version of the header the archive belongs to.
+
+ghost use Rattle.std.specs.Prelude.{◌≡◌};
+
+/// The version of what the header declares, and of the maps that are made.
+#[unsafe(no_mangle)]
+pub extern "C" fn virtiofs_map_version() -> u32
+    ensures { result ≡ 1 }
+{
+    1
+}
