@@ -1,4 +1,9 @@
 pub mod ForCallers
+mod AclCapabilityLemmas
+mod AclFaultLemmas
+mod AclLawLemmas
+mod AclMergeLemmas
+mod AclWriteLemmas
 mod AnswerLemmas
 mod AuditAlikeLemmas
 mod AuditCountLemmas
@@ -44,10 +49,10 @@ mod PlacedLemmas
 mod ReadSoFarLemmas
 mod ReaderLemmas
 mod RowLemmas
-mod RuleRowLemmas
 mod RuleEqualityLemmas
 mod RuleFieldLemmas
 mod RuleReadingLemmas
+mod RuleRowLemmas
 mod RuleTextLemmas
 mod RuleWordLemmas
 mod SameEndsLemmas

@@ -1,3 +1,7 @@
+pub mod Acl
+pub mod AclLaws
+pub mod AclParts
+pub mod AclPrinted
 pub mod Alphanumeric
 pub mod Audit
 pub mod AuditParts
@@ -5,11 +9,14 @@ pub mod BranchParts
 pub mod Build
 pub mod BuildParts
 pub mod ByteWordParts
+pub mod Capability
+pub mod CapabilityParts
 pub mod FirstRule
 pub mod GrowthParts
 pub mod Image
 pub mod ImageAnswer
 pub mod Listing
+pub mod LittleEndian
 pub mod LookupAnswers
 pub mod LookupSteps
 pub mod MapRule
@@ -33,4 +40,5 @@ pub mod SpecificationParts
 pub mod SpecificationText
 pub mod Specifications
 pub mod Steps
+pub mod ValueKinds
 pub mod WordParts

@@ -1,7 +1,7 @@
 //! Tests of the library `virtiofs_map` by its public calls alone.
 //!
-//! - `audit`, `cmdline`, `id_types`, `idmap`, `soft_idmap` and `xattrmap`: known inputs of the
-//!   library's module of that name, each with its answer. The two modules `example` show how a
+//! - `acl`, `audit`, `cmdline`, `id_types`, `idmap`, `soft_idmap` and `xattrmap`: known inputs of the
+//!   library's module of that name, each with its answer. The three modules `example` show how a
 //!   daemon calls the library, with contracts of its own.
 //! - `refused`: each request for memory of each call is refused in turn.
 //! - `without_memory`: the calls that take no memory, under an allocator that grants none.
@@ -10,6 +10,8 @@
 //! There is nothing here but tests.
 #![tactic(auto)]
 
+#[cfg(test)]
+mod acl;
 #[cfg(test)]
 mod audit;
 #[cfg(test)]

@@ -1,0 +1,13 @@
+-- What the parts of the calls on capabilities answer. Only private functions cite these words.
+use Rattle.std.specs.Prelude.{List, ℕ}
+use Rattle.virtiofs_map.specs.Capability.{HasRootFault}
+use Rattle.virtiofs_map.specs.declared.acl.errors.CapabilityError.{CapabilityError}
+use Rattle.virtiofs_map.specs.declared.acl.errors.CapabilityError.TheVariants.{Forbidden, RootMoves}
+use Rattle.virtiofs_map.specs.declared.cmdline.IdMap.{IdMap}
+use Rattle.virtiofs_map.specs.declared.soft_idmap.entry.Direction.{Direction}
+
+-- a fault of the value itself, which no specification has a part in
+abbrev pub IsFaultOfAny : List ℕ → CapabilityError → Type 0
+IsFaultOfAny value Forbidden = ⊥
+IsFaultOfAny value RootMoves = ⊥
+IsFaultOfAny value fault = (users : List IdMap) (direction : Direction) → HasRootFault users direction value fault

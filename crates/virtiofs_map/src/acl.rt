@@ -1,0 +1,257 @@
+//! Ids inside the values of extended attributes.
+//!
+//! The values of three attributes hold ids of users and groups: the two access control lists of a
+//! file, and its capability. A daemon that maps ids has to map these too, or a right that the guest
+//! gives to its user 1000 goes to the host's. [`carries_ids`] says which names have such values.
+//!
+//! Each call changes ids in place, and nothing else: a value keeps its length. It tests the whole
+//! value first, and where it answers an error, no byte has changed. No memory is taken.
+//!
+//! An access control list is a header of 4 bytes that says version 2, and entries of 8 bytes: a
+//! tag, permissions, and a field for an id, all with the lowest byte first. Only the tags 2 (a user)
+//! and 8 (a group) have an id; the field of the others is kept as it is. Two users of a list may not
+//! become one, since one would get the rights of the other; nor may two groups.
+//!
+//! A capability ends with the id of root, in revision 3. Revisions 1 and 2 have none and mean 0, so
+//! they go across as they are where 0 stays 0; where it does not, a call writes the same in revision
+//! 3 into memory that the caller lends.
+ghost use Rattle.std.specs.Prelude.{◌≡◌, ◌↔◌, IsOk, IfErr, IsErrAnd, OnOk, OnErr, Some, length};
+ghost use Rattle.virtiofs_map.specs.Acl.{IdsBecome, KeepsRest, GoesAcross, HasAclFault};
+ghost use Rattle.virtiofs_map.specs.AclLaws.{AllMapped, ComesBack};
+ghost use Rattle.virtiofs_map.specs.Capability.{root_of, RootBecomes, KeepsFront, IsInRevision3, HasRoot, RootGoesAcross, HasRootFault, HasCapabilityFault, RootComesBack};
+ghost use Rattle.virtiofs_map.specs.MappingLaws.{IsMappedBothWays};
+ghost use Rattle.virtiofs_map.specs.ValueKinds.{HasLists, HasCapability};
+ghost use Rattle.virtiofs_map.specs.declared.acl.errors.AclError.{AclError};
+ghost use Rattle.virtiofs_map.specs.declared.acl.errors.CapabilityError.{CapabilityError};
+ghost use Rattle.virtiofs_map.specs.declared.soft_idmap.entry.Direction.TheVariants.{GuestToHost, HostToGuest};
+
+mod capabilities;
+mod entries;
+mod errors;
+mod lists;
+mod little_endian;
+mod merges;
+mod ways;
+
+use crate::id_types::{GuestGid, GuestUid, HostGid, HostUid};
+use crate::soft_idmap::{Direction, IdMap};
+use crate::xattrmap::XattrName;
+use capabilities::{translate_root, write_revision_3};
+pub use errors::{AclError, CapabilityError, EntryFault};
+use lists::translate;
+pub use merges::EntryRoom;
+use std::alloc::Allocator;
+use ways::{Ways, is_accepted};
+
+/// What values hold ids.
+#[derive(Clone, Copy, Debug, PartialEq, Eq)]
+pub enum ValueKind {
+    /// Access control lists: [`acl_to_host`] and [`acl_to_guest`].
+    Acl,
+    /// Capabilities: [`capability_to_host`] and [`capability_to_guest`].
+    Capability,
+}
+
+/// Which ids the values of that name hold, if any.
+///
+/// `system.posix_acl_access` and `system.posix_acl_default` have access control lists, and
+/// `security.capability` has capabilities. The name is the host's, as the kernel knows it.
+pub fn carries_ids(name: XattrName<'_>) -> Option<ValueKind>
+    ensures acl { (result ≡ Some ValueKind.Acl) ↔ HasLists name.entry.bytes.now }
+    ensures capability { (result ≡ Some ValueKind.Capability) ↔ HasCapability name.entry.bytes.now }
+{
+    let bytes = name.as_bytes();
+    let access = bytes == b"system.posix_acl_access".as_slice();
+    if access || bytes == b"system.posix_acl_default".as_slice() {
+        return Some(ValueKind::Acl);
+    }
+    if bytes == b"security.capability".as_slice() {
+        return Some(ValueKind::Capability);
+    }
+    None
+}
+
+/// Makes an access control list of the guest one of the host: each id becomes what its map makes of
+/// it, in place.
+///
+/// `room` is lent for as many entries as the value has: a value of n bytes has (n - 4) / 8. It is
+/// written over. To test for ids that would merge, the entries are sorted in it.
+///
+/// # Errors
+///
+/// The first of these, and then no byte of the value has changed: [`AclError::TooShort`],
+/// [`AclError::Version`], [`AclError::Length`], [`AclError::Room`], and [`AclError::Entry`] with the
+/// first entry that fails the tests of its tag, its permissions, and its id; else with the first
+/// entry whose id would become that of an earlier entry of its tag with another id.
+pub fn acl_to_host<A: Allocator>(
+    users: &IdMap<GuestUid, HostUid, A>,
+    groups: &IdMap<GuestGid, HostGid, A>,
+    value: &mut [u8],
+    room: &mut [EntryRoom],
+) -> Result<(), AclError>
+    ensures users { OnOk result (IdsBecome 2 users.now GuestToHost value.old value.new) }
+    ensures groups { OnOk result (IdsBecome 8 groups.now GuestToHost value.old value.new) }
+    ensures rest { OnOk result (KeepsRest value.old value.new) }
+    ensures accepted { OnOk result (
+        GoesAcross users.now groups.now GuestToHost (length room.old) value.old) }
+    ensures complete { GoesAcross users.now groups.now GuestToHost (length room.old) value.old
+        → IsOk result }
+    ensures refused { IfErr result (
+        HasAclFault users.now groups.now GuestToHost (length room.old) value.old) }
+    ensures faulty { (fault : AclError)
+        → HasAclFault users.now groups.now GuestToHost (length room.old) value.old fault
+        → IsErrAnd result (λ e. e ≡ fault) }
+    ensures unchanged { OnErr result (value.new ≡ value.old) }
+    ensures leads_back { OnOk result (AllMapped users.now groups.now GuestToHost value.old
+        → ComesBack users.now groups.now GuestToHost (length room.old) value.old value.new) }
+{
+    let direction = Direction::GuestToHost;
+    let ways = Ways {
+        users,
+        groups,
+        direction,
+    };
+    translate(&ways, value, room)
+}
+
+/// Makes an access control list of the host one of the guest, as [`acl_to_host`] does the other way.
+///
+/// # Errors
+///
+/// Those of [`acl_to_host`], in the same order. The specifications of today forbid guest ids alone.
+pub fn acl_to_guest<A: Allocator>(
+    users: &IdMap<GuestUid, HostUid, A>,
+    groups: &IdMap<GuestGid, HostGid, A>,
+    value: &mut [u8],
+    room: &mut [EntryRoom],
+) -> Result<(), AclError>
+    ensures users { OnOk result (IdsBecome 2 users.now HostToGuest value.old value.new) }
+    ensures groups { OnOk result (IdsBecome 8 groups.now HostToGuest value.old value.new) }
+    ensures rest { OnOk result (KeepsRest value.old value.new) }
+    ensures accepted { OnOk result (
+        GoesAcross users.now groups.now HostToGuest (length room.old) value.old) }
+    ensures complete { GoesAcross users.now groups.now HostToGuest (length room.old) value.old
+        → IsOk result }
+    ensures refused { IfErr result (
+        HasAclFault users.now groups.now HostToGuest (length room.old) value.old) }
+    ensures faulty { (fault : AclError)
+        → HasAclFault users.now groups.now HostToGuest (length room.old) value.old fault
+        → IsErrAnd result (λ e. e ≡ fault) }
+    ensures unchanged { OnErr result (value.new ≡ value.old) }
+    ensures leads_back { OnOk result (AllMapped users.now groups.now HostToGuest value.old
+        → ComesBack users.now groups.now HostToGuest (length room.old) value.old value.new) }
+{
+    let direction = Direction::HostToGuest;
+    let ways = Ways {
+        users,
+        groups,
+        direction,
+    };
+    translate(&ways, value, room)
+}
+
+/// Makes a capability of the guest one of the host: the id of root becomes what the map makes of it,
+/// in place. A value of revision 1 or 2 stays as it is.
+///
+/// # Errors
+///
+/// The first of these, and then no byte of the value has changed: [`CapabilityError::TooShort`],
+/// [`CapabilityError::Revision`], [`CapabilityError::Length`], [`CapabilityError::NoId`],
+/// [`CapabilityError::Forbidden`], and [`CapabilityError::RootMoves`], after which
+/// [`capability_to_host_in_revision_3`] serves.
+pub fn capability_to_host<A: Allocator>(
+    users: &IdMap<GuestUid, HostUid, A>,
+    value: &mut [u8],
+) -> Result<(), CapabilityError>
+    ensures root { OnOk result (RootBecomes users.now GuestToHost value.old value.new) }
+    ensures front { OnOk result (KeepsFront value.old value.new) }
+    ensures accepted { OnOk result (RootGoesAcross users.now GuestToHost value.old) }
+    ensures complete { RootGoesAcross users.now GuestToHost value.old → IsOk result }
+    ensures refused { IfErr result (HasCapabilityFault users.now GuestToHost value.old) }
+    ensures faulty { (fault : CapabilityError)
+        → HasCapabilityFault users.now GuestToHost value.old fault
+        → IsErrAnd result (λ e. e ≡ fault) }
+    ensures unchanged { OnErr result (value.new ≡ value.old) }
+    ensures leads_back { OnOk result (
+        IsMappedBothWays users.now GuestToHost (root_of value.old)
+        → RootComesBack users.now GuestToHost value.old value.new) }
+{
+    is_accepted(users);
+    translate_root(users, Direction::GuestToHost, value)
+}
+
+/// Makes a capability of the host one of the guest, as [`capability_to_host`] does the other way.
+///
+/// # Errors
+///
+/// Those of [`capability_to_host`], in the same order.
+pub fn capability_to_guest<A: Allocator>(
+    users: &IdMap<GuestUid, HostUid, A>,
+    value: &mut [u8],
+) -> Result<(), CapabilityError>
+    ensures root { OnOk result (RootBecomes users.now HostToGuest value.old value.new) }
+    ensures front { OnOk result (KeepsFront value.old value.new) }
+    ensures accepted { OnOk result (RootGoesAcross users.now HostToGuest value.old) }
+    ensures complete { RootGoesAcross users.now HostToGuest value.old → IsOk result }
+    ensures refused { IfErr result (HasCapabilityFault users.now HostToGuest value.old) }
+    ensures faulty { (fault : CapabilityError)
+        → HasCapabilityFault users.now HostToGuest value.old fault
+        → IsErrAnd result (λ e. e ≡ fault) }
+    ensures unchanged { OnErr result (value.new ≡ value.old) }
+    ensures leads_back { OnOk result (
+        IsMappedBothWays users.now HostToGuest (root_of value.old)
+        → RootComesBack users.now HostToGuest value.old value.new) }
+{
+    is_accepted(users);
+    translate_root(users, Direction::HostToGuest, value)
+}
+
+/// Writes a capability of the guest as one of the host in revision 3, of any revision: the flags and
+/// the two sets are the same, and the id of root is what the map makes of it.
+///
+/// # Errors
+///
+/// Those of [`capability_to_host`] but the last, in the same order, and then nothing is written.
+pub fn capability_to_host_in_revision_3<A: Allocator>(
+    users: &IdMap<GuestUid, HostUid, A>,
+    value: &[u8],
+    written: &mut [u8; 24],
+) -> Result<(), CapabilityError>
+    ensures root { OnOk result (RootBecomes users.now GuestToHost value.now written.new) }
+    ensures same { OnOk result (IsInRevision3 value.now written.new) }
+    ensures accepted { OnOk result (HasRoot users.now GuestToHost value.now) }
+    ensures complete { HasRoot users.now GuestToHost value.now → IsOk result }
+    ensures refused { IfErr result (HasRootFault users.now GuestToHost value.now) }
+    ensures faulty { (fault : CapabilityError)
+        → HasRootFault users.now GuestToHost value.now fault
+        → IsErrAnd result (λ e. e ≡ fault) }
+    ensures unchanged { OnErr result (written.new ≡ written.old) }
+{
+    is_accepted(users);
+    write_revision_3(users, Direction::GuestToHost, value, written)
+}
+
+/// Writes a capability of the host as one of the guest in revision 3, as
+/// [`capability_to_host_in_revision_3`] does the other way.
+///
+/// # Errors
+///
+/// Those of [`capability_to_guest`] but the last, in the same order, and then nothing is written.
+pub fn capability_to_guest_in_revision_3<A: Allocator>(
+    users: &IdMap<GuestUid, HostUid, A>,
+    value: &[u8],
+    written: &mut [u8; 24],
+) -> Result<(), CapabilityError>
+    ensures root { OnOk result (RootBecomes users.now HostToGuest value.now written.new) }
+    ensures same { OnOk result (IsInRevision3 value.now written.new) }
+    ensures accepted { OnOk result (HasRoot users.now HostToGuest value.now) }
+    ensures complete { HasRoot users.now HostToGuest value.now → IsOk result }
+    ensures refused { IfErr result (HasRootFault users.now HostToGuest value.now) }
+    ensures faulty { (fault : CapabilityError)
+        → HasRootFault users.now HostToGuest value.now fault
+        → IsErrAnd result (λ e. e ≡ fault) }
+    ensures unchanged { OnErr result (written.new ≡ written.old) }
+{
+    is_accepted(users);
+    write_revision_3(users, Direction::HostToGuest, value, written)
+}

@@ -1,0 +1,146 @@
+//! Values of attributes that hold ids: as Linux writes them, at each boundary, and large.
+
+mod by_linux;
+mod example;
+mod faults;
+mod large;
+mod told;
+
+use by_linux::{CAPABILITIES, LISTS, REVISION_2};
+use std::alloc::Global;
+use std::process::Abort;
+use std::test::Fail;
+use told::{SHIFTED, capability_of, in_revision_3, list_of, value_of};
+use virtiofs_map::acl::{CapabilityError, ValueKind, carries_ids};
+use virtiofs_map::soft_idmap::Direction::{self, GuestToHost, HostToGuest};
+use virtiofs_map::xattrmap::XattrName;
+
+/// Names, and which ids their values hold.
+const NAMES: [(&[u8], Option<ValueKind>); 9] = [
+    (b"system.posix_acl_access", Some(ValueKind::Acl)),
+    (b"system.posix_acl_default", Some(ValueKind::Acl)),
+    (b"security.capability", Some(ValueKind::Capability)),
+    (b"", None),
+    (b"system.posix_acl", None),
+    (b"system.posix_acl_access.", None),
+    (b"System.posix_acl_access", None),
+    (b"user.security.capability", None),
+    (b"security.selinux", None),
+];
+
+#[test]
+fn tells_which_values_hold_ids(rt: HostRuntime) {
+    for (bytes, wanted) in NAMES {
+        let Some(name) = XattrName::new(bytes) else {
+            panic!(rt; "{bytes:?} is no name");
+        };
+        assert!(rt; carries_ids(name) == wanted, "of {bytes:?}");
+    }
+}
+
+/// Sees that one list becomes another.
+fn check_list(
+    rt: &impl Abort,
+    alloc: Global,
+    direction: Direction,
+    from: &[&str],
+    to: &[&str],
+) -> Result<(), Fail> {
+    let (value, refusal) = list_of(alloc, SHIFTED, direction, from)?;
+    let wanted = value_of(alloc, to)?;
+    assert!(rt; value == wanted && refusal.is_none(), "{from:?}");
+    Ok(())
+}
+
+#[test]
+fn lists_become_what_linux_writes_for_the_other_ids(rt: HostRuntime) -> Result<(), Fail> {
+    for (guest, host) in LISTS {
+        check_list(&rt, rt.alloc(), GuestToHost, guest, host)?;
+        check_list(&rt, rt.alloc(), HostToGuest, host, guest)?;
+    }
+    Ok(())
+}
+
+/// Sees that one capability becomes another, in place and in revision 3.
+fn check_capability(
+    rt: &impl Abort,
+    alloc: Global,
+    direction: Direction,
+    from: &[&str],
+    to: &[&str],
+) -> Result<(), Fail> {
+    let (value, refusal) = capability_of(alloc, SHIFTED.users, direction, from)?;
+    let wanted = value_of(alloc, to)?;
+    assert!(rt; value == wanted && refusal.is_none(), "{from:?}");
+    let (written, refusal) = in_revision_3(alloc, SHIFTED.users, direction, from)?;
+    assert!(rt;
+        written.as_slice() == wanted.as_slice() && refusal.is_none(),
+        "{from:?}"
+    );
+    Ok(())
+}
+
+#[test]
+fn capabilities_become_what_linux_writes_for_the_other_root(rt: HostRuntime) -> Result<(), Fail> {
+    for (guest, host) in CAPABILITIES {
+        check_capability(&rt, rt.alloc(), GuestToHost, guest, host)?;
+        check_capability(&rt, rt.alloc(), HostToGuest, host, guest)?;
+    }
+    Ok(())
+}
+
+/// Sees what becomes of a capability that has no field for root.
+fn check_revision_2(
+    rt: &impl Abort,
+    alloc: Global,
+    users: &[&str],
+    parts: &[&str],
+    wanted: Option<CapabilityError>,
+) -> Result<(), Fail> {
+    let (value, refusal) = capability_of(alloc, users, GuestToHost, parts)?;
+    let same = value_of(alloc, parts)?;
+    assert!(rt; value == same && refusal == wanted, "{users:?} {parts:?}");
+    Ok(())
+}
+
+#[test]
+fn revision_2_goes_across_where_root_stays(rt: HostRuntime) -> Result<(), Fail> {
+    let moved = Some(CapabilityError::RootMoves);
+    let forbidden = Some(CapabilityError::Forbidden);
+    for parts in REVISION_2 {
+        check_revision_2(&rt, rt.alloc(), &[], parts, None)?;
+        check_revision_2(&rt, rt.alloc(), &["map:1:100001:65535"], parts, None)?;
+        check_revision_2(&rt, rt.alloc(), SHIFTED.users, parts, moved)?;
+        check_revision_2(&rt, rt.alloc(), &["forbid-guest:0:1"], parts, forbidden)?;
+    }
+    Ok(())
+}
+
+/// A capability, and the same in revision 3 with root 100000: revision 1 has one word for each set.
+const WITH_ROOT: [(&[&str], &[&str]); 2] = [
+    (
+        &["01000002", "00040000", "00000000", "00000000", "00000000"],
+        &[
+            "01000003", "00040000", "00000000", "00000000", "00000000", "a0860100",
+        ],
+    ),
+    (
+        &["01000001", "00040000", "02000000"],
+        &[
+            "01000003", "00040000", "02000000", "00000000", "00000000", "a0860100",
+        ],
+    ),
+];
+
+#[test]
+fn writes_the_same_in_revision_3(rt: HostRuntime) -> Result<(), Fail> {
+    for (parts, wanted) in WITH_ROOT {
+        let (written, refusal) = in_revision_3(rt.alloc(), SHIFTED.users, GuestToHost, parts)?;
+        let wanted = value_of(rt.alloc(), wanted)?;
+        assert!(rt;
+            written.as_slice() == wanted.as_slice() && refusal.is_none(),
+            "{parts:?}"
+        );
+    }
+    Ok(())
+}

@@ -1,0 +1,71 @@
+//! How a daemon changes the ids in a value that the guest sets.
+ghost use Rattle.std.specs.Prelude.{◌≡◌, false};
+
+use std::alloc::Global;
+use std::process::Abort;
+use std::test::Fail;
+use virtiofs_map::acl::{EntryRoom, ValueKind, acl_to_host, capability_to_host, carries_ids};
+use virtiofs_map::id_types::{GuestGid, GuestUid, HostGid, HostUid};
+use virtiofs_map::soft_idmap::IdMap;
+use virtiofs_map::xattrmap::XattrName;
+
+/// Makes a value that the guest sets one of the host, in place. `false`: the value is refused, and
+/// is as it was.
+fn set_by_guest(
+    users: &IdMap<GuestUid, HostUid>,
+    groups: &IdMap<GuestGid, HostGid>,
+    name: XattrName<'_>,
+    value: &mut [u8],
+    room: &mut [EntryRoom],
+) -> bool
+    ensures { result ≡ false → value.new ≡ value.old }
+{
+    match carries_ids(name) {
+        Some(ValueKind::Acl) => acl_to_host(users, groups, value, room).is_ok(),
+        Some(ValueKind::Capability) => capability_to_host(users, value).is_ok(),
+        None => true,
+    }
+}
+
+/// What becomes of a value of that name; `None` where it is refused.
+fn value_on_host(alloc: Global, name: &[u8], value: &[u8]) -> Result<Option<Vec<u8>>, Fail> {
+    let users: IdMap<GuestUid, HostUid> = IdMap::from_specs(alloc, &["map:0:100000:65536"])?;
+    let groups: IdMap<GuestGid, HostGid> = IdMap::empty(alloc);
+    let mut value = Vec::from_slice(alloc, value)?;
+    let mut room = [EntryRoom::new(); 8];
+    let Some(name) = XattrName::new(name) else {
+        return Ok(None);
+    };
+    let bytes = value.as_mut_slice();
+    let is_set = set_by_guest(&users, &groups, name, bytes, &mut room);
+    Ok(is_set.then_some(value))
+}
+
+/// `u::rw-,u:1000:rw-`, and the same with user 101000.
+const GUEST: &[u8] = b"\x02\0\0\0\x01\0\x06\0\xff\xff\xff\xff\x02\0\x06\0\xe8\x03\0\0";
+
+const HOST: &[u8] = b"\x02\0\0\0\x01\0\x06\0\xff\xff\xff\xff\x02\0\x06\0\x88\x8a\x01\0";
+
+fn check_value(
+    rt: &impl Abort,
+    alloc: Global,
+    name: &[u8],
+    value: &[u8],
+    wanted: Option<&[u8]>,
+) -> Result<(), Fail> {
+    let made = value_on_host(alloc, name, value)?;
+    assert!(rt;
+        made.as_ref().map(|bytes| bytes.as_slice()) == wanted,
+        "{name:?}"
+    );
+    Ok(())
+}
+
+#[test]
+fn sets_values_of_the_guest(rt: HostRuntime) -> Result<(), Fail> {
+    let alloc = rt.alloc();
+    check_value(&rt, alloc, b"system.posix_acl_access", GUEST, Some(HOST))?;
+    check_value(&rt, alloc, b"system.posix_acl_default", GUEST, Some(HOST))?;
+    check_value(&rt, alloc, b"user.note", GUEST, Some(GUEST))?;
+    check_value(&rt, alloc, b"security.capability", GUEST, None)
+}
