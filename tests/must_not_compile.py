@@ -1,6 +1,6 @@
 #!/usr/bin/env python3
 """Sees that programs that mix up ids, or keep a listed name longer than its list, do not compile, nor a library that
-reads its ranges or the branches of its tries by another way than the one that counts.
+reads its ranges or the branches of its tries by another way than the one that counts. Sees also that no count is lost.
 
 The folder must_not_compile has one program that compiles, caller.rt.txt, and edits of it, each of one line: 'old: TEXT'
 (standing once in the program), 'new: TEXT', and 'error: NAME', the name of the error that the edited line must get
@@ -8,8 +8,12 @@ first. An edit with a line 'in: PATH' is one of that file of the library, under 
 library as they are must compile, or the refusals would show nothing.
 
 Each program is a crate of its own in a temporary repository, over a copy of this repository's libraries; each edit of
-the library has a repository of its own. `rt try` reads all of it from source, and proves nothing. The last line is
-'N passed, N failed'.
+the library has a repository of its own. `rt try` reads all of it from source, and proves nothing.
+
+A library that reads ranges or branches with a new counter, and throws that counter away, does compile. So the sources of
+ranges and tries are read: a new counter may stand only in a function that adds its count, or in one of UNCOUNTED.
+
+The last line is 'N passed, N failed'.
 """
 import os
 import re
@@ -25,6 +29,15 @@ CASES = f"{HERE}/must_not_compile"
 LIBRARY = "virtiofs_map"
 PROGRAM = "virtiofs_mapcheck"
 SECONDS = 600
+# Where ranges and tries are read.
+COUNTING = ("soft_idmap.rt", "soft_idmap/", "xattrmap.rt", "xattrmap/")
+# The functions that throw a count away, by their files. Their contracts promise no count.
+UNCOUNTED = {
+    "soft_idmap.rt": ("map_guest", "map_host"),
+    "soft_idmap/image.rt": ("look_up",),
+    "xattrmap/walk.rt": ("look_up",),
+}
+LOST = "fn find(steps: &mut Steps) {\n    read(0, &mut Steps::new());\n    let mut spare = Steps::new();\n}\n"
 
 
 def text_of(file):
@@ -74,6 +87,33 @@ def first_error(folder):
     return None if ran.returncode == 0 else ("no error", f"status {ran.returncode}"), ran.stdout
 
 
+def new_counters(path, text):
+    """Each new counter of a source file: the function that it stands in, and whether its count may not be lost there."""
+    for function in re.split(r"\n(?= *(?:pub(?:\([^)]*\))? )?fn )", text):
+        name = re.search(r"\bfn (\w+)", function)
+        for line in re.findall(r"^.*\bSteps(?:::new| as )\b.*$", function, re.M):
+            kept = re.fullmatch(r" *let mut (\w+) = Steps::new\(\);", line)
+            added = f"steps.add(&{kept[1] if kept else 'Steps::new()'});"
+            is_kept = function.count(line) == 1 and added in function if kept else line.strip() == added
+            yield name and name[1], not is_kept and (not name or name[1] not in UNCOUNTED.get(path, ()))
+
+
+def see_counters():
+    """What is seen of new counters, and whether it is well."""
+    source, seen = f"{TOP}/crates/{LIBRARY}/src", {}
+    for folder, _, files in os.walk(source):
+        for path in (os.path.relpath(f"{folder}/{it}", source) for it in sorted(files)):
+            if path.startswith(COUNTING):
+                for function, is_lost in new_counters(path, text_of(f"{source}/{path}")):
+                    name = f"the new counter of {function} in {path}"
+                    seen[name] = seen.get(name, True) and not is_lost
+    for path, functions in UNCOUNTED.items():
+        for function in functions:
+            seen.setdefault(f"the new counter of {function} in {path}", False)
+    seen["lost counters would be seen"] = [is_lost for _, is_lost in new_counters("", LOST)] == [True, True]
+    return seen
+
+
 def main():
     program = text_of(f"{CASES}/caller.rt.txt")
     programs, libraries, wanted = {"caller": program}, {}, {"caller": None}
@@ -88,7 +128,10 @@ def main():
             else:
                 programs[name] = text
             wanted[name] = f"{path or 'src/main.rt'}:{line}", said["error"]
-    failed = 0
+    counters = see_counters()
+    for name, is_well in counters.items():
+        print(f"{name}: as it must be" if is_well else f"FAILED {name}: no such one, or its count is lost", flush=True)
+    failed = sum(not it for it in counters.values())
     with tempfile.TemporaryDirectory(prefix="must-not-compile-") as top:
         folders = {name: f"{top}/programs/crates/{name}" for name in programs}
         os.mkdir(f"{top}/programs")
@@ -110,7 +153,7 @@ def main():
                     print(f"{name}: {told}", flush=True)
                 else:
                     print(f"FAILED {name}: first error {found}, and not {wanted[name]}:\n{said[-2000:]}", flush=True)
-    print(f"{len(folders) - failed} passed, {failed} failed")
+    print(f"{len(folders) + len(counters) - failed} passed, {failed} failed")
     return 1 if failed else 0
 
 
