@@ -21,7 +21,8 @@ pub enum IdMap {
         count: u32,
     },
 
-    /// `host:FROM:TO:COUNT`: the same from host ids to guest ids.
+    /// `host:FROM:TO:COUNT`: each of `count` host ids, from `from_host` on, becomes the guest id
+    /// that is as far above `to_guest`.
     Host {
         /// The first host id.
         from_host: u32,
@@ -42,7 +43,8 @@ pub enum IdMap {
         count: u32,
     },
 
-    /// `squash-host:FROM:TO:COUNT`: the same from host ids to one guest id.
+    /// `squash-host:FROM:TO:COUNT`: each of `count` host ids, from `from_host` on, becomes the one
+    /// guest id `to_guest`.
     SquashHost {
         /// The first host id.
         from_host: u32,
@@ -72,20 +74,20 @@ pub enum IdMap {
     },
 }
 
-/// Why a text says no specification.
+/// Why a text is no specification.
 #[derive(Debug, Drop, Error)]
 pub enum IdMapError<A: Allocator = Global> {
-    /// The prefix is none of the six words; here its ASCII letters are in lower case.
+    /// The word is none of the six; here its ASCII letters are in lower case.
     #[error("Invalid ID map prefix {0}")]
     InvalidPrefix(String<A>),
 
-    /// The word wants another count of numbers. Where no separator follows the word, `expected` is
-    /// 1 and `seen` is 0.
+    /// The word takes another count of numbers than there are. Where no separator follows the word,
+    /// `expected` is 1 and `seen` is 0.
     #[error("Invalid ID map length (expected {expected} elements, got {seen} elements)")]
     InvalidLength {
         /// How many numbers the word takes.
         expected: usize,
-        /// How many there are.
+        /// How many numbers there are.
         seen: usize,
     },
 
@@ -94,7 +96,7 @@ pub enum IdMapError<A: Allocator = Global> {
     InvalidValue {
         /// The first such field.
         value: String<A>,
-        /// What is wrong with it.
+        /// What is wrong with that field.
         error: ParseIntError,
     },
 

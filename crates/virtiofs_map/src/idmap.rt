@@ -35,10 +35,10 @@ pub struct GidMap {
     pub count: u32,
 }
 
-/// Why a text says no range.
+/// Why a text is no range.
 #[derive(Debug, PartialEq, Eq, Drop, Error)]
 pub enum IdMapError {
-    /// The last character is alphanumeric, or the text does not begin with it as well.
+    /// The last character is alphanumeric, or the text does not begin with it too.
     #[error("A delimiter has been found that does not match the delimiter the map started with")]
     InvalidDelimiter,
 
@@ -46,7 +46,7 @@ pub enum IdMapError {
     #[error("The map is empty or incorrect number of values are provided")]
     IncompleteMap,
 
-    /// A field is no number from 0 to 4294967295; what is wrong with the first such field.
+    /// The first field that is no number from 0 to 4294967295, by what is wrong with it.
     #[error("{0}")]
     InvalidValue(ParseIntError),
 }
@@ -69,12 +69,12 @@ impl UidMap {
 
     /// Reads a range of user ids. It takes no memory.
     ///
-    /// An empty text is [`IdMapError::IncompleteMap`]. Else the last character is the delimiter:
-    /// where it is alphanumeric, or the text does not begin with it as well, the text is
-    /// [`IdMapError::InvalidDelimiter`]. Where the delimiters between these two do not make three
-    /// fields, it is [`IdMapError::IncompleteMap`], and where a field is no number from 0 to
-    /// 4294967295, [`IdMapError::InvalidValue`]. A number is decimal digits, with any zeros before
-    /// them, and may have a `+` in front.
+    /// An empty text is [`IdMapError::IncompleteMap`]. Else the last character is the delimiter. If
+    /// it is alphanumeric, or the text does not begin with it too, the text is
+    /// [`IdMapError::InvalidDelimiter`]. If there are not three fields between the first and the
+    /// last delimiter, it is [`IdMapError::IncompleteMap`]. If a field is no number from 0 to
+    /// 4294967295, it is [`IdMapError::InvalidValue`]. A number is decimal digits, with any zeros
+    /// before them, and may have a `+` in front.
     pub fn from_str(text: &str) -> Result<UidMap, IdMapError>
         ensures read { IfOk result (λ map.
             SaysNamespace (chars text.now) map.inside_uid map.outside_uid map.count) }

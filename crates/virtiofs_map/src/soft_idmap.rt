@@ -41,9 +41,9 @@ pub use errors::{FaultKind, IdMapBuildError, MapError, RangeEnd, SpecsError};
 
 /// A map of ids between a guest and its host.
 ///
-/// Contracts see it as the list of its specifications, which is accepted: no range that is mapped
-/// goes past 4294967294, none that it becomes goes past 4294967295, and no two specifications cover
-/// one number in one direction.
+/// Contracts see a map as the list of its specifications. That list is accepted: no range of ids
+/// reaches past 4294967294, no range that ids become reaches past 4294967295, and no two
+/// specifications cover one number in one direction.
 #[derive(Drop)]
 pub struct IdMap<
     Guest: GuestId<HostType = Host>,
@@ -127,13 +127,13 @@ impl<Guest: GuestId<HostType = Host>, Host: HostId<GuestType = Guest>, A: Alloca
 
     /// Makes a map of a list of texts, each of which is read as [`cmdline::IdMap::from_str`] does.
     ///
-    /// Every text is read first. The first text that is not read is the error
-    /// [`SpecsError::Spec`], also where no map could be made of the texts before it. Where every
-    /// text is read, the error is the one of [`IdMap::try_from`], in [`SpecsError::Build`].
+    /// All texts are read first. The first text that is no specification is the error
+    /// [`SpecsError::Spec`], even where no map could be made of the texts before it. Where all
+    /// texts are read, the error is that of [`IdMap::try_from`], in [`SpecsError::Build`].
     ///
     /// Where a request for memory is refused, the error is [`cmdline::IdMapError::OutOfMemory`] in
-    /// [`SpecsError::Spec`], with the index of a text before which each one says a specification, or
-    /// else [`IdMapBuildError::OutOfMemory`].
+    /// [`SpecsError::Spec`], with the index of a text before which all texts are specifications, or
+    /// else [`IdMapBuildError::OutOfMemory`] in [`SpecsError::Build`].
     pub fn from_specs(alloc: A, texts: &[&str]) -> Result<Self, SpecsError<A>>
         ensures read { IfOk result (AllSay (texts_of texts.now)) }
         ensures accepted { IfOk result Accepted }
@@ -186,9 +186,9 @@ impl<Guest: GuestId<HostType = Host>, Host: HostId<GuestType = Guest>, A: Alloca
 
     /// The host's id for a guest's, as [`IdMap::map_guest`] gives it, and a count of its steps.
     ///
-    /// A step is a reading of a range; a range that is read twice counts twice. Where specifications
-    /// act on guest ids, on one number or more each, their number has some binary digits: the lookup
-    /// takes as many steps at most, and one at least. Else it takes none.
+    /// A step is a reading of a range; a range that is read twice counts twice. Let n be the number
+    /// of specifications that cover one guest id or more. Where n is 0 the lookup takes no step.
+    /// Else it takes at least one, and at most as many as n has binary digits.
     pub fn map_guest_counted(&self, id: Guest, steps: &mut Steps) -> Result<Host, MapError<Guest>>
         ensures accepted { Accepted self.now }
         ensures value { IfOk result (λ host.
@@ -215,8 +215,8 @@ impl<Guest: GuestId<HostType = Host>, Host: HostId<GuestType = Guest>, A: Alloca
     ///
     /// A specification that covers the number of the id says what it becomes. An id that none
     /// covers keeps its number, as 4294967295 always does. Where a specification forbids the id,
-    /// the error is [`MapError::ExplicitFailMapping`] with the id; the specifications of today
-    /// forbid guest ids alone.
+    /// the error is [`MapError::ExplicitFailMapping`] with the id. Today no specification can
+    /// forbid a host id.
     pub fn map_host(&self, id: Host) -> Result<Guest, MapError<Host>>
         ensures accepted { Accepted self.now }
         ensures value { IfOk result (λ guest.
@@ -238,9 +238,9 @@ impl<Guest: GuestId<HostType = Host>, Host: HostId<GuestType = Guest>, A: Alloca
 
     /// The guest's id for a host's, as [`IdMap::map_host`] gives it, and a count of its steps.
     ///
-    /// A step is a reading of a range; a range that is read twice counts twice. Where specifications
-    /// act on host ids, on one number or more each, their number has some binary digits: the lookup
-    /// takes as many steps at most, and one at least. Else it takes none.
+    /// A step is a reading of a range; a range that is read twice counts twice. Let n be the number
+    /// of specifications that cover one host id or more. Where n is 0 the lookup takes no step.
+    /// Else it takes at least one, and at most as many as n has binary digits.
     pub fn map_host_counted(&self, id: Host, steps: &mut Steps) -> Result<Guest, MapError<Host>>
         ensures accepted { Accepted self.now }
         ensures value { IfOk result (λ guest.
@@ -287,7 +287,7 @@ impl<Guest: GuestId<HostType = Host>, Host: HostId<GuestType = Guest>, A: Alloca
         }
     }
 
-    /// The id of the other side, with a count of the readings of ranges.
+    /// The id of the other side. Each reading of a range counts as a step.
     fn look_up<Source: Id, Target: Id>(
         &self,
         direction: Direction,

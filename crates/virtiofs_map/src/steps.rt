@@ -1,13 +1,12 @@
-//! A count of steps, by which a caller sees what a lookup or an audit costs.
+//! A counter of steps, by which a caller sees what a lookup or an audit costs.
 ghost use Rattle.std.specs.Prelude.{◌≡◌};
 ghost use Rattle.virtiofs_map.specs.Steps.{count_after};
 
 use std::marker::Model;
 
-/// How many steps the counted calls took that were handed this counter.
+/// A counter of steps. A counted call adds the steps that it took to the counter that it is handed.
 ///
-/// Each step adds one. At 18446744073709551615 the count stays where it is. A contract sees the
-/// counter as its count.
+/// At 18446744073709551615 the count stays where it is. A contract sees the counter as its count.
 #[derive(Debug, Drop)]
 pub struct Steps {
     count: u64,
@@ -54,7 +53,7 @@ impl Steps {
         self.count = self.count.saturating_add(more.count);
     }
 
-    /// Counts several steps more.
+    /// Counts that many steps more.
     #[inline(always)]
     pub(crate) fn count_more(&mut self, more: u64)
         ensures { self.new ≡ count_after self.old more }

@@ -22,7 +22,7 @@ pub(crate) fn is_alphanumeric(c: char) -> bool
         || category == GeneralCategory::OtherNumber as u32
 }
 
-/// Cuts a text at the first place where the character `at` stands, which is in neither part.
+/// Cuts a text at the first character `at`. Neither part holds that character.
 pub(crate) fn cut_at(text: &str, at: char) -> Option<(&str, &str)>
     ensures absent { IfNone result (Lacks at (chars text.now)) }
     ensures whole { IfSome result (λ p. chars text.now ≡ chars p.0.now ++ at ∷ chars p.1.now) }
@@ -33,10 +33,10 @@ pub(crate) fn cut_at(text: &str, at: char) -> Option<(&str, &str)>
     text.split_once(at)
 }
 
-/// Reads a number as every reader of this crate does: an optional `+`, and then one or more decimal
-/// digits, which are at most 4294967295. It takes no memory.
+/// Reads a number: an optional `+`, and then one or more decimal digits with a value of at most
+/// 4294967295. Every reader of this crate reads numbers so. It takes no memory.
 ///
-/// The error is the one that `u32` has for the text.
+/// The error is the one that `str::parse` has for a `u32`.
 pub fn number(text: &str) -> Result<u32, ParseIntError>
     ensures read { IfOk result (λ value. IsNumeral (chars text.now) value) }
     ensures complete { (value : ℕ) → IsNumeral (chars text.now) value

@@ -17,7 +17,7 @@ use std::alloc::{AllocError, Allocator};
 /// A text after its prefix was taken off.
 #[derive(Drop)]
 struct Cut<'a, A: Allocator> {
-    /// The prefix, its ASCII letters lowered.
+    /// The prefix, with its ASCII letters in lower case.
     word: String<A>,
     separator: char,
     rest: &'a str,
@@ -30,7 +30,8 @@ fn is_word_character(c: char) -> bool
     is_alphanumeric(c) || c == '-' || c == '_'
 }
 
-/// Takes off the longest front of word characters, and the separator after it.
+/// Cuts off the longest prefix of word characters, and the separator after it; `None` where there
+/// is no separator.
 fn cut_prefix<A: Allocator>(alloc: A, text: &str) -> Result<Option<Cut<'_, A>>, AllocError>
     ensures none { IfOk result (λ o. IfNone o (HasNoSeparator (chars text.now))) }
     ensures cut { IfOk result (λ o. IfSome o (λ cut.
@@ -233,7 +234,7 @@ impl IdMap {
             → HasSpecificationFault (chars text.now) fault
             → MatchResult result (λ _. ⊥)
             (λ e. OutOfMemoryOr (specification_fault_of e) (λ told. told ≡ fault)) }
-        // Where a field is no number, the error says of it what the standard library says.
+        // Where a field is no number, the error says what the standard library says of that field.
         ensures explained { IfErr result IsExplained }
     {
         read(alloc, text)

@@ -1,6 +1,6 @@
 //! What holds of every text of a range.
 //!
-//! These functions do nothing when they run. A caller names one to have its contract as a fact.
+//! These functions do nothing when they run. A caller calls one to have its contract as a fact.
 ghost use Rattle.std.specs.Prelude.{◌≡◌, ℕ, List, ◌<◌, ◌^◌};
 ghost use Rattle.std.specs.Str.{chars};
 ghost use Rattle.virtiofs_map.specs.NamespaceText.{SaysNamespace, NamespaceFault, HasNamespaceFault};

@@ -25,7 +25,8 @@ fn meets(entry: Entry, other: IdMap, direction: Direction) -> bool
     }
 }
 
-/// Whether it does so for one of the earlier specifications.
+/// Whether an entry covers a number that one of the earlier specifications covers in that
+/// direction.
 fn meets_earlier(entry: Entry, earlier: &[IdMap], direction: Direction) -> bool
     ensures { IsTrue result ↔ EntryMeetsEarlier entry earlier.now direction }
 {
@@ -87,7 +88,7 @@ fn has_room(spec: IdMap, direction: Direction) -> bool
     }
 }
 
-/// Whether that holds of each specification, in both directions.
+/// Whether no range of any specification is too long, in either direction.
 fn have_room(specs: &[IdMap]) -> bool
     ensures { IsTrue result ↔ All HasRoomBothWays specs.now }
 {
@@ -99,7 +100,7 @@ fn have_room(specs: &[IdMap]) -> bool
     true
 }
 
-/// Whether the front of that length is accepted.
+/// Whether the first `count` specifications are accepted.
 fn is_accepted(specs: &[IdMap], guests: &[Placed], hosts: &[Placed], count: usize) -> bool
     requires within { count ≤ length specs.now }
     requires guests { PlacesInOrder specs.now GuestToHost guests.now }
@@ -115,9 +116,10 @@ fn is_accepted(specs: &[IdMap], guests: &[Placed], hosts: &[Placed], count: usiz
     keep_apart(hosts, count)
 }
 
-/// The length of the longest front that is accepted, where the whole list is not.
+/// The greatest `count` for which the first `count` specifications are accepted, where the whole
+/// list is not.
 ///
-/// The part of the list in which that front ends is halved until it is known.
+/// It is found by halves: each test halves the part of the list in which it may lie.
 fn longest_accepted(specs: &[IdMap], guests: &[Placed], hosts: &[Placed]) -> usize
     requires refused { ¬ Accepted specs.now }
     requires guests { PlacesInOrder specs.now GuestToHost guests.now }

@@ -6,7 +6,7 @@ ghost use Rattle.virtiofs_map.specs.Build.{HasSource, HasTarget};
 use crate::cmdline::IdMap;
 use std::fmt;
 
-/// Which ids are mapped to which.
+/// The direction in which ids are mapped.
 #[derive(Clone, Copy, Debug, PartialEq, Eq)]
 pub enum Direction {
     /// Guest ids to host ids.
@@ -18,7 +18,7 @@ pub enum Direction {
 /// A range of numbers, and what becomes of them.
 #[derive(Clone, Copy, Debug, PartialEq, Eq)]
 pub(crate) enum Entry {
-    /// Each number becomes the one as far above `to`.
+    /// Each number becomes the number that is as far above `to`.
     Map { first: u32, to: u32, count: u32 },
     /// Each number becomes `to`.
     Squash { first: u32, to: u32, count: u32 },
@@ -150,7 +150,7 @@ impl Entry {
         self.first() <= n && u64::from(n) < self.end()
     }
 
-    /// Whether two entries cover a number together.
+    /// Whether some number is covered by both entries.
     pub(crate) fn meets(self, other: Entry) -> bool
         ensures { IsTrue result ↔ ((n : ℕ) × EntryCovers self n × EntryCovers other n) }
     {

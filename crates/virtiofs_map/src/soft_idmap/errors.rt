@@ -14,9 +14,9 @@ use std::fmt;
 /// Which range of a specification goes too far.
 #[derive(Clone, Copy, Debug, PartialEq, Eq)]
 pub enum RangeEnd {
-    /// The range of numbers that are mapped, whose last number may be 4294967294.
+    /// The range of numbers that are mapped: its last number is at most 4294967294.
     Source,
-    /// The range of numbers that they become, whose last number may be 4294967295.
+    /// The range of numbers that the mapped ones become: its last number is at most 4294967295.
     Target,
 }
 
@@ -27,7 +27,7 @@ pub enum FaultKind {
     PermissionDenied,
     /// A range of a specification goes too far.
     InvalidInput,
-    /// None of the others, as specifications that meet.
+    /// Anything else, such as two specifications that cover one number.
     Other,
     /// A request for memory was refused.
     OutOfMemory,
@@ -43,7 +43,7 @@ pub enum MapError<Source: Id> {
     },
 }
 
-/// The text names the number of the id, whatever the id's own printed form says.
+/// The text has the number of the id, whatever the id's own printed form is.
 impl<Source: Id> fmt::Display for MapError<Source> {
     ghost use Rattle.std.specs.Prelude.{Some};
     ghost use Rattle.virtiofs_map.specs.Printed.{map_error_text};
@@ -77,19 +77,19 @@ pub enum IdMapBuildError {
     RangeOverflow {
         /// The specification at fault.
         spec: cmdline::IdMap,
-        /// Its place in the list, from 0.
+        /// The place of that specification in the list, from 0.
         index: usize,
         /// The direction in which its range goes too far.
         direction: Direction,
-        /// Which of its ranges does.
+        /// Which of its two ranges goes too far.
         range_end: RangeEnd,
     },
 
-    /// An earlier specification covers one of the numbers too.
+    /// An earlier specification covers a number that this one covers too.
     Intersects {
         /// The specification at fault.
         spec: cmdline::IdMap,
-        /// Its place in the list, from 0.
+        /// The place of that specification in the list, from 0.
         index: usize,
         /// The direction in which both cover the number.
         direction: Direction,
@@ -165,16 +165,16 @@ impl From<AllocError> for IdMapBuildError {
 /// Why no map is made of a list of texts.
 #[derive(Debug, Drop)]
 pub enum SpecsError<A: Allocator = Global> {
-    /// A text is not read: the first one, in the order of the list.
+    /// The first text, in the order of the list, that cannot be read.
     Spec {
-        /// Its place in the list, from 0.
+        /// The place of that text in the list, from 0.
         index: usize,
-        /// Why it is not read.
+        /// Why it cannot be read.
         cause: cmdline::IdMapError<A>,
     },
 
-    /// Each text is read, and no map is made of the specifications; or a request for memory was
-    /// refused outside of the reading of a text.
+    /// All texts are read, but no map is made of the specifications; or a request for memory was
+    /// refused outside the reading of a text.
     Build(IdMapBuildError),
 }
 

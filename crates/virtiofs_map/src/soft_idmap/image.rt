@@ -1,7 +1,7 @@
 //! A map of ids as plain numbers: an image, which any number of readers may ask at once.
 //!
-//! [`write_image`] writes one into memory of the caller's, and [`look_up`] only reads it. What the
-//! numbers are is private, and may change with the version of the library.
+//! [`write_image`] writes an image into the caller's memory, and [`look_up`] only reads it. What
+//! the numbers mean is private, and may change with the version of the library.
 ghost use Rattle.std.specs.Prelude.{◌≡◌, ℕ, ◌+◌, ◌*◌, ◌≤◌, List, length, min, Option, IfOk, IfErr, OnOk, OnErr, MatchResult, ⊤};
 ghost use Rattle.virtiofs_map.specs.Build.{Accepted, BuildFault, HasFirstFault, build_fault_of};
 ghost use Rattle.virtiofs_map.specs.Image.{HasKind, IsImage, image_length, IsWritten};
@@ -20,9 +20,9 @@ use crate::Steps;
 use crate::cmdline::IdMap;
 use std::alloc::Allocator;
 
-/// How many words the image of a map of so many specifications has at most.
+/// How many words the image of a map of that many specifications has at most.
 ///
-/// Where there can be no such list, it is [`usize::MAX`].
+/// A count that no list can have gives [`usize::MAX`].
 pub fn most_words(specs: usize) -> usize
     ensures { result ≡ min (3 + 8 * specs) 18446744073709551615 }
 {
@@ -31,8 +31,8 @@ pub fn most_words(specs: usize) -> usize
 
 /// Writes the image of the map of a list of specifications, and says how many words it has.
 ///
-/// Where there are fewer words than that, nothing is written. Where there are more, the others stay
-/// as they were. The faults of a list, and the order in which they are found, are those of
+/// If `words` is shorter than that, nothing is written. If it is longer, the rest of it stays as it
+/// was. The faults of a list, and the order in which they are found, are those of
 /// [`super::IdMap::try_from`]. Where a request for memory is refused, the error is
 /// [`IdMapBuildError::OutOfMemory`].
 pub fn write_image<A: Allocator + Copy>(
@@ -65,8 +65,8 @@ pub fn write_image<A: Allocator + Copy>(
 
 /// What an image says of a number in a direction.
 ///
-/// Any words may be passed. Where they begin with another word than an image of this version, or
-/// are too few for the ranges of which they speak, the answer is [`Answer::NoImage`]. It takes no
+/// Any words may be passed. If they do not begin with the first word of an image of this version,
+/// or are too few for the ranges that they announce, the answer is [`Answer::NoImage`]. It takes no
 /// memory.
 pub fn look_up(words: &[u32], direction: Direction, n: u32) -> Answer
     ensures says { (specs : List Specification) → IsImage specs words.now

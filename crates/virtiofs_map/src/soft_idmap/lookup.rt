@@ -14,7 +14,7 @@ use crate::Steps;
 
 /// What the ranges say of a number.
 ///
-/// Where there is none the number stays itself, and where there is one it is the one to ask.
+/// With no range the number stays itself. With one range there is nothing to search.
 pub(crate) fn look_up(ranges: &Ranges<'_>, n: u32, steps: &mut Steps) -> Answer
     ensures says { (specs : List Specification) (direction : Direction)
         → HasRanges specs direction ranges.now → SaysIn specs direction n result }

@@ -47,8 +47,8 @@ pub(crate) fn place<A: Allocator>(
     Ok(placed)
 }
 
-/// Whether each entry of the first specifications, up to that number of them, ends before the next
-/// one begins.
+/// Whether, of the entries of the first `count` specifications, each ends before the next one
+/// begins.
 pub(crate) fn keep_apart(placed: &[Placed], count: usize) -> bool
     ensures { IsTrue result ↔ ArePrecedingBelow count placed.now }
 {

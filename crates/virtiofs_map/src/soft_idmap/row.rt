@@ -1,11 +1,11 @@
 //! What a row of words makes of a number.
 //!
 //! A row is three words: how many numbers the range has, what the first of them becomes, and the
-//! kind of the range. The kind says how much of a number's distance from the first one is added to
-//! what the first becomes: all of it or nothing. A third kind says that the use of a number fails.
+//! kind of the range. There are three kinds. A number's distance from the first one is added to
+//! what the first becomes; or nothing is added to it; or the use of the number fails.
 //!
-//! Nothing here branches by the number that is asked, since a branch that is guessed wrong costs
-//! more than all that is worked out.
+//! Nothing here branches on the number that is asked for: a branch that is predicted wrongly costs
+//! more than all of this arithmetic.
 ghost use Rattle.std.specs.Prelude.{◌≡◌, ◌<◌, ◌≤◌};
 ghost use Rattle.virtiofs_map.specs.Build.{HasTarget};
 ghost use Rattle.virtiofs_map.specs.Mapping.{first_of};
@@ -13,16 +13,16 @@ ghost use Rattle.virtiofs_map.specs.RangeParts.{HasNumbers};
 ghost use Rattle.virtiofs_map.specs.WordParts.{IsRow, SaysEntry};
 ghost use Rattle.virtiofs_map.specs.declared.soft_idmap.entry.Entry.{Entry};
 
-/// The kind of a range that maps each number to one of its own: all of the distance is added.
+/// The kind of a range that maps one to one: all of the distance is added.
 pub(crate) const MAPS: u32 = u32::MAX;
 
-/// The kind of a range that maps all its numbers to one.
+/// The kind of a range that maps all its numbers to one: nothing is added.
 pub(crate) const SQUASHES: u32 = 0;
 
 /// The kind of a range whose numbers fail.
 pub(crate) const FAILS: u32 = 1;
 
-/// What words say of a number.
+/// What the words of a map say of a number.
 #[derive(Clone, Copy, Debug, PartialEq, Eq)]
 pub enum Answer {
     /// The number becomes this one.
@@ -33,7 +33,7 @@ pub enum Answer {
     NoImage,
 }
 
-/// 4294967295, which is 32 digits of 1, where a number is below another one; else 0.
+/// 4294967295, which is 32 binary digits of 1, where `n` is below `other`; else 0.
 pub(crate) fn ones_if_below(n: u64, other: u64) -> u64
     requires n { n < 4294967296 }
     requires other { other ≤ 4294967296 }

@@ -1,7 +1,7 @@
 //! The search for the range that may cover a number.
 //!
-//! It takes as many turns for one number as for another, and no turn branches by what it read: a
-//! branch that is guessed wrong costs more than a turn.
+//! The search takes as many turns for one number as for another, and no turn branches on what it
+//! read: a branch that is predicted wrongly costs more than a turn.
 ghost use Rattle.std.specs.Prelude.{◌≤◌, min};
 ghost use Rattle.virtiofs_map.specs.LookupSteps.{binary_digits};
 ghost use Rattle.virtiofs_map.specs.Steps.{CountsBetween};
@@ -12,8 +12,7 @@ use crate::Steps;
 
 /// The last range that begins at or below a number: no other one can cover it.
 ///
-/// Each reading of a range is a step. The last turn may read a range that an earlier one read, and
-/// is counted as each other one.
+/// Each reading of a range is a step, also where the last turn reads a range for the second time.
 pub(crate) fn last_from(ranges: &Ranges<'_>, n: u32, steps: &mut Steps) -> Last
     ensures within { result.end ≤ ranges.now.count }
     ensures found { Searches ranges.now n result.end result.end }

@@ -7,7 +7,7 @@ use super::SpecsError;
 use crate::cmdline::IdMap;
 use std::alloc::Allocator;
 
-/// Reads each text, in order, up to the first one that is not read.
+/// Reads the texts in order, and stops at the first one that cannot be read.
 ///
 /// The error names that text by its place in the list, from 0.
 pub(crate) fn read_all<A: Allocator + Copy>(

@@ -22,7 +22,7 @@ use crate::Steps;
 use std::alloc::{AllocError, Allocator};
 use std::marker::Model;
 
-/// The words of both directions, or none, as those of the map of no specification.
+/// The words of both directions. The map of no specification may have no word at all.
 #[derive(Drop)]
 pub(crate) struct Words<A: Allocator> {
     items: Vec<u32, A>,
@@ -65,7 +65,7 @@ impl<'a> Model for Ranges<'a> {
     }) };
 }
 
-/// A range that was read: its first number, and how many ranges there are up to it.
+/// A range that was read: its first number, and how many ranges there are up to and with it.
 #[derive(Clone, Copy)]
 pub(crate) struct Range {
     end: usize,
@@ -88,7 +88,7 @@ impl<A: Allocator> Words<A> {
         }
     }
 
-    /// The words of what was placed.
+    /// The words of the entries of both directions.
     pub(crate) fn of(alloc: A, guests: &[Placed], hosts: &[Placed]) -> Result<Self, AllocError>
         requires guests { length guests.now < 4294967296 }
         requires hosts { length hosts.now < 4294967296 }
@@ -180,8 +180,8 @@ impl<'a> Ranges<'a> {
         Range { end: at + 1, first }
     }
 
-    /// What the last range makes of a number, or the first range where there is no last one: it
-    /// does not cover the number then.
+    /// What the last range makes of a number. Where there is no last range the first one is asked,
+    /// which does not cover the number then.
     pub(crate) fn say_by(&self, last: Last, n: u32) -> Answer
         requires some { 1 ≤ self.now.count }
         requires within { last.end ≤ self.now.count }
@@ -218,14 +218,15 @@ impl Last {
         Last { end: 0 }
     }
 
-    /// How many ranges there are up to this one.
+    /// How many ranges there are up to and with this one.
     pub(crate) fn end(self) -> usize
         ensures { result ≡ self.end }
     {
         self.end
     }
 
-    /// A later range, where it begins at or below the number; else this one. There is no branch.
+    /// The later range if it begins at or below the number, else this one. It is chosen without a
+    /// branch.
     pub(crate) fn or(self, later: Range, n: u32) -> Last
         requires later { self.end ≤ later.end }
         requires near { later.end < self.end + 4294967296 }

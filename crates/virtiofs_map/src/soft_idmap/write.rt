@@ -12,8 +12,8 @@ use super::entry::Entry;
 use super::placed::Placed;
 use super::row::{FAILS, MAPS, SQUASHES};
 
-/// What the words of ids are: their kind in the three upper bytes, by its letters, and the version
-/// of their order in the lowest.
+/// The first word of every map of ids: the letters `ids` in the three upper bytes, and the version
+/// of the layout in the lowest.
 pub(crate) const KIND: u32 = 0x6964_7301;
 
 /// An entry that was placed.
@@ -24,7 +24,7 @@ fn entry_at(placed: &[Placed], at: usize) -> Entry
     placed[at].entry
 }
 
-/// Writes what the words are, and how many ranges there are in each direction.
+/// Writes the first word, and how many ranges there are in each direction.
 fn write_head(words: &mut [u32], guests: u32, hosts: u32)
     requires room { 3 ≤ length words.old }
     ensures kind { slice_index words.new 0 ≡ 1768190721 }
@@ -77,7 +77,7 @@ fn write_firsts(words: &mut [u32], start: usize, placed: &[Placed])
     }
 }
 
-/// Writes the image of what was placed.
+/// Writes the image of the entries of both directions.
 pub(crate) fn write_words(words: &mut [u32], guests: &[Placed], hosts: &[Placed])
     requires guests { length guests.now < 4294967296 }
     requires hosts { length hosts.now < 4294967296 }
