@@ -15,11 +15,11 @@ pub use runner::{Call, Ended, Verdict, refuse_in_turn};
 /// What was asked of an allocator so far, and what it did.
 #[derive(Clone, Copy)]
 struct Book {
-    /// How many requests it will still grant.
+    /// How many requests will still be granted.
     left: u64,
     /// How many requests were made.
     asked: u64,
-    /// How many of them it granted.
+    /// How many of these requests were granted.
     granted: u64,
     /// How many blocks were given back.
     given_back: u64,

@@ -6,11 +6,11 @@ use std::alloc::Global;
 /// How a call ended that was run with little memory.
 #[derive(Clone, Copy, PartialEq, Eq, Debug)]
 pub enum Ended {
-    /// With the answer that it has where there is memory enough.
+    /// With the answer that the call has where there is memory enough.
     Answered,
-    /// With want of memory, in the call's own form.
+    /// With out of memory, in the call's own form.
     OutOfMemory,
-    /// With anything else.
+    /// With anything else: the call is wrong.
     Wrong,
 }
 
@@ -36,14 +36,14 @@ pub trait Call {
 /// What came of running a call with its requests refused in turn.
 #[derive(Clone, Copy, PartialEq, Eq, Debug)]
 pub enum Verdict {
-    /// Each run ended with the call's answer or with want of memory, and gave back what it took.
-    /// The last run was refused nothing: it was answered, after so many requests.
+    /// Each run ended with the call's answer or with out of memory, and gave back what it took. The
+    /// last run was refused nothing: it was answered, after so many requests.
     Passed {
-        /// How many requests it made.
+        /// How many requests the last run made.
         requests: u64,
     },
-    /// A run, to which so many requests were granted, ended otherwise; or it was refused nothing
-    /// and yet ended with want of memory.
+    /// A run, to which so many requests were granted, ended in another way; or it was refused
+    /// nothing and yet ended with out of memory.
     Failed {
         /// How many requests were granted.
         grants: u64,

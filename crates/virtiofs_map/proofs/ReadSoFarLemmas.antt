@@ -120,7 +120,7 @@ pub refused_at : {A : Type 0} (text rest : List ℕ) (items : List MappingRule) 
     → OutOfMemoryOr (rules_fault_of (record { cause = cause; rule = Some k })) (HasRulesFault text)
 refused_at text rest items k cause so_far more number wrong = told_at text rest items k (rule_fault_of cause) so_far more number wrong
 
--- it does not tell want of memory
+-- it does not tell out of memory
 pub not_out_of_memory : {A : Type 0} (cause : ErrorKind A) (P : RuleFault → Type 0) → IsSomeAnd (rule_fault_of cause) P → cause ≢ OutOfMemory
 not_out_of_memory cause P wrong e = subst (λ x. IsSomeAnd (rule_fault_of x) P) e wrong
 

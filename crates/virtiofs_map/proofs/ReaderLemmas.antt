@@ -2,7 +2,7 @@
 use Rattle.std.proofs.Common.{◌≡◌, Option, Some, None, Result, Ok, Err, IfOk, IfErr, MatchResult, refl}
 use Rattle.virtiofs_map.specs.Refusal.{IsOutOfMemory, OutOfMemoryOr}
 
--- where there is no fault, a refusal is for want of memory
+-- where there is no fault, a refusal says out of memory
 pub out_of_memory : {F : Type 0} (told : Option F) (Has : F → Type 0) → OutOfMemoryOr told Has → ((fault : F) → ¬ Has fault) → IsOutOfMemory told
 out_of_memory None Has refused none = refl
 out_of_memory (Some fault) Has refused none = absurd (none fault refused)

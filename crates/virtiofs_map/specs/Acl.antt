@@ -19,11 +19,11 @@ entry_count value = (length value - 4) / 8
 abbrev pub tag_of : List ℕ → ℕ → ℕ
 tag_of value k = two_bytes value (4 + 8 * k)
 
--- its permissions: two bytes more
+-- the permissions of an entry: the two bytes after its tag
 abbrev pub permissions_of : List ℕ → ℕ → ℕ
 permissions_of value k = two_bytes value (6 + 8 * k)
 
--- the field of its id: the last four
+-- the id of an entry: its last four bytes
 abbrev pub id_of : List ℕ → ℕ → ℕ
 id_of value k = four_bytes value (8 + 8 * k)
 
@@ -45,7 +45,7 @@ specs_for users groups tag = if tag == 2 then users else groups
 abbrev pub IdsBecome : ℕ → List IdMap → Direction → List ℕ → List ℕ → Type 0
 IdsBecome tag specs direction old new = (k : ℕ) → k < entry_count old → tag_of old k ≡ tag → Becomes specs direction (id_of old k) (Some (id_of new k))
 
--- the byte at that place is one of the four of an id, of one of the first entries up to that number of them
+-- the byte at that place belongs to the id of one of the first `count` entries
 pub record IsIdByte (value : List ℕ) (count place : ℕ) : Type 0 where
   pub entry : ℕ
   pub is_entry : entry < count
@@ -90,7 +90,7 @@ pub record AllSound (users groups : List IdMap) (direction : Direction) (room : 
   pub fits : entry_count value ≤ room
   pub sound : (k : ℕ) → k < entry_count value → IsSound users groups direction value k
 
--- every entry is, and no two ids of one tag would become one
+-- every entry is sound by itself, and no two ids of one tag would become one
 pub record GoesAcross (users groups : List IdMap) (direction : Direction) (room : ℕ) (value : List ℕ) : Type 0 where
   pub all_sound : AllSound users groups direction room value
   pub apart : (k : ℕ) → k < entry_count value → ¬ MergesEarlier users groups direction value k

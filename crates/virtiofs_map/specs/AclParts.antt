@@ -10,16 +10,16 @@ use Rattle.virtiofs_map.specs.declared.soft_idmap.entry.Direction.{Direction}
 
 -- ---- the tests
 
--- a fault of the header, of the length or of the room, which no id has a part in
+-- a fault of the header, of the length or of the room: no id has to do with it
 abbrev pub IsSizeFault : ℕ → List ℕ → AclError → Type 0
 IsSizeFault room value (Entry k fault) = ⊥
 IsSizeFault room value error = (users groups : List IdMap) (direction : Direction) → HasAclFault users groups direction room value error
 
--- the first entries, up to that number of them, are sound
+-- the first entries, that many of them, are sound
 abbrev pub AllSoundBelow : List IdMap → List IdMap → Direction → List ℕ → ℕ → Type 0
 AllSoundBelow users groups direction value count = (k : ℕ) → k < count → IsSound users groups direction value k
 
--- the error names the first of them that is not
+-- the error names the first of these entries that is not sound
 abbrev pub IsUnsoundBelow : List IdMap → List IdMap → Direction → List ℕ → ℕ → AclError → Type 0
 IsUnsoundBelow users groups direction value count (Entry k fault) =
     (k < count) × AllSoundBelow users groups direction value k × IsEntryFault users groups direction value k fault
@@ -34,7 +34,7 @@ pub record IsPlaced (users groups : List IdMap) (direction : Direction) (value :
   pub tag : one.tag ≡ tag_of value one.entry
   pub becomes : Becomes (specs_for users groups (tag_of value one.entry)) direction (id_of value one.entry) (Some one.id)
 
--- the room holds such entries alone, and each of them
+-- the room holds only such entries, and each of them
 pub record Places (users groups : List IdMap) (direction : Direction) (value : List ℕ) (count : ℕ) (placed : List EntryRoom) : Type 0 where
   pub right : All (IsPlaced users groups direction value count) placed
   pub each : (k : ℕ) → k < count → HasId (tag_of value k) → (one : EntryRoom) × Contains placed one × (one.entry ≡ k)
@@ -46,7 +46,7 @@ IsNotAfter one other =
     ⊎ ((one.tag ≡ other.tag) × (one.id < other.id))
     ⊎ ((one.tag ≡ other.tag) × (one.id ≡ other.id) × (one.entry ≤ other.entry))
 
--- none comes after one that stands behind it
+-- no entry comes after one that stands behind it
 abbrev pub AreInOrder : List EntryRoom → Type 0
 AreInOrder placed = (i j : ℕ) (d : EntryRoom) → i ≤ j → j < length placed → IsNotAfter (slice_index_or placed i d) (slice_index_or placed j d)
 
@@ -66,17 +66,17 @@ pub record HasClash (value : List ℕ) (placed : List EntryRoom) (k : ℕ) : Typ
   pub order : one.entry ≤ other.entry
   pub is : other.entry ≡ k
 
--- of each two of the first so many that clash, the second has no lesser number than the one that was found
+-- of each two of the first entries that clash, the second has no lesser number than the one that was found
 abbrev pub MeetsClashes : List ℕ → List EntryRoom → ℕ → Option ℕ → Type 0
 MeetsClashes value placed high found =
     (i j : ℕ) (d : EntryRoom) → i < j → j < high → j < length placed → Clashes value (slice_index_or placed i d) (slice_index_or placed j d)
     → IsSomeAnd found (λ k. k ≤ (slice_index_or placed j d).entry)
 
--- none of the first entries, up to that number of them, merges with an earlier one
+-- none of the first entries, that many of them, merges with an earlier one
 abbrev pub NoneMerges : List IdMap → List IdMap → Direction → List ℕ → ℕ → Type 0
 NoneMerges users groups direction value count = (k : ℕ) → k < count → ¬ MergesEarlier users groups direction value k
 
--- entry k is the first of them that does
+-- entry k is the first of these entries that merges with an earlier one
 pub record IsFirstToMerge (users groups : List IdMap) (direction : Direction) (value : List ℕ) (count k : ℕ) : Type 0 where
   pub is_entry : k < count
   pub merges : MergesEarlier users groups direction value k
@@ -84,7 +84,7 @@ pub record IsFirstToMerge (users groups : List IdMap) (direction : Direction) (v
 
 -- ---- writing
 
--- the ids of the first entries, up to that number of them, have become what they are to be, and no other byte has changed
+-- the ids of the first entries, that many of them, have become what they are to be, and no other byte has changed
 pub record IsWritten (users groups : List IdMap) (direction : Direction) (old new : List ℕ) (count : ℕ) : Type 0 where
   pub size : length new ≡ length old
   pub written : (k : ℕ) → k < count → HasId (tag_of old k) → Becomes (specs_for users groups (tag_of old k)) direction (id_of old k) (Some (id_of new k))

@@ -13,7 +13,7 @@ letter_number = 9
 abbrev pub other_number : ℕ
 other_number = 10
 
--- the property Alphabetic, or one of those three categories
+-- the character has the property Alphabetic, or one of those three categories
 unfoldable pub is_alphanumeric : ℕ → Bool
 is_alphanumeric c =
     let category = general_category_number (general_category c) in

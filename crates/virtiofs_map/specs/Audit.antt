@@ -11,7 +11,7 @@ use Rattle.virtiofs_map.specs.declared.audit.answer.Audit.TheVariants.{Yes, No}
 
 -- ---- the least name that is bad
 
--- byte by byte, the name comes before the other; a front of a name comes before it
+-- byte by byte, the name comes before the other; the beginning of a name comes before the name
 abbrev pub IsBefore : List ℕ → List ℕ → Type 0
 IsBefore name other = slice_cmp nat_cmp name other ≡ Less
 
@@ -20,18 +20,18 @@ pub record IsLeast (bad : List ℕ → Type 0) (name : List ℕ) : Type 0 where
   pub is_bad : bad name
   pub none_before : (other : List ℕ) → bad other → ¬ IsBefore other name
 
--- Yes where no name is bad, and else No with the least name that is
+-- `Yes` where no name is bad, and else `No` with the least name that is
 abbrev pub AnswersLeast : {A : Type 0} → (List ℕ → Type 0) → Audit A → Type 0
 AnswersLeast bad Yes = (name : List ℕ) → ¬ bad name
 AnswersLeast bad (No name) = IsLeast bad name
 
 -- ---- does every name list back
 
--- each name that passes lists back, the empty one left out
+-- each name that passes, the empty one left out, is listed back
 abbrev pub Sound : List MappingRule → Type 0
 Sound rules = (name host : List ℕ) → IsName name → name ≢ [] → client_answer rules name ≡ Passes host → ListsBack rules name
 
--- a name, not empty, that passes and does not list back
+-- a name, not empty, that passes and is not listed back
 pub record IsLost (rules : List MappingRule) (name : List ℕ) : Type 0 where
   pub is_name : IsName name
   pub not_empty : name ≢ []
@@ -45,7 +45,7 @@ most_tried rules = 255 + count_by (λ rule. rule.client) rules + count_by (λ ru
 
 -- ---- does a listed name open its host name
 
--- each host name that is listed, the empty one left out, is what the name passes as under which it is listed
+-- each host name that is listed, the empty one left out, is opened: the name under which it is listed passes as it
 abbrev pub OpensListed : List MappingRule → Type 0
 OpensListed rules = (host name : List ℕ) → IsName host → host ≢ [] → host_answer rules host ≡ IsListed name → client_answer rules name ≡ Passes host
 
@@ -59,7 +59,7 @@ pub record IsStray (rules : List MappingRule) (host : List ℕ) : Type 0 where
 
 -- ---- are two guests on one host kept apart
 
--- a host name, not empty, as which some name passes, the empty one too
+-- a host name, not empty, that the guest reaches: some name, the empty one too, passes as it
 pub record Reached (rules : List MappingRule) (host : List ℕ) : Type 0 where
   pub is_host : IsName host
   pub not_empty : host ≢ []

@@ -16,7 +16,7 @@ use Rattle.virtiofs_map.specs.declared.xattrmap.scopes.Side.TheVariants.{Client,
 
 -- ---- how a rule lets a name through
 
--- what the name of the host has before that of the guest; none where the rule lets no name through
+-- what a host's name has before the guest's; none where the rule lets no name through
 abbrev pub front_by : RuleType → List ℕ → Option (List ℕ)
 front_by Okay prepend = Some []
 front_by Prefix prepend = Some prepend
@@ -26,7 +26,7 @@ front_by Unsupported prepend = None
 abbrev pub front_of : MappingRule → Option (List ℕ)
 front_of rule = front_by rule.kind rule.prepend
 
--- the same of the first rule that fits the name on that side
+-- what a host's name has before the guest's, by the first rule that fits the name on that side
 abbrev pub front : Side → List MappingRule → List ℕ → Option (List ℕ)
 front side rules name = option_and_then front_of (deciding side rules name)
 
@@ -35,7 +35,7 @@ front side rules name = option_and_then front_of (deciding side rules name)
 abbrev pub some_byte : List ℕ → Bool
 some_byte name = not (length name == 0)
 
--- just as much is taken off as was put before the name
+-- as much is taken off as was put before the name
 abbrev pub cuts : List ℕ → Option (List ℕ) → Bool
 cuts added None = false
 cuts added (Some cut) = length cut == length added
@@ -45,7 +45,7 @@ abbrev pub is_lost : List MappingRule → List ℕ → Bool
 is_lost rules name =
     some_byte name && option_map_or (λ added. not (cuts added (front Server rules (added ++ name)))) (front Client rules name) false
 
--- a rule decides the host name, and lets it not through
+-- a rule decides the host name, and hides it
 abbrev pub is_hidden : List MappingRule → List ℕ → Bool
 is_hidden rules host = option_map_or (λ rule. is_none (front_of rule)) (deciding Server rules host) false
 
@@ -57,7 +57,7 @@ abbrev pub is_seen : List MappingRule → List MappingRule → List ℕ → Bool
 is_seen rules others name =
     option_map_or (λ added. some_byte (added ++ name) && (all_bytes (added ++ name) && not (is_hidden others (added ++ name)))) (front Client rules name) false
 
--- just that is put before the name which was taken off
+-- what was taken off is put before the name
 abbrev pub adds : List ℕ → Option (List ℕ) → Bool
 adds cut None = false
 adds cut (Some added) = pointwise nat_eq added cut
@@ -88,14 +88,14 @@ abbrev pub is_first : Option (List ℕ) → List ℕ → Bool
 is_first None name = true
 is_first (Some found) name = is_lt (slice_cmp nat_cmp name found)
 
--- after one name more
+-- what is found after one more name
 abbrev pub try_one : (List ℕ → Bool) → TriedSoFar → List ℕ → TriedSoFar
 try_one bad tried name = record {
   least = if bad name && is_first tried.least name then Some name else tried.least;
   count = count_after tried.count 1;
 }
 
--- after these names
+-- what is found after these names
 abbrev pub after : (List ℕ → Bool) → TriedSoFar → List (List ℕ) → TriedSoFar
 after bad tried [] = tried
 after bad tried (name ∷ names) = after bad (try_one bad tried name) names
@@ -107,7 +107,7 @@ told (No name) = Some name
 
 -- ---- which names are tried
 
--- the rest of the rule's prepend after the front, where that begins it
+-- what is left of the rule's prepend after the front, where that begins it
 abbrev pub rest_of : List ℕ → MappingRule → Option (List ℕ)
 rest_of added rule =
     if rule.server && begins added rule.prepend then Some (drop (length added) rule.prepend) else None
@@ -115,7 +115,7 @@ rest_of added rule =
 abbrev pub rests : List MappingRule → List ℕ → List (List ℕ)
 rests rules added = filter_map (rest_of added) rules
 
--- the key of a rule for the client, and the rests of the others' prepends after what it puts before a name
+-- the key of a rule for the client, and what is left of the others' prepends after what the rule puts before a name
 abbrev pub guest_names_of : List MappingRule → MappingRule → List (List ℕ)
 guest_names_of others rule =
     if rule.client then rule.key ∷ option_map_or (rests others) (front_of rule) [] else []

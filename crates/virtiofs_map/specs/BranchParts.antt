@@ -72,7 +72,7 @@ pub record IsBranch (side : Side) (rules : List MappingRule) (branches : List Br
   pub whole : (byte next : ℕ) (child : Branch) (rule : MappingRule) → IsChild branches branch byte next child
       → Contains rules rule → acts side rule ≡ true → begins (way at ++ byte ∷ []) (pattern side rule) ≡ true
       → begins (way next) (pattern side rule) ≡ true
-  -- and there is such a child
+  -- where a pattern goes on with a byte, there is a child for that byte
   pub complete : (byte : ℕ) (rule : MappingRule)
       → Contains rules rule → acts side rule ≡ true → begins (way at ++ byte ∷ []) (pattern side rule) ≡ true
       → (next : ℕ) × (child : Branch) × IsChild branches branch byte next child
@@ -134,7 +134,7 @@ pub record ArePatterns (side : Side) (rules : List MappingRule) (bytes : List �
   pub every : (place : ℕ) (rule : MappingRule) → slice_get rules place ≡ Some rule → acts side rule ≡ true
       → (one : Pattern) × Contains patterns one × (one.bytes.now ≡ pattern side rule) × (one.answer ≡ 4 * place + type_number rule.kind)
 
--- the same of the rules before a place
+-- the patterns of the rules before a place that act on the side, one for each rule
 pub record ArePatternsBelow (side : Side) (rules : List MappingRule) (bytes : List ℕ) (end : ℕ) (patterns : List Pattern) : Type 0 where
   pub each : All (IsPattern side rules bytes) patterns
   pub every : (place : ℕ) (rule : MappingRule) → place < end → slice_get rules place ≡ Some rule → acts side rule ≡ true

@@ -11,7 +11,7 @@ use Rattle.virtiofs_map.specs.declared.soft_idmap.errors.RangeEnd.TheVariants.{S
 abbrev pub EntryMeets : Entry → IdMap → Direction → Type 0
 EntryMeets entry other direction = (n : ℕ) × EntryCovers entry n × Covers other direction n
 
--- the entry does so with one of the earlier specifications
+-- the entry covers a number that one of the earlier specifications covers in that direction
 abbrev pub EntryMeetsEarlier : Entry → List IdMap → Direction → Type 0
 EntryMeetsEarlier entry earlier direction = (other : IdMap) × Contains earlier other × EntryMeets entry other direction
 

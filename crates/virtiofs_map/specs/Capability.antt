@@ -23,7 +23,7 @@ IsRevision revision = (revision ≡ 1) ⊎ (revision ≡ 2) ⊎ (revision ≡ 3)
 abbrev pub HasSize : ℕ → ℕ → Type 0
 HasSize revision size = ((revision ≡ 1) × (size ≡ 12)) ⊎ ((revision ≡ 2) × (size ≡ 20)) ⊎ ((revision ≡ 3) × (size ≡ 24))
 
--- the id of root: the last word of revision 3. Revisions 1 and 2 end before it, and mean 0, as is read past the end of a list.
+-- the id of root: the last word of revision 3. Revisions 1 and 2 end before it, and mean 0, as any byte past the end of a list does.
 abbrev pub root_of : List ℕ → ℕ
 root_of value = four_bytes value 20
 
@@ -32,7 +32,7 @@ pub record IsSized (value : List ℕ) : Type 0 where
   pub word : 4 ≤ length value
   pub sized : HasSize (revision_of value) (length value)
 
--- and root is an id
+-- the value has the length of its revision, and root is an id
 pub record IsCapability (value : List ℕ) : Type 0 where
   pub sized : IsSized value
   pub is_id : root_of value ≢ 4294967295
@@ -48,7 +48,7 @@ pub record KeepsFront (old new : List ℕ) : Type 0 where
   pub size : length new ≡ length old
   pub front : (place : ℕ) → place < 20 → slice_index new place ≡ slice_index old place
 
--- the same in revision 3, but for the id of root: the flags, and both sets with zeros where the value has ended
+-- the value in revision 3, but for the id of root: the flags, and both sets, with zeros where the value has ended
 pub record IsInRevision3 (value written : List ℕ) : Type 0 where
   pub revision : revision_of written ≡ 3
   pub flags : (place : ℕ) → place < 3 → slice_index written place ≡ slice_index value place
@@ -62,14 +62,14 @@ pub record HasRoot (users : List IdMap) (direction : Direction) (value : List �
   pub root : ℕ
   pub becomes : Becomes users direction (root_of value) (Some root)
 
--- the same, and root stays 0 where the value has no field for another
+-- the value is a capability, the specifications forbid no use of its root, and root stays 0 where the value has no field for another
 pub record RootGoesAcross (users : List IdMap) (direction : Direction) (value : List ℕ) : Type 0 where
   pub has_root : HasRoot users direction value
   pub stays : revision_of value ≢ 3 → Becomes users direction 0 (Some 0)
 
 -- ---- the first fault of the others
 
--- of a value that is to be written in revision 3
+-- the first fault of a value that is to be written in revision 3
 abbrev pub HasRootFault : List IdMap → Direction → List ℕ → CapabilityError → Type 0
 HasRootFault users direction value TooShort = length value < 4
 HasRootFault users direction value (Revision revision) =
@@ -80,7 +80,7 @@ HasRootFault users direction value NoId = IsSized value × (root_of value ≡ 42
 HasRootFault users direction value Forbidden = IsCapability value × Becomes users direction (root_of value) None
 HasRootFault users direction value RootMoves = ⊥
 
--- of a value that is to be changed in place
+-- the first fault of a value that is to be changed in place
 abbrev pub HasCapabilityFault : List IdMap → Direction → List ℕ → CapabilityError → Type 0
 HasCapabilityFault users direction value RootMoves =
     IsCapability value × (revision_of value ≢ 3) × ((root : ℕ) × Becomes users direction 0 (Some root) × (root ≢ 0))

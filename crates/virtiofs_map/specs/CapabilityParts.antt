@@ -6,7 +6,7 @@ use Rattle.virtiofs_map.specs.declared.acl.errors.CapabilityError.TheVariants.{F
 use Rattle.virtiofs_map.specs.declared.cmdline.IdMap.{IdMap}
 use Rattle.virtiofs_map.specs.declared.soft_idmap.entry.Direction.{Direction}
 
--- a fault of the value itself, which no specification has a part in
+-- a fault of the value itself: no specification has to do with it
 abbrev pub IsFaultOfAny : List ℕ → CapabilityError → Type 0
 IsFaultOfAny value Forbidden = ⊥
 IsFaultOfAny value RootMoves = ⊥

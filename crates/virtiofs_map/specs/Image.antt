@@ -5,11 +5,11 @@ use Rattle.virtiofs_map.specs.WordParts.{guest_count, host_count, IsOfWords}
 use Rattle.virtiofs_map.specs.declared.cmdline.IdMap.{IdMap}
 use Rattle.virtiofs_map.specs.declared.soft_idmap.entry.Direction.TheVariants.{GuestToHost, HostToGuest}
 
--- the first word is the one with which an image of this version begins; no word is none
+-- the first word is that of an image of this version, so there is a first word
 abbrev pub HasKind : List ℕ → Type 0
 HasKind words = slice_index words 0 ≡ 1768190721
 
--- the words, or a front of them, are the image of a map of the specifications
+-- the words, or the first of them, are the image of a map of the specifications
 pub record IsImage (specs : List IdMap) (words : List ℕ) : Type 0 where
   pub kind : HasKind words
   pub room : 3 + 4 * guest_count words + 4 * host_count words ≤ length words
@@ -19,7 +19,7 @@ pub record IsImage (specs : List IdMap) (words : List ℕ) : Type 0 where
 abbrev pub image_length : List IdMap → ℕ
 image_length specs = 3 + 4 * acting specs GuestToHost + 4 * acting specs HostToGuest
 
--- Where the image fits, it is the front of the words, and the rest of them is as it was; else all of them are.
+-- Where the image fits, it is the beginning of the words, and the rest of them is as it was; else all of them are as they were.
 pub record IsWritten (specs : List IdMap) (old new : List ℕ) : Type 0 where
   pub image : image_length specs ≤ length old → IsImage specs (take (image_length specs) new)
   pub rest : image_length specs ≤ length old → drop (image_length specs) new ≡ drop (image_length specs) old

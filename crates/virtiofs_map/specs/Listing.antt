@@ -13,7 +13,7 @@ use Rattle.virtiofs_map.specs.declared.xattrmap.errors.ErrorKind.TheVariants.{Un
 abbrev pub decided_names : List MappingRule → List ℕ → List (List ℕ)
 decided_names rules list = take_while (λ name. is_decided (host_answer rules name)) (names list)
 
--- those of them that the guest sees, in order, each under the name that it sees
+-- the decided names that the guest sees, in order, each under the name that it sees
 abbrev pub kept_names : List MappingRule → List ℕ → List (List ℕ)
 kept_names rules list = filter_map (λ name. listed_name (host_answer rules name)) (decided_names rules list)
 

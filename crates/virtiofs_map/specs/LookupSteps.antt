@@ -24,10 +24,10 @@ halvings_within (suc times) (suc m) = suc (halvings_within times (suc m / 2))
 unfoldable pub binary_digits : ℕ → ℕ
 binary_digits m = halvings_within m m
 
--- a lookup reads one range at least, where a specification acts in the direction
+-- a lookup reads at least one range, where a specification acts in the direction
 abbrev pub least_steps : List IdMap → Direction → ℕ
 least_steps specs direction = min 1 (acting specs direction)
 
--- and at most as many as the number of those specifications has binary digits
+-- a lookup reads at most as many ranges as the number of those specifications has binary digits
 abbrev pub most_steps : List IdMap → Direction → ℕ
 most_steps specs direction = binary_digits (acting specs direction)

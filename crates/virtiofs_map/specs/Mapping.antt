@@ -32,7 +32,7 @@ first_of (Map first to count) = first
 first_of (Squash first to count) = first
 first_of (Fail first count) = first
 
--- how many numbers it has
+-- how many numbers an entry has
 abbrev pub count_of : Entry → ℕ
 count_of (Map first to count) = count
 count_of (Squash first to count) = count
@@ -42,7 +42,7 @@ count_of (Fail first count) = count
 abbrev pub EntryCovers : Entry → ℕ → Type 0
 EntryCovers entry n = InRange (first_of entry) (count_of entry) n
 
--- what a covered number becomes: the number as far above the target, the target itself, or nothing where its use fails
+-- what a covered number becomes: the number that is as far above the target, the target itself, or nothing where its use fails
 abbrev pub target_of : Entry → ℕ → Option ℕ
 target_of (Map first to count) n = Some (to + (n - first))
 target_of (Squash first to count) n = Some to

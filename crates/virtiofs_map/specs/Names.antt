@@ -32,14 +32,14 @@ pub data ClientAnswer : Type 0 where
   IsUnsupported : ClientAnswer
   IsUnterminated : ClientAnswer
 
--- what a rule of that type and prepend makes of it
+-- what a rule of that type and prepend makes of a name that the guest asks for
 abbrev pub answer_by : RuleType → List ℕ → List ℕ → ClientAnswer
 answer_by Okay prepend name = Passes name
 answer_by Prefix prepend name = Passes (prepend ++ name)
 answer_by Bad prepend name = IsDenied
 answer_by Unsupported prepend name = IsUnsupported
 
--- what the first rule that fits makes of it
+-- what the first rule that fits makes of a name that the guest asks for
 abbrev pub client_answer : List MappingRule → List ℕ → ClientAnswer
 client_answer rules name = option_map_or (λ rule. answer_by rule.kind rule.prepend name) (deciding Client rules name) IsUnterminated
 
@@ -51,14 +51,14 @@ pub data HostAnswer : Type 0 where
   IsHidden : HostAnswer
   IsUndecided : HostAnswer
 
--- what a rule of that type and prepend makes of it
+-- what a rule of that type and prepend makes of a name of the host
 abbrev pub host_answer_by : RuleType → List ℕ → List ℕ → HostAnswer
 host_answer_by Okay prepend name = IsListed name
 host_answer_by Prefix prepend name = IsListed (drop (length prepend) name)
 host_answer_by Bad prepend name = IsHidden
 host_answer_by Unsupported prepend name = IsHidden
 
--- what the first rule that fits makes of it
+-- what the first rule that fits makes of a name of the host
 abbrev pub host_answer : List MappingRule → List ℕ → HostAnswer
 host_answer rules name = option_map_or (λ rule. host_answer_by rule.kind rule.prepend name) (deciding Server rules name) IsUndecided
 
@@ -68,7 +68,7 @@ is_decided (IsListed name) = true
 is_decided IsHidden = true
 is_decided IsUndecided = false
 
--- the name under which it is listed, if it is
+-- the name under which a name of the host is listed, if it is
 abbrev pub listed_name : HostAnswer → Option (List ℕ)
 listed_name (IsListed name) = Some name
 listed_name IsHidden = None

@@ -21,14 +21,14 @@ use Rattle.virtiofs_map.specs.declared.xattrmap.spans.Span.{Span}
 abbrev pub image_kind : ℕ
 image_kind = 100606831918016118
 
--- after it stand five numbers: where the four parts begin, one after the other, and where the last one ends
+-- the start of a part: after the first number stand five more, where the four parts begin, one after the other, and where the last one ends
 abbrev pub part_start : List ℕ → ℕ → ℕ
 part_start image which = word_at image (8 * which + 8)
 
 abbrev pub part_end : List ℕ → ℕ → ℕ
 part_end image which = word_at image (8 * which + 16)
 
--- the part of that number: 0 is the rows of the client's trie, 1 those of the server's, 2 the rows of the rules, and 3 the bytes of all patterns
+-- the part of that number: 0 has the rows of the client's trie, 1 those of the server's, 2 the rows of the rules, and 3 the bytes of all patterns
 abbrev pub part : List ℕ → ℕ → List ℕ
 part image which = take (part_end image which - part_start image which) (drop (part_start image which) image)
 
@@ -65,15 +65,15 @@ pub record AreRuleRows (rules : List MappingRule) (rows bytes : List ℕ) : Type
 
 -- the bytes are an image of a map of these rules
 pub record IsImage (rules : List MappingRule) (image : List ℕ) : Type 0 where
-  -- it begins with six numbers, the first of which says what it is
+  -- the image begins with six numbers, the first of which says what it is
   pub begun : 48 ≤ length image
   pub kind : word_at image 0 ≡ image_kind
-  -- the parts that the others name are all there
+  -- the parts that the other numbers name are all there
   pub parts : (which : ℕ) → which < 4 → HasPart image which
-  -- it has a trie of what names are compared with, for each side
+  -- the image has a trie of what names are compared with, for each side
   pub client : IsTrieIn Client rules (part image 0) (part image 3)
   pub server : IsTrieIn Server rules (part image 1) (part image 3)
-  -- it has the rules themselves, and no pattern holds a zero
+  -- the image has the rules themselves, and no pattern holds a zero
   pub stored : AreRuleRows rules (part image 2) (part image 3)
   pub no_zero : All HasNoZero rules
 

@@ -14,7 +14,7 @@ use Rattle.virtiofs_map.specs.declared.xattrmap.scopes.Side.{Side}
 
 -- ---- writing
 
--- the bytes so far stand at the front, and behind them what was there; where there is no room for them, anything may
+-- the bytes so far stand at the beginning, and behind them what was there; where there is no room for them, anything may
 pub record Holds (so_far old new : List ℕ) : Type 0 where
   pub same : length new ≡ length old
   pub are : length so_far ≤ length old → new ≡ so_far ++ drop (length so_far) old
@@ -27,11 +27,11 @@ pub record ArePlaces (client server rules bytes : ℕ) (places : Places) : Type 
   pub last : places.end ≡ places.bytes + bytes
   pub short : places.end < 281474976710656
 
--- the six numbers at the front
+-- the six numbers at the beginning of an image
 abbrev pub numbers_of : Places → List ℕ
 numbers_of places = image_kind ∷ 48 ∷ places.server ∷ places.rules ∷ places.bytes ∷ places.end ∷ []
 
--- their bytes
+-- the bytes of these six numbers
 abbrev pub header_of : Places → List ℕ
 header_of places = flat_map word_bytes (numbers_of places)
 

@@ -48,7 +48,7 @@ pub record Searched (ranges : List Entry) (n low high : ℕ) (found : Option Ent
       (λ range. (1 ≤ low) × (slice_index_or ranges (low - 1) range ≡ range) × (first_of range ≤ n))
   pub above : (k : ℕ) (d : Entry) → high ≤ k → k < length ranges → n < first_of (slice_index_or ranges k d)
 
--- after the steps so far there are digits enough for the ranges that are left
+-- after the steps so far there are enough digits for the ranges that are left
 pub record HasDigitsFor (left taken most : ℕ) : Type 0 where
   pub digits : ℕ
   pub room : left < 2 ^ digits
@@ -71,15 +71,14 @@ pub record IsPlaced (specs : List IdMap) (direction : Direction) (placed : Place
   pub sets_up : entry_of spec direction ≡ Some placed.entry
   pub counted : 1 ≤ count_of placed.entry
 
--- the first specifications, up to that number of them: each entry of the direction that covers a number, once, with
--- the index of its specification
+-- of the first specifications, that many of them: each entry of the direction that covers a number, once, with the index of its specification
 pub record Places (specs : List IdMap) (direction : Direction) (count : ℕ) (placed : List Placed) : Type 0 where
   pub from : All (λ one. IsPlaced specs direction one × (one.index < count)) placed
   pub each : (index : ℕ) (spec : IdMap) (entry : Entry) → index < count → StandsAt specs index spec → entry_of spec direction ≡ Some entry → 1 ≤ count_of entry → Contains placed (record { entry = entry; index = index })
   pub once : AllPairs (λ one other. one.index ≢ other.index) placed
   pub counted : length placed ≡ acting (take count specs) direction
 
--- the same of all of them, in the order of their first numbers
+-- each entry of the direction that covers a number, once, with the index of its specification, in the order of their first numbers
 pub record PlacesInOrder (specs : List IdMap) (direction : Direction) (placed : List Placed) : Type 0 where
   pub places : Places specs direction (length specs) placed
   pub rising : IsNonDecreasingBy (λ one. first_of one.entry) placed
@@ -90,7 +89,7 @@ pub record ArePlaced (specs : List IdMap) (guests hosts : List Placed) : Type 0 
   pub from_guest : PlacesInOrder specs GuestToHost guests
   pub from_host : PlacesInOrder specs HostToGuest hosts
 
--- the entries of the specifications up to that number of them precede one another
+-- the entries of the first specifications, that many of them, precede one another
 abbrev pub ArePrecedingBelow : ℕ → List Placed → Type 0
 ArePrecedingBelow count placed =
     AllPairs (λ one other. one.index < count → other.index < count → Precedes one.entry other.entry) placed
@@ -108,12 +107,12 @@ pub record HasRoom (spec : IdMap) (direction : Direction) : Type 0 where
   pub source : IfSome (entry_of spec direction) HasSource
   pub target : IfSome (entry_of spec direction) HasTarget
 
--- nor in either direction
+-- the ranges of the specification are not too long in either direction
 pub record HasRoomBothWays (spec : IdMap) : Type 0 where
   pub guest : HasRoom spec GuestToHost
   pub host : HasRoom spec HostToGuest
 
--- the front of that length is accepted, and the one that is longer by one is not
+-- the first `count` specifications are accepted, and with the next one they are not
 pub record IsLongestAccepted (specs : List IdMap) (count : ℕ) : Type 0 where
   pub below : count < length specs
   pub accepted : Accepted (take count specs)

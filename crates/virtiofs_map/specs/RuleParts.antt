@@ -43,11 +43,11 @@ abbrev pub head_of : Head → RuleHead
 head_of (Typed kind scope) = texts.Typed (type_of kind) (scope_of scope)
 head_of Map = texts.Map
 
--- the rule in characters
+-- a written rule, in characters
 abbrev pub as_written : WrittenRule → RuleAsWritten
 as_written rule = record { head = head_of rule.head; key = chars rule.key.now; prepend = chars rule.prepend.now }
 
--- the rules that it stands for
+-- the rules that a written rule stands for
 abbrev pub rules_for : WrittenRule → List MappingRule
 rules_for rule = rules_of (head_of rule.head) (chars rule.key.now) (chars rule.prepend.now)
 
@@ -82,7 +82,7 @@ rule_with kind scope key prepend = record {
   prepend = prepend;
 }
 
--- the rule that is lent
+-- the rule that a lent rule is
 abbrev pub rule_meant : RuleRef → MappingRule
 rule_meant rule = rule_with rule.kind rule.scope rule.key.now rule.prepend.now
 
@@ -112,6 +112,6 @@ abbrev pub HasPatternFault : ℕ → List ℕ → PatternField → RuleFault →
 HasPatternFault d text which fault =
     ((fault ≡ IncompleteRule) × Lacks d text) ⊎ ((fault ≡ NulInPattern which) × (field : List ℕ) × (rest : List ℕ) × Fields d text (field ∷ []) rest × Contains field 0)
 
--- the error tells want of memory, or a fault of a rule of which this holds
+-- the error tells out of memory, or a fault of a rule of which this holds
 abbrev pub TellsFault : {A : Type 0} → (RuleFault → Type 0) → ErrorKind A → Type 0
 TellsFault P cause = (cause ≡ OutOfMemory) ⊎ IsSomeAnd (rule_fault_of cause) P

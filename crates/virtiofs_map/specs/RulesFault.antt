@@ -23,7 +23,7 @@ pub data RuleFault : Type 0 where
 
 -- what is wrong with a text
 pub data RulesFault : Type 0 where
-  -- it has no rules
+  -- the text has no rules
   NoRules : RulesFault
   -- the rule of that number, counted from 1, is at fault
   InRule : ℕ → RuleFault → RulesFault

@@ -35,7 +35,7 @@ word_of (SquashHost from_host to_guest count) = codes "squash-host"
 word_of (Bidirectional guest host count) = codes "map"
 word_of (ForbidGuest from_guest count) = codes "forbid-guest"
 
--- its numbers, in the order in which they are written
+-- the numbers of a specification, in the order in which they are written
 abbrev pub numbers_of : IdMap → List ℕ
 numbers_of (Guest from_guest to_host count) = from_guest ∷ to_host ∷ count ∷ []
 numbers_of (Host from_host to_guest count) = from_host ∷ to_guest ∷ count ∷ []

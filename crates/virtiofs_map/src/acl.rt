@@ -74,15 +74,17 @@ pub fn carries_ids(name: XattrName<'_>) -> Option<ValueKind>
 /// Makes an access control list of the guest one of the host: each id becomes what its map makes of
 /// it, in place.
 ///
-/// `room` is lent for as many entries as the value has: a value of n bytes has (n - 4) / 8. It is
-/// written over. To test for ids that would merge, the entries are sorted in it.
+/// `room` needs one element for each entry of the value: a value of n bytes has (n - 4) / 8
+/// entries. What `room` held is overwritten. The entries are sorted in it, to see whether two ids
+/// would become one.
 ///
 /// # Errors
 ///
-/// The first of these, and then no byte of the value has changed: [`AclError::TooShort`],
-/// [`AclError::Version`], [`AclError::Length`], [`AclError::Room`], and [`AclError::Entry`] with the
-/// first entry that fails the tests of its tag, its permissions, and its id; else with the first
-/// entry whose id would become that of an earlier entry of its tag with another id.
+/// The error is the first of these, and then no byte of the value has changed:
+/// [`AclError::TooShort`], [`AclError::Version`], [`AclError::Length`], [`AclError::Room`], and
+/// [`AclError::Entry`] with the first entry that fails the tests of its tag, its permissions, and
+/// its id; else with the first entry whose id would become what another id of an earlier entry of
+/// its tag becomes.
 pub fn acl_to_host<A: Allocator>(
     users: &IdMap<GuestUid, HostUid, A>,
     groups: &IdMap<GuestGid, HostGid, A>,
@@ -114,11 +116,13 @@ pub fn acl_to_host<A: Allocator>(
     translate(&ways, value, room)
 }
 
-/// Makes an access control list of the host one of the guest, as [`acl_to_host`] does the other way.
+/// Makes an access control list of the host one of the guest, as [`acl_to_host`] does the other
+/// way.
 ///
 /// # Errors
 ///
-/// Those of [`acl_to_host`], in the same order. The specifications of today forbid guest ids alone.
+/// Those of [`acl_to_host`], in the same order. Today no specification can forbid an id of the
+/// host.
 pub fn acl_to_guest<A: Allocator>(
     users: &IdMap<GuestUid, HostUid, A>,
     groups: &IdMap<GuestGid, HostGid, A>,
@@ -150,15 +154,15 @@ pub fn acl_to_guest<A: Allocator>(
     translate(&ways, value, room)
 }
 
-/// Makes a capability of the guest one of the host: the id of root becomes what the map makes of it,
-/// in place. A value of revision 1 or 2 stays as it is.
+/// Makes a capability of the guest one of the host: the id of root becomes what the map makes of
+/// it, in place. A value of revision 1 or 2 stays as it is.
 ///
 /// # Errors
 ///
-/// The first of these, and then no byte of the value has changed: [`CapabilityError::TooShort`],
-/// [`CapabilityError::Revision`], [`CapabilityError::Length`], [`CapabilityError::NoId`],
-/// [`CapabilityError::Forbidden`], and [`CapabilityError::RootMoves`], after which
-/// [`capability_to_host_in_revision_3`] serves.
+/// The error is the first of these, and then no byte of the value has changed:
+/// [`CapabilityError::TooShort`], [`CapabilityError::Revision`], [`CapabilityError::Length`],
+/// [`CapabilityError::NoId`], [`CapabilityError::Forbidden`], and [`CapabilityError::RootMoves`],
+/// where [`capability_to_host_in_revision_3`] can write the value.
 pub fn capability_to_host<A: Allocator>(
     users: &IdMap<GuestUid, HostUid, A>,
     value: &mut [u8],

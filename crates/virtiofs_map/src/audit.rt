@@ -3,21 +3,21 @@
 //! A map answers for one name at a time ([`xattrmap`](crate::xattrmap)). An administrator asks
 //! about all names at once, before a share goes live: does the guest get back each name that it
 //! sets, does a name that it sees in a list open that very attribute, do two guests on one host
-//! stay apart, is any name left without a rule? An audit answers for every name there is, and
-//! where the answer is no it gives the least name that shows it, in byte order.
+//! stay apart, is any name left without a rule? An audit answers for every name there is. Where the
+//! answer is no, it gives the least name that shows it, in byte order.
 //!
-//! - [`audit`]: a name passes to the host, and the list that the guest then gets does not show it.
-//!   `:prefix:client:trusted.:user.: :ok:all:::` is such a map: `trusted.` passes as
+//! - [`audit`]: does each name that passes to the host come back in the list that the guest gets?
+//!   `:prefix:client:trusted.:user.: :ok:all:::` is a map that loses a name: `trusted.` passes as
 //!   `user.trusted.`, which is listed as that.
-//! - [`audit_listed`]: a name of the host is listed to the guest, and what the guest then asks for
-//!   is another name of the host, or none.
-//! - [`keeps_apart`]: a name passes under one guest's map, and what it becomes on the host is not
-//!   hidden by the other guest's map. Only where there is no such name do the names that the first
-//!   guest reaches make no difference to the lists of the second.
-//! - [`XattrMap::is_terminated`]: each name of either side has a rule.
+//! - [`audit_listed`]: does each name in the guest's list open the attribute of the host that was
+//!   listed?
+//! - [`keeps_apart`]: is each name of the host that the first guest reaches hidden by the other
+//!   guest's map? If so, and only then, these names make no difference to the lists of the other.
+//! - [`XattrMap::is_terminated`]: does each name of either side have a rule?
 //!
-//! There is no end of names, and few need to be tried: two names that begin with the same patterns
-//! fare alike. The names that decide are found from the patterns and are tried one after the other.
+//! There is no end of names, but few need to be tried: two names that begin with the same patterns
+//! are treated alike. The names to try are found from the patterns, and are tried one after the
+//! other.
 ghost use Rattle.std.specs.Prelude.{◌≡◌, ◌↔◌, IfOk, OnOk, OnErr};
 ghost use Rattle.virtiofs_map.specs.Audit.{AnswersLeast, Sound, IsLost, most_tried, OpensListed, IsStray, Apart, Isolated, IsSeen};
 ghost use Rattle.virtiofs_map.specs.Steps.{CountsBetween};
@@ -37,12 +37,12 @@ use least::Tried;
 use questions::Question;
 use std::alloc::{AllocError, Allocator};
 
-/// Whether each name that passes lists back: the name, not empty, goes to the host, and the list of
-/// that host name alone is the list of this name. `No` has the least name that passes and does not
-/// list back.
+/// Whether each name that passes is listed back: from the list of its host name alone the guest
+/// gets the list of this name alone. The empty name is left out. `No` has the least name that
+/// passes and is not listed back.
 ///
-/// Memory: room for the longest name of the host that is looked up, and for a few names that do not
-/// list back.
+/// Memory: room for the longest name of the host that is looked up, and for a few names that are
+/// not listed back.
 ///
 /// # Errors
 ///
@@ -54,9 +54,9 @@ pub fn audit<A: Allocator + Copy>(alloc: A, map: &XattrMap<A>) -> Result<Audit<A
     audit_counted(alloc, map, &mut Steps::new())
 }
 
-/// The answer of [`audit`], which also counts the names that it tries. With k rules for the
-/// client's side and s rules for the server's side these are at most 255 + k + k * s, and one at
-/// the least. Where a request for memory was refused, none is counted.
+/// The answer of [`audit`], with a count of the names that were tried. With k rules for the
+/// client's side and s rules for the server's side these are at least one and at most 255 + k + k *
+/// s. Where a request for memory was refused, none is counted.
 ///
 /// # Errors
 ///
@@ -77,16 +77,15 @@ pub fn audit_counted<A: Allocator + Copy>(
     Ok(tried.into_answer())
 }
 
-/// Whether a guest whose names pass by the first map is kept apart from one that is shown names by
-/// the second: the second map hides each host name, not empty, as which some name passes by the
-/// first, the empty name too. A host name that the second map has no rule for is not hidden, nor is
-/// one that it lists as the empty name. `No` has the least name of the first map whose host name,
-/// not empty, the second does not hide.
+/// Whether the second map hides every non-empty host name that a guest with the first map can
+/// reach, by any name, the empty one too. A host name that the second map has no rule for is not
+/// hidden, nor is one that it lists as the empty name. `No` has the least name of the first map
+/// that passes as a non-empty host name which the second map does not hide.
 ///
-/// `Yes` comes exactly where this holds of any two lists from the host: if they are one list but
-/// for names that the first map reaches, the second map answers both alike.
+/// `Yes` comes exactly where this holds of any two lists from the host: if they differ only in
+/// names that the first map reaches, the second map answers both alike.
 ///
-/// `Yes` one way says nothing of the other way.
+/// `Yes` in one direction says nothing of the other: ask again with the maps the other way round.
 ///
 /// # Errors
 ///
@@ -98,7 +97,7 @@ pub fn keeps_apart<A: Allocator + Copy>(
 ) -> Result<Audit<A>, AllocError>
     ensures answer { IfOk result (AnswersLeast (IsSeen r.now q.now)) }
     ensures apart { IfOk result (λ audit. (audit ≡ Yes) ↔ Apart r.now q.now) }
-    // Yes is isolation itself.
+    // Yes comes exactly where the guests are isolated.
     ensures isolated { IfOk result (λ audit. (audit ≡ Yes) ↔ Isolated r.now q.now) }
 {
     let question = Question::Seen(r, q);
@@ -108,9 +107,9 @@ pub fn keeps_apart<A: Allocator + Copy>(
     Ok(tried.into_answer())
 }
 
-/// Whether each name of the host, not empty, that is listed to the guest is opened by the name
-/// under which it is listed: that name passes as this very name of the host. `No` has the least
-/// name of the host that is listed and is not opened so.
+/// Whether each non-empty host name that is listed to the guest is opened by the name under which
+/// it is listed: that name has to pass as this very name of the host. `No` has the least name of
+/// the host that is listed and is not opened so.
 ///
 /// # Errors
 ///

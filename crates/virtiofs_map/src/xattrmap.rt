@@ -3,21 +3,21 @@
 //! A shared folder's files carry extended attributes, and host and guest do not always mean the
 //! same by a name. A map is a list of rules that says what becomes of each name: a name that the
 //! guest asks for is let through, given a prefix, or turned away, and the list of names that the
-//! host answers with is cut down to what the guest may see. The first rule that fits a name
-//! decides it.
+//! host answers with is cut down to what the guest may see. The first rule that fits a name decides
+//! it.
 //!
 //! # Rules as text
 //!
-//! A map is read from a text of rules, as `:prefix:all:trusted.:user.virtiofs.:`. The first
+//! A map is read from a text of rules, such as `:prefix:all:trusted.:user.virtiofs.:`. The first
 //! character of a rule is its delimiter: any character that is not a space, a tab, a line feed, a
-//! form feed or a carriage return. It closes each field, and no field holds it. Rules may stand
-//! apart by any number of those five blanks, or none, and each may have a delimiter of its own.
-//! White space at both ends of the text does not count.
+//! form feed or a carriage return. The delimiter closes each field, and no field holds it. Any
+//! number of those five blanks may stand between rules, and each rule may have a delimiter of its
+//! own. White space at both ends of the text does not count.
 //!
 //! - `:TYPE:SCOPE:KEY:PREPEND:` is a rule. A name from the guest is compared with the key, and a
 //!   name from the host with the prepend.
-//! - `:map:KEY:PREPEND:` stands for two or three rules that keep a guest's names apart from the
-//!   host's. It may only stand last.
+//! - `:map:KEY:PREPEND:` is short for two or three rules that keep a guest's names apart from the
+//!   host's. It must be the last rule.
 //!
 //! | Type | A guest's name that begins with the key | A host's name that begins with the prepend |
 //! |---|---|---|
@@ -70,8 +70,8 @@ use std::alloc::{AllocError, Allocator, Global};
 use std::marker::Model;
 use trie_rows::trie_rows;
 
-/// The rules by which names cross, in order. A contract sees it as the list of its rules, where
-/// each `map` rule stands as the two or three rules that it means.
+/// A map of attribute names: its rules, in order. A contract sees it as the list of its rules,
+/// where each `map` rule stands as the two or three rules that it is short for.
 #[derive(Drop)]
 #[derive_where(Debug)]
 pub struct XattrMap<A: Allocator = Global> {
@@ -109,7 +109,8 @@ impl<A: Allocator> PartialEq for XattrMap<A> {
 
     fn eq(&self, other: &XattrMap<A>) -> bool
         ensures value { result ≡ same_rules self.now other.now }
-        // Maps are equal where their rules are, each map rule standing for those that it means.
+        // Maps are equal where their rules are, each map rule standing for those that it is short
+        // for.
         ensures equal { IsTrue result ↔ (self.now ≡ other.now) }
     {
         self.rules.are_same(&other.rules)

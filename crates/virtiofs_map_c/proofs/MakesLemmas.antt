@@ -1,4 +1,4 @@
--- What a call tells that makes something, from what it refuses: want of memory where there is no fault, and else the one that there is.
+-- What a call tells that makes something, from what it refuses: out of memory where there is no fault, and else the one that there is.
 use Rattle.std.proofs.Common.{◌≡◌, ◌⊎◌, inl, inr, Option, Some, None, subst}
 use Rattle.virtiofs_map.specs.Refusal.{OutOfMemoryOr}
 use Rattle.virtiofs_map_c.specs.Makes.{TellsFault, MakesOrTells, TellsThis}

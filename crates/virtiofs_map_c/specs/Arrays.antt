@@ -20,11 +20,11 @@ of_kind kind first to count =
     else if kind == 5 then Some (ForbidGuest first count)
     else None
 
--- the specification that one of C's is
+-- the specification that a C struct stands for
 abbrev pub said : Spec → Option Specification
 said spec = of_kind spec.kind spec.first spec.to spec.count
 
--- the specification, as C has it
+-- a specification as C's struct
 abbrev pub spec_as_c : Specification → Spec
 spec_as_c (Guest first to count) = record { kind = 0; first = first; to = to; count = count }
 spec_as_c (Host first to count) = record { kind = 1; first = first; to = to; count = count }
@@ -33,7 +33,7 @@ spec_as_c (SquashHost first to count) = record { kind = 3; first = first; to = t
 spec_as_c (Bidirectional guest host count) = record { kind = 4; first = guest; to = host; count = count }
 spec_as_c (ForbidGuest first count) = record { kind = 5; first = first; to = 0; count = count }
 
--- what is not read of a forbidden range is 0
+-- the target of a forbidden range, which nobody reads, is 0
 abbrev pub HasNoTarget : Spec → Type 0
 HasNoTarget spec = spec.kind ≡ 5 → spec.to ≡ 0
 
@@ -41,13 +41,13 @@ HasNoTarget spec = spec.kind ≡ 5 → spec.to ≡ 0
 abbrev pub AreSaid : List Spec → List Specification → Type 0
 AreSaid specs list = AllZip (λ spec said_one. said spec ≡ Some said_one) specs list
 
--- the kind at that index is none, and each one before it is a kind
+-- there is no kind of the number at that index, and there is one for each before it
 pub record HasFirstUnknown (specs : List Spec) (index : ℕ) : Type 0 where
   pub before : List Specification
   pub are : AreSaid (take index specs) before
   pub here : IsSomeAnd (slice_get specs index) (λ spec. said spec ≡ None)
 
--- each kind is one, and the list of the specifications has that first fault
+-- every kind is known, and the list of the specifications has that first fault
 pub record HasUnbuiltArray (specs : List Spec) (fault : BuildFault) : Type 0 where
   pub list : List Specification
   pub are : AreSaid specs list

@@ -19,7 +19,7 @@ abbrev pub told_at : ℕ → ℕ → ℕ → ℕ → Fault
 told_at kind place quoted wanted =
     record { kind = kind; direction = 0; end = 0; place = place; expected = 0; seen = 0; quoted = quoted; wanted = wanted; spec = no_spec }
 
--- a fault that its kind tells whole
+-- a fault that has nothing but its kind
 abbrev pub fault_of_kind : ℕ → Fault
 fault_of_kind kind = told_at kind 0 0 0
 
@@ -48,13 +48,13 @@ build_told (RangeOverflow spec index direction range_end) =
 build_told (Intersects spec index direction) =
     record { kind = 5; direction = direction_number direction; end = 0; place = index; expected = 0; seen = 0; quoted = 0; wanted = 0; spec = spec_as_c spec }
 
--- what is told of an array, or of want of memory where there is no fault
+-- what is told of an array; where there is no fault, that memory ran out
 abbrev pub array_told : Option ArrayFault → Fault
 array_told None = memory_fault
 array_told (Some (UnknownKind index)) = told_at 3 index 0 0
 array_told (Some (UnbuiltArray fault)) = build_told fault
 
--- the code of a call that failed: want of memory where there is no fault
+-- the code of a call that failed; where there is no fault, that memory ran out
 abbrev pub failure_code : {F : Type 0} → Option F → ℕ
 failure_code None = no_memory
 failure_code (Some fault) = refused

@@ -10,19 +10,19 @@ use Rattle.virtiofs_map_c.specs.Faults.{array_told, failure_code}
 use Rattle.virtiofs_map_c.specs.declared.arrays.spec.Spec.{Spec}
 use Rattle.virtiofs_map_c.specs.declared.fault.Fault.{Fault}
 
--- a fault that there is, is told, or want of memory
+-- a fault that there is, or out of memory, is told
 abbrev pub TellsFault : {F : Type 0} → (F → Type 0) → (Option F → Type 0) → Type 0
 TellsFault {F} has is_told = (fault : Option F) × OutOfMemoryOr fault has × is_told fault
 
--- where there is no fault: what was asked for is made, or want of memory is told
+-- where there is no fault: what was asked for is made, or out of memory is told
 abbrev pub MakesOrTells : {F : Type 0} → Type 0 → (Option F → Type 0) → Type 0
 MakesOrTells made is_told = made ⊎ is_told None
 
--- where there is this fault, it is told, or want of memory
+-- where there is this fault, it is told, or out of memory is
 abbrev pub TellsThis : {F : Type 0} → (Option F → Type 0) → F → Type 0
 TellsThis is_told fault = is_told (Some fault) ⊎ is_told None
 
--- what is wrong with an array of specifications, or want of memory, is told, with its code
+-- what is wrong with an array of specifications, or out of memory, is told, with its code
 pub record IsArrayTold (code : ℕ) (told : Fault) (fault : Option ArrayFault) : Type 0 where
   pub code_told : code ≡ failure_code fault
   pub numbers : told ≡ array_told fault
@@ -31,7 +31,7 @@ pub record IsArrayTold (code : ℕ) (told : Fault) (fault : Option ArrayFault) :
 abbrev pub IsAnswered : ℕ → Type 0
 IsAnswered code = (code ≡ ok) ⊎ (code ≡ no_room)
 
--- The length of the image of the specifications is told. Where it fits it is the front of the words, and the rest of them is as it was; else all of them are.
+-- The length of the image of the specifications is told. Where the image fits it is the beginning of the words, and the rest of them is as it was; else all of them are as they were.
 pub record TellsImage (specs : List Specification) (old : List ℕ) (code wanted : ℕ) (new : List ℕ) : Type 0 where
   pub accepted : Accepted specs
   pub length_told : wanted ≡ image_length specs

@@ -14,7 +14,7 @@ use Rattle.virtiofs_map_c.specs.Replies.{TellsBytes, TellsCode}
 
 -- ---- making
 
--- An image of the rules is the front of the bytes, and the rest of them is as it was; or it has more bytes than there are, and all of them are.
+-- An image of the rules is the beginning of the bytes, and the rest of them is as it was; or the image has more bytes than there are, and all of them are as they were.
 abbrev pub TellsNames : List MappingRule → List ℕ → ℕ → ℕ → List ℕ → Type 0
 TellsNames rules old code wanted new =
     ((code ≡ ok) × (wanted ≤ length old) × IsImage rules (take wanted new) × (drop wanted new ≡ drop wanted old))
@@ -39,7 +39,7 @@ TellsClient IsDenied name old code len new = TellsCode denied old code len new
 TellsClient IsUnsupported name old code len new = TellsCode unsupported old code len new
 TellsClient IsUnterminated name old code len new = TellsCode unterminated old code len new
 
--- the same for any bytes
+-- what is told of any bytes: what becomes of the name, or that they are no name
 pub record AnswersClient (rules : List MappingRule) (name old : List ℕ) (code len : ℕ) (new : List ℕ) : Type 0 where
   pub no_name : Contains name 0 → TellsCode no_name old code len new
   pub told : ¬ Contains name 0 → TellsClient (client_answer rules name) name old code len new
@@ -51,7 +51,7 @@ IsClientCode code =
 
 -- ---- a list of the host
 
--- The list that the guest gets is the front of the buffer, and the rest of it is as it was; or it does not fit. The length is told.
+-- The list that the guest gets is the beginning of the buffer, and the rest of it is as it was; or the list does not fit. The length is told.
 abbrev pub TellsServer : Option (List ℕ) → List ℕ → ℕ → ℕ → List ℕ → Type 0
 TellsServer None old code len new = (code ≡ unterminated) × (len ≡ 0)
 TellsServer (Some list) old code len new =
@@ -70,7 +70,7 @@ abbrev pub TellsFound : {A : Type 0} → Audit A → List ℕ → ℕ → Bool �
 TellsFound Yes old code all len new = TellsCode ok old code len new × (all ≡ true)
 TellsFound (No name) old code all len new = TellsBytes name ok old code len new × (all ≡ false)
 
--- the least name that is bad is told, or that there is none; or want of memory
+-- the least name that is bad is told, or that there is none; or out of memory
 abbrev pub TellsLeast : (List ℕ → Type 0) → List ℕ → ℕ → Bool → ℕ → List ℕ → Type 0
 TellsLeast bad old code all len new =
     ((audit : Audit Global) × AnswersLeast bad audit × TellsFound audit old code all len new)

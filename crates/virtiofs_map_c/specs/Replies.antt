@@ -2,7 +2,7 @@
 use Rattle.std.specs.Prelude.{◌≡◌, ℕ, ◌<◌, ◌≤◌, nat_lt, if◌then◌else◌, List, ◌++◌, length, drop}
 use Rattle.virtiofs_map_c.specs.Codes.{no_room}
 
--- The length is told. Where the bytes fit they are the front of the buffer, and the rest of it is as it was; else all of it is.
+-- The length is told. Where the bytes fit they are the beginning of the buffer, and the rest of it is as it was; else all of it is as it was.
 pub record TellsBytes (bytes : List ℕ) (done : ℕ) (old : List ℕ) (code len : ℕ) (new : List ℕ) : Type 0 where
   pub length_told : len ≡ length bytes
   pub fits : length bytes ≤ length old → (code ≡ done) × (new ≡ bytes ++ drop (length bytes) old)
@@ -14,11 +14,11 @@ pub record TellsCode (told : ℕ) (old : List ℕ) (code len : ℕ) (new : List 
   pub no_length : len ≡ 0
   pub untouched : new ≡ old
 
--- that many bytes, where there is room for them, and else none
+-- how many bytes are written: that many where there is room for them, and else none
 abbrev pub fitting : ℕ → ℕ → ℕ
 fitting room count = if nat_lt room count then 0 else count
 
--- Bytes that are quoted: where they fit they are the front of the buffer, and the rest of it is as it was; else all of it is.
+-- Bytes that are quoted: where they fit they are the beginning of the buffer, and the rest of it is as it was; else all of it is as it was.
 pub record IsQuoted (bytes old new : List ℕ) : Type 0 where
   pub fits : length bytes ≤ length old → new ≡ bytes ++ drop (length bytes) old
   pub does_not_fit : length old < length bytes → new ≡ old

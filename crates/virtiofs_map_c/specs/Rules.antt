@@ -41,7 +41,7 @@ rule_kind MapRuleViolation = 15
 rule_kind (NulInPattern Key) = 17
 rule_kind (NulInPattern Prepend) = 18
 
--- the bytes that are quoted of it: the field in the place of a scope or of a type
+-- the bytes that are quoted of what is wrong with a rule: the field in the place of a scope or of a type
 abbrev pub rule_quoted : RuleFault → List ℕ
 rule_quoted (InvalidScope got expected) = encode_utf8_all got
 rule_quoted (InvalidType got expected) = encode_utf8_all got
@@ -49,7 +49,7 @@ rule_quoted IncompleteRule = []
 rule_quoted MapRuleViolation = []
 rule_quoted (NulInPattern field) = []
 
--- what is told of what is wrong with a text of rules, or of want of memory, where there is room for so many bytes
+-- what is told of what is wrong with a text of rules, or of out of memory, where there is room for that many bytes
 abbrev pub bytes_told : ℕ → Option BytesFault → Fault
 bytes_told room None = memory_fault
 bytes_told room (Some NotUtf8) = fault_of_kind 2
@@ -58,7 +58,7 @@ bytes_told room (Some (OfRules (InRule k fault))) =
     told_at (rule_kind fault) k (fitting room (length (rule_quoted fault))) (length (rule_quoted fault))
 bytes_told room (Some (OfRules NotOfText)) = no_fault
 
--- what is quoted of it
+-- what is quoted of a text of rules at fault
 abbrev pub bytes_quoted : Option BytesFault → List ℕ
 bytes_quoted None = []
 bytes_quoted (Some NotUtf8) = []
@@ -66,7 +66,7 @@ bytes_quoted (Some (OfRules NoRules)) = []
 bytes_quoted (Some (OfRules (InRule k fault))) = rule_quoted fault
 bytes_quoted (Some (OfRules NotOfText)) = []
 
--- what is wrong with a text of rules, or want of memory, is told and quoted
+-- what is wrong with a text of rules, or out of memory, is told and quoted
 pub record IsBytesTold (code : ℕ) (told : Fault) (old new : List ℕ) (fault : Option BytesFault) : Type 0 where
   pub code_told : code ≡ failure_code fault
   pub numbers : told ≡ bytes_told (length old) fault

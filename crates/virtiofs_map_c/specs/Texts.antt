@@ -46,21 +46,21 @@ fault_told place room (OfText (InvalidLength expected seen)) =
 fault_told place room (OfText (InvalidValue field)) =
     told_at 8 place (fitting room (length (encode_utf8_all field))) (length (encode_utf8_all field))
 
--- what is quoted of it
+-- what is quoted of one text
 abbrev pub fault_quoted : TextFault → List ℕ
 fault_quoted NotUtf8 = []
 fault_quoted (OfText (InvalidPrefix word)) = encode_utf8_all word
 fault_quoted (OfText (InvalidLength expected seen)) = []
 fault_quoted (OfText (InvalidValue field)) = encode_utf8_all field
 
--- the same, or want of memory
+-- what is told of the text at that place, or of out of memory
 abbrev pub text_told : ℕ → ℕ → Option TextFault → Fault
 text_told place room fault = option_map_or (fault_told place room) fault memory_fault
 
 abbrev pub text_quoted : Option TextFault → List ℕ
 text_quoted fault = option_map_or fault_quoted fault []
 
--- what is wrong with one text, or want of memory, is told and quoted
+-- what is wrong with one text, or out of memory, is told and quoted
 pub record IsTextTold (code : ℕ) (told : Fault) (old new : List ℕ) (fault : Option TextFault) : Type 0 where
   pub code_told : code ≡ failure_code fault
   pub numbers : told ≡ text_told 0 (length old) fault
@@ -105,19 +105,19 @@ abbrev pub texts_fault_of : TextsError → Option TextsFault
 texts_fault_of (errors.Text place cause) = option_map (UnreadText place) (text_fault_of cause)
 texts_fault_of (errors.Build error) = option_map UnbuiltTexts (build_fault_of error)
 
--- what is told of such an array, or want of memory
+-- what is told of an array of texts of which no map is made, or of out of memory
 abbrev pub texts_told : ℕ → Option TextsFault → Fault
 texts_told room None = memory_fault
 texts_told room (Some (UnreadText index fault)) = fault_told index room fault
 texts_told room (Some (UnbuiltTexts fault)) = build_told fault
 
--- what is quoted of it
+-- what is quoted of an array of texts
 abbrev pub texts_quoted : Option TextsFault → List ℕ
 texts_quoted None = []
 texts_quoted (Some (UnreadText index fault)) = fault_quoted fault
 texts_quoted (Some (UnbuiltTexts fault)) = []
 
--- what is wrong with an array of texts, or want of memory, is told and quoted
+-- what is wrong with an array of texts, or out of memory, is told and quoted
 pub record AreTextsTold (code : ℕ) (told : Fault) (old new : List ℕ) (fault : Option TextsFault) : Type 0 where
   pub code_told : code ≡ failure_code fault
   pub numbers : told ≡ texts_told (length old) fault

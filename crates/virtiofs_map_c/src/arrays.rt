@@ -1,4 +1,4 @@
-//! Specifications of ids as C hands them over.
+//! Specifications of ids, as C hands them over.
 ghost use Rattle.std.specs.Prelude.{◌≡◌, Some, IfOk, IfErr};
 ghost use Rattle.std.specs.Option.{option_map_or};
 ghost use Rattle.virtiofs_map.specs.Build.{build_fault_of};
@@ -19,7 +19,7 @@ use std::alloc::Global;
 use virtiofs_map::cmdline;
 use virtiofs_map::soft_idmap::{Direction, IdMapBuildError, RangeEnd};
 
-/// The specification that one of C's is; `None` where there is no such kind.
+/// The specification that a C struct stands for; `None` where there is no such kind.
 pub fn read(spec: &Spec) -> Option<cmdline::IdMap>
     ensures { result ≡ said spec.now }
 {
@@ -63,7 +63,7 @@ pub fn read(spec: &Spec) -> Option<cmdline::IdMap>
     }
 }
 
-/// The specifications of an array, in its order, up to the first whose kind is none.
+/// The specifications of an array, in its order. Stops at the first one of an unknown kind.
 pub fn read_all(alloc: Global, specs: &[Spec]) -> Result<Vec<cmdline::IdMap>, ArrayError>
     ensures read { IfOk result (λ list. AreSaid specs.now list.items) }
     ensures refused { IfErr result (λ e.
@@ -79,7 +79,7 @@ pub fn read_all(alloc: Global, specs: &[Spec]) -> Result<Vec<cmdline::IdMap>, Ar
     Ok(list)
 }
 
-/// The specification, as C has it.
+/// A specification as C's struct.
 pub fn spec_of(spec: cmdline::IdMap) -> Spec
     ensures same { result ≡ spec_as_c spec }
     ensures said { said result ≡ Some spec }
@@ -133,7 +133,7 @@ pub fn tell(error: &ArrayError, fault: &mut Fault) -> u32
     }
 }
 
-/// The code of a call that makes no map of a list.
+/// The code of a call that made no map of a list.
 pub fn code_of_build(error: &IdMapBuildError) -> u32
     ensures { result ≡ failure_code (build_fault_of error.now) }
 {

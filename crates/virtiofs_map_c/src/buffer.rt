@@ -1,4 +1,4 @@
-//! Answers in bytes, in a buffer of the caller's.
+//! Answers in bytes, in the caller's buffer.
 ghost use Rattle.std.specs.Prelude.{◌≡◌, ◌++◌, length, encode_utf8_all};
 ghost use Rattle.std.specs.Str.{chars};
 ghost use Rattle.virtiofs_map_c.specs.Codes.{ok};
@@ -19,8 +19,8 @@ pub fn write(bytes: &[u8], done: u32, out: &mut [u8], len: &mut usize) -> u32
     done
 }
 
-/// Writes two rows of bytes, one after the other, and the length of both; or tells the length that
-/// is needed.
+/// Writes two rows of bytes, one after the other, and the length of both together; or tells the
+/// length that is needed.
 pub fn write_joined(front: &[u8], rest: &[u8], out: &mut [u8], len: &mut usize) -> u32
     ensures { TellsBytes (front.now ++ rest.now) ok out.old result len.new out.new }
 {
@@ -67,7 +67,7 @@ impl Quoted {
     }
 }
 
-/// That many bytes, where there is room for them; else none.
+/// `count` where there is room for that many bytes, else 0.
 fn fitting(room: usize, count: usize) -> usize
     ensures { result ≡ fitting room count }
 {

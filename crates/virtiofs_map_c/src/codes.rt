@@ -1,4 +1,4 @@
-//! What a call answers, as a number. The header has the same numbers under the same names.
+//! The codes that calls answer. The header has the same numbers under the same names.
 
 /// Done: the answer is where the call says.
 pub const OK: u32 = 0;

@@ -1,9 +1,9 @@
-//! Why a map is not made, as C gets it.
+//! Why a map is not made, as C is told.
 
 use crate::arrays::Spec;
 use crate::buffer::Quoted;
 
-/// The first fault. It is C's `struct virtiofs_fault`; what a kind does not use is 0.
+/// C's `struct virtiofs_fault`: the first fault. What a kind does not use is 0.
 #[repr(C)]
 #[derive(Clone, Copy)]
 pub struct Fault {
@@ -13,7 +13,7 @@ pub struct Fault {
     pub direction: u32,
     /// Which range goes too far.
     pub end: u32,
-    /// Which of a list is at fault, from 0, or which rule, from 1.
+    /// Which element of a list is at fault, from 0, or which rule, from 1.
     pub place: usize,
     /// How many numbers a word takes.
     pub expected: usize,
@@ -21,7 +21,7 @@ pub struct Fault {
     pub seen: usize,
     /// How many bytes of the text at fault were written.
     pub quoted: usize,
-    /// How many bytes it has.
+    /// How many bytes the text at fault has.
     pub wanted: usize,
     /// The specification at fault.
     pub spec: Spec,
@@ -38,7 +38,7 @@ impl Fault {
         Fault::of_kind(0)
     }
 
-    /// A fault that its kind tells whole.
+    /// A fault that has nothing but its kind.
     pub fn of_kind(kind: u32) -> Fault
         ensures { result ≡ fault_of_kind kind }
     {

@@ -1,4 +1,4 @@
-//! Maps of ids in words of the caller's.
+//! Maps of ids, in the caller's words.
 ghost use Rattle.std.specs.Prelude.{◌≡◌, ◌⊎◌, ℕ, ◌+◌, ◌*◌, ◌≤◌, length, min, List, Option, IfOk, IfErr, OnErr};
 ghost use Rattle.virtiofs_map.specs.Build.{HasFirstFault, build_fault_of};
 ghost use Rattle.virtiofs_map.specs.Image.{HasKind, IsImage};
@@ -22,7 +22,7 @@ use virtiofs_map::cmdline;
 use virtiofs_map::soft_idmap::image::{Answer, look_up, most_words, write_image};
 use virtiofs_map::soft_idmap::{Direction, IdMapBuildError};
 
-/// How many words the map of so many specifications has at most.
+/// How many words the map of that many specifications has at most.
 #[unsafe(no_mangle)]
 pub extern "C" fn virtiofs_map_ids_bound(count: usize) -> usize
     ensures { result ≡ min (3 + 8 * count) 18446744073709551615 }

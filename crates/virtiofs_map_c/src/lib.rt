@@ -1,8 +1,8 @@
 //! The id and attribute name maps of `virtiofs_map`, for C.
 //!
 //! `include/virtiofs_map.h` of the repository declares what is exported here, and says what each
-//! call answers and what its caller owes. A map is plain numbers in memory of the caller's, which are
-//! written once and then only read.
+//! call answers and what its caller guarantees. A map is plain numbers in the caller's memory,
+//! which are written once and then only read.
 #![tactic(auto)]
 
 mod arrays;

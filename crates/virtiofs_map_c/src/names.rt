@@ -1,4 +1,4 @@
-//! Maps of attribute names in bytes of the caller's.
+//! Maps of attribute names, in the caller's bytes.
 ghost use Rattle.std.specs.Prelude.{◌≡◌, ◌≢◌, ◌↔◌, ◌+◌, ◌*◌, ℕ, List, Contains, IsTrue, false, min};
 ghost use Rattle.virtiofs_map.specs.Audit.{IsLost, IsStray, IsSeen, Terminated};
 ghost use Rattle.virtiofs_map.specs.LookupAnswers.{IsDecidedBy};
@@ -91,7 +91,7 @@ pub extern "C" fn virtiofs_map_names_client(
     }
 }
 
-/// The list that the guest gets for the host's.
+/// The list that the guest gets for the host's list.
 #[unsafe(no_mangle)]
 pub extern "C" fn virtiofs_map_names_server(
     bytes: &[u8],
@@ -138,7 +138,7 @@ pub extern "C" fn virtiofs_map_names_terminated(bytes: &[u8], all: &mut bool) ->
     }
 }
 
-/// Whether each name that passes lists back.
+/// Whether each name that passes is listed back.
 #[unsafe(no_mangle)]
 pub extern "C" fn virtiofs_map_names_audit(
     alloc: Global,
@@ -157,7 +157,7 @@ pub extern "C" fn virtiofs_map_names_audit(
     }
 }
 
-/// Whether each name of the host that is listed is opened by the name under which it is.
+/// Whether each name of the host that is listed is opened by the name under which it is listed.
 #[unsafe(no_mangle)]
 pub extern "C" fn virtiofs_map_names_audit_listed(
     alloc: Global,
@@ -176,7 +176,7 @@ pub extern "C" fn virtiofs_map_names_audit_listed(
     }
 }
 
-/// Whether a guest of the first map is kept apart from one that is shown names by the second.
+/// Whether the second map hides every name of the host that a guest with the first map can reach.
 #[unsafe(no_mangle)]
 pub extern "C" fn virtiofs_map_names_apart(
     alloc: Global,

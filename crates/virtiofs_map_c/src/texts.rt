@@ -23,7 +23,7 @@ pub use range::Range;
 use std::alloc::Global;
 use virtiofs_map::{cmdline, idmap};
 
-/// The specification of a text in bytes.
+/// The specification that a text in bytes says.
 fn read(alloc: Global, text: &[u8]) -> Result<cmdline::IdMap, TextError>
     ensures read { IfOk result (SaysSpec text.now) }
     ensures refused { IfErr result (λ e.
@@ -39,7 +39,7 @@ fn read(alloc: Global, text: &[u8]) -> Result<cmdline::IdMap, TextError>
     }
 }
 
-/// The specifications of texts, in their order, up to the first that is not read.
+/// The specifications that texts say, in their order. Stops at the first text that cannot be read.
 pub fn read_all(alloc: Global, texts: &[&[u8]]) -> Result<Vec<cmdline::IdMap>, TextsError>
     ensures read { IfOk result (λ list. AllSaySpecs texts.now list.items) }
     ensures refused { IfErr result (λ e.
@@ -55,7 +55,7 @@ pub fn read_all(alloc: Global, texts: &[&[u8]]) -> Result<Vec<cmdline::IdMap>, T
     Ok(list)
 }
 
-/// Tells C of texts of which no map is made, and answers the code.
+/// Tells C why no map is made of texts, and answers the code.
 pub fn tell_of_texts(error: &TextsError, fault: &mut Fault, quoted: &mut [u8]) -> u32
     ensures { AreTextsTold result fault.new quoted.old quoted.new (texts_fault_of error.now) }
 {
@@ -71,7 +71,7 @@ pub fn tell_of_texts(error: &TextsError, fault: &mut Fault, quoted: &mut [u8]) -
     }
 }
 
-/// The code of a text that is not read.
+/// The code of a text that cannot be read.
 fn code_of_text(error: &TextError) -> u32
     ensures { result ≡ failure_code (text_fault_of error.now) }
 {

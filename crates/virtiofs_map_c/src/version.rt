@@ -1,4 +1,4 @@
-//! Which version of the header the archive belongs to.
+//! The version of the header that the archive belongs to.
 
 ghost use Rattle.std.specs.Prelude.{◌≡◌};
 

@@ -1,5 +1,5 @@
-//! Texts and names as nobody writes them but to harm: very large, very many, or with one character
-//! changed. Each is answered, or refused with its own fault.
+//! Texts and names as nobody writes them but to do harm: very large, very many, or with one
+//! character changed. Each is answered, or refused with its own fault.
 //!
 //! The large ones are made when a test runs. A proof says that every text is answered rightly;
 //! these tests see that it is done in time, with the memory of an ordinary machine and without deep

@@ -30,7 +30,7 @@ where
     moved
 }
 
-/// The same, from the host to the guest.
+/// The guest id that is as far above `to` as the host id `id` is above `from`.
 fn moved_back<G, H>(id: H, from: H, to: G) -> G
 where
     G: GuestId<HostType = H>,

@@ -1,6 +1,6 @@
-//! Each request for memory of each call refused in turn: a run comes to want of memory, in the
-//! call's own form, or to the answer that it has with ample memory, and gives back all that it was
-//! granted. A map that was asked keeps its answers.
+//! Each request for memory of each call, refused in turn. A run ends with out of memory, in the
+//! call's own form, or with the answer that it has with ample memory, and gives back all that it
+//! was granted. A map that was asked keeps its answers.
 
 mod asked;
 mod ids;

@@ -35,7 +35,7 @@ where
     }
 }
 
-/// What becomes of a host's id, in the same way.
+/// What becomes of a host's id: the id of the guest, or the id that is forbidden.
 fn guest_of<Guest, Host>(map: &IdMap<Guest, Host>, id: Host) -> Result<Guest, Host>
 where
     Guest: GuestId<HostType = Host>,
@@ -56,7 +56,7 @@ fn check_guests(rt: &impl Abort, map: &IdMap<GuestUid, HostUid>, asked: &[(u32, 
     }
 }
 
-/// Asks a map of users for ids of the guest, in the same way.
+/// Asks a map of users for ids of the guest; `None` stands where the use of an id fails.
 fn check_hosts(rt: &impl Abort, map: &IdMap<GuestUid, HostUid>, asked: &[(u32, Option<u32>)]) {
     for (n, want) in asked {
         let id = HostUid::from(*n);
@@ -356,14 +356,14 @@ fn maps_ids_of_groups(rt: HostRuntime) -> Result<(), Fail> {
 /// An id, what it becomes, and the least and the most steps that this may take.
 type Counted = (u32, u32, u64, u64);
 
-/// The host id with this number, and the steps that it took to find it.
+/// The host id that a guest id with this number becomes, and the steps that it took to find it.
 fn host_counted(map: &IdMap<GuestUid, HostUid>, n: u32) -> (Option<HostUid>, u64) {
     let mut steps = Steps::new();
     let host = map.map_guest_counted(GuestUid::from(n), &mut steps).ok();
     (host, steps.count())
 }
 
-/// The guest id with this number, in the same way.
+/// The guest id that a host id with this number becomes, and the steps that it took to find it.
 fn guest_counted(map: &IdMap<GuestUid, HostUid>, n: u32) -> (Option<GuestUid>, u64) {
     let mut steps = Steps::new();
     let guest = map.map_host_counted(HostUid::from(n), &mut steps).ok();

@@ -12,14 +12,14 @@ pub(crate) type Heap<'h> = &'h Rationed<Global>;
 pub(crate) enum Told<'h> {
     /// A request for memory was refused.
     OutOfMemory,
-    /// It was answered, or refused for another reason; the text has all of it.
+    /// The call was answered, or refused for another reason; the text has all of it.
     Answer(String<Heap<'h>>),
     /// The test itself went wrong.
     Trouble,
 }
 
 impl<'h> Told<'h> {
-    /// An answer that is no want of memory, as a text.
+    /// An answer that is not out of memory, as a text.
     pub(crate) fn of<T: Debug>(ample: Heap<'h>, answer: &T) -> Told<'h> {
         match format!(in ample; "{answer:?}") {
             Ok(text) => Told::Answer(text),

@@ -39,7 +39,7 @@ fn text_of<A: Allocator + Copy>(
 
 /// Answers the program's words: makes the whole text, and then writes it.
 ///
-/// The words are those after the program's name; they come to one outcome alone, with one text.
+/// The words are those after the program's name. They come to one outcome only, with one text.
 ///
 /// # Errors
 ///

@@ -13,7 +13,8 @@ use crate::written::push_written;
 use std::alloc::{AllocError, Allocator};
 use virtiofs_map::xattrmap::{AppliedRule, Error, ErrorKind, XattrMap, XattrName};
 
-/// The line of names that no rule decides. Any other error of a lookup is want of memory.
+/// The line for names that no rule decides. Any other error of a lookup is answered as out of
+/// memory.
 fn undecided_line<A: Allocator>(alloc: A, error: &Error<A>) -> Result<String<A>, AllocError>
     ensures cause { OnOk result (error.now.cause ≡ ErrorKind.UnterminatedMapping) }
     ensures line { IfOk result (λ text. string_bytes text ≡ refusal undecided) }

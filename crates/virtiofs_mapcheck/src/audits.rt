@@ -28,7 +28,7 @@ fn audit_line<A: Allocator>(alloc: A, audit: &Audit<A>) -> Result<String<A>, All
     }
 }
 
-// A map is let go in one place of a function, and what is asked of it stands in a function of its
+// A map is dropped in one place of a function, and what is asked of it stands in a function of its
 // own: each exit past a map is long to prove.
 
 /// Whether some rule of a map decides every name.
@@ -112,7 +112,7 @@ fn answer_hidden<A: Allocator + Copy>(
 }
 
 /// Whether what passes under the rules of the first text is hidden under those of the second, or
-/// how the first text that says no rules is refused.
+/// how the first text that is at fault is refused.
 pub(crate) fn answer_apart<A: Allocator + Copy>(
     alloc: A,
     first: &str,

@@ -78,7 +78,7 @@ fn push_fault<A: Allocator>(
     }
 }
 
-/// The line of a text that says no specification.
+/// The line for a text that is no specification.
 fn text_refusal<A: Allocator>(
     alloc: A,
     index: usize,
@@ -94,7 +94,7 @@ fn text_refusal<A: Allocator>(
     Ok(text)
 }
 
-/// The line of a specification, at that index, of which no map is made.
+/// The line for a specification, at that index, of which no map is made.
 fn build_refusal<A: Allocator>(
     alloc: A,
     index: usize,
@@ -108,7 +108,7 @@ fn build_refusal<A: Allocator>(
     Ok(text)
 }
 
-/// The line of texts of which no map is made.
+/// The line for texts of which no map is made.
 fn specs_refusal<A: Allocator>(alloc: A, error: &SpecsError<A>) -> Result<String<A>, AllocError>
     ensures { IfOk result (λ text. (fault : SpecsFault)
         × (specs_fault_of error.now ≡ Some fault)

@@ -40,9 +40,9 @@ virtiofs_mapcheck(1) says what each form answers: man -l docs/virtiofs_mapcheck.
 
 /// Answers the program's arguments on standard output.
 ///
-/// It ends with status 0 where the words were answered, 1 where a configuration was refused, 2
-/// where the words have no form, 3 where memory ran out, and 4 where a write or a flush failed.
-/// Wrong words also get a usage on standard error.
+/// The program ends with status 0 where the words were answered, 1 where a configuration was
+/// refused, 2 where the words have no form, 3 where memory ran out, and 4 where a write or a flush
+/// failed. Wrong words also get a usage on standard error.
 fn main(rt: HostRuntime) -> ExitCode {
     let ended = run(&rt);
     if matches!(ended, Ok(Answered::WrongWords)) {

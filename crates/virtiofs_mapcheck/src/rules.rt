@@ -20,8 +20,8 @@ fn pattern_name(pattern: PatternField) -> &'static str
     }
 }
 
-/// Writes what is wrong with a rule at the end of a text. The reader of rules tells faults and want
-/// of memory alone, so each cause that is no fault of a rule is answered as want of memory.
+/// Writes what is wrong with a rule at the end of a text. The reader of rules answers only faults
+/// and out of memory, so each cause that is no fault of a rule is answered as out of memory.
 fn push_fault<A: Allocator>(text: &mut String<A>, cause: &ErrorKind<A>) -> Result<(), AllocError>
     ensures { OnOk result ((fault : RuleFault)
         × (rule_fault_of cause.now ≡ Some fault)
@@ -49,7 +49,7 @@ fn push_fault<A: Allocator>(text: &mut String<A>, cause: &ErrorKind<A>) -> Resul
     }
 }
 
-/// The line of a text whose rule of that number is at fault.
+/// The line for a text whose rule of that number is at fault.
 fn rule_refusal<A: Allocator>(
     alloc: A,
     which: &str,
@@ -66,7 +66,7 @@ fn rule_refusal<A: Allocator>(
     Ok(text)
 }
 
-/// The line of a text that has no rules at all.
+/// The line for a text that has no rules at all.
 fn no_rules_line<A: Allocator>(alloc: A, which: &str) -> Result<String<A>, AllocError>
     ensures { IfOk result (λ text.
         string_bytes text ≡ refusal (which.now ++ rules_fault_text NoRules)) }
@@ -77,7 +77,7 @@ fn no_rules_line<A: Allocator>(alloc: A, which: &str) -> Result<String<A>, Alloc
     Ok(text)
 }
 
-/// The line of a text that says no rules.
+/// The line for a text that is no text of rules.
 fn rules_refusal<A: Allocator>(
     alloc: A,
     which: &str,
@@ -96,8 +96,8 @@ fn rules_refusal<A: Allocator>(
     }
 }
 
-/// Reads the map that a text of rules says, or makes the line that refuses the text. In that line
-/// `which` stands before the fault: it tells which text is meant, where there are more than one.
+/// Reads the map that a text of rules says, or makes the line that refuses the text. Where there is
+/// more than one text, `which` tells which one is meant; it stands before the fault.
 pub(crate) fn read_rules<A: Allocator + Copy>(
     alloc: A,
     which: &str,

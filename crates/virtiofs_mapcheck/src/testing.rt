@@ -4,9 +4,9 @@ ghost use Rattle.std.specs.Prelude.{◌≤◌, take, Some};
 use std::io;
 use std::io::Write;
 
-/// Holds what was written, in sixteen bytes. It takes at most `most` bytes a call, and the call
-/// numbered `failing`, from 1, answers an interruption; those after it take bytes again. A flush
-/// counts as a call, so that one too many shows.
+/// A writer that holds what was written, in sixteen bytes. It takes at most `most` bytes a call,
+/// and the call numbered `failing`, from 1, answers an interruption; those after it take bytes
+/// again. A flush counts as a call, so that one too many shows.
 #[derive(Drop)]
 pub(crate) struct Grudging {
     bytes: [u8; 16],

@@ -12,7 +12,7 @@ use virtiofs_map::xattrmap::XattrName;
 /// A number that is asked for in a direction.
 #[derive(Clone, Copy, Debug, PartialEq, Eq)]
 pub(crate) struct Query {
-    /// In which direction it is mapped.
+    /// The direction in which the number is mapped.
     pub(crate) direction: Direction,
     /// The number.
     pub(crate) number: u32,

@@ -18,7 +18,7 @@ pub(crate) struct Entry {
 }
 
 impl Entry {
-    /// Whether its tag is that of a user or of a group.
+    /// Whether the entry's tag is that of a user or of a group.
     pub(crate) fn has_id(self) -> bool
         ensures { IsTrue result ↔ HasId self.tag }
     {
@@ -40,7 +40,7 @@ pub(crate) fn entry_at(value: &[u8], k: usize) -> Entry
     }
 }
 
-/// How many entries a value has, for which room is lent.
+/// How many entries a value has; they fit into the room that is lent.
 pub(crate) fn count_entries(value: &[u8], room: usize) -> Result<usize, AclError>
     ensures count { IfOk result (λ count. count ≡ entry_count value.now) }
     ensures whole { OnOk result (IsWhole value.now) }

@@ -8,15 +8,15 @@ use std::fmt;
 /// What is wrong with an entry of an access control list.
 #[derive(Clone, Copy, Debug, PartialEq, Eq)]
 pub enum EntryFault {
-    /// Its tag is none of 1, 2, 4, 8, 16 and 32.
+    /// The tag is none of 1, 2, 4, 8, 16 and 32.
     UnknownTag,
-    /// Its permissions are a number above 7.
+    /// The permissions are a number above 7.
     Permission,
-    /// Its id is 4294967295, which is no id to Linux.
+    /// The id is 4294967295, which is no id to Linux.
     NoId,
-    /// A specification forbids its id.
+    /// A specification forbids the id.
     Forbidden,
-    /// An earlier entry of its tag has another id, and both ids would become one.
+    /// An earlier entry of the same tag has another id, and both ids would become one.
     Merges,
 }
 
@@ -27,21 +27,22 @@ pub enum AclError {
     TooShort,
     /// The header says another version than 2.
     Version {
-        /// The version that it says.
+        /// The version that the header says.
         version: u32,
     },
     /// What follows the header is no whole number of entries of 8 bytes.
     Length,
     /// The room that was lent is for fewer entries than the value has.
     Room {
-        /// How many entries it has.
+        /// How many entries the value has.
         needed: usize,
     },
-    /// An entry is at fault: the first one that is by itself, or else the first one that merges.
+    /// An entry is at fault: the first one that is wrong by itself, or else the first one that
+    /// merges with an earlier one.
     Entry {
-        /// Its number, from 0.
+        /// The number of the entry, from 0.
         entry: usize,
-        /// What is wrong with it.
+        /// What is wrong with the entry.
         fault: EntryFault,
     },
 }
@@ -53,7 +54,7 @@ pub enum CapabilityError {
     TooShort,
     /// The first word has another revision than 1, 2 and 3.
     Revision {
-        /// The revision that it has.
+        /// The revision that the first word has.
         revision: u8,
     },
     /// The value is not as long as its revision asks: 12 bytes, 20 or 24.

@@ -18,7 +18,7 @@ pub(crate) fn read_four(value: &[u8], place: usize) -> u32
     u32::from(read_two(value, place)) + 65536 * u32::from(read_two(value, place + 2))
 }
 
-/// Makes two bytes that number.
+/// Writes a number into two bytes.
 fn write_two(value: &mut [u8], place: usize, n: u16)
     requires { place + 2 ≤ length value.old }
     ensures number { two_bytes value.new place ≡ n }
@@ -29,7 +29,7 @@ fn write_two(value: &mut [u8], place: usize, n: u16)
     value[place + 1] = (n / 256) as u8;
 }
 
-/// Makes four bytes that number.
+/// Writes a number into four bytes.
 pub(crate) fn write_four(value: &mut [u8], place: usize, n: u32)
     requires { place + 4 ≤ length value.old }
     ensures number { four_bytes value.new place ≡ n }

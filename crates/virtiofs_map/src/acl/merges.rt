@@ -32,7 +32,8 @@ impl EntryRoom {
     }
 }
 
-/// Puts each entry that has an id into the room, with what its id becomes; how many these are.
+/// Puts each entry that has an id into the room, with what its id becomes. Answers how many these
+/// are.
 fn place<A: Allocator>(ways: &Ways<A>, value: &[u8], count: usize, room: &mut [EntryRoom]) -> usize
     requires in_value { 4 + 8 * count ≤ length value.now }
     requires fits { count ≤ length room.old }
@@ -61,7 +62,7 @@ fn place<A: Allocator>(ways: &Ways<A>, value: &[u8], count: usize, room: &mut [E
     used
 }
 
-/// The lesser of a number and of another, if there is one.
+/// The lesser of `k` and `least`; `k` where there is no `least`.
 fn lesser(least: Option<usize>, k: usize) -> usize
     ensures below { result ≤ k }
     ensures least { IfSome least (λ m. result ≤ m) }
@@ -84,7 +85,7 @@ fn clash(value: &[u8], one: EntryRoom, other: EntryRoom) -> bool
         && entry_at(value, one.entry).id != entry_at(value, other.entry).id
 }
 
-/// The least entry that has an earlier one with another id that would become the same.
+/// The first entry whose id would become what another id of an earlier entry becomes.
 fn least_clash(value: &[u8], placed: &[EntryRoom]) -> Option<usize>
     requires in_value { All (λ one. 12 + 8 * one.entry ≤ length value.now) placed.now }
     requires in_order { AreInOrder placed.now }
@@ -101,7 +102,7 @@ fn least_clash(value: &[u8], placed: &[EntryRoom]) -> Option<usize>
     least
 }
 
-/// The first entry whose id would become that of an earlier one of its tag, which has another.
+/// The first entry whose id would become what another id of an earlier entry of its tag becomes.
 pub(crate) fn first_merged<A: Allocator>(
     ways: &Ways<A>,
     value: &[u8],

@@ -9,6 +9,6 @@ use std::alloc::{Allocator, Global};
 pub enum Audit<A: Allocator = Global> {
     /// What was asked holds of all names.
     Yes,
-    /// It fails for this name, and for no name that comes before it in byte order.
+    /// What was asked fails for this name, and for no name that comes before it in byte order.
     No(XattrNameBuf<A>),
 }

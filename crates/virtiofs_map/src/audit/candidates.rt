@@ -1,9 +1,9 @@
 //! Which names an audit tries.
 //!
-//! Two names fare alike where the same patterns begin them, and where the same patterns begin what
-//! they become on the other side. So the patterns decide, and what is left of the patterns of one
-//! side after the fronts that the rules of the other put before a name or take off it. Of the names
-//! that no such pattern begins, those of one byte stand for all.
+//! Two names are treated alike where the same patterns begin them, and where the same patterns
+//! begin what they become on the other side. So the names to try are made of patterns: the patterns
+//! of one side, and what the patterns of the other side come to once a rule's prepend is taken off
+//! or put before them. For all names that begin with none of these, the names of one byte stand.
 
 ghost use Rattle.std.specs.Prelude.{◌≡◌, ◌≢◌, ◌++◌, Some, None, All, MatchOption, OnOk, Option};
 ghost use Rattle.virtiofs_map.specs.AuditParts.{bad, after, rest_of, rests, guest_names_of, guest_names, wholes, host_names_of, host_names, one_byte_names};
@@ -37,8 +37,8 @@ pub(crate) fn try_guest_names<A: Allocator + Copy>(
     try_one_byte_names(alloc, question, tried)
 }
 
-/// Tries the key of a rule for the client, and the rests of prepends after what the rule puts
-/// before a name.
+/// Tries the key of a rule for the client, and what is left of each prepend that begins with what
+/// the rule puts before a name.
 fn try_guest_names_of<A: Allocator + Copy>(
     alloc: A,
     question: &Question<'_, A>,
@@ -69,7 +69,8 @@ fn try_guest_names_of<A: Allocator + Copy>(
     Ok(())
 }
 
-/// The rest of the rule's prepend after the front, where that begins it.
+/// What is left of the rule's prepend after a front; `None` where the prepend does not begin with
+/// it, or the rule does not act on the server's side.
 fn rest_of<'m>(rule: RuleRef<'m>, added: &[u8]) -> Option<XattrName<'m>>
     requires { HasNoZero (rule_meant rule) }
     ensures { MatchOption result (rest_of added.now (rule_meant rule.entry) ≡ None)

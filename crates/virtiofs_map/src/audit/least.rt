@@ -33,7 +33,7 @@ impl<A: Allocator> Model for Tried<A> {
 }
 
 impl<A: Allocator + Copy> Tried<A> {
-    /// No name was tried.
+    /// What there is before any name is tried.
     pub(crate) fn new(alloc: A) -> Tried<A>
         ensures { result ≡ none_tried }
     {
@@ -44,7 +44,7 @@ impl<A: Allocator + Copy> Tried<A> {
         }
     }
 
-    /// Tries one name more. It is kept where it is bad and comes before the least bad name so far.
+    /// Tries one more name, and keeps it if it is bad and comes before the least bad name so far.
     pub(crate) fn try_name(
         &mut self,
         alloc: A,
@@ -71,14 +71,14 @@ impl<A: Allocator + Copy> Tried<A> {
         }
     }
 
-    /// The names tried, as a count.
+    /// How many names were tried.
     pub(crate) fn steps(&self) -> &Steps
         ensures { result.now ≡ self.now.count }
     {
         &self.steps
     }
 
-    /// The answer where no other name needs to be tried.
+    /// The answer, once all names that need to be tried were tried.
     pub(crate) fn into_answer(self) -> Audit<A>
         ensures found { told result ≡ self.least }
         ensures name { All IsName (option_to_list self.least) }

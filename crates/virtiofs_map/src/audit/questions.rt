@@ -11,7 +11,7 @@ use std::alloc::{AllocError, Allocator};
 /// What an audit asks of a name. The name is bad where the answer is yes.
 #[derive(Drop)]
 pub(crate) enum Question<'m, A: Allocator> {
-    /// Does the name pass, and not list back?
+    /// Does the name pass without being listed back?
     Lost(&'m XattrMap<A>),
     /// Does the name pass by the first map as a name that the second does not hide?
     Seen(&'m XattrMap<A>, &'m XattrMap<A>),
@@ -22,7 +22,7 @@ pub(crate) enum Question<'m, A: Allocator> {
 impl<A: Allocator> Question<'_, A> {
     ghost use Rattle.virtiofs_map.specs.AuditParts.{bad};
 
-    /// Whether the name is bad. In `room` a name of the host is put together.
+    /// Whether the name is bad. `room` is where a name of the host is put together.
     pub(crate) fn is_bad(&self, room: &mut Vec<u8, A>, name: &[u8]) -> Result<bool, AllocError>
         ensures { IfOk result (λ answer. answer ≡ bad self.now name.now) }
     {
@@ -35,7 +35,7 @@ impl<A: Allocator> Question<'_, A> {
 }
 
 impl<'m> RuleRef<'m> {
-    /// What the name of the host has before that of the guest, where the rule lets names through.
+    /// What a host's name has before the guest's, where the rule lets names through.
     pub(crate) fn front(self) -> Option<&'m [u8]>
         ensures { MatchOption result (front_of (rule_meant self.entry) ≡ None)
             (λ found. front_of (rule_meant self.entry) ≡ Some found.now) }
@@ -48,7 +48,8 @@ impl<'m> RuleRef<'m> {
     }
 }
 
-/// The same of the first rule that fits the name on that side.
+/// What a host's name has before the guest's by the first rule that fits the name on that side;
+/// `None` where that rule lets no name through, or no rule fits.
 fn front<'m, A: Allocator>(map: &'m XattrMap<A>, side: Side, name: &[u8]) -> Option<&'m [u8]>
     ensures { MatchOption result (front side map.now name.now ≡ None)
         (λ found. front side map.now name.now ≡ Some found.now) }
@@ -59,7 +60,7 @@ fn front<'m, A: Allocator>(map: &'m XattrMap<A>, side: Side, name: &[u8]) -> Opt
     }
 }
 
-/// Leaves the front and then the name in `room`.
+/// Makes `room` hold the front and then the name.
 pub(crate) fn put_together<A: Allocator>(
     room: &mut Vec<u8, A>,
     front: &[u8],
@@ -72,7 +73,7 @@ pub(crate) fn put_together<A: Allocator>(
     room.extend_from_slice(name)
 }
 
-/// Whether the name passes and does not list back.
+/// Whether the name passes and is not listed back.
 fn is_lost<A: Allocator>(
     map: &XattrMap<A>,
     room: &mut Vec<u8, A>,
@@ -93,7 +94,7 @@ fn is_lost<A: Allocator>(
     Ok(cut.len() != added.len())
 }
 
-/// Whether a rule decides the name of the host and lets it not through.
+/// Whether a rule decides the name of the host, and hides it.
 fn is_hidden<A: Allocator>(map: &XattrMap<A>, host: &[u8]) -> bool
     ensures { result ≡ is_hidden map.now host.now }
 {

@@ -9,7 +9,7 @@ use crate::xattrmap::rules::RuleKind;
 use crate::xattrmap::scopes::Side;
 use std::alloc::{Allocator, Global};
 
-/// A name as it goes to the host. Two are equal where their bytes are, borrowed or owned.
+/// A name as it goes to the host. Two of these are equal where their bytes are, borrowed or owned.
 #[derive(Drop)]
 #[derive_where(Debug)]
 pub enum PassedName<'a, A: Allocator = Global> {
@@ -80,20 +80,20 @@ impl<A: Allocator + Copy> XattrMap<A> {
     ghost use Rattle.virtiofs_map.specs.Rule.{Okay, Prefix};
 
     /// What becomes of a name that the guest asks for. The first rule that acts on the client's
-    /// side and whose key begins the name decides: the name passes as it is, passes with the
-    /// rule's prepend before it, is denied, or is refused as unsupported.
+    /// side and whose key begins the name decides: the name passes as it is, passes with the rule's
+    /// prepend before it, is denied, or is refused as unsupported.
     ///
-    /// A name that passes as it is lives as long as the name handed in, and not as long as the
-    /// map. Only a name that passes with a prepend takes memory, from `alloc`.
+    /// A name that passes as it is lives as long as the name that was handed in, and not only as
+    /// long as the map. Only a name that passes with a prepend takes memory, from `alloc`.
     ///
     /// # Errors
     ///
-    /// No error blames a rule. The rule is looked up before memory is asked for, so that want of
-    /// memory never hides that no rule decides the name.
+    /// No error blames a rule. The rule is looked up before memory is asked for, so a name that no
+    /// rule decides is always answered as such.
     ///
     /// - `UnterminatedMapping`: no rule decides the name, and only then.
-    /// - `OutOfMemory`: a request for memory was refused, which is made only where the name passes
-    ///   with a prepend.
+    /// - `OutOfMemory`: a request for memory was refused. Memory is asked for only where the name
+    ///   passes with a prepend.
     pub fn map_client_xattr<'a>(
         &self,
         alloc: A,
@@ -104,7 +104,7 @@ impl<A: Allocator + Copy> XattrMap<A> {
         ensures unterminated { (result ≡ Err (of_no_rule ErrorKind.UnterminatedMapping))
             ↔ (client_answer self.now name.entry.bytes.now ≡ IsUnterminated) }
 
-        // A name that passes as it is is the very name handed in.
+        // A name that passes as it is, is the very name that was handed in.
         ensures okay { IsDecidedBy Okay self.now name.entry.bytes.now
             → result ≡ Ok (AppliedRule.Pass (PassedName.Borrowed name.entry)) }
         ensures prefix { IsDecidedBy Prefix self.now name.entry.bytes.now → IfOk result IsOwned }
@@ -112,7 +112,7 @@ impl<A: Allocator + Copy> XattrMap<A> {
         ensures errors { IfErr result (λ error.
             (error ≡ of_no_rule ErrorKind.UnterminatedMapping)
             ⊎ (error ≡ of_no_rule ErrorKind.OutOfMemory)) }
-        // Memory is wanted only where a name passes with something before it.
+        // Out of memory is answered only where a name passes with something before it.
         ensures memory { result ≡ Err (of_no_rule ErrorKind.OutOfMemory)
             → IsDecidedBy Prefix self.now name.entry.bytes.now }
     {

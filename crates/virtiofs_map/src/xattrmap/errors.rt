@@ -7,7 +7,7 @@ ghost use Rattle.virtiofs_map.specs.declared.xattrmap.errors.ErrorKind.TheVarian
 use std::alloc::{AllocError, AllocFailed, Allocator, Global};
 use std::{error, fmt};
 
-/// The part of a rule that names are compared with.
+/// The field of a rule that names are compared with.
 #[derive(Clone, Copy, PartialEq, Eq, Debug)]
 pub enum PatternField {
     /// What a name from the guest is compared with.
@@ -47,7 +47,7 @@ pub enum ErrorKind<A: Allocator = Global> {
     UnterminatedMapping,
     /// A key or a prepend holds U+0000, which no name has.
     NulInPattern {
-        /// Which of the two.
+        /// The field that holds it.
         pattern: PatternField,
     },
     /// A request for memory was refused.
@@ -65,7 +65,7 @@ pub struct Error<A: Allocator = Global> {
 }
 
 impl<A: Allocator> ErrorKind<A> {
-    /// The error that blames that rule for this. Want of memory blames no rule.
+    /// The error of this kind that blames the rule of that number. Out of memory blames no rule.
     pub(crate) fn in_rule(self, number: usize) -> Error<A>
         ensures cause { result.cause ≡ self }
         ensures rule { self ≢ ErrorKind.OutOfMemory → result.rule ≡ Some number }

@@ -1,4 +1,4 @@
-//! What a row of bytes begins with.
+//! Comparing rows of bytes: whether one begins with another, and how far two agree.
 
 ghost use Rattle.std.specs.Prelude.{◌≡◌, ◌↔◌, ◌≤◌, ◌<◌, ◌+◌, ◌*◌, false, IsTrue, MatchOption, length, take, ◌++◌};
 ghost use Rattle.virtiofs_map.specs.Names.{begins};
@@ -49,7 +49,7 @@ fn are_same(one: &[u8], other: &[u8]) -> bool
     same_ends::<8>(one, other)
 }
 
-/// What follows a front of a row of bytes, where the row begins with it.
+/// What is left of a row after a front; `None` where the row does not begin with that front.
 #[inline(always)]
 pub(crate) fn after_front<'a>(row: &'a [u8], front: &[u8]) -> Option<&'a [u8]>
     ensures { MatchOption result
@@ -64,7 +64,7 @@ pub(crate) fn after_front<'a>(row: &'a [u8], front: &[u8]) -> Option<&'a [u8]>
     }
 }
 
-/// How many first bytes two rows of bytes share.
+/// How many bytes two rows share at their beginning.
 pub(crate) fn shared_length(one: &[u8], other: &[u8]) -> usize
     ensures within_one { result ≤ length one.now }
     ensures within_other { result ≤ length other.now }

@@ -14,13 +14,13 @@ use std::alloc::{AllocError, Allocator};
 /// branches has none of them.
 #[derive(Clone, Copy, Debug)]
 struct Part {
-    /// The place of the first of them.
+    /// The place of the first of these patterns.
     low: usize,
-    /// The place after the last of them.
+    /// The place after the last of these patterns.
     high: usize,
     /// How many bytes the way has.
     depth: usize,
-    /// How many of them are the label.
+    /// How many of the way's bytes are the label.
     length: usize,
     /// The answer of the way without its last byte and label.
     answer: u64,
@@ -63,7 +63,7 @@ fn byte_of(patterns: &[Pattern<'_>], at: usize, depth: usize) -> u8
     }
 }
 
-/// How many bytes two patterns share from a depth on; of so many as a label can have.
+/// How many bytes two patterns share from a depth on, but no more than a label can have.
 fn shared(one: &[u8], other: &[u8], depth: usize) -> usize
     requires { depth ≤ length one.now }
     ensures small { result < 65536 }
@@ -79,8 +79,8 @@ fn shared(one: &[u8], other: &[u8], depth: usize) -> usize
     count
 }
 
-/// Where the patterns with the byte of the first one end. It is looked for in steps that double, and
-/// then by halves.
+/// Where the patterns end that have the same byte at a depth as the first one. The steps of the
+/// search double, and are then halved.
 fn group_end(patterns: &[Pattern<'_>], low: usize, high: usize, depth: usize) -> usize
     requires some { low < high }
     requires within { high ≤ length patterns.now }
@@ -117,8 +117,8 @@ fn group_end(patterns: &[Pattern<'_>], low: usize, high: usize, depth: usize) ->
     end
 }
 
-/// Where the patterns of a part begin that are longer than its way, and the least answer of those
-/// that begin the way.
+/// The place of the first pattern of a part that is longer than the part's way; and the least
+/// answer of the patterns that end within the way.
 fn ended(patterns: &[Pattern<'_>], part: Part) -> (usize, u64)
     requires within { part.high ≤ length patterns.now }
     requires rising { part.low ≤ part.high }
@@ -140,7 +140,8 @@ fn ended(patterns: &[Pattern<'_>], part: Part) -> (usize, u64)
     (part.high, answer)
 }
 
-/// The part of patterns that share their bytes as far as a depth, and the byte there.
+/// The part of the patterns between two places. They share their bytes as far as a depth, and the
+/// byte there.
 fn child(patterns: &[Pattern<'_>], depth: usize, low: usize, high: usize, answer: u64) -> Part
     requires some { low < high }
     requires within { high ≤ length patterns.now }
@@ -174,8 +175,8 @@ fn child(patterns: &[Pattern<'_>], depth: usize, low: usize, high: usize, answer
     }
 }
 
-/// Whether the children of a part are so far apart that they are to stand side by side: between the
-/// lowest and the highest byte there are more than two for each child, and four.
+/// Whether the children of a part are so far apart that they stand side by side without holes: the
+/// bytes from the lowest to the highest are more than 4, and 2 more for each child.
 fn are_scattered(patterns: &[Pattern<'_>], from: usize, high: usize, depth: usize) -> bool
     requires within { high ≤ length patterns.now }
     requires some { from < high }
@@ -193,7 +194,7 @@ fn are_scattered(patterns: &[Pattern<'_>], from: usize, high: usize, depth: usiz
     left > 4
 }
 
-/// Appends holes, until so many places follow the first.
+/// Appends holes until there are `count` places from `first` on.
 fn add_holes<A: Allocator>(
     parts: &mut Vec<Part, A>,
     first: usize,
@@ -218,7 +219,7 @@ fn add_holes<A: Allocator>(
     Ok(())
 }
 
-/// Appends the children of a part, to which the bytes lead of its patterns from a place on.
+/// Appends the children of a part: one for each byte with which its patterns from a place on go on.
 fn add_children<A: Allocator>(
     patterns: &[Pattern<'_>],
     parts: &mut Vec<Part, A>,
@@ -324,7 +325,7 @@ fn grow_level<A: Allocator>(
     Ok(())
 }
 
-/// The branches of a trie of patterns, which stand among these bytes.
+/// The branches of a trie of these patterns, which stand among `bytes`.
 pub(crate) fn grow<A: Allocator + Copy>(
     alloc: A,
     patterns: &[Pattern<'_>],

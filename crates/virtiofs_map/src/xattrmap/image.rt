@@ -1,10 +1,10 @@
 //! Images of maps of names: bytes that are written once, and then only read.
 //!
-//! An image takes no memory but its own bytes, and may be read by any number of threads at once.
-//! It begins with six numbers of eight bytes, the lowest byte first: what it is, and where its four
-//! parts begin and end. The parts are the rows of the client's trie, those of the server's, the rows
-//! of the rules, and the bytes of all patterns. The functions that read one take any bytes, and read
-//! none outside: bytes that do not begin as an image does are no map.
+//! An image takes no memory but its own bytes, and may be read by any number of threads at once. It
+//! begins with six numbers of eight bytes, the lowest byte first: what it is, and where its four
+//! parts begin and end. The parts are the rows of the client's trie, those of the server's, the
+//! rows of the rules, and the bytes of all patterns. The functions that read an image take any
+//! bytes, and read nothing outside them: bytes that do not begin as an image does are no map.
 
 ghost use Rattle.std.specs.Prelude.{◌≡◌, ◌↔◌, List, IfSome, IsSomeAnd, IsTrue, IsNone};
 ghost use Rattle.virtiofs_map.specs.Audit.{Terminated};
@@ -46,7 +46,7 @@ pub enum Decision<'m> {
 /// What came of writing an image.
 #[derive(Clone, Copy, PartialEq, Eq, Debug)]
 pub enum ImageWritten {
-    /// The image has so many bytes, and stands at the front.
+    /// The image has so many bytes, and stands at the beginning.
     Written(usize),
     /// Nothing was written: the image needs room for so many bytes.
     NoRoom(usize),
@@ -61,7 +61,7 @@ pub enum ListWritten {
     NoMap,
     /// No rule decides one of the names.
     Undecided,
-    /// The list has so many bytes, and stands at the front.
+    /// The list has so many bytes, and stands at the beginning.
     Written(usize),
     /// The list needs room for so many bytes.
     NoRoom(usize),
@@ -78,8 +78,8 @@ impl<A: Allocator> XattrMap<A> {
         Some(places.end)
     }
 
-    /// Writes an image of the map to the front, and leaves what stands behind it. It takes no
-    /// memory. Where there is no room, nothing is written.
+    /// Writes an image of the map to the beginning of `out`, and leaves the rest as it was. It
+    /// takes no memory. Where there is no room, nothing is written.
     pub fn write_image(&self, out: &mut [u8]) -> ImageWritten
         ensures { WritesImage self.now out.old out.new result }
     {

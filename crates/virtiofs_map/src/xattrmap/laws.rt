@@ -1,18 +1,19 @@
-//! What holds of every text of rules. These functions do nothing: their contracts are laws, and a
-//! function that calls one may rest its own contract on it.
+//! What holds of every text of rules.
+//!
+//! These functions do nothing when they run. A caller calls one to have its contract as a fact.
 
 ghost use Rattle.std.specs.Prelude.{◌≡◌, ℕ, List};
 ghost use Rattle.virtiofs_map.specs.Rule.{MappingRule};
 ghost use Rattle.virtiofs_map.specs.RuleText.{RuleAsWritten, RuleText, SaysRules};
 ghost use Rattle.virtiofs_map.specs.RulesFault.{RulesFault, HasRulesFault};
 
-/// A text can be read as one list of written rules alone.
+/// A text can be read as at most one list of written rules.
 pub fn one_reading()
     ensures { (text : List ℕ) (written other : List RuleAsWritten)
         → RuleText text written → RuleText text other → written ≡ other }
 {}
 
-/// A text says one list of rules alone.
+/// A text says at most one list of rules.
 pub fn one_value()
     ensures { (text : List ℕ) (rules other : List MappingRule)
         → SaysRules text rules → SaysRules text other → rules ≡ other }
@@ -24,7 +25,7 @@ pub fn no_fault()
         → SaysRules text rules → ¬ HasRulesFault text fault }
 {}
 
-/// A text has one fault at most.
+/// A text has at most one fault.
 pub fn one_fault()
     ensures { (text : List ℕ) (fault other : RulesFault)
         → HasRulesFault text fault → HasRulesFault text other → fault ≡ other }

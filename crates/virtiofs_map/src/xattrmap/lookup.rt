@@ -58,13 +58,13 @@ impl<A: Allocator> XattrMap<A> {
     }
 
     /// The position of the first rule that decides the name on that side, counted from 0 in the
-    /// list of rules where each `map` rule stands as the rules that it means; `None` where no rule
-    /// decides the name. It takes no memory.
+    /// list of rules, where each `map` rule stands as the rules that it is short for; `None` where
+    /// no rule decides the name. It takes no memory.
     ///
-    /// A step is a front of a pattern that the walk along the trie passes: one more than the bytes
-    /// that the name shares with patterns. Where a rule decides the name, at least one more is
-    /// counted than its pattern on that side has bytes, and else at least one; at most one more than
-    /// the name has bytes, and than the longest pattern of that side has.
+    /// The steps are one for the root of the trie, and one for each byte that the beginning of the
+    /// name shares with patterns. Where a rule decides the name, these are at least one more than
+    /// its pattern on that side has bytes. They are at most one more than the name has bytes, and
+    /// at most one more than the longest pattern of that side has.
     pub fn first_rule(&self, side: Side, name: XattrName<'_>, steps: &mut Steps) -> Option<usize>
         ensures first { result ≡ first side self.now name.entry.bytes.now }
         ensures steps { CountsLookup side self.now name.entry.bytes.now steps.old steps.new }

@@ -12,15 +12,15 @@ use std::alloc::{AllocError, Allocator};
 /// A pattern of a rule.
 #[derive(Clone, Copy, Debug)]
 pub(crate) struct Pattern<'a> {
-    /// Its bytes.
+    /// The bytes of the pattern.
     pub(crate) bytes: &'a [u8],
-    /// Where it begins among the bytes of all patterns.
+    /// Where the pattern begins among the bytes of all patterns.
     pub(crate) start: usize,
     /// Four times the place of the rule, and the number of its type.
     pub(crate) answer: u64,
 }
 
-/// The pattern of the rule at a place, where that acts on the side.
+/// The pattern of the rule at a place; `None` where that rule does not act on the side.
 fn pattern_at<A: Allocator>(rules: &Rules<A>, place: usize, side: Side) -> Option<Pattern<'_>>
     requires { AreFew rules.now.list }
     ensures found { IfSome result (IsPatternAt side rules.now.list rules.now.bytes place) }

@@ -12,7 +12,7 @@ use std::alloc::{AllocError, Allocator};
 /// How many bytes a row has.
 pub(crate) const ROW: usize = 24;
 
-/// Where the second number of two begins that share eight bytes.
+/// 2 to the power of 48. Where two numbers share eight bytes, the second is multiplied by this.
 pub(crate) const SHARE: u64 = 281474976710656;
 
 /// The branch at a place; `None` where the rows end before.

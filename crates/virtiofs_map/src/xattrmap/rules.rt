@@ -1,5 +1,5 @@
-//! The rules of a map, as lookups use them. In place of a `map` rule stand the two or three rules
-//! that it means. The patterns of all rules stand in one memory.
+//! The rules of a map, as lookups use them. Each `map` rule stands as the two or three rules that
+//! it is short for. The patterns of all rules stand in one memory.
 
 ghost use Rattle.std.specs.Option.{option_map};
 ghost use Rattle.std.specs.Prelude.{◌≡◌, ◌==◌, ℕ, List, ◌++◌, ◌∷◌, [], length, slice_get, IfOk, IsSomeAnd, MatchOption, OnOk};

@@ -20,13 +20,13 @@ fn push_name<A: Allocator>(list: &mut Vec<u8, A>, name: &[u8]) -> Result<(), Err
 }
 
 impl<A: Allocator + Copy> XattrMap<A> {
-    /// The list that the guest gets for the host's list of names. A list holds names with a zero
-    /// after each, where the last needs none and an empty name counts for nothing. The first rule
-    /// that acts on the server's side and whose prepend begins a name decides it: the name is
-    /// listed as it is, listed without the prepend, or hidden.
+    /// The list that the guest gets for the host's list of names. In a list a zero follows each
+    /// name; the last name needs none, and empty names do not count. The first rule that acts on
+    /// the server's side and whose prepend begins a name decides it: the name is listed as it is,
+    /// listed without the prepend, or hidden.
     ///
-    /// Where no name is left the list is one zero, so an answered list is never empty, and it is
-    /// at most one byte longer than the one handed in.
+    /// Where no name is left the list is one zero. So an answered list is never empty, and it is at
+    /// most one byte longer than the one that was handed in.
     ///
     /// Under one `map` rule with an empty key, names that begin with another guest's prepend make
     /// no difference to the list, where neither prepend begins the other.
@@ -41,7 +41,7 @@ impl<A: Allocator + Copy> XattrMap<A> {
     pub fn map_server_xattrlist(&self, alloc: A, names: Vec<u8, A>) -> Result<Vec<u8, A>, Error<A>>
         ensures answer { IfOk result (λ list.
             server_answer self.now names.items ≡ Some list.items) }
-        // Where each name is decided the list is answered, or memory is wanted.
+        // Where each name is decided, the list is answered, or memory runs out.
         ensures complete { (list : List ℕ) → server_answer self.now names.items ≡ Some list
             → MatchResult result
             (λ listed. listed.items ≡ list)

@@ -12,13 +12,13 @@ use crate::xattrmap::rules::Rules;
 use crate::xattrmap::scopes::Side;
 use std::alloc::{AllocError, Allocator};
 
-/// How many rules have no answers any more.
+/// From this many rules on, an answer has too few bits for the place of a rule.
 const TOO_MANY_RULES: usize = 70368744177663;
 
 /// The rows of branches whose labels stand among bytes.
 ///
-/// A row has 48 bits for a place. No process has memory for as many bytes or branches, and more are
-/// answered as want of memory.
+/// A row has 48 bits for a place. No process has memory for as many bytes or branches; more of them
+/// are answered as out of memory.
 fn rows_of<A: Allocator>(
     alloc: A,
     branches: &[Branch],

@@ -7,12 +7,12 @@ ghost use Rattle.virtiofs_map.specs.declared.soft_idmap.errors.IdMapBuildError.T
 use std::alloc::AllocFailed;
 use virtiofs_map::soft_idmap::IdMapBuildError;
 
-/// Why no map is made of an array: the first fault, or want of memory.
+/// Why no map is made of an array: the first fault, or out of memory.
 #[derive(Drop)]
 pub enum ArrayError {
     /// The kind of a specification is none of the six.
     UnknownKind {
-        /// Its place in the array, from 0.
+        /// The place of that specification in the array, from 0.
         index: usize,
     },
     /// No map is made of the specifications, or a request for memory was refused.

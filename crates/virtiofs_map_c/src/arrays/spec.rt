@@ -4,12 +4,12 @@
 #[repr(C)]
 #[derive(Clone, Copy)]
 pub struct Spec {
-    /// Which of the six kinds it is.
+    /// Which of the six kinds this is.
     pub kind: u32,
-    /// The first id that it covers.
+    /// The first id that is covered.
     pub first: u32,
     /// What that id becomes.
     pub to: u32,
-    /// How many ids it covers.
+    /// How many ids are covered.
     pub count: u32,
 }

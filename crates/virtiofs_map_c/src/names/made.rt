@@ -1,4 +1,4 @@
-//! The map of a text of rules, written as bytes, and what C is told where there is none.
+//! The map of a text of rules, written as bytes, and what C is told where no map is made.
 ghost use Rattle.std.specs.Prelude.{◌≡◌, ℕ, List, length, Some, None, IfOk, IfErr, OnErr};
 ghost use Rattle.virtiofs_map.specs.Refusal.{OutOfMemoryOr};
 ghost use Rattle.virtiofs_map.specs.Rule.{MappingRule};

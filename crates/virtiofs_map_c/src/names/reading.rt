@@ -7,7 +7,7 @@ ghost use Rattle.virtiofs_map.specs.RuleText.{SaysRules};
 use std::alloc::Global;
 use virtiofs_map::xattrmap::{Error, XattrMap};
 
-/// Why no map is made of a text: the first fault, or want of memory.
+/// Why no map is made of a text: the first fault, or out of memory.
 #[derive(Drop)]
 pub enum ReadError {
     /// The bytes are no text.

@@ -1,4 +1,4 @@
-//! Why a text is not read, and why no map is made of texts.
+//! Why a text cannot be read, and why no map is made of texts.
 ghost use Rattle.std.specs.Prelude.{◌≡◌};
 ghost use Rattle.virtiofs_map_c.specs.declared.texts.errors.TextsError.TheVariants.{Build};
 ghost use Rattle.virtiofs_map.specs.declared.soft_idmap.errors.IdMapBuildError.TheVariants.{OutOfMemory};
@@ -7,23 +7,23 @@ use std::alloc::AllocFailed;
 use virtiofs_map::cmdline::IdMapError;
 use virtiofs_map::soft_idmap::IdMapBuildError;
 
-/// Why no specification is read of a text: its fault, or want of memory.
+/// Why a text gives no specification: its fault, or out of memory.
 #[derive(Drop)]
 pub enum TextError {
     /// The bytes are no text.
     NotUtf8,
-    /// The text says no specification, or a request for memory was refused.
+    /// The text is no specification, or a request for memory was refused.
     Spec(IdMapError),
 }
 
-/// Why no map is made of texts: the first fault, or want of memory.
+/// Why no map is made of texts: the first fault, or out of memory.
 #[derive(Drop)]
 pub enum TextsError {
-    /// A text is not read.
+    /// A text cannot be read.
     Text {
-        /// Its place in the array, from 0.
+        /// The place of that text in the array, from 0.
         place: usize,
-        /// Why.
+        /// Why it cannot be read.
         cause: TextError,
     },
     /// No map is made of the specifications, or a request for memory was refused.

@@ -2,9 +2,9 @@
 //! (Linux 6.18, ext4, setfacl 2.3.1, setcap 2.66). Each text is the hexadecimal of a header, a word or
 //! an entry, in the order of the bytes.
 
-/// Two values of one attribute: with ids of the guest, and with the ids that they are on the host
-/// under `map:0:100000:65536` for users and `map:0:200000:65536` for groups. The same command wrote
-/// both, with the ids of the one side and of the other.
+/// Two values of one attribute: one with ids of the guest, and one with the ids that they are on
+/// the host under `map:0:100000:65536` for users and `map:0:200000:65536` for groups. The same
+/// command wrote both, with the ids of either side.
 pub(super) type Pair = (&'static [&'static str], &'static [&'static str]);
 
 pub(super) const LISTS: [Pair; 4] = [

@@ -247,7 +247,8 @@ fn check_capability(rt: &impl Abort, alloc: Global, row: &Refused) -> Result<(),
     Ok(())
 }
 
-/// Sees the same of the call that writes revision 3.
+/// Sees that a capability has that first fault in the call that writes revision 3, and that nothing
+/// is written.
 fn check_written(rt: &impl Abort, alloc: Global, row: &Refused) -> Result<(), Fail> {
     let (parts, wanted) = *row;
     let (written, refusal) = in_revision_3(alloc, MAPS.users, GuestToHost, parts)?;

@@ -28,7 +28,7 @@ fn users_list(alloc: Global) -> Result<Vec<u8>, AllocError> {
     Ok(value)
 }
 
-/// How a list of 8,191 users fares, in how many microseconds.
+/// What becomes of a list of 8,191 users, in how many microseconds.
 fn timed(
     rt: &HostRuntime,
     users: &Users,

@@ -1,4 +1,4 @@
-//! Every front and every change of one character of three real texts.
+//! Every beginning of three real texts, and every change of one of their characters.
 
 use crate::hostile::grammars::{Grammar, fault_of};
 use Grammar::{Namespace, Rules, Specification};
@@ -11,8 +11,8 @@ const NAMESPACE: &str = ":0:100000:65536:";
 
 const RULES: &str = ":bad:all:a:b: :map:trusted.:user.:";
 
-/// A text with the faults of its fronts, the shortest first; a dot stands where a front is read.
-/// They are what the grammars say, and were not taken from what the library answers.
+/// A text with the faults of its beginnings, the shortest first; a dot stands where a beginning is
+/// read. They are what the grammars say, and were not taken from what the library answers.
 const FRONTS: [(Grammar, &str, &str); 3] = [
     (Specification, SPECIFICATION, "0000v1v2222v.."),
     (Namespace, NAMESPACE, "iddiddddddiddddd."),

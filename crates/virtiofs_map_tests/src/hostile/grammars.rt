@@ -19,7 +19,7 @@ pub(super) enum Grammar {
 /// Stands for a text that is read.
 const READ: char = '.';
 
-/// Stands for want of memory, and for what no text has.
+/// Stands for out of memory, and for what no text has.
 const UNEXPECTED: char = '!';
 
 /// What is wrong with a text; a dot where it is read.

@@ -52,7 +52,7 @@ const WORDS: [Row; 2] = [
     (Size::Mib1, "", 'a', ":0", 'p'),
 ];
 
-/// The same, larger.
+/// One word, and one word before a number, larger.
 const LARGER_WORDS: [Row; 2] = [
     (Size::Mib16, "", 'a', "", '0'),
     (Size::Mib16, "", 'a', ":0", 'p'),
@@ -168,7 +168,7 @@ fn bytes_of(size: Size) -> u64 {
     }
 }
 
-/// A walk along a large name reads a node for each byte, and one for the root.
+/// A walk along a large name counts one step for each byte, and one for the root.
 fn assert_walk(rt: &impl Abort, alloc: Global, map: &XattrMap, size: Size) {
     let Some(name) = large(alloc, size, "", 'a', "") else {
         panic!(rt; "memory ends");

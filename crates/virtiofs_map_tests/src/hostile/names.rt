@@ -48,7 +48,7 @@ fn listed_of(alloc: Global, map: &XattrMap, list: &[u8]) -> Option<Vec<u8>> {
     map.map_server_xattrlist(alloc, list).ok()
 }
 
-/// Sees that a name passes with so many bytes before it, and that it lists back.
+/// Sees that a name passes with so many bytes before it, and that it is listed back.
 fn assert_back(rt: &impl Abort, alloc: Global, map: &XattrMap, name: &[u8], front: usize) {
     let Some(passed) = passed_of(alloc, map, name) else {
         panic!(rt; "the name does not pass");

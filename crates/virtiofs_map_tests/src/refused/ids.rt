@@ -92,7 +92,7 @@ pub(super) fn texts<'h>(ample: Heap<'h>, alloc: Heap<'h>, texts: &str) -> Told<'
     }
 }
 
-/// Whether this is want of memory: in the reading of one of so many texts, or in a build.
+/// Whether the error is out of memory: in the reading of one of so many texts, or in a build.
 fn is_want(error: &SpecsError<Heap<'_>>, count: usize) -> bool {
     match error {
         SpecsError::Spec { index, cause } => {

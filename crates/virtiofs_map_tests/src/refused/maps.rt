@@ -6,7 +6,7 @@ use virtiofs_map::xattrmap::{Error, ErrorKind, XattrMap, XattrName};
 /// A map with the memory of these tests.
 pub(super) type Rules<'h> = XattrMap<Heap<'h>>;
 
-/// Whether this is want of memory, which blames no rule.
+/// Whether the error is out of memory, which blames no rule.
 pub(super) fn is_want(error: &Error<Heap<'_>>) -> bool {
     error.rule.is_none() && matches!(error.cause, ErrorKind::OutOfMemory)
 }

@@ -66,8 +66,8 @@ fn ask<'h>(ample: Heap<'h>, alloc: Heap<'h>, map: &Rules<'h>, question: Question
     }
 }
 
-/// Asks a question, and asks it again with ample memory: the map is what it was, makes of names
-/// what it did, and the second answer is no want of memory, and is the first one if there is one.
+/// Asks a question, and asks it again with ample memory. The map is what it was, and makes of names
+/// what it did. The second answer is not out of memory, and is the first one if there is one.
 fn ask_twice<'h>(
     ample: Heap<'h>,
     alloc: Heap<'h>,

@@ -71,7 +71,7 @@ pub(super) const TAKE: [Asked; 53] = [
     Of(":map::a.:", Apart(":map::a.b.:")),
 ];
 
-/// Calls that may take memory or not.
+/// Calls that may take memory or do without.
 pub(super) const MAY_TAKE: [Asked; 11] = [
     Specification(""),
     Build("guest:0:1:0"),

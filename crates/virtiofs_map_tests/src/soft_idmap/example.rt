@@ -1,4 +1,4 @@
-//! How a daemon calls the maps, as the README shows it.
+//! How a daemon calls the maps of ids. The README shows a part of this file.
 ghost use Rattle.std.specs.Prelude.{◌≡◌, None, Some, IfOk, MatchOption};
 ghost use Rattle.virtiofs_map.specs.Mapping.{Becomes};
 ghost use Rattle.virtiofs_map.specs.Specifications.{texts_of, AllSay};
@@ -16,8 +16,8 @@ fn users(alloc: Global, texts: &[&str]) -> Result<IdMap<GuestUid, HostUid>, Spec
     IdMap::from_specs(alloc, texts)
 }
 
-/// The map that the settings ask for when they are read again: where they still say what the map
-/// was made of, the same map.
+/// The map that the settings ask for when they are read again. Where they still say what the map
+/// was made of, it is the same map.
 fn users_again(
     alloc: Global,
     texts: &[&str],

@@ -1,5 +1,5 @@
-//! The program's words with each request for memory refused in turn: want of memory leaves nothing
-//! written.
+//! The program's words with each request for memory refused in turn: where memory runs out, nothing
+//! is written.
 
 use crate::answer::answer;
 use crate::outcome::{AnswerFault, Answered};

@@ -1,4 +1,4 @@
-//! The front of an image: what it is, and where its parts stand.
+//! The beginning of an image: what it is, and where its parts stand.
 
 ghost use Rattle.std.specs.Prelude.{◌≡◌, ◌<◌, ◌≤◌, ◌↔◌, length, IfSome, IsSome, IsFalse};
 ghost use Rattle.virtiofs_map.specs.NamesImage.{HasPart, IsNoImage, part};
@@ -19,7 +19,7 @@ pub(crate) fn is_image(image: &[u8]) -> bool
     image.len() >= HEADER && word_at(image, 0) == KIND
 }
 
-/// The part of that number, where it is all there.
+/// The part of that number; `None` where it is not all there.
 #[inline(always)]
 pub(crate) fn part(image: &[u8], which: usize) -> Option<&[u8]>
     requires { which < 4 }

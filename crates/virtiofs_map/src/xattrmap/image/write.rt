@@ -16,10 +16,10 @@ use crate::xattrmap::scopes::Side;
 use crate::xattrmap::spans::Span;
 use std::alloc::Allocator;
 
-/// No place of an image is this or above.
+/// Every place of an image is below this.
 const LIMIT: usize = 281474976710656;
 
-/// Where the parts of an image begin after the first one, and where the last one ends.
+/// Where the second, the third and the fourth part of an image begin, and where the last one ends.
 #[derive(Clone, Copy)]
 pub(crate) struct Places {
     pub(crate) server: usize,
@@ -28,8 +28,8 @@ pub(crate) struct Places {
     pub(crate) end: usize,
 }
 
-/// Where a part ends that begins there and has so many elements of that size; `None` where that is
-/// no place of an image.
+/// Where a part ends that begins at `from` and has `count` elements of that size; `None` where no
+/// image reaches so far.
 fn end_of(from: usize, count: usize, size: usize) -> Option<usize>
     ensures { IfSome result (λ end. (end ≡ from + count * size) × (end < 281474976710656)) }
 {
