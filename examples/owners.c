@@ -12,7 +12,7 @@
 /* The longest name of an extended attribute, and the longest list of names, that Linux has. */
 enum { NAME_ROOM = 255, LIST_ROOM = 65536 };
 
-/* A map of user ids, in memory that the caller frees once no thread asks it any more. All zeros where there is none. */
+/* A map of user ids, in memory that the caller frees once no thread asks it any more. Zeros where there is none. */
 static struct virtiofs_uids make_users(const char *const *settings, size_t count)
 {
     struct virtiofs_uids none = { NULL, 0 };
@@ -39,7 +39,7 @@ static struct virtiofs_uids make_users(const char *const *settings, size_t count
     return none;
 }
 
-/* A map of attribute names, the same. */
+/* A map of names, in memory that the caller frees once no thread asks it any more. Zeros where there is none. */
 static struct virtiofs_names make_names(const char *rules)
 {
     struct virtiofs_names none = { NULL, 0 };
@@ -70,7 +70,7 @@ static void show_owner(struct virtiofs_uids users, uint32_t user)
         printf("user %" PRIu32 " of the guest is forbidden\n", user);
 }
 
-/* As what the guest's attribute goes to the host. */
+/* Which name the host has for the guest's attribute. */
 static void show_name(struct virtiofs_names names, const char *name)
 {
     uint8_t out[NAME_ROOM];

@@ -31,7 +31,7 @@ impl Maps {
         }
     }
 
-    /// As what the guest's attribute goes to the host.
+    /// Which name the host has for the guest's attribute.
     fn show_name(&self, name: &CStr) -> Result<(), Box<dyn Error>> {
         let asked = name.to_string_lossy();
         match self.names.map_client_xattr(name)? {

@@ -3,10 +3,10 @@
  * between a guest machine and its host, for C and for whatever calls C.
  *
  * A daemon that shares a directory asks three things: what a guest's id is on
- * the host and the other way round, as what a name that the guest asks for goes
- * to the host, and which names of a list from the host the guest gets to see.
+ * the host and the other way round, which name the host has for a name that the
+ * guest asks for, and which names of a list from the host the guest gets to see.
  *
- * MAPS. A map is plain numbers in memory of the caller's: words for ids, bytes for
+ * MAPS. A map is plain numbers in the caller's memory: words for ids, bytes for
  * names. A `make` writes them. From then on every call only reads them. There is
  * nothing to lock and nothing to free but that memory. It may be copied, moved and
  * mapped at another address; words are aligned for their type.
@@ -18,41 +18,41 @@
  *
  * WHAT IS NO MAP. The first numbers of a map say its kind and its version. So these
  * are no map: a struct of zeros, a length of 0, memory of zeros, a map of the other
- * kind, a map of another version. A call that is given one answers VIRTIOFS_NO_MAP,
- * and never as the map that changes nothing: that one is made of no specifications.
- * Whatever the numbers are, a call returns, reads nothing outside of them, and writes
- * nothing outside of its answers. Where a `make` did not write them, or something
- * changed them since, the answer means nothing.
+ * kind, a map of another version. A call that is given one answers VIRTIOFS_NO_MAP.
+ * It never takes one of these for the map that changes nothing; that map is made of
+ * no specifications. Whatever the numbers are, a call returns, reads nothing outside
+ * of them, and writes nothing outside of its answers. Where a `make` did not write
+ * them, or something changed them since, the answer means nothing.
  *
- * What the numbers are is private to a version of the library. They are in the order
- * of bytes of the machine. They are no format for files, and nothing to send to
- * another machine.
+ * What the numbers mean is private to a version of the library. They are in the byte
+ * order of the machine. They are no format for files, and nothing to send to another
+ * machine.
  *
  * POINTERS. The caller guarantees, for each call:
- *  - a pointer with a length leads to so many elements, which nobody else writes
+ *  - a pointer with a length leads to that many elements, which nobody else writes
  *    while the call runs; a length is in elements, and their bytes are fewer than
  *    2^63. Where the length is 0, the pointer may be NULL, or lead anywhere;
  *  - no other pointer is NULL;
- *  - what the call writes to is the call's alone while it runs: no two of these
+ *  - nothing else uses what the call writes to while it runs: no two of these
  *    arguments overlap, and none overlaps what the call reads.
- * No function keeps a pointer that it is given, once it has returned.
+ * No function keeps a pointer after it has returned.
  *
  * MEMORY. Only `.._make`, `.._make_texts`, `virtiofs_spec_read` and the decisions
  * `.._audit`, `.._audit_listed` and `.._apart` ask for memory. They give all of it
  * back before they return. They use malloc, realloc and free, which are the C
- * library's, or as good: all three of one allocator, aligned to 16 bytes. So none of
- * them comes from a signal handler, or from the child of a fork of a program with
- * threads. All other calls may.
+ * library's, or as good: all three of one allocator, aligned to 16 bytes. So these
+ * calls must not be made in a signal handler, or in the child of a fork of a program
+ * with threads. All other calls may.
  *
- * BUFFERS. An answer in bytes goes to a buffer of the caller's: `out` with `room`
- * bytes, and `*len` tells the length. Where the answer is longer than `room`, the
- * code is VIRTIOFS_NO_ROOM, and `*len` is the length that is needed; a second call
- * with such a buffer answers. Where a code comes with no bytes, `*len` is 0. No zero
- * is put after the bytes. What the call does not answer with stays as it was; where
- * that is not so, the function says it.
+ * BUFFERS. An answer in bytes goes to the caller's buffer: `out` with `room` bytes,
+ * and `*len` tells the length. Where the answer is longer than `room`, the code is
+ * VIRTIOFS_NO_ROOM, and `*len` is the length that is needed; call again with a buffer
+ * of that length. Where a code comes with no bytes, `*len` is 0. No zero is put after
+ * the bytes. All that the call does not answer with stays as it was; a function for
+ * which that is not so says it.
  *
- * ERRORS. Each function answers a code, 0 for done, and lists the codes that it has;
- * it has no others. What a daemon would say to its guest:
+ * ERRORS. Each function returns a code, 0 for success, and lists the codes that it
+ * has; it has no others. What a daemon would say to its guest:
  *
  *   VIRTIOFS_OK            no error
  *   VIRTIOFS_AS_IT_IS      no error
@@ -66,7 +66,7 @@
  *   VIRTIOFS_NO_MAP        EINVAL
  *   VIRTIOFS_NO_NAME       EINVAL
  *
- * No function prints, or ends the program.
+ * No function prints, and none ends the program.
  */
 #ifndef VIRTIOFS_MAP_H
 #define VIRTIOFS_MAP_H
@@ -83,8 +83,8 @@ extern "C" {
    virtiofs_map_version() tells the archive's. */
 #define VIRTIOFS_MAP_VERSION 1
 
-/* What a compiler is told of a function: its answer is looked at, and the arguments
-   at these places are not NULL. A compiler that knows no such words is told nothing. */
+/* What a compiler is told of a function: its code has to be used, and the arguments
+   at these places are not NULL. A compiler without such attributes is told nothing. */
 #if defined(__GNUC__)
 #define VIRTIOFS_CHECKED(places) __attribute__((warn_unused_result, nonnull places))
 #else
@@ -93,25 +93,25 @@ extern "C" {
 
 /* ---- maps ---- */
 
-/* A map of user ids: so many words. */
+/* A map of user ids, and how many words it has. */
 struct virtiofs_uids { const uint32_t *words; size_t count; };
 
-/* A map of group ids: so many words. */
+/* A map of group ids, and how many words it has. */
 struct virtiofs_gids { const uint32_t *words; size_t count; };
 
-/* A map of attribute names: so many bytes. */
+/* A map of attribute names, and how many bytes it has. */
 struct virtiofs_names { const uint8_t *bytes; size_t len; };
 
 /* ---- codes ---- */
 
-/* What the functions answer. */
+/* What the functions return. */
 enum virtiofs_code {
     VIRTIOFS_OK = 0,           /* done; the answer is where the function says */
     VIRTIOFS_AS_IT_IS = 1,     /* the name passes as it is; nothing is written */
     VIRTIOFS_FORBIDDEN = 2,    /* a specification forbids the use of this id */
     VIRTIOFS_DENIED = 3,       /* the guest may not use the name */
     VIRTIOFS_UNSUPPORTED = 4,  /* the name is refused as unsupported */
-    VIRTIOFS_UNTERMINATED = 5, /* no rule decides the name, or one of the list */
+    VIRTIOFS_UNTERMINATED = 5, /* no rule decides the name, or a name of the list */
     VIRTIOFS_REFUSED = 6,      /* a text or a list has a fault, told in *fault */
     VIRTIOFS_NO_ROOM = 7,      /* the buffer is too short */
     VIRTIOFS_NO_MEMORY = 8,    /* a request for memory was refused */
@@ -132,7 +132,7 @@ enum virtiofs_kind {
 };
 
 /* One specification. It covers the `count` ids from `first` on, none where
-   `count` is 0. What they become begins with `to`. For VIRTIOFS_MAP `first` is
+   `count` is 0. The first of them becomes `to`. For VIRTIOFS_MAP `first` is
    the guest's id and `to` the host's. For VIRTIOFS_FORBID_GUEST `to` is not
    read; the functions that write a specification set it to 0. */
 struct virtiofs_spec {
@@ -149,7 +149,7 @@ struct virtiofs_range {
     uint32_t count;
 };
 
-/* A text: bytes in UTF-8, with no zero after them. One of no bytes may be NULL. */
+/* A text: bytes in UTF-8, with no zero after them. `at` may be NULL where there are none. */
 struct virtiofs_text {
     const uint8_t *at;
     size_t len;
@@ -170,7 +170,7 @@ enum virtiofs_fault_kind {
 
     /* of the text of a specification */
     VIRTIOFS_FAULT_PREFIX = 6, /* its word is none of the six; quoted in lower case */
-    VIRTIOFS_FAULT_LENGTH = 7, /* its word wants another count of numbers */
+    VIRTIOFS_FAULT_LENGTH = 7, /* its word takes another count of numbers */
     VIRTIOFS_FAULT_VALUE = 8,  /* a field is no number below 2^32; quoted */
 
     /* of the text of a range of a namespace */
@@ -191,18 +191,18 @@ enum virtiofs_fault_kind {
 /* The direction in which a range is at fault. */
 enum virtiofs_direction { VIRTIOFS_GUEST_TO_HOST = 0, VIRTIOFS_HOST_TO_GUEST = 1 };
 
-/* Which ids go too far: those that are mapped, or those that they become. */
+/* Which ids go too far: the ids that are mapped, or the ids that they become. */
 enum virtiofs_end { VIRTIOFS_SOURCE = 0, VIRTIOFS_TARGET = 1 };
 
-/* The first fault, told whole. What a kind does not use is 0. Where the code is
-   VIRTIOFS_OK or VIRTIOFS_NO_ROOM, all is 0. */
+/* The first fault, told completely. What a kind does not use is 0. Where the code is
+   VIRTIOFS_OK or VIRTIOFS_NO_ROOM, all of it is 0. */
 struct virtiofs_fault {
     /* One of enum virtiofs_fault_kind. */
     uint32_t kind;
     /* OVERFLOW and INTERSECTS: one of enum virtiofs_direction. */
     uint32_t direction;
-    /* OVERFLOW: one of enum virtiofs_end. The ids that are mapped end at 4294967294,
-       those that they become at 4294967295. */
+    /* OVERFLOW: one of enum virtiofs_end. Ids that are mapped may go up to 4294967294,
+       ids that they become up to 4294967295. */
     uint32_t end;
     /* Of a list: the place of the specification or of its text, from 0. Of a text
        of rules: the number of the rule, from 1; 0 where no rule is to blame. */
@@ -222,10 +222,10 @@ struct virtiofs_fault {
 
 /* ---- what the archive has ----
  *
- * The functions further below call these, and put an address of their own where a
- * pointer may be NULL. A caller that has no C compiler, as one in another language,
- * calls these: then no pointer may be NULL, not even one to nothing, and each is
- * aligned for its type. All else is as it is said further below.
+ * The functions further below call these, and put an address in the place of a
+ * pointer that may be NULL. A caller without a C compiler, such as one in another
+ * language, calls these: then no pointer may be NULL, not even one with a length of
+ * 0, and each is aligned for its type. Everything else is as it is said further below.
  */
 
 /* The version of the archive, which is VIRTIOFS_MAP_VERSION of its own header. */
@@ -320,24 +320,24 @@ uint32_t virtiofs_map_names_apart(const uint8_t *bytes, size_t map_len,
  * types of their maps alone, so that a compiler tells one from the other.
  */
 
-/* How many words a map of so many specifications takes at most. A buffer of so many
-   always serves. SIZE_MAX: more than there can be. */
+/* How many words a map of `count` user specifications takes at most. A buffer of that
+   many words is always enough. SIZE_MAX: there can be no such buffer. */
 static inline size_t virtiofs_uids_bound(size_t count)
 {
     return virtiofs_map_ids_bound(count);
 }
 
-/* The same for groups. */
+/* virtiofs_uids_bound for groups. */
 static inline size_t virtiofs_gids_bound(size_t count)
 {
     return virtiofs_map_ids_bound(count);
 }
 
-/* Makes a map of the array of specifications, in `words` with room for `room` of them.
+/* Makes a map of the array of specifications, in `words` with room for `room` words.
    OK: the first *wanted words are the map, and the others are as they were. NO_ROOM: the
    map takes *wanted words, and none is written. REFUSED: no map is made of this array,
    *wanted is 0, and *fault is its first fault: KIND, OVERFLOW or INTERSECTS, with the
-   place. A KIND is found before all others. NO_MEMORY: *wanted is 0. Where the code is
+   place. A KIND anywhere in the array comes before the others. NO_MEMORY: *wanted is 0. Where the code is
    not OK, the words are as they were. */
 VIRTIOFS_CHECKED((5, 6))
 static inline uint32_t virtiofs_uids_make(const struct virtiofs_spec *specs, size_t count,
@@ -348,7 +348,7 @@ static inline uint32_t virtiofs_uids_make(const struct virtiofs_spec *specs, siz
                                  VIRTIOFS_SLICE(uint32_t, words, room), wanted, fault);
 }
 
-/* The same for groups. */
+/* virtiofs_uids_make for groups. */
 VIRTIOFS_CHECKED((5, 6))
 static inline uint32_t virtiofs_gids_make(const struct virtiofs_spec *specs, size_t count,
                                           uint32_t *words, size_t room, size_t *wanted,
@@ -371,8 +371,9 @@ static inline uint32_t virtiofs_spec_read(const uint8_t *text, size_t text_len,
                                   VIRTIOFS_SLICE(uint8_t, quoted, quoted_room));
 }
 
-/* Makes a map of texts, one of which may be NULL with a length of 0. (An empty text says
-   no specification. So the first text that says none is looked for, and told.) */
+/* For the two functions below: makes a map of texts, one of which may be NULL with a length
+   of 0. (An empty text is no specification. So the first text that is none is looked for
+   here, and told.) */
 VIRTIOFS_CHECKED((5, 6))
 static inline uint32_t virtiofs_ids_make_texts(const struct virtiofs_text *texts, size_t count,
                                                uint32_t *words, size_t room, size_t *wanted,
@@ -394,10 +395,10 @@ static inline uint32_t virtiofs_ids_make_texts(const struct virtiofs_text *texts
     return code;
 }
 
-/* Makes a map of an array of texts, each of which says a specification. It is as
-   virtiofs_uids_make, with the faults of virtiofs_spec_read before its own. All texts are
-   read first: UTF8, PREFIX, LENGTH and VALUE have the place of the first text that says
-   no specification, and the text at fault is quoted in `quoted`. */
+/* Makes a map of an array of texts, each of which is a specification. It has the codes
+   and faults of virtiofs_uids_make, and before these the faults of virtiofs_spec_read: all
+   texts are read first. UTF8, PREFIX, LENGTH and VALUE have the place of the first text that
+   is no specification, and the text at fault is quoted in `quoted`. */
 VIRTIOFS_CHECKED((5, 6))
 static inline uint32_t virtiofs_uids_make_texts(const struct virtiofs_text *texts, size_t count,
                                                 uint32_t *words, size_t room, size_t *wanted,
@@ -407,7 +408,7 @@ static inline uint32_t virtiofs_uids_make_texts(const struct virtiofs_text *text
     return virtiofs_ids_make_texts(texts, count, words, room, wanted, fault, quoted, quoted_room);
 }
 
-/* The same for groups. */
+/* virtiofs_uids_make_texts for groups. */
 VIRTIOFS_CHECKED((5, 6))
 static inline uint32_t virtiofs_gids_make_texts(const struct virtiofs_text *texts, size_t count,
                                                 uint32_t *words, size_t room, size_t *wanted,
@@ -426,7 +427,7 @@ static inline uint32_t virtiofs_uids_guest(struct virtiofs_uids map, uint32_t gu
                                   guest, host);
 }
 
-/* The same for groups. */
+/* virtiofs_uids_guest for groups. */
 VIRTIOFS_CHECKED((3))
 static inline uint32_t virtiofs_gids_guest(struct virtiofs_gids map, uint32_t guest, uint32_t *host)
 {
@@ -442,7 +443,7 @@ static inline uint32_t virtiofs_uids_host(struct virtiofs_uids map, uint32_t hos
                                  host, guest);
 }
 
-/* The same for groups. */
+/* virtiofs_uids_host for groups. */
 VIRTIOFS_CHECKED((3))
 static inline uint32_t virtiofs_gids_host(struct virtiofs_gids map, uint32_t host, uint32_t *guest)
 {
@@ -463,18 +464,18 @@ static inline uint32_t virtiofs_range_read(const uint8_t *text, size_t text_len,
 /* ---- maps of attribute names ----
  *
  * A name is bytes without a zero; the zero that ends it in C is not part of it
- * and not counted. It may be empty, and need not be UTF-8. A list of names has
- * a zero after each; the last one needs none, and empty names count for nothing.
+ * and not counted. It may be empty, and need not be UTF-8. In a list of names a zero
+ * follows each name; the last one needs none, and empty names are ignored.
  */
 
-/* How many bytes a map of a text of that length takes at most. A buffer of so many always
-   serves. SIZE_MAX: more than there can be. */
+/* How many bytes a map of a text of that length takes at most. A buffer of that many is
+   always enough. SIZE_MAX: there can be no such buffer. */
 static inline size_t virtiofs_names_bound(size_t text_len)
 {
     return virtiofs_map_names_bound(text_len);
 }
 
-/* Makes a map of a text of rules, in `bytes` with room for `room` of them. OK: the first
+/* Makes a map of a text of rules, in `bytes` with room for `room` bytes. OK: the first
    *wanted bytes are the map, and the others are as they were. NO_ROOM: the map takes
    *wanted bytes, and none is written. REFUSED: no map is made of this text, *wanted is 0,
    and *fault is its first fault: SCOPE, TYPE, INCOMPLETE, MAP_RULE, NUL_KEY and NUL_PREPEND
@@ -492,10 +493,10 @@ static inline uint32_t virtiofs_names_make(const uint8_t *text, size_t text_len,
                                    VIRTIOFS_SLICE(uint8_t, quoted, quoted_room));
 }
 
-/* As what a name that the guest asks for goes to the host. OK: the bytes in `out`, the
-   name with a prepend before it. NO_ROOM: the same, and it does not fit. Both come only
-   where a `prefix` or a `map` rule puts its prepend before the name, an empty one too.
-   AS_IT_IS: the name itself; nothing is copied. DENIED; UNSUPPORTED; UNTERMINATED; NO_NAME;
+/* The host's name for a name that the guest asks for. OK: it is in `out`, the name with a
+   prepend before it. NO_ROOM: it does not fit. Both come only where a `prefix` or a `map`
+   rule puts its prepend before the name, an empty prepend too. AS_IT_IS: the host has the
+   same name; nothing is copied. DENIED; UNSUPPORTED; UNTERMINATED; NO_NAME;
    NO_MAP. */
 VIRTIOFS_CHECKED((6))
 static inline uint32_t virtiofs_names_client(struct virtiofs_names map,
@@ -507,10 +508,10 @@ static inline uint32_t virtiofs_names_client(struct virtiofs_names map,
                                      VIRTIOFS_SLICE(uint8_t, out, room), len);
 }
 
-/* The list that the guest gets for the host's list of names, each name with a zero after
-   it; one zero where none is left. OK: the list in `out`. It is never empty, and at most
-   one byte longer than the list that was handed in, so that a buffer with room for one
-   byte more always serves. NO_ROOM. UNTERMINATED: no rule decides one of the names, and
+/* The list that the guest gets for the host's list of names: each name with a zero after
+   it, or one zero where no name is left. OK: the list is in `out`. It is never empty, and
+   at most one byte longer than the host's list, so a buffer that is one byte longer than
+   that is always enough. NO_ROOM. UNTERMINATED: no rule decides one of the names, and
    there is no list, whatever the room. NO_MAP. Where the code is not OK, `out` may hold
    anything. */
 VIRTIOFS_CHECKED((6))
@@ -525,9 +526,9 @@ static inline uint32_t virtiofs_names_server(struct virtiofs_names map,
 
 /* ---- decisions about all names ----
  *
- * Each decides of every name there is, of any length. The names come in the order
- * of their bytes, where a front of a name comes before it. OK: *yes tells whether it holds
- * of all names. Where the code is not OK, *yes is false.
+ * Each decision is about every name there is, of any length. The least name is the first
+ * in the order of bytes; the beginning of a name comes before the name. OK: *yes tells
+ * whether the answer is yes for all names. Where the code is not OK, *yes is false.
  */
 
 /* Whether no name of the guest and no list of the host is ever answered UNTERMINATED.
@@ -538,8 +539,8 @@ static inline uint32_t virtiofs_names_terminated(struct virtiofs_names map, bool
     return virtiofs_map_names_terminated(VIRTIOFS_SLICE(const uint8_t, map.bytes, map.len), yes);
 }
 
-/* Whether each name that passes, the empty one left out, is listed back to the guest as
-   itself. OK: where *yes is false, the least name that is not stands in `out`. NO_ROOM:
+/* Whether each name that passes, except the empty one, is listed back to the guest as
+   itself. OK: where *yes is false, the least name that is not is in `out`. NO_ROOM:
    there is such a name, and it does not fit. NO_MEMORY; NO_MAP. */
 VIRTIOFS_CHECKED((2, 5))
 static inline uint32_t virtiofs_names_audit(struct virtiofs_names map, bool *yes,
@@ -549,9 +550,10 @@ static inline uint32_t virtiofs_names_audit(struct virtiofs_names map, bool *yes
                                     VIRTIOFS_SLICE(uint8_t, out, room), len);
 }
 
-/* Whether each name of the host that is listed, the empty one left out, is what the name
-   passes as under which it is listed. OK: where *yes is false, the least name of the host
-   that is not stands in `out`. NO_ROOM; NO_MEMORY; NO_MAP. */
+/* Whether each name of the host that is listed, except the empty one, is opened by the name
+   under which the guest sees it: that name passes as this very name of the host. OK: where
+   *yes is false, the least name of the host that is not is in `out`. NO_ROOM; NO_MEMORY;
+   NO_MAP. */
 VIRTIOFS_CHECKED((2, 5))
 static inline uint32_t virtiofs_names_audit_listed(struct virtiofs_names map, bool *yes,
                                                    uint8_t *out, size_t room, size_t *len)
@@ -560,11 +562,11 @@ static inline uint32_t virtiofs_names_audit_listed(struct virtiofs_names map, bo
                                            VIRTIOFS_SLICE(uint8_t, out, room), len);
 }
 
-/* Whether the second map hides each name of the host, the empty one left out, as which
-   some name passes by the first; then names that the first guest reaches make no
-   difference to the lists of the second. OK: where *yes is false, the least name of the
-   first map whose host name is not hidden stands in `out`. NO_ROOM; NO_MEMORY. NO_MAP: one
-   of the two is none. Both may be one map. */
+/* Whether the second map hides every non-empty name of the host that the first guest can
+   reach. Then names that the first guest reaches make no difference to the lists of the
+   second. OK: where *yes is false, the least name of the first guest whose host name is
+   not hidden is in `out`. NO_ROOM; NO_MEMORY. NO_MAP: one of the two is no map. Both may
+   be the same map. */
 VIRTIOFS_CHECKED((3, 6))
 static inline uint32_t virtiofs_names_apart(struct virtiofs_names first,
                                             struct virtiofs_names second, bool *yes,

@@ -1,13 +1,13 @@
 // SPDX-License-Identifier: BSD-3-Clause
 //! virtiofsd's modules `idmap`, `soft_idmap` and `xattrmap`, over the proved library.
 //!
-//! One file for rustc 1.82 or later, any edition, and std alone. Make it a module of a program, and link the archive
-//! `libvirtiofs_map_c.a` with the kit's `liblibc_c.a`; docs/EMBEDDING.md has the commands. The names, types, kinds of
-//! error and texts are virtiofsd's; docs/DIFFERENCES.md has what differs.
+//! This one file needs rustc 1.82 or later, any edition, and only std. Make it a module of a program, and link the
+//! archive `libvirtiofs_map_c.a` with the kit's `liblibc_c.a`; docs/EMBEDDING.md has the commands. The names, types,
+//! kinds of error and texts are virtiofsd's; docs/DIFFERENCES.md has what differs.
 //!
 //! A map is a box of plain numbers, which are written once and then only read. So maps are `Send` and `Sync` as any box
 //! is, and any number of threads may ask one map at once by `&self`, with no lock. What this file does itself is not
-//! proved: it carries numbers and bytes to the library and back, and writes texts.
+//! proved: it passes numbers and bytes to the library and back, and writes texts.
 
 // (a program may need only a part of it)
 #![allow(dead_code, unused_imports)]
@@ -71,7 +71,7 @@ mod ffi {
             yes: &mut bool, out: *mut u8, room: usize, len: &mut usize) -> u32;
     }
 
-    /// The numbers of a map, which `make` writes into a buffer that always serves, or the fault.
+    /// The numbers of a map, which `make` writes into a buffer that is always long enough, or the fault.
     pub fn made<T: Clone + Default, Make>(bound: usize, make: Make) -> Result<Box<[T]>, Fault>
         where Make: FnOnce(&mut [T], &mut usize, &mut Fault) -> u32 {
         let (mut buffer, mut wanted, mut fault) = (vec![T::default(); bound], 0, Fault::default());
@@ -82,7 +82,7 @@ mod ffi {
         Ok(buffer.into_boxed_slice())
     }
 
-    /// The text at fault, of which the call quoted so many bytes.
+    /// The text at fault, as far as the call quoted it.
     pub fn quoted(fault: &Fault, bytes: &[u8]) -> String {
         String::from_utf8_lossy(&bytes[..fault.quoted]).into_owned()
     }
@@ -96,12 +96,12 @@ pub mod idmap {
     use std::num::ParseIntError;
     use std::str::FromStr;
 
-    /// Why a text says no range.
+    /// Why a text is no range.
     #[derive(Debug, Eq, PartialEq)]
     pub enum IdMapError {
         /// The text does not begin and end with one delimiter, which is not alphanumeric.
         InvalidDelimiter,
-        /// The text has not three fields.
+        /// The text does not have three fields.
         IncompleteMap,
         /// A field is no number.
         InvalidValue(ParseIntError),
@@ -134,7 +134,7 @@ pub mod idmap {
             pub struct $type {
                 /// The first id in the namespace.
                 pub $inside: u32,
-                /// What it is outside.
+                /// The first id outside the namespace.
                 pub $outside: u32,
                 /// How many ids.
                 pub count: u32,
@@ -207,7 +207,7 @@ pub mod soft_idmap {
             ForbidGuest { from_guest: u32, count: u32 },
         }
 
-        /// Why a text says no specification.
+        /// Why a text is no specification.
         #[derive(Debug)]
         #[rustfmt::skip]
         pub enum IdMapError {
@@ -323,7 +323,7 @@ pub mod soft_idmap {
 
         /// An id of a guest.
         pub trait GuestId: Id + Add<<Self::HostType as Sub>::Output, Output = Self> {
-            /// The type of what it is on the host.
+            /// The type of the same kind of id on the host.
             type HostType: HostId;
             /// The host's id of the same number.
             fn id_mapped(self) -> Self::HostType;
@@ -331,7 +331,7 @@ pub mod soft_idmap {
 
         /// An id of the host.
         pub trait HostId: Id + Add<<Self::GuestType as Sub>::Output, Output = Self> {
-            /// The type of what it is in the guest.
+            /// The type of the same kind of id in the guest.
             type GuestType: GuestId;
             /// The guest's id of the same number.
             fn id_mapped(self) -> Self::GuestType;
@@ -409,7 +409,7 @@ pub mod soft_idmap {
     use std::io;
     use std::marker::PhantomData;
 
-    /// What ids become, guest to host and host to guest. An id that no specification covers keeps its number.
+    /// A map of ids between guest and host. An id that no specification covers keeps its number.
     #[derive(Clone)]
     #[repr(transparent)]
     pub struct IdMap<Guest: GuestId<HostType = Host>, Host: HostId<GuestType = Guest>> {
@@ -551,7 +551,7 @@ pub mod xattrmap {
         MapRuleViolation,
         /// The text has no rules.
         NoRulesProvided,
-        /// No rule decides a name.
+        /// No rule decides a name, or a name of a list.
         UnterminatedMapping,
         /// A key or a prepend holds a zero. virtiofsd has no such kind, and panics.
         NulInPattern { pattern: PatternField },
@@ -562,9 +562,9 @@ pub mod xattrmap {
     /// The part of a rule that names are compared with.
     #[derive(Clone, Copy, Debug, Eq, PartialEq)]
     pub enum PatternField {
-        /// What a name that the guest asks for begins with.
+        /// What a guest's name is compared with.
         Key,
-        /// What a name of the host begins with.
+        /// What a host's name is compared with.
         Prepend,
     }
 
@@ -606,24 +606,24 @@ pub mod xattrmap {
     /// What becomes of a name that the guest asks for.
     #[derive(Debug, Eq, PartialEq)]
     pub enum AppliedRule<'a> {
-        /// It goes to the host as this name.
+        /// The name goes to the host as this one.
         Pass(Cow<'a, CStr>),
-        /// The guest may not use it: EPERM.
+        /// The guest may not use the name: EPERM.
         Deny,
-        /// It is refused as unsupported: ENOTSUP.
+        /// The name is refused as unsupported: ENOTSUP.
         Unsupported,
     }
 
     /// Whether something holds of all names. virtiofsd has no such questions.
     #[derive(Clone, Debug, Eq, PartialEq)]
     pub enum Audit {
-        /// It does.
+        /// What was asked holds of all names.
         Yes,
-        /// It does not, and this is the least name of which it does not.
+        /// What was asked does not hold of this name, and this is the least such name.
         No(CString),
     }
 
-    /// The rules of a text. Two maps are equal where their rules are.
+    /// A map of attribute names, made of a text of rules. Two maps are equal where their rules are.
     #[derive(Clone, Eq, PartialEq)]
     #[repr(transparent)]
     pub struct XattrMap {
@@ -673,7 +673,7 @@ pub mod xattrmap {
     const ROOM: usize = 256;
 
     impl XattrMap {
-        /// What becomes of a name that the guest asks for. It is borrowed where it passes as it is.
+        /// What becomes of a name that the guest asks for. A name that passes as it is is borrowed.
         #[inline]
         pub fn map_client_xattr<'a>(&self, xattr_name: &'a CStr) -> Result<AppliedRule<'a>, Error> {
             let mut out = [MaybeUninit::uninit(); ROOM];
@@ -733,26 +733,26 @@ pub mod xattrmap {
             Ok(out)
         }
 
-        /// Whether no name and no list is ever an `UnterminatedMapping`.
+        /// Whether no name and no list is ever answered as `UnterminatedMapping`.
         pub fn is_terminated(&self) -> bool {
             let (bytes, map_len, mut yes) = (self.bytes.as_ptr(), self.bytes.len(), false);
             // Sound: the map is lent for the call, which writes to `yes` alone.
             unsafe { ffi::virtiofs_map_names_terminated(bytes, map_len, &mut yes) == ffi::OK && yes }
         }
 
-        /// Whether each name that passes, the empty one left out, is listed back to the guest as itself.
+        /// Whether each name that passes, except the empty one, is listed back to the guest as itself.
         pub fn audit(&self) -> Result<Audit, Error> {
             self.decided(ffi::virtiofs_map_names_audit)
         }
 
-        /// Whether each name of the host that is listed, the empty one left out, is what the name passes as under which
-        /// it is listed. The name of a `No` is one of the host's.
+        /// Whether each name of the host that is listed, except the empty one, is opened by the name under which the
+        /// guest sees it: that name passes as this very name of the host. The name of a `No` is one of the host's.
         pub fn audit_listed(&self) -> Result<Audit, Error> {
             self.decided(ffi::virtiofs_map_names_audit_listed)
         }
 
-        /// Whether the other map hides each name of the host, the empty one left out, as which some name passes by this
-        /// one. Then names that the guest of this map reaches make no difference to the lists of the other.
+        /// Whether the other map hides every non-empty name of the host that the guest of this map can reach. Then
+        /// names that the guest of this map reaches make no difference to the lists of the other.
         pub fn keeps_apart(&self, other: &XattrMap) -> Result<Audit, Error> {
             let (bytes, map_len) = (self.bytes.as_ptr(), self.bytes.len());
             let (others, other_len) = (other.bytes.as_ptr(), other.bytes.len());
@@ -771,7 +771,7 @@ pub mod xattrmap {
 
     type Decision = unsafe extern "C" fn(*const u8, usize, &mut bool, *mut u8, usize, &mut usize) -> u32;
 
-    /// What a decision comes to. It is asked again where its name has more than `ROOM` bytes.
+    /// The answer of a decision, which is asked again where its name has more than `ROOM` bytes.
     fn told(ask: impl Fn(&mut bool, *mut u8, usize, &mut usize) -> u32) -> Result<Audit, Error> {
         let (mut yes, mut len, mut out) = (false, 0, vec![0; ROOM]);
         let mut code = ask(&mut yes, out.as_mut_ptr(), out.len(), &mut len);

@@ -1,6 +1,6 @@
 /*
- * Each request for memory of a call is refused in turn, until a run meets no refusal. Every run says want of memory or
- * answers as with ample memory. Where it says want of memory, the buffer of a make is as it was. Calls that take no
+ * Each request for memory of a call is refused in turn, until a run meets no refusal. Every run says that memory ran
+ * out, or answers as with ample memory. Where memory ran out, the buffer of a make is as it was. Calls that take no
  * memory make no request.
  *
  * It is linked with --wrap=malloc and --wrap=realloc. The last line is 'N passed, N failed'.
@@ -59,7 +59,7 @@ static bool yes;
 
 enum answer { ANSWERED, NO_MEMORY, WRONG };
 
-/* What a call that reads a text or makes a map answers: this code, with this fault, or want of memory. */
+/* What a call that reads a text or makes a map answers: this code, with this fault, or out of memory. */
 static enum answer by_fault(uint32_t code, uint32_t of_ample, uint32_t kind)
 {
     if (code == VIRTIOFS_NO_MEMORY)

@@ -1,8 +1,8 @@
-//! What the Rust file asks of memory. Each request of the library for memory is refused in turn, of each call that
-//! makes some: it says want of memory, or answers as with ample memory. A lookup has the library make none, and makes
-//! itself one for a name with a prepend and one for a list, and none else. The last line is 'N passed, N failed'.
+//! What the Rust file asks of memory. Of each call of the library that asks for memory, each request is refused in
+//! turn: the call says that memory ran out, or answers as with ample memory. In a lookup the library makes no request,
+//! and the file itself makes one for a name with a prepend, and one for a list. The last line is 'N passed, N failed'.
 //!
-//! It is linked with --wrap=malloc and --wrap=realloc. Rust's own requests go by, and are counted apart.
+//! This test is linked with --wrap=malloc and --wrap=realloc. Rust's own requests go by, and are counted apart.
 
 #[path = "../../bindings/rust/virtiofs_map.rs"]
 mod virtiofs_map;
@@ -82,7 +82,7 @@ impl Tally {
     }
 
     /// Refuses the first request of a call, its second, and so on, until a run meets no refusal. `Some` tells whether
-    /// the answer is that of ample memory, and `None` is want of memory.
+    /// the answer is that of ample memory, and `None` is out of memory.
     fn refuse(&mut self, what: &str, call: impl Fn() -> Option<bool>) {
         for number in 1.. {
             REQUESTS.store(0, Relaxed);
