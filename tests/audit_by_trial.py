@@ -3,9 +3,9 @@
 
 usage: audit_by_trial.py PROGRAM..
 
-Rules are made at random, as data, from a fixed seed. Each text of them is handed to each program by the forms
-`terminated`, `audit` and `apart`, and the line must be the one that is decided here, from the data alone. The last line
-is 'N passed, N failed', and the exit status is 0 where none failed.
+Rules are made at random, as data, from a fixed seed. Each program is given them as texts, in the forms `terminated`,
+`audit` and `apart`, and has to write the line that is decided here, from the data alone. The last line is
+'N passed, N failed', and the exit status is 0 where none failed.
 
 There is no end of names, but few are enough. Let the letters be the bytes of all patterns, and the least byte that no
 pattern has. Take any name. Put that least byte in the place of each byte that is no letter, and cut off what is past the

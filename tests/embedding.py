@@ -1,13 +1,13 @@
 #!/usr/bin/env python3
-"""Sees what programs in C and in Rust make of the static library, and that its header says what it exports.
+"""Runs tests of the static library in C and in Rust, and sees that its header declares what it exports.
 
 usage: embedding.py [--archive FILE | --as-it-is]
 
-It builds the archive over the checked work of this checkout (`rt lib` in crates/virtiofs_map_c), or takes FILE, which was
-built from this very tree, and keeps it in this checkout, or takes the one that is there. Then it compiles the tests of
-tests/embedding and the examples, in C and in Rust, and runs them. CC, CXX and RUSTC may name the compilers. What
-there is no compiler for is left out, and a line says so. README.md has what each test is. The last line is
-'N passed, N failed'.
+Without words it builds the archive from what is proved in this checkout (`rt lib` in crates/virtiofs_map_c). With
+--archive it takes FILE, which was built from this very tree, and keeps it in this checkout. With --as-it-is it takes the
+archive that is there. Then it compiles the tests of tests/embedding and the examples, in C and in Rust, and runs them.
+CC, CXX and RUSTC may name the compilers. Where there is no compiler, its tests are left out, and a line says so.
+README.md, beside this file, says what each test is. The last line is 'N passed, N failed'.
 """
 import json
 import os

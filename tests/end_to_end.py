@@ -4,7 +4,7 @@
 usage: end_to_end.py PROGRAM.. -- TABLE..
 
 Each row of each table is run on each program. A row that differs is printed. The last line is
-'N passed, N failed', and the exit status is 0 where none failed. README.md says what a row holds.
+'N passed, N failed', and the exit status is 0 where none failed. README.md, beside this file, says what a row holds.
 """
 import json
 import os

@@ -3,15 +3,16 @@
 
 usage: must_fail.py [--lanes N] [--archives FOLDER] [TOP]
 
-TOP is the top of a repository: this one, where it is left out.
+TOP is the top of a repository; if it is left out, this one.
 
-An edit that lies in the body of a function changes no statement, so the proofs of other functions do not see it. Edits
-of different functions are therefore made together in one check. There an edit is refused if a goal of its own function
-is open. That its function calls another refused one counts for nothing. What is not told so goes alone to the kit's own
-judge, as does every edit that touches more than bodies; where a check tells nothing, its halves are tried first.
+An edit inside the body of a function changes no contract, so the proofs of other functions do not see it. Edits of
+different functions are therefore made together in one check. In it an edit counts as refused if a goal of its own
+function is open. That its function calls another refused one counts for nothing. An edit that no check shows to be
+refused goes alone to the kit's own judge, as does every edit that touches more than bodies. Where a check shows nothing,
+its halves are tried first.
 
-Each crate that has edits, and each that it uses, is first proved from nothing, in this run. Each check starts from a
-copy of what that proved. The archives of static libraries that are built so go to FOLDER.
+Each crate that has edits, and each crate that it uses, is first proved from nothing, in this run. Each check starts from
+a copy of what that proved. The archives of static libraries that this builds go to FOLDER.
 
 Each edit has a line. The last line is 'N passed, N failed', and the exit status is 0 where none failed.
 """

@@ -1,5 +1,5 @@
 #!/usr/bin/env python3
-"""Tests must_fail.py on a crate of a few lines: each edit must be told as what it is.
+"""Tests must_fail.py on a crate of a few lines: it has to say of each edit what the edit is.
 
 The last line is 'N passed, N failed', and the exit status is 0 where none failed.
 """
