@@ -337,8 +337,8 @@ static inline size_t virtiofs_gids_bound(size_t count)
    OK: the first *wanted words are the map, and the others are as they were. NO_ROOM: the
    map takes *wanted words, and none is written. REFUSED: no map is made of this array,
    *wanted is 0, and *fault is its first fault: KIND, OVERFLOW or INTERSECTS, with the
-   place. A KIND anywhere in the array comes before the others. NO_MEMORY: *wanted is 0. Where the code is
-   not OK, the words are as they were. */
+   place. A KIND anywhere in the array comes before the others. NO_MEMORY: *wanted is 0.
+   Where the code is not OK, the words are as they were. */
 VIRTIOFS_CHECKED((5, 6))
 static inline uint32_t virtiofs_uids_make(const struct virtiofs_spec *specs, size_t count,
                                           uint32_t *words, size_t room, size_t *wanted,

@@ -66,7 +66,7 @@ def deciding(rules, side, name):
 
 
 def passed(rules, name):
-    """The host name as which the guest's name passes, if it does."""
+    """The host's name for a guest's name, if that passes."""
     rule = deciding(rules, "client", name)
     if not rule or rule.type in HIDES:
         return None
@@ -74,7 +74,7 @@ def passed(rules, name):
 
 
 def listed(rules, host):
-    """The name as which a host name is listed, if it is."""
+    """The name under which a host's name is listed, if it is."""
     rule = deciding(rules, "server", host)
     if not rule or rule.type in HIDES:
         return None

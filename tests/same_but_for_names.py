@@ -1,5 +1,5 @@
 #!/usr/bin/env python3
-"""Sees that the ids of users and those of groups differ in names alone.
+"""Sees that the ids of users and those of groups differ only in names.
 
 Each pair is a file on users and a file on groups, whose path is the same but for these words. The words of users in the
 first are replaced by those of groups, and then the two must be the same, byte for byte. A file in which no word is

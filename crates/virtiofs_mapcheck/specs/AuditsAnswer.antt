@@ -22,7 +22,7 @@ SaysTerminated rules answered text =
 abbrev pub AnswersTerminated : List ℕ → Answered → List ℕ → Type 0
 AnswersTerminated said = WithRules [] said SaysTerminated
 
--- whether each name that passes under the rules of a text lists back
+-- whether each name that passes under the rules of a text is listed back
 abbrev pub AnswersAudit : List ℕ → Answered → List ℕ → Type 0
 AnswersAudit said = WithRules [] said (λ rules. SaysLeast (IsLost rules))
 

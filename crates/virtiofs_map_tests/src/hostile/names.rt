@@ -33,7 +33,7 @@ fn every_byte(alloc: Global, count: usize) -> Option<Vec<u8>> {
     Some(name)
 }
 
-/// The bytes as which a name passes; `None` where it does not pass.
+/// The bytes of the host's name for a name; `None` where the name does not pass.
 fn passed_of(alloc: Global, map: &XattrMap, name: &[u8]) -> Option<Vec<u8>> {
     let name = XattrName::new(name)?;
     match map.map_client_xattr(alloc, name) {
