@@ -529,6 +529,10 @@ static inline uint32_t virtiofs_names_server(struct virtiofs_names map,
  * Each decision is about every name there is, of any length. The least name is the first
  * in the order of bytes; the beginning of a name comes before the name. OK: *yes tells
  * whether the answer is yes for all names. Where the code is not OK, *yes is false.
+ *
+ * The time of `.._audit`, `.._audit_listed` and `.._apart` grows with the square of the
+ * number of rules. For 6,400 rules it is of the order of seconds: 1.5 were seen, and up to 8
+ * on a busy machine. So ask them when a map is made, and not while a guest waits.
  */
 
 /* Whether no name of the guest and no list of the host is ever answered UNTERMINATED.
