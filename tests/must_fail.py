@@ -31,7 +31,7 @@ from collections import Counter
 from concurrent.futures import FIRST_COMPLETED, ThreadPoolExecutor, wait
 from typing import NamedTuple
 
-from edited_bodies import bodies_of, edits_in, is_body_of, merged
+from edited_bodies import bodies_of, edits_in, is_body_of, merged, pairs_of
 from running import cores, made_room, run, say, shown
 
 HERE = os.path.dirname(os.path.abspath(__file__))
@@ -170,6 +170,15 @@ def only(edits, folder, every):
     if not all(len(it) == 1 for it in found):
         return []
     return [word for (it,) in found for word in ("--only", it.partition("::")[2])]
+
+
+def modules(edit, folder):
+    """The words by which a check reads the modules alone that an edit touches. There are none where it touches more than
+    modules below the root, or cannot be made."""
+    paths = {path for path, _, _ in pairs_of(edit)}
+    if not all(re.match(r"src/(?!lib\.rt|main\.rt)", it) for it in paths) or merged([edit], folder) is None:
+        return []
+    return [word for it in sorted(paths) for word in ("--only", it[len("src/") : -len(".rt")].replace("/", "::"))]
 
 
 def told_apart(edits, folder, said, every):
@@ -352,7 +361,15 @@ class Run:
         return [as_task(crate, rest[:half]), as_task(crate, rest[half:])]
 
     def alone(self, task):
-        """Has the kit judge one edit over kept work. What it does not refuse so is tried once more, from nothing."""
+        """Tries one edit in its own modules, and has the kit judge it over kept work where no function of these is refused
+        for itself. What is not refused so is tried once more, from nothing."""
+        words = modules(task.edits[0], f"{self.top}/crates/{task.crate.name}")
+        said = self.checked(task.crate, task.edits, words).said if words else ""
+        if JUDGED.search(said) and not TEXT_ERROR.search(said):
+            for function, (_, shows) in open_functions(said).items():
+                if shows:
+                    self.answer(task.crate, task.edits[0], True, f"refused, as it must be: fn {function}")
+                    return []
         status, said = self.judged(task, "out/incremental")
         if status != REFUSED:
             return [task._replace(kind="anew")]

@@ -9,7 +9,7 @@ import sys
 from concurrent.futures import ThreadPoolExecutor
 
 from edited_bodies import bodies_of
-from must_fail import crates_of, functions_in, only, told_apart
+from must_fail import crates_of, functions_in, modules, only, told_apart
 from running import cores, made_room, run, say
 
 HERE = os.path.dirname(os.path.abspath(__file__))
@@ -57,6 +57,17 @@ pub fn unrelated(d: usize) -> usize
 {
     d
 }
+
+mod low;
+"""
+LOW = """ghost use Rattle.std.specs.Prelude.{◌≡◌};
+
+/// Stands in a module.
+pub fn lower(f: usize) -> usize
+    ensures { result ≡ f }
+{
+    f
+}
 """
 EXPORT = """
 /// Is for C.
@@ -82,6 +93,7 @@ EDITS = {
     "names_what_is_gone": ("    called(c)", "    c / 2", f"{IS_REFUSED} (only because a proof file names"),
     "only_calls_a_refused_one": ("    called(b)", "    { called(b) }", "NOT REFUSED: "),
     "of_a_contract": ("result ≡ d", "result ≡ 7", f"{IS_REFUSED}: note: src/lib.rt"),
+    "of_a_contract_in_a_module": ("result ≡ f", "result ≡ 7", f"{IS_REFUSED}: fn tiny::low::lower\n"),
     "does_not_read": ("result ≡ d", "result ≡ d ≡ )", "BAD EDIT: it did not reach the prover"),
     "has_no_place": ("    no_such_text", "    0", "BAD EDIT: an 'old:' text is in src/lib.rt 0 times"),
 }
@@ -105,9 +117,12 @@ def write(file, text):
 def lay_out(top, edits, source=SOURCE, crates="tiny:\n"):
     write(f"{top}/crates.txt", crates)
     write(f"{top}/crates/tiny/src/lib.rt", source)
+    write(f"{top}/crates/tiny/src/low.rt", LOW)
     write(f"{top}/crates/tiny/proofs/by_hand/Answers.antt", PROOF)
     for name in edits:
-        write(edit_of(top, name), "file: src/lib.rt\nold: {}\nnew: {}\n".format(*EDITS[name][:2]))
+        old, new, _ = EDITS[name]
+        file = "low" if name.endswith("_in_a_module") else "lib"
+        write(edit_of(top, name), f"file: src/{file}.rt\nold: {old}\nnew: {new}\n")
 
 
 def edit_of(top, name):
@@ -146,6 +161,12 @@ def checked_alone(room, edits, said):
     return only([edit_of(room, it) for it in edits], f"{room}/crates/tiny", functions_in(said))
 
 
+def read_alone(room, name):
+    """The modules that a check of this edit reads alone."""
+    lay_out(room, [name])
+    return modules(edit_of(room, name), f"{room}/crates/tiny")
+
+
 def proved_first(room):
     """The crates that are proved for an edit of a crate that uses another, each with what it uses."""
     write(f"{room}/crates.txt", "high: low kit_crate\nidle: high\nlow:\n")
@@ -158,6 +179,9 @@ def unit_tests(room):
     one = ["is_refused"]
     yield "edited functions are checked alone", checked_alone(room, TWO, PROVED) == [*NUMBER_ALONE, "--only", "called"]
     yield "a function of no known name is not", checked_alone(room, TWO, "fn tiny::called: proved\n") == []
+    in_a_module = read_alone(room, "of_a_contract_in_a_module")
+    yield "an edit of a contract is tried in its module", in_a_module == ["--only", "low"]
+    yield "one of the root is not", read_alone(room, "of_a_contract") == read_alone(room, "has_no_place") == []
     yield "a crate with no edit is not proved", proved_first(f"{room}/several") == {"high": {"low"}, "low": set()}
     calls = "fn tiny::caller: no proof: it calls `tiny::called`, which is not proved"
     cites = "./proofs/called/Answers.antt:1:1: error: `returns`: `met` was not admitted\nfn tiny::called: not proved"
@@ -190,7 +214,7 @@ def runs(room):
     _, said, archives = ended["no batch"]
     yield "the archive of a static library is handed over", archives == ["libtiny.a"], said
     for group, what, status, last in (
-        ("every edit", "what is not refused fails the run", 1, "4 passed, 4 failed"),
+        ("every edit", "what is not refused fails the run", 1, "5 passed, 4 failed"),
         ("no judge", "a lane whose judge is killed is a failure", 1, "2 passed, 1 failed"),
         ("no batch", "what was killed in one check is tried again", 0, "2 passed, 0 failed"),
         ("no proof", "a crate that is not proved is a failure", 1, "0 passed, 3 failed"),
