@@ -8,8 +8,8 @@ TOP is the top of a repository; if it is left out, this one.
 An edit inside the body of a function changes no contract, so the proofs of other functions do not see it. Edits of
 different functions are therefore made together in one check. In it an edit counts as refused if a goal of its own
 function is open. That its function calls another refused one counts for nothing. An edit that no check shows to be
-refused goes alone to the kit's own judge, as does every edit that touches more than bodies. Where a check shows nothing,
-its halves are tried first.
+refused is tried alone, as is every edit that touches more than bodies: in its own modules, and then by the kit's own
+judge. Where a check shows nothing, its halves are tried first.
 
 Each crate that has edits, and each crate that it uses, is first proved from nothing, in this run. Each check starts from
 a copy of what that proved. The archives of static libraries that this builds go to FOLDER.
