@@ -2,11 +2,13 @@
 use Rattle.std.proofs.Common.{◌≡◌, zero, suc, ◌≢◌, ℕ, ◌+◌, ◌<◌, ◌≤◌, Bool, true, false, ◌&&◌, cond, eqb, List, [], ◌∷◌, ◌++◌, map, length, drop, Option, Some, None, ◌⊎◌, inl, inr, refl, sym, ap, ◌∙◌, subst, arith}
 use Rattle.std.specs.List.{AllByRecursion, cons_option, flat_map, find, range_with_len}
 use Rattle.std.specs.Option.{option_map_or, option_and_then}
-use Rattle.std.proofs.lemmas.Bool.{and_parts, and_from, cond_both, cases_Bool, cases_lt, false≢true, eqb-true, eq-eqb}
+use Rattle.std.proofs.lemmas.Bool.{and_parts, and_from, cond_both, cases_Bool, cases_lt, false≢true, true≢false, eqb-true, eq-eqb}
 use Rattle.std.proofs.lemmas.List.{append_assoc}
-use Rattle.virtiofs_map.specs.AuditParts.{front_of, front, rest_of, rests, guest_names_of, guest_names, whole_of, wholes, host_names_of, host_names, one_byte, one_byte_names}
+use Rattle.virtiofs_map.specs.AuditParts.{front_of, front, host_pattern, rest_after, rest_of, rests, guest_names_of, guest_names, whole_of, wholes, host_names_of, host_names, one_byte, one_byte_names}
+use Rattle.virtiofs_map.specs.FirstRule.{acts}
 use Rattle.virtiofs_map.specs.Names.{begins, fits, deciding}
 use Rattle.virtiofs_map.specs.Rule.{MappingRule}
+use Rattle.virtiofs_map.specs.declared.xattrmap.scopes.Side.{Side}
 use Rattle.virtiofs_map.specs.declared.xattrmap.scopes.Side.TheVariants.{Client, Server}
 use Rattle.virtiofs_map.proofs.BeginsLemmas.{begins_split, begins_from, begins-append}
 use Rattle.virtiofs_map.proofs.FirstRuleLemmas.{deciding-find}
@@ -140,6 +142,38 @@ stood [] x xs l u = record {
 }
 stood (t ∷ patterns) x xs l u = one_more t patterns (patterns ++ one_byte_names) (x ∷ xs) (stood patterns x xs l u)
 
+-- ---- a rule that fits a name fits what begins with that name
+
+pub fits_more : (side : Side) (front name : List ℕ) → begins front name ≡ true → (rule : MappingRule) → fits side front rule ≡ true → fits side name rule ≡ true
+fits_more Client front name b rule e =
+    let parts = and_parts rule.client (begins rule.key front) e in
+    and_from rule.client (begins rule.key name) parts.0 (begins_trans rule.key front name parts.1 b)
+fits_more Server front name b rule e =
+    let parts = and_parts rule.server (begins rule.prepend front) e in
+    and_from rule.server (begins rule.prepend name) parts.0 (begins_trans rule.prepend front name parts.1 b)
+
+-- of fewer elements that pass, the first stays the first
+find_fewer : {X : Type 0} (p q : X → Bool) (xs : List X) (x : X) → ((y : X) → q y ≡ true → p y ≡ true) → find p xs ≡ Some x → q x ≡ true → find q xs ≡ Some x
+find_fewer p q [] x more e holds = absurd (cc)
+find_fewer p q (y ∷ ys) x more e holds =
+    elim (cases_Bool (p y)) [
+      | inl passes ↦
+          (let here : Some y ≡ Some x = rw passes at e in
+          let same : y ≡ x = cc in
+          rw (ap q same ∙ holds) here)
+      | inr fails ↦
+          (let later : find p ys ≡ Some x = rw fails at e in
+          elim (cases_Bool (q y)) [
+            | inl passes ↦ absurd (true≢false (sym (more y passes) ∙ fails))
+            | inr other ↦ rw other (find_fewer p q ys x more later holds)
+          ])
+    ]
+
+-- the rule that decides a name decides each front of it that it fits
+pub decides_front : (side : Side) (rules : List MappingRule) (front name : List ℕ) (rule : MappingRule) → begins front name ≡ true → deciding side rules name ≡ Some rule → fits side front rule ≡ true → deciding side rules front ≡ Some rule
+decides_front side rules front name rule b e fit =
+    deciding-find side rules front ∙ find_fewer (fits side name) (fits side front) rules rule (fits_more side front name b) (sym (deciding-find side rules name) ∙ e) fit
+
 -- ---- the same rule decides
 
 find_same : {X : Type 0} (p q : X → Bool) (xs : List X) → AllByRecursion (λ x. p x ≡ q x) xs → find p xs ≡ find q xs
@@ -151,35 +185,44 @@ met_same : (name c t : List ℕ) → begins c name ≡ true → Meets name c t �
 met_same name c t f met = same_tests (begins t name) (begins t c) met (λ b. begins_trans t c name b f)
 
 -- by the keys of the guest's rules
-keys_same : (others rules : List MappingRule) (name c : List ℕ) → begins c name ≡ true → AllByRecursion (Meets name c) (guest_names others rules) → AllByRecursion (λ rule. fits Client name rule ≡ fits Client c rule) rules
-keys_same others [] name c f all = tt
-keys_same others (rule ∷ rules) name c f all =
-    (key rule.client (all_first (Meets name c) (guest_names_of others rule) (guest_names others rules) all), keys_same others rules name c f (all_second (Meets name c) (guest_names_of others rule) (guest_names others rules) all)) where
-      key : (b : Bool) → AllByRecursion (Meets name c) (cond b (rule.key ∷ option_map_or (rests others) (front_of rule) []) []) → (b && begins rule.key name) ≡ (b && begins rule.key c)
+keys_same : (side : Side) (others rules : List MappingRule) (name c : List ℕ) → begins c name ≡ true → AllByRecursion (Meets name c) (guest_names side others rules) → AllByRecursion (λ rule. fits Client name rule ≡ fits Client c rule) rules
+keys_same side others [] name c f all = tt
+keys_same side others (rule ∷ rules) name c f all =
+    (key rule.client (all_first (Meets name c) (guest_names_of side others rule) (guest_names side others rules) all), keys_same side others rules name c f (all_second (Meets name c) (guest_names_of side others rule) (guest_names side others rules) all)) where
+      key : (b : Bool) → AllByRecursion (Meets name c) (cond b (rule.key ∷ option_map_or (rests side others) (front_of rule) []) []) → (b && begins rule.key name) ≡ (b && begins rule.key c)
       key true met = met_same name c rule.key f met.0
       key false met = refl
 
 -- by the rests of a front
-rest_same : (added prepend name c : List ℕ) → begins c name ≡ true → (b : Bool) → begins added prepend ≡ b → AllByRecursion (Meets name c) (cons_option (cond b (Some (drop (length added) prepend)) None) []) → begins prepend (added ++ name) ≡ begins prepend (added ++ c)
-rest_same added prepend name c f true b met =
-    let rest = drop (length added) prepend in
-    let split = begins_split added prepend b in
+rest_same : (added pattern name c : List ℕ) → begins c name ≡ true → (b : Bool) → begins added pattern ≡ b → AllByRecursion (Meets name c) (cons_option (cond b (Some (drop (length added) pattern)) None) []) → begins pattern (added ++ name) ≡ begins pattern (added ++ c)
+rest_same added pattern name c f true b met =
+    let rest = drop (length added) pattern in
+    let split = begins_split added pattern b in
     ap (λ p. begins p (added ++ name)) split ∙ begins-append_both added rest name ∙ met_same name c rest f met.0 ∙ sym (ap (λ p. begins p (added ++ c)) split ∙ begins-append_both added rest c)
-rest_same added prepend name c f false fails met =
-    same_tests (begins prepend (added ++ name)) (begins prepend (added ++ c)) (λ b. begins_trans prepend added (added ++ c) (begins_within added prepend name fails b) (begins-append added c)) (λ b. begins_trans prepend added (added ++ name) (begins_within added prepend c fails b) (begins-append added name))
+rest_same added pattern name c f false fails met =
+    same_tests (begins pattern (added ++ name)) (begins pattern (added ++ c)) (λ b. begins_trans pattern added (added ++ c) (begins_within added pattern name fails b) (begins-append added c)) (λ b. begins_trans pattern added (added ++ name) (begins_within added pattern c fails b) (begins-append added name))
 
 first_option : {X : Type 0} (P : X → Type 0) (o : Option X) (xs : List X) → AllByRecursion P (cons_option o xs) → AllByRecursion P (cons_option o []) × AllByRecursion P xs
 first_option P None xs all = (tt, all)
 first_option P (Some x) xs all = ((all.0, tt), all.1)
 
-rests_same : (others : List MappingRule) (added name c : List ℕ) → begins c name ≡ true → AllByRecursion (Meets name c) (rests others added) → AllByRecursion (λ rule. fits Server (added ++ name) rule ≡ fits Server (added ++ c) rule) others
-rests_same [] added name c f all = tt
-rests_same (rule ∷ others) added name c f all =
-    let parts = first_option (Meets name c) (rest_of added rule) (rests others added) all in
-    (here rule.server parts.0, rests_same others added name c f parts.1) where
-      here : (b : Bool) → AllByRecursion (Meets name c) (cons_option (cond (b && begins added rule.prepend) (Some (drop (length added) rule.prepend)) None) []) → (b && begins rule.prepend (added ++ name)) ≡ (b && begins rule.prepend (added ++ c))
-      here true met = rest_same added rule.prepend name c f (begins added rule.prepend) refl met
-      here false met = refl
+-- the rule's pattern for host names begins both of them or neither, if the rule acts on that side
+abbrev pub BeginsBoth : Side → List ℕ → List ℕ → MappingRule → Type 0
+BeginsBoth side host other rule =
+    acts side rule ≡ true → (pattern : List ℕ) → host_pattern side rule ≡ Some pattern → begins pattern host ≡ begins pattern other
+
+rests_same : (side : Side) (others : List MappingRule) (added name c : List ℕ) → begins c name ≡ true → AllByRecursion (Meets name c) (rests side others added) → AllByRecursion (BeginsBoth side (added ++ name) (added ++ c)) others
+rests_same side [] added name c f all = tt
+rests_same side (rule ∷ others) added name c f all =
+    let parts = first_option (Meets name c) (rest_of side added rule) (rests side others added) all in
+    (here parts.0, rests_same side others added name c f parts.1) where
+      rest_is : (pattern : List ℕ) → acts side rule ≡ true → host_pattern side rule ≡ Some pattern → rest_of side added rule ≡ rest_after added pattern
+      rest_is pattern on is =
+          ap (λ b. cond b (option_and_then (rest_after added) (host_pattern side rule)) None) on ∙ ap (option_and_then (rest_after added)) is
+
+      here : AllByRecursion (Meets name c) (cons_option (rest_of side added rule) []) → BeginsBoth side (added ++ name) (added ++ c) rule
+      here met on pattern is =
+          rest_same added pattern name c f (begins added pattern) refl (subst (λ o. AllByRecursion (Meets name c) (cons_option o [])) (rest_is pattern on is) met)
 
 -- the patterns of the rule that decides are among those of all rules
 of_found : (P : List ℕ → Type 0) (fit acts : MappingRule → Bool) (pattern : MappingRule → List ℕ) (more : List ℕ → List (List ℕ)) → ((rule : MappingRule) → fit rule ≡ true → acts rule ≡ true) → (rules : List MappingRule) (cut : List ℕ) → AllByRecursion P (flat_map (λ rule. cond (acts rule) (pattern rule ∷ option_map_or more (front_of rule) []) []) rules) → option_and_then front_of (find fit rules) ≡ Some cut → AllByRecursion P (more cut)
@@ -194,19 +237,28 @@ of_found P fit acts pattern more on (rule ∷ rules) cut all e =
           let met = subst (λ b. AllByRecursion P (cond b (pattern rule ∷ option_map_or more (front_of rule) []) [])) holds mine in
           subst (λ o. AllByRecursion P (option_map_or more o [])) k met.1
 
--- the two names meet the same rules, and so does what they become
-pub record FareAlike (rules others : List MappingRule) (name c : List ℕ) : Type 0 where
+-- the two names meet the same rules, and the same patterns for host names begin what they become
+pub record FareAlike (side : Side) (rules others : List MappingRule) (name c : List ℕ) : Type 0 where
   pub client : deciding Client rules name ≡ deciding Client rules c
-  pub server : (added : List ℕ) → front Client rules name ≡ Some added → deciding Server others (added ++ name) ≡ deciding Server others (added ++ c)
+  pub hosts : (added : List ℕ) → front Client rules name ≡ Some added → AllByRecursion (BeginsBoth side (added ++ name) (added ++ c)) others
 
-pub fare_alike : (rules others : List MappingRule) (tried : List (List ℕ)) (name c : List ℕ) → Stands (guest_names others rules) tried name c → FareAlike rules others name c
-fare_alike rules others tried name c stands = record {
-  client = deciding-find Client rules name ∙ find_same (fits Client name) (fits Client c) rules (keys_same others rules name c stands.is_front stands.met) ∙ sym (deciding-find Client rules c);
-  server = λ added e.
+pub fare_alike : (side : Side) (rules others : List MappingRule) (tried : List (List ℕ)) (name c : List ℕ) → Stands (guest_names side others rules) tried name c → FareAlike side rules others name c
+fare_alike side rules others tried name c stands = record {
+  client = deciding-find Client rules name ∙ find_same (fits Client name) (fits Client c) rules (keys_same side others rules name c stands.is_front stands.met) ∙ sym (deciding-find Client rules c);
+  hosts = λ added e.
       (let decides = ap (option_and_then front_of) (sym (deciding-find Client rules name)) ∙ e in
-      let met = of_found (Meets name c) (fits Client name) (λ rule. rule.client) (λ rule. rule.key) (rests others) (λ rule b. (and_parts rule.client (begins rule.key name) b).0) rules added stands.met decides in
-      deciding-find Server others (added ++ name) ∙ find_same (fits Server (added ++ name)) (fits Server (added ++ c)) others (rests_same others added name c stands.is_front met) ∙ sym (deciding-find Server others (added ++ c)));
+      let met = of_found (Meets name c) (fits Client name) (λ rule. rule.client) (λ rule. rule.key) (rests side others) (λ rule b. (and_parts rule.client (begins rule.key name) b).0) rules added stands.met decides in
+      rests_same side others added name c stands.is_front met);
 }
+
+-- host names that the same prepends begin meet the same rule of the server
+fits_alike : (on one other : Bool) → (on ≡ true → one ≡ other) → (on && one) ≡ (on && other)
+fits_alike true one other same = same refl
+fits_alike false one other same = refl
+
+pub server_alike : (others : List MappingRule) (host other : List ℕ) → AllByRecursion (BeginsBoth Server host other) others → deciding Server others host ≡ deciding Server others other
+server_alike others host other all =
+    deciding-find Server others host ∙ find_same (fits Server host) (fits Server other) others (all_weaker (BeginsBoth Server host other) (λ rule. fits Server host rule ≡ fits Server other rule) (λ rule both. fits_alike rule.server (begins rule.prepend host) (begins rule.prepend other) (λ on. both on rule.prepend refl)) others all) ∙ sym (deciding-find Server others other)
 
 -- ---- the same for names of the host
 

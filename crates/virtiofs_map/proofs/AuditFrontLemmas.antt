@@ -16,6 +16,10 @@ use Rattle.virtiofs_map.proofs.FirstRuleLemmas.{deciding-find}
 use Rattle.virtiofs_map.proofs.MapRuleLemmas.{names_of_one, some_name}
 use Rattle.virtiofs_map.proofs.NoZeroLemmas.{IsNotZero}
 
+pub none_is : {X : Type 0} (o : Option X) → ((x : X) → o ≡ Some x → ⊥) → o ≡ None
+none_is None fails = refl
+none_is (Some x) fails = absurd (fails x refl)
+
 -- ---- names of the guest
 
 pub record PassesBy (o : Option MappingRule) (name host : List ℕ) : Type 0 where

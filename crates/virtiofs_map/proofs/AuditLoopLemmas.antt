@@ -1,6 +1,6 @@
 -- The loops over the names that an audit tries.
-use Rattle.std.proofs.Common.{◌≡◌, ℕ, ◌+◌, ◌-◌, ◌≤◌, Bool, List, [], ◌∷◌, ◌++◌, map, length, drop, Option, Some, None, refl, sym, ap, ◌∙◌, arith}
-use Rattle.std.specs.List.{cons_option, filter_map, flat_map, range_with_len, slice_get}
+use Rattle.std.proofs.Common.{◌≡◌, ℕ, ◌+◌, ◌-◌, ◌≤◌, Bool, true, false, ◌||◌, List, [], ◌∷◌, ◌++◌, map, length, drop, Option, Some, None, refl, sym, ap, ◌∙◌, arith}
+use Rattle.std.specs.List.{cons_option, filter_map, flat_map, list_any, range_with_len, slice_get}
 use Rattle.std.proofs.lemmas.List.{at_drop_more, at_drop_all}
 use Rattle.std.proofs.lemmas.Option.{slice_get_within, get_or_from_slice_get}
 use Rattle.std.proofs.lemmas.List.FromFn.{map-range_with_len_more}
@@ -55,3 +55,24 @@ bytes_more bad t new start byte l h step =
 pub bytes_all : (bad : List ℕ → Bool) (t start : TriedSoFar) (byte : ℕ) → byte ≡ 256 → t ≡ after bad start (bytes_below byte) → t ≡ after bad start one_byte_names
 unfolding bytes_below one_byte_names
 bytes_all bad t start byte e h = h ∙ ap (λ b. after bad start (map one_byte (range_with_len 1 (b - 1)))) e
+
+-- ---- whether an element passes a test
+
+any_at : {X : Type 0} (p : X → Bool) (xs : List X) (i : ℕ) (x : X) → Some x ≡ slice_get xs i → list_any p (drop i xs) ≡ (p x || list_any p (drop (i + 1) xs))
+any_at p xs i x here =
+    let is = get_or_from_slice_get xs i x x (sym here) in
+    let l = slice_get_within xs i x (sym here) in
+    at_drop_more (list_any p) xs i x l ∙ ap (λ e. p e || list_any p (drop (i + 1) xs)) is
+
+-- an element that passes settles it
+pub any_here : {X : Type 0} (p : X → Bool) (xs : List X) (i : ℕ) (x : X) (answer : Bool) → Some x ≡ slice_get xs i → p x ≡ true → list_any p (drop i xs) ≡ answer → true ≡ answer
+any_here p xs i x answer here passes h =
+    sym (sym h ∙ any_at p xs i x here ∙ ap (λ b. b || list_any p (drop (i + 1) xs)) passes)
+
+-- one that does not leaves it to the others
+pub any_more : {X : Type 0} (p : X → Bool) (xs : List X) (i : ℕ) (x : X) (answer : Bool) → Some x ≡ slice_get xs i → p x ≡ false → list_any p (drop i xs) ≡ answer → list_any p (drop (i + 1) xs) ≡ answer
+any_more p xs i x answer here fails h =
+    sym (sym h ∙ any_at p xs i x here ∙ ap (λ b. b || list_any p (drop (i + 1) xs)) fails)
+
+pub any_all : {X : Type 0} (p : X → Bool) (xs : List X) (i : ℕ) (answer : Bool) → length xs ≤ i → list_any p (drop i xs) ≡ answer → false ≡ answer
+any_all p xs i answer l h = sym (at_drop_all (list_any p) xs i l) ∙ h

@@ -11,7 +11,7 @@ use Rattle.virtiofs_map.specs.MapRule.{IsName}
 use Rattle.virtiofs_map.specs.Names.{HostAnswer, IsListed, IsHidden, IsUndecided, host_answer, server_answer, ListsBack}
 use Rattle.virtiofs_map.specs.Rule.{MappingRule, HasNoZero}
 use Rattle.virtiofs_map.specs.declared.xattrmap.scopes.Side.TheVariants.{Client, Server}
-use Rattle.virtiofs_map.proofs.AuditAlikeLemmas.{stood, FareAlike, fare_alike}
+use Rattle.virtiofs_map.proofs.AuditAlikeLemmas.{stood, FareAlike, fare_alike, server_alike}
 use Rattle.virtiofs_map.proofs.AuditFrontLemmas.{passes_front, front_passes, listed_front, front_listed, answer_to_one, server_one, front_no_zero}
 use Rattle.virtiofs_map.proofs.AuditLeastLemmas.{Decide, HasBadFront}
 use Rattle.virtiofs_map.proofs.MapRuleLemmas.{not_zero_name}
@@ -117,18 +117,19 @@ test_lost rules no_zero name is e =
 
 -- ---- the names tried decide
 
-lost_alike : (rules : List MappingRule) (name c added : List ℕ) → name ≢ [] → c ≢ [] → FareAlike rules rules name c → front Client rules name ≡ Some added → is_lost rules c ≡ is_lost rules name
+lost_alike : (rules : List MappingRule) (name c added : List ℕ) → name ≢ [] → c ≢ [] → FareAlike Server rules rules name c → front Client rules name ≡ Some added → is_lost rules c ≡ is_lost rules name
 lost_alike rules name c added some other alike e =
     let at = ap (option_and_then front_of) (sym alike.client) ∙ e in
-    lost_at rules c added other at ∙ ap (λ o. not (cuts added (option_and_then front_of o))) (sym (alike.server added e)) ∙ sym (lost_at rules name added some e)
+    let same = server_alike rules (added ++ name) (added ++ c) (alike.hosts added e) in
+    lost_at rules c added other at ∙ ap (λ o. not (cuts added (option_and_then front_of o))) (sym same) ∙ sym (lost_at rules name added some e)
 
-lost_front_tried : (rules : List MappingRule) → All HasNoZero rules → (name : List ℕ) → IsLost rules name → HasBadFront (is_lost rules) (guest_names rules rules ++ one_byte_names) name
+lost_front_tried : (rules : List MappingRule) → All HasNoZero rules → (name : List ℕ) → IsLost rules name → HasBadFront (is_lost rules) (guest_names Server rules rules ++ one_byte_names) name
 lost_front_tried rules no_zero [] lost = absurd (lost.not_empty refl)
 lost_front_tried rules no_zero (x ∷ xs) lost =
     let bounds = All-head (λ byte. (0 < byte) × (byte < 256)) x xs lost.is_name in
-    let found = stood (guest_names rules rules) x xs bounds.0 bounds.1 in
+    let found = stood (guest_names Server rules rules) x xs bounds.0 bounds.1 in
     let by = passes_front rules (x ∷ xs) lost.host lost.passes in
-    let alike = fare_alike rules rules (guest_names rules rules ++ one_byte_names) (x ∷ xs) found.by found.stands in
+    let alike = fare_alike Server rules rules (guest_names Server rules rules ++ one_byte_names) (x ∷ xs) found.by found.stands in
     record {
       by = found.by;
       is_front = found.stands.is_front;
@@ -136,7 +137,7 @@ lost_front_tried rules no_zero (x ∷ xs) lost =
       is_tried = found.stands.is_tried;
     }
 
-pub lost_decide : (rules : List MappingRule) → All HasNoZero rules → Decide (IsLost rules) (is_lost rules) (guest_names rules rules ++ one_byte_names)
+pub lost_decide : (rules : List MappingRule) → All HasNoZero rules → Decide (IsLost rules) (is_lost rules) (guest_names Server rules rules ++ one_byte_names)
 lost_decide rules no_zero = record {
   only = test_lost rules no_zero;
   fronts = lost_front_tried rules no_zero;

@@ -39,14 +39,14 @@ same_bytes (x ∷ xs) (y ∷ ys) e =
     let tail = same_bytes xs ys parts.1 in
     cc
 
-bytes_same : (xs : List ℕ) → pointwise nat_eq xs xs ≡ true
+pub bytes_same : (xs : List ℕ) → pointwise nat_eq xs xs ≡ true
 bytes_same [] = refl
 bytes_same (x ∷ xs) =
     ap (λ b. b && pointwise nat_eq xs xs) (eq-eqb x x refl) ∙ bytes_same xs
 
 -- ---- opened
 
-adds_is : (cut : List ℕ) (o : Option (List ℕ)) → adds cut o ≡ true → o ≡ Some cut
+pub adds_is : (cut : List ℕ) (o : Option (List ℕ)) → adds cut o ≡ true → o ≡ Some cut
 adds_is cut None e = absurd (false≢true e)
 adds_is cut (Some added) e = ap Some (same_bytes added cut e)
 

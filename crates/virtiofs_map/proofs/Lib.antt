@@ -11,7 +11,9 @@ mod AuditFrontLemmas
 mod AuditLeastLemmas
 mod AuditLoopLemmas
 mod AuditLostLemmas
+mod AuditPassLemmas
 mod AuditSeenLemmas
+mod AuditSharedLemmas
 mod AuditStrayLemmas
 mod BeginsLemmas
 mod BranchLemmas

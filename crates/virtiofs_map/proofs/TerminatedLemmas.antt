@@ -2,14 +2,14 @@
 use Rattle.std.proofs.Common.{◌≡◌, zero, suc, ◌≢◌, ℕ, ◌+◌, ◌<◌, Bool, true, false, List, [], ◌∷◌, filter, Option, Some, None, is_some, inl, inr, refl, sym, ap, ◌∙◌, arith}
 use Rattle.std.specs.List.{AllByRecursion, find, list_all, slice_split, onto_first}
 use Rattle.std.specs.Option.{option_map_or}
-use Rattle.std.proofs.lemmas.Bool.{and_parts, and_from, cond_both, cases_Bool, cases_lt, false≢true, true≢false, eqb-false}
+use Rattle.std.proofs.lemmas.Bool.{and_from, cond_both, cases_Bool, cases_lt, false≢true, true≢false, eqb-false}
 use Rattle.std.proofs.lemmas.List.Elements.{All-head, All-tail, All-nil, All-cons}
 use Rattle.virtiofs_map.specs.Audit.{IsList, Terminated}
 use Rattle.virtiofs_map.specs.Names.{begins, fits, deciding, answer_by, IsUnterminated, IsUndecided, host_answer_by, host_answer, is_decided, names, server_answer}
 use Rattle.virtiofs_map.specs.Rule.{RuleType, Prefix, Okay, Bad, Unsupported, MappingRule}
 use Rattle.virtiofs_map.specs.declared.xattrmap.scopes.Side.{Side}
 use Rattle.virtiofs_map.specs.declared.xattrmap.scopes.Side.TheVariants.{Client, Server}
-use Rattle.virtiofs_map.proofs.AuditAlikeLemmas.{begins_trans}
+use Rattle.virtiofs_map.proofs.AuditAlikeLemmas.{fits_more}
 use Rattle.virtiofs_map.proofs.AuditFrontLemmas.{answer_to_one, server_one}
 use Rattle.virtiofs_map.proofs.BeginsLemmas.{begins_from}
 use Rattle.virtiofs_map.proofs.FirstRuleLemmas.{deciding-find}
@@ -22,14 +22,6 @@ find_more : {X : Type 0} (p q : X → Bool) → ((x : X) → p x ≡ true → q 
 find_more p q more [] e = e
 find_more p q more (x ∷ xs) e =
     cond_both (q x) (Some x) (find q xs) (λ o. is_some o ≡ true) (λ _. refl) (λ fails. find_more p q more xs (cond_both (p x) (Some x) (find p xs) (λ o. is_some o ≡ true → is_some (find p xs) ≡ true) (λ holds _. absurd (false≢true (sym fails ∙ more x holds))) (λ _ k. k) e))
-
-fits_more : (side : Side) (front name : List ℕ) → begins front name ≡ true → (rule : MappingRule) → fits side front rule ≡ true → fits side name rule ≡ true
-fits_more Client front name b rule e =
-    let parts = and_parts rule.client (begins rule.key front) e in
-    and_from rule.client (begins rule.key name) parts.0 (begins_trans rule.key front name parts.1 b)
-fits_more Server front name b rule e =
-    let parts = and_parts rule.server (begins rule.prepend front) e in
-    and_from rule.server (begins rule.prepend name) parts.0 (begins_trans rule.prepend front name parts.1 b)
 
 decided_more : (side : Side) (rules : List MappingRule) (front name : List ℕ) → begins front name ≡ true → is_some (deciding side rules front) ≡ true → is_some (deciding side rules name) ≡ true
 decided_more side rules front name b e =

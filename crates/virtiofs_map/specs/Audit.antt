@@ -99,6 +99,19 @@ abbrev pub Isolated : List MappingRule → List MappingRule → Type 0
 Isolated rules others =
     (list other : List ℕ) → IsList list → IsList other → AgreeOutside (Reached rules) list other → server_answer others list ≡ server_answer others other
 
+-- ---- do two guests reach one host name
+
+-- no host name is reached by both
+abbrev pub SharesNoName : List MappingRule → List MappingRule → Type 0
+SharesNoName rules others = (host : List ℕ) → Reached rules host → ¬ Reached others host
+
+-- a name that passes as a host name which the second map reaches too
+pub record IsShared (rules others : List MappingRule) (name : List ℕ) : Type 0 where
+  pub is_name : IsName name
+  pub host : List ℕ
+  pub passes : client_answer rules name ≡ Passes host
+  pub reached : Reached others host
+
 -- ---- does some rule decide every name
 
 -- neither a name of the guest nor a list of the host is ever without a rule

@@ -1,16 +1,17 @@
 -- What the private functions of an audit say: what is asked of a name, which names are tried, and what was found. Only they cite these words.
-use Rattle.std.specs.Prelude.{ℕ, Bool, true, false, ◌&&◌, not, ◌==◌, nat_eq, nat_lt, if◌then◌else◌, List, [], ◌∷◌, ◌++◌, map, length, drop, Option, Some, None, is_none, option_and_then}
+use Rattle.std.specs.Prelude.{ℕ, Bool, true, false, ◌&&◌, not, ◌==◌, nat_eq, nat_lt, if◌then◌else◌, List, [], ◌∷◌, ◌++◌, map, length, drop, Option, Some, None, is_none, option_map, option_and_then}
 use Rattle.std.specs.Cmp.Lexicographic.{pointwise, slice_cmp}
-use Rattle.std.specs.List.{list_all, filter_map, flat_map, range_with_len}
+use Rattle.std.specs.List.{list_all, list_any, filter_map, flat_map, range_with_len}
 use Rattle.std.specs.Option.{option_map_or}
 use Rattle.std.specs.Ordering.{nat_cmp, is_lt}
+use Rattle.virtiofs_map.specs.FirstRule.{acts}
 use Rattle.virtiofs_map.specs.Names.{begins, deciding}
 use Rattle.virtiofs_map.specs.Rule.{RuleType, Prefix, Okay, Bad, Unsupported, MappingRule}
 use Rattle.virtiofs_map.specs.Steps.{count_after}
 use Rattle.virtiofs_map.specs.declared.audit.answer.Audit.{Audit}
 use Rattle.virtiofs_map.specs.declared.audit.answer.Audit.TheVariants.{Yes, No}
 use Rattle.virtiofs_map.specs.declared.audit.questions.Question.{Question}
-use Rattle.virtiofs_map.specs.declared.audit.questions.Question.TheVariants.{Lost, Seen, Stray}
+use Rattle.virtiofs_map.specs.declared.audit.questions.Question.TheVariants.{Lost, Seen, Shared, Stray}
 use Rattle.virtiofs_map.specs.declared.xattrmap.scopes.Side.{Side}
 use Rattle.virtiofs_map.specs.declared.xattrmap.scopes.Side.TheVariants.{Client, Server}
 
@@ -52,10 +53,14 @@ is_hidden rules host = option_map_or (λ rule. is_none (front_of rule)) (decidin
 abbrev pub all_bytes : List ℕ → Bool
 all_bytes name = list_all (λ byte. nat_lt byte 256) name
 
+-- the name passes as a host name, not empty, of which the test holds
+abbrev pub passes_where : (List ℕ → Bool) → List MappingRule → List ℕ → Bool
+passes_where test rules name =
+    option_map_or (λ added. some_byte (added ++ name) && (all_bytes (added ++ name) && test (added ++ name))) (front Client rules name) false
+
 -- the name passes as a host name, not empty, that the others do not hide
 abbrev pub is_seen : List MappingRule → List MappingRule → List ℕ → Bool
-is_seen rules others name =
-    option_map_or (λ added. some_byte (added ++ name) && (all_bytes (added ++ name) && not (is_hidden others (added ++ name)))) (front Client rules name) false
+is_seen rules others = passes_where (λ host. not (is_hidden others host)) rules
 
 -- what was taken off is put before the name
 abbrev pub adds : List ℕ → Option (List ℕ) → Bool
@@ -67,10 +72,24 @@ abbrev pub is_stray : List MappingRule → List ℕ → Bool
 is_stray rules host =
     some_byte host && option_map_or (λ cut. not (adds cut (front Client rules (drop (length cut) host)))) (front Server rules host) false
 
+-- a name that begins with the rule's key passes as the host name, with what the rule puts before it
+abbrev pub passes_as : List MappingRule → List ℕ → MappingRule → Bool
+passes_as rules host rule =
+    rule.client && option_map_or (λ added. begins added host && (begins rule.key (drop (length added) host) && adds added (front Client rules (drop (length added) host)))) (front_of rule) false
+
+-- some name passes as the host name
+abbrev pub is_reached : List MappingRule → List ℕ → Bool
+is_reached rules host = list_any (passes_as rules host) rules
+
+-- the name passes as a host name, not empty, that the others reach
+abbrev pub is_shared : List MappingRule → List MappingRule → List ℕ → Bool
+is_shared rules others = passes_where (is_reached others) rules
+
 -- the answer to the question is yes for this name
 abbrev pub bad : {A : Type 0} → Question A → List ℕ → Bool
 bad (Lost rules) = is_lost rules.now
 bad (Seen rules others) = is_seen rules.now others.now
+bad (Shared rules others) = is_shared rules.now others.now
 bad (Stray rules) = is_stray rules.now
 
 -- ---- what was found
@@ -107,21 +126,30 @@ told (No name) = Some name
 
 -- ---- which names are tried
 
--- what is left of the rule's prepend after the front, where that begins it
-abbrev pub rest_of : List ℕ → MappingRule → Option (List ℕ)
-rest_of added rule =
-    if rule.server && begins added rule.prepend then Some (drop (length added) rule.prepend) else None
+-- what a host name begins with that the rule decides on the server's side, or that a name passes as which it decides on the client's side
+abbrev pub host_pattern : Side → MappingRule → Option (List ℕ)
+host_pattern Client rule = option_map (λ added. added ++ rule.key) (front_of rule)
+host_pattern Server rule = Some rule.prepend
 
-abbrev pub rests : List MappingRule → List ℕ → List (List ℕ)
-rests rules added = filter_map (rest_of added) rules
+-- what is left of the pattern after the front, where that begins it
+abbrev pub rest_after : List ℕ → List ℕ → Option (List ℕ)
+rest_after added pattern = if begins added pattern then Some (drop (length added) pattern) else None
 
--- the key of a rule for the client, and what is left of the others' prepends after what the rule puts before a name
-abbrev pub guest_names_of : List MappingRule → MappingRule → List (List ℕ)
-guest_names_of others rule =
-    if rule.client then rule.key ∷ option_map_or (rests others) (front_of rule) [] else []
+-- the same of the pattern of a rule for that side
+abbrev pub rest_of : Side → List ℕ → MappingRule → Option (List ℕ)
+rest_of side added rule =
+    if acts side rule then option_and_then (rest_after added) (host_pattern side rule) else None
 
-abbrev pub guest_names : List MappingRule → List MappingRule → List (List ℕ)
-guest_names others rules = flat_map (guest_names_of others) rules
+abbrev pub rests : Side → List MappingRule → List ℕ → List (List ℕ)
+rests side rules added = filter_map (rest_of side added) rules
+
+-- the key of a rule for the client, and what is left of the others' patterns after what the rule puts before a name
+abbrev pub guest_names_of : Side → List MappingRule → MappingRule → List (List ℕ)
+guest_names_of side others rule =
+    if rule.client then rule.key ∷ option_map_or (rests side others) (front_of rule) [] else []
+
+abbrev pub guest_names : Side → List MappingRule → List MappingRule → List (List ℕ)
+guest_names side others rules = flat_map (guest_names_of side others) rules
 
 -- the key of a rule for the client, after what was taken off
 abbrev pub whole_of : List ℕ → MappingRule → Option (List ℕ)

@@ -4,9 +4,13 @@
 //! begin what they become on the other side. So the names to try are made of patterns: the patterns
 //! of one side, and what the patterns of the other side come to once a rule's prepend is taken off
 //! or put before them. For all names that begin with none of these, the names of one byte stand.
+//!
+//! A rule has a pattern for names of the host on each side. What it lists or hides begins with its
+//! prepend. What passes by it begins with what it puts before a name, and then its key.
 
-ghost use Rattle.std.specs.Prelude.{◌≡◌, ◌≢◌, ◌++◌, Some, None, All, MatchOption, OnOk, Option};
-ghost use Rattle.virtiofs_map.specs.AuditParts.{bad, after, rest_of, rests, guest_names_of, guest_names, wholes, host_names_of, host_names, one_byte_names};
+ghost use Rattle.std.specs.List.{cons_option};
+ghost use Rattle.std.specs.Prelude.{◌≡◌, ◌≢◌, ◌++◌, [], All, OnOk};
+ghost use Rattle.virtiofs_map.specs.AuditParts.{bad, after, rest_after, rest_of, guest_names_of, guest_names, host_names_of, host_names, one_byte_names};
 ghost use Rattle.virtiofs_map.specs.Rule.{HasNoZero};
 ghost use Rattle.virtiofs_map.specs.RuleParts.{rule_meant};
 
@@ -16,39 +20,42 @@ use crate::xattrmap::rules::RuleRef;
 use crate::xattrmap::{Side, XattrMap, XattrName};
 use std::alloc::{AllocError, Allocator};
 
-/// Tries the names of the guest that decide: `map` passes names, and `other` lists them.
+/// Tries the names of the guest that decide: `map` passes names, and on that side the patterns of
+/// `other` for names of the host say what becomes of these.
 pub(crate) fn try_guest_names<A: Allocator + Copy>(
     alloc: A,
     question: &Question<'_, A>,
     map: &XattrMap<A>,
     other: &XattrMap<A>,
+    side: Side,
     tried: &mut Tried<A>,
 ) -> Result<(), AllocError>
     ensures tried { OnOk result (tried.new ≡ after (bad question.now) tried.old
-        (guest_names other.now map.now ++ one_byte_names)) }
+        (guest_names side other.now map.now ++ one_byte_names)) }
     ensures no_zero { All HasNoZero map.now }
 {
     for place in 0..map.len() {
         let Some(rule) = map.rule(place) else {
             continue;
         };
-        try_guest_names_of(alloc, question, rule, other, tried)?;
+        try_guest_names_of(alloc, question, rule, other, side, tried)?;
     }
     try_one_byte_names(alloc, question, tried)
 }
 
-/// Tries the key of a rule for the client, and what is left of each prepend that begins with what
-/// the rule puts before a name.
+/// Tries the key of a rule for the client, and what is left of each pattern for names of the host
+/// that begins with what the rule puts before a name.
 fn try_guest_names_of<A: Allocator + Copy>(
     alloc: A,
     question: &Question<'_, A>,
     rule: RuleRef<'_>,
     other: &XattrMap<A>,
+    side: Side,
     tried: &mut Tried<A>,
 ) -> Result<(), AllocError>
     requires { HasNoZero (rule_meant rule) }
     ensures { OnOk result (tried.new ≡ after (bad question.now) tried.old
-        (guest_names_of other.now (rule_meant rule.entry))) }
+        (guest_names_of side other.now (rule_meant rule.entry))) }
 {
     if !rule.scope.has(Side::Client) {
         return Ok(());
@@ -62,26 +69,58 @@ fn try_guest_names_of<A: Allocator + Copy>(
         let Some(each) = other.rule(place) else {
             continue;
         };
-        if let Some(rest) = rest_of(each, added) {
-            tried.try_name(alloc, question, rest)?;
-        }
+        try_rest_of(alloc, question, each, side, added, tried)?;
     }
     Ok(())
 }
 
-/// What is left of the rule's prepend after a front; `None` where the prepend does not begin with
-/// it, or the rule does not act on the server's side.
-fn rest_of<'m>(rule: RuleRef<'m>, added: &[u8]) -> Option<XattrName<'m>>
+/// Tries what is left of the rule's pattern for names of the host after a front, where the pattern
+/// begins with it and the rule acts on the side.
+fn try_rest_of<A: Allocator + Copy>(
+    alloc: A,
+    question: &Question<'_, A>,
+    rule: RuleRef<'_>,
+    side: Side,
+    added: &[u8],
+    tried: &mut Tried<A>,
+) -> Result<(), AllocError>
     requires { HasNoZero (rule_meant rule) }
-    ensures { MatchOption result (rest_of added.now (rule_meant rule.entry) ≡ None)
-        (λ rest. rest_of added.now (rule_meant rule.entry) ≡ Some rest.bytes.now) }
+    ensures { OnOk result (tried.new ≡ after (bad question.now) tried.old
+        (cons_option (rest_of side added.now (rule_meant rule.entry)) [])) }
 {
-    let prepend = rule.prepend;
-    if rule.scope.has(Side::Server) && prepend.starts_with(added) {
-        let bytes = &prepend[added.len()..];
-        return Some(XattrName { bytes });
+    if !rule.acts_on(side) {
+        return Ok(());
     }
-    None
+    match side {
+        Side::Server => try_rest(alloc, question, rule.prepend, added, tried),
+        Side::Client => {
+            let Some(before) = rule.front() else {
+                return Ok(());
+            };
+            let mut whole = Vec::new(alloc);
+            put_together(&mut whole, before, rule.key)?;
+            try_rest(alloc, question, whole.as_slice(), added, tried)
+        }
+    }
+}
+
+/// Tries what is left of a pattern after a front, where the pattern begins with it.
+fn try_rest<A: Allocator + Copy>(
+    alloc: A,
+    question: &Question<'_, A>,
+    pattern: &[u8],
+    added: &[u8],
+    tried: &mut Tried<A>,
+) -> Result<(), AllocError>
+    requires { All (λ byte. byte ≢ 0) pattern.now }
+    ensures { OnOk result (tried.new ≡ after (bad question.now) tried.old
+        (cons_option (rest_after added.now pattern.now) [])) }
+{
+    if !pattern.starts_with(added) {
+        return Ok(());
+    }
+    let bytes = &pattern[added.len()..];
+    tried.try_name(alloc, question, XattrName { bytes })
 }
 
 /// Tries the names of the host that decide.

@@ -1,7 +1,7 @@
 //! What an audit asks of a name.
 
 ghost use Rattle.std.specs.Prelude.{◌≡◌, ◌++◌, Some, None, MatchOption, IfOk, OnOk};
-ghost use Rattle.virtiofs_map.specs.AuditParts.{front_of, front, is_lost, is_hidden, is_seen, is_stray};
+ghost use Rattle.virtiofs_map.specs.AuditParts.{front_of, front, is_lost, is_hidden, is_seen, passes_as, is_reached, is_shared, is_stray};
 ghost use Rattle.virtiofs_map.specs.RuleParts.{rule_meant};
 
 use crate::xattrmap::rules::{RuleKind, RuleRef};
@@ -15,6 +15,8 @@ pub(crate) enum Question<'m, A: Allocator> {
     Lost(&'m XattrMap<A>),
     /// Does the name pass by the first map as a name that the second does not hide?
     Seen(&'m XattrMap<A>, &'m XattrMap<A>),
+    /// Does the name pass by the first map as a name that some name passes as by the second?
+    Shared(&'m XattrMap<A>, &'m XattrMap<A>),
     /// Is this name of the host listed under a name that does not pass as it?
     Stray(&'m XattrMap<A>),
 }
@@ -29,6 +31,7 @@ impl<A: Allocator> Question<'_, A> {
         match self {
             Question::Lost(map) => is_lost(map, room, name),
             Question::Seen(map, other) => is_seen(map, other, room, name),
+            Question::Shared(map, other) => is_shared(map, other, room, name),
             Question::Stray(map) => Ok(is_stray(map, name)),
         }
     }
@@ -119,6 +122,63 @@ fn is_seen<A: Allocator>(
     put_together(room, added, name)?;
     let host = room.as_slice();
     Ok(!host.is_empty() && !is_hidden(other, host))
+}
+
+/// Whether a name that begins with the rule's key passes as the name of the host, with what the rule
+/// puts before it.
+fn passes_as<A: Allocator>(map: &XattrMap<A>, rule: RuleRef<'_>, host: &[u8]) -> bool
+    ensures { result ≡ passes_as map.now host.now (rule_meant rule.entry) }
+{
+    if !rule.scope.has(Side::Client) {
+        return false;
+    }
+    let Some(added) = rule.front() else {
+        return false;
+    };
+    if !host.starts_with(added) {
+        return false;
+    }
+    let name = &host[added.len()..];
+    if !name.starts_with(rule.key) {
+        return false;
+    }
+    let Some(found) = front(map, Side::Client, name) else {
+        return false;
+    };
+    found == added
+}
+
+/// Whether some name passes as the name of the host.
+fn is_reached<A: Allocator>(map: &XattrMap<A>, host: &[u8]) -> bool
+    ensures { result ≡ is_reached map.now host.now }
+{
+    for place in 0..map.len() {
+        let Some(rule) = map.rule(place) else {
+            continue;
+        };
+        if passes_as(map, rule, host) {
+            return true;
+        }
+    }
+    false
+}
+
+/// Whether the name passes by the first map as a name, not empty, that some name passes as by the
+/// second.
+fn is_shared<A: Allocator>(
+    map: &XattrMap<A>,
+    other: &XattrMap<A>,
+    room: &mut Vec<u8, A>,
+    name: &[u8],
+) -> Result<bool, AllocError>
+    ensures { IfOk result (λ answer. answer ≡ is_shared map.now other.now name.now) }
+{
+    let Some(added) = front(map, Side::Client, name) else {
+        return Ok(false);
+    };
+    put_together(room, added, name)?;
+    let host = room.as_slice();
+    Ok(!host.is_empty() && is_reached(other, host))
 }
 
 /// Whether the name of the host, not empty, is listed under a name that does not pass as it.

@@ -2,6 +2,7 @@ use Rattle.std.proofs.Common.{◌≡◌, ◌++◌, ap, ◌∙◌}
 use Rattle.virtiofs_map.specs.Audit.{AnswersLeast, Sound, IsLost}
 use Rattle.virtiofs_map.specs.AuditParts.{none_tried, is_lost, guest_names, one_byte_names, after}
 use Rattle.virtiofs_map.specs.Steps.{count_after}
+use Rattle.virtiofs_map.specs.declared.xattrmap.scopes.Side.TheVariants.{Server}
 use Rattle.virtiofs_map.proofs.AuditCountLemmas.{counts_between}
 use Rattle.virtiofs_map.proofs.AuditLeastLemmas.{found_least, yes_where_none}
 use Rattle.virtiofs_map.proofs.AuditLostLemmas.{lost_decide, sound_where_none, none_where_sound}
@@ -11,7 +12,7 @@ pub returns : goal.returns
 returns g c =
     let map = c.args.map.now in
     let no_zero = c.try_guest_names.ensures.no_zero in
-    let names = guest_names map map ++ one_byte_names in
+    let names = guest_names Server map map ++ one_byte_names in
     let end : c.try_guest_names.new.tried ≡ after (is_lost map) none_tried names = c.in_ok-try_guest_names.ensures.tried ∙ ap (λ t. after (is_lost map) t names) c.new-tried.ensures in
     let least : AnswersLeast (IsLost map) c.into_answer.result = found_least (IsLost map) (is_lost map) names c.into_answer.result c.try_guest_names.new.tried (lost_decide map no_zero) end c.into_answer.ensures.found c.into_answer.ensures.name in
     record {

@@ -1,7 +1,8 @@
-use Rattle.std.proofs.Common.{rules, ◌≡◌, ◌≤◌, true, not, length, Option, Some, None, sym, ap, ◌∙◌, refl}
+use Rattle.std.proofs.Common.{rules, ◌≡◌, ◌≤◌, true, not, length, sym, ap, ◌∙◌}
 use Rattle.std.proofs.lemmas.List.{take_rest}
 use Rattle.std.proofs.lemmas.Option.{MatchOption-at_none}
 use Rattle.virtiofs_map.specs.AuditParts.{some_byte}
+use Rattle.virtiofs_map.proofs.AuditFrontLemmas.{none_is}
 use Rattle.virtiofs_map.proofs.AuditStrayLemmas.{stray_none, stray_some, front_length}
 use Rattle.virtiofs_map.proofs.audit.questions.is_stray.Goals as goal
 
@@ -13,10 +14,6 @@ pub slice_bounds-front-start : goal.slice_bounds-front-start
 slice_bounds-front-start g c =
     let within : length c.in-Some.cut.now ≤ length c.args.host.now = front_length c.args.map.now c.args.host.now c.in-Some.cut.now c.in-Some.ensures in
     search rules
-
-none_is : {X : Type 0} (o : Option X) → ((x : X) → o ≡ Some x → ⊥) → o ≡ None
-none_is None fails = refl
-none_is (Some x) fails = absurd (fails x refl)
 
 pub returns-in_default-front : goal.returns-in_default-front
 returns-in_default-front g c =
