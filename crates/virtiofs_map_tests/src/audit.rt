@@ -3,7 +3,7 @@
 use std::alloc::Global;
 use std::test::Fail;
 use virtiofs_map::Steps;
-use virtiofs_map::audit::{Audit, audit, audit_counted, audit_listed, keeps_apart};
+use virtiofs_map::audit::{Audit, audit, audit_counted, audit_listed, keeps_apart, shares_no_name};
 use virtiofs_map::xattrmap::XattrMap;
 
 /// The name of a `No`.
@@ -69,7 +69,7 @@ const STRAY: [(&str, Option<&[u8]>); 4] = [
 ];
 
 /// The rules of a guest, those of another, and the least name of the first that the other sees.
-const SEEN: [(&str, &str, Option<&[u8]>); 11] = [
+const SEEN: [(&str, &str, Option<&[u8]>); 13] = [
     (":map::a.:", ":map::b.:", None),
     (":map::a.b.:", ":map::a.:", Some(b"")),
     (":map::a.:", ":map::a.b.:", Some(b"b.")),
@@ -81,6 +81,59 @@ const SEEN: [(&str, &str, Option<&[u8]>); 11] = [
     (":map::a.:", ":unsupported:server::a.: :ok:all:::", None),
     (":prefix:all:x:a.: :bad:all:::", ":map::a.:", Some(b"x")),
     (":map:::", ":map::a.:", Some(b"a.")),
+    (
+        ":ok:client::: :bad:server:::",
+        ":ok:client::: :bad:server:::",
+        None,
+    ),
+    (
+        ":prefix:client::a.: :ok:server:::",
+        ":prefix:client::b.: :ok:server:::",
+        Some(b""),
+    ),
+];
+
+/// The rules of a guest, those of another, and the least name of the first whose host name the other
+/// reaches too.
+const SHARED: [(&str, &str, Option<&[u8]>); 17] = [
+    // No list shows a name, and each guest reaches all names.
+    (
+        ":ok:client::: :bad:server:::",
+        ":ok:client::: :bad:server:::",
+        Some(b"\x01"),
+    ),
+    // Each list shows all names, and no guest reaches one of the other.
+    (
+        ":prefix:client::a.: :ok:server:::",
+        ":prefix:client::b.: :ok:server:::",
+        None,
+    ),
+    (":map::a.:", ":map::b.:", None),
+    (":map::a.b.:", ":map::a.:", Some(b"")),
+    (":map::a.:", ":map::a.b.:", Some(b"b.")),
+    (":map:trusted.:a.:", ":map::b.:", Some(b"b.")),
+    (":map::a.:", ":ok:client:::", Some(b"")),
+    (":ok:client:::", ":map::a.:", Some(b"a.")),
+    (":bad:all:::", ":ok:all:::", None),
+    // Rules for lists reach nothing.
+    (":ok:server:::", ":ok:all:::", None),
+    (":ok:client:a::", ":ok:client:b::", None),
+    (":ok:client:a::", ":ok:client:ab::", Some(b"ab")),
+    // A key comes after what is put before a name.
+    (":prefix:client:k:p.:", ":prefix:client:k:p.k:", Some(b"kk")),
+    (":prefix:client:k:p.k:", ":prefix:client:k:p.:", Some(b"k")),
+    // The first rule decides, on both sides.
+    (
+        ":bad:client:b:: :ok:client:::",
+        ":prefix:client::b: :ok:client:::",
+        None,
+    ),
+    (
+        ":prefix:client:a:x: :ok:client:::",
+        ":bad:client:bc:: :prefix:client:b:xa:",
+        Some(b"ab"),
+    ),
+    (":ok:client:é::", ":ok:all:::", Some(b"\xc3\xa9")),
 ];
 
 fn lost(alloc: Global, text: &str) -> Result<Audit, Fail> {
@@ -105,6 +158,12 @@ fn seen(alloc: Global, text: &str, other: &str) -> Result<Audit, Fail> {
     let map = XattrMap::try_from(alloc, text)?;
     let others = XattrMap::try_from(alloc, other)?;
     Ok(keeps_apart(alloc, &map, &others)?)
+}
+
+fn shared(alloc: Global, text: &str, other: &str) -> Result<Audit, Fail> {
+    let map = XattrMap::try_from(alloc, text)?;
+    let others = XattrMap::try_from(alloc, other)?;
+    Ok(shares_no_name(alloc, &map, &others)?)
 }
 
 #[test]
@@ -139,6 +198,15 @@ fn finds_the_least_listed_name_that_is_not_opened(rt: HostRuntime) -> Result<(),
 fn finds_the_least_name_that_another_guest_sees(rt: HostRuntime) -> Result<(), Fail> {
     for (text, other, wanted) in SEEN {
         let answer = seen(rt.alloc(), text, other)?;
+        assert_eq!(rt; told(&answer), wanted, "of {text:?} and {other:?}");
+    }
+    Ok(())
+}
+
+#[test]
+fn finds_the_least_name_that_another_guest_reaches(rt: HostRuntime) -> Result<(), Fail> {
+    for (text, other, wanted) in SHARED {
+        let answer = shared(rt.alloc(), text, other)?;
         assert_eq!(rt; told(&answer), wanted, "of {text:?} and {other:?}");
     }
     Ok(())

@@ -24,6 +24,8 @@ pub(super) enum Question {
     AuditListed,
     /// `keeps_apart` from the map of these rules.
     Apart(&'static str),
+    /// `shares_no_name` with the map of these rules.
+    Shares(&'static str),
 }
 
 /// Copies a map.
@@ -51,6 +53,14 @@ fn apart<'h>(ample: Heap<'h>, alloc: Heap<'h>, map: &Rules<'h>, others: &str) ->
     told(ample, &audit::keeps_apart(alloc, map, &others))
 }
 
+/// Asks whether the map shares no name with another one.
+fn shares<'h>(ample: Heap<'h>, alloc: Heap<'h>, map: &Rules<'h>, others: &str) -> Told<'h> {
+    let Ok(others) = XattrMap::try_from(ample, others) else {
+        return Told::Trouble;
+    };
+    told(ample, &audit::shares_no_name(alloc, map, &others))
+}
+
 /// Asks a question.
 fn ask<'h>(ample: Heap<'h>, alloc: Heap<'h>, map: &Rules<'h>, question: Question) -> Told<'h> {
     match question {
@@ -63,6 +73,7 @@ fn ask<'h>(ample: Heap<'h>, alloc: Heap<'h>, map: &Rules<'h>, question: Question
         }
         Question::AuditListed => told(ample, &audit::audit_listed(alloc, map)),
         Question::Apart(others) => apart(ample, alloc, map, others),
+        Question::Shares(others) => shares(ample, alloc, map, others),
     }
 }
 

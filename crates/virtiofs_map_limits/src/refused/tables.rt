@@ -3,10 +3,10 @@
 use crate::refused::asked::Asked;
 use crate::refused::questions::Question;
 use Asked::{Build, Image, Of, Rules, Specification, Texts};
-use Question::{Apart, Audit, AuditCounted, AuditListed, Client, Clone, Server};
+use Question::{Apart, Audit, AuditCounted, AuditListed, Client, Clone, Server, Shares};
 
 /// Calls that cannot do without memory.
-pub(super) const TAKE: [Asked; 53] = [
+pub(super) const TAKE: [Asked; 56] = [
     Specification("foo:x"),
     Specification("foo:1"),
     Specification("foo"),
@@ -69,6 +69,9 @@ pub(super) const TAKE: [Asked; 53] = [
     Of(":ok:server:::", AuditListed),
     Of(":map::a.:", Apart(":map::b.:")),
     Of(":map::a.:", Apart(":map::a.b.:")),
+    Of(":map::a.:", Shares(":map::b.:")),
+    Of(":map::a.:", Shares(":map::a.b.:")),
+    Of(":ok:client:::", Shares(":prefix:client:k:p.: :bad:all:::")),
 ];
 
 /// Calls that may take memory or do without.
