@@ -1,8 +1,9 @@
 -- Where the children of a branch stand, and what a step to one of them passes.
-use Rattle.std.proofs.Common.{◌≡◌, ◌≢◌, ◌⊎◌, inl, inr, ℕ, ◌+◌, ◌-◌, ◌%◌, ◌<◌, ◌≤◌, false, List, ◌∷◌, length, take, slice_get, Some, None, refl, sym, ap, ◌∙◌, subst, add-one, arith}
+use Rattle.std.proofs.Common.{◌≡◌, ◌≢◌, inl, inr, ℕ, ◌+◌, ◌-◌, ◌%◌, ◌<◌, ◌≤◌, Bool, true, false, List, ◌∷◌, length, slice_get, Some, None, sym, ap, ◌∙◌, subst, arith}
 use Rattle.std.proofs.lemmas.Bool.{cases_lt}
 use Rattle.std.proofs.lemmas.Option.{slice_get_within, slice_get-get_or}
-use Rattle.virtiofs_map.specs.BranchParts.{IsChild, IsReadable, IsSmall, LeadsNowhere, LeadsTo, Misses, StaysAt, label_of}
+use Rattle.virtiofs_map.specs.BranchParts.{IsChild, IsReadable, IsSmall, LeadsNowhere, LeadsTo, StaysAt, label_of}
+use Rattle.virtiofs_map.specs.FirstRule.{shared}
 use Rattle.virtiofs_map.specs.Names.{begins}
 use Rattle.virtiofs_map.specs.Steps.{count_after}
 use Rattle.virtiofs_map.specs.declared.xattrmap.branches.Branch.{Branch}
@@ -76,45 +77,38 @@ before_none branches at place child here none =
 
 -- ---- no step
 
-module _ (branches : List Branch) (bytes : List ℕ) (parent : Branch) (rest : List ℕ) (before after : ℕ) where
-  -- nothing was passed, and nothing counted
-  pub stays : ((byte : ℕ) (left : List ℕ) → rest ≡ byte ∷ left → LeadsNowhere branches parent byte ⊎ Misses branches bytes parent byte left) → after ≡ before → StaysAt branches bytes parent rest before after
-  stays ended same = record {
-    ended = ended;
-    shared = 0;
-    within = omega arith;
-    counted = λ fits. omega (arith, same, fits);
-    into = inl refl;
-  }
+module _ (branches : List Branch) (bytes : List ℕ) (parent : Branch) (rest : List ℕ) (whole : Bool)
+    (before after : ℕ) where
+  -- nothing is left
+  pub stays_at_end : length rest ≡ 0 → after ≡ before → StaysAt branches bytes parent rest whole before after
+  stays_at_end none same = inl (record {
+    nowhere = λ byte left split. absurd (let size = ap length split in omega (arith, size, none));
+    counted = same;
+  })
 
-  module _ (byte : ℕ) (left label : List ℕ) (child : Branch) (split : rest ≡ byte ∷ left) (to : LeadsTo branches parent byte child) (label_is : label ≡ label_of bytes child) (unlike : begins label left ≡ false) where
-    misses : (b : ℕ) (more : List ℕ) → rest ≡ b ∷ more → LeadsNowhere branches parent b ⊎ Misses branches bytes parent b more
-    misses b more other =
-        let both : byte ∷ left ≡ b ∷ more = sym split ∙ other in
-        let heads : byte ≡ b = cc in
-        let tails : left ≡ more = cc in
-        inr (record {
-          child = child;
-          to = subst (λ n. LeadsTo branches parent n child) heads to;
-          unlike = ap (λ row. begins row more) (sym label_is) ∙ ap (begins label) (sym tails) ∙ unlike;
-        })
+  module _ (byte : ℕ) (left : List ℕ) (split : rest ≡ byte ∷ left) where
+    -- the first byte leads nowhere
+    pub stays_nowhere : LeadsNowhere branches parent byte → after ≡ before
+        → StaysAt branches bytes parent rest whole before after
+    stays_nowhere nowhere same = inl (record {
+      nowhere = λ b more other.
+          (let both : byte ∷ left ≡ b ∷ more = sym split ∙ other in
+          let heads : byte ≡ b = cc in
+          subst (LeadsNowhere branches parent) heads nowhere);
+      counted = same;
+    })
 
-    -- the label of the child does not fit, and what it shares is not counted
-    pub stays_unlike : after ≡ before → StaysAt branches bytes parent rest before after
-    stays_unlike same = stays misses same
-
-    -- or it is
-    pub stays_shared : (shared : ℕ) → shared ≤ length left → shared ≤ length label → take shared left ≡ take shared label → after ≡ count_after before (shared + 1) → StaysAt branches bytes parent rest before after
-    stays_shared shared low within same counts = record {
-      ended = misses;
-      shared = shared + 1;
-      within = let size = ap length split in omega (arith, size, low);
-      counted = λ fits. counts;
-      into = inr (record {
-        byte = byte;
-        child = child;
-        to = to;
-        within = let size = ap length label_is in omega (arith, size, within);
-        same = ap (take (shared + 1)) split ∙ rw add-one (ap (λ row. byte ∷ row) (same ∙ ap (take shared) label_is));
-      });
-    }
+    -- the label of the child does not fit
+    pub stays_unlike : (label : List ℕ) (child : Branch) → LeadsTo branches parent byte child
+        → label ≡ label_of bytes child → begins label left ≡ false
+        → (whole ≡ true → after ≡ count_after before (shared label left + 1))
+        → StaysAt branches bytes parent rest whole before after
+    stays_unlike label child to label_is unlike counts = inr (record {
+      byte = byte;
+      left = left;
+      split = split;
+      child = child;
+      to = to;
+      unlike = ap (λ row. begins row left) (sym label_is) ∙ unlike;
+      counted = λ is. counts is ∙ ap (λ n. count_after before (n + 1)) (ap (λ row. shared row left) label_is);
+    })

@@ -3,7 +3,7 @@ use Rattle.std.proofs.Common.{◌≡◌, ℕ, zero, suc, ◌+◌, ◌≤◌, Boo
 use Rattle.std.specs.List.{position_or_len, slice_get}
 use Rattle.std.specs.Option.{option_and_then, option_map_or}
 use Rattle.std.proofs.lemmas.Bool.{and_parts}
-use Rattle.std.proofs.lemmas.List.{append_assoc, drop_at, take-append-drop, take-append-le}
+use Rattle.std.proofs.lemmas.List.{append_assoc, drop_at}
 use Rattle.std.proofs.lemmas.List.Elements.{Contains-append_right}
 use Rattle.std.proofs.Math.Seq.{take-append-add}
 use Rattle.virtiofs_map.specs.FirstRule.{acts, pattern, deciding_length}
@@ -24,11 +24,6 @@ begins_front (x ∷ p) [] zero l = refl
 begins_front (x ∷ p) [] (suc k) l = refl
 begins_front (x ∷ p) (y ∷ name) zero l = absurd (omega (arith, l))
 begins_front (x ∷ p) (y ∷ name) (suc k) l = ap (λ b. eqb x y && b) (begins_front p name k (omega (arith, l)))
-
--- a front of the name begins a pattern that begins the name and is no shorter
-pub front_begins : (p name : List ℕ) (k : ℕ) → k ≤ length p → begins p name ≡ true → begins (take k name) p ≡ true
-front_begins p name k l b =
-    begins_from (take k name) p (drop k p) (sym (take-append-drop k p) ∙ ap (λ q. q ++ drop k p) (sym (ap (take k) (begins_split p name b) ∙ take-append-le k p (drop (length p) name) l)))
 
 -- a way, and the byte after it
 pub front_more : (way left name : List ℕ) (byte : ℕ) → name ≡ way ++ byte ∷ left → take (suc (length way)) name ≡ way ++ byte ∷ []

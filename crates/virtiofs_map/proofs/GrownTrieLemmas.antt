@@ -1,14 +1,14 @@
 -- Branches that have grown from patterns are a trie of them.
-use Rattle.std.proofs.Common.{◌≡◌, ℕ, zero, suc, ◌+◌, ◌-◌, ◌*◌, ◌<◌, ◌≤◌, Bool, true, false, not, cond, ltb, List, [], ◌∷◌, ◌++◌, Some, None, length, take, drop, get_or, max, inl, inr, refl, sym, ap, subst, ◌∙◌, arith, append_assoc, add-one}
+use Rattle.std.proofs.Common.{◌≡◌, ◌⊎◌, ℕ, zero, suc, ◌+◌, ◌-◌, ◌*◌, ◌<◌, ◌≤◌, Bool, true, false, not, cond, ltb, List, [], ◌∷◌, ◌++◌, Some, None, length, take, drop, get_or, inl, inr, refl, sym, ap, subst, ◌∙◌, arith, append_assoc, add-one}
 use Rattle.std.specs.List.{slice_get, All, Contains, position_or_len}
 use Rattle.std.specs.Option.{option_map_or}
 use Rattle.std.proofs.lemmas.Bool.{cases_lt, cases_Bool, and_parts, and_from, cond_both, ltb-true, lt-ltb}
 use Rattle.std.proofs.lemmas.List.{take-append-drop, take-take, take_at, length-take, length-take-le, length_push, drop-take, drop-drop}
 use Rattle.std.proofs.lemmas.List.Sums.{passes_at_first}
 use Rattle.std.proofs.Math.Seq.{get_or-append_seam}
-use Rattle.std.proofs.lemmas.Option.{slice_get_cases, slice_get_within, slice_get_read, slice_get-get_or}
-use Rattle.virtiofs_map.specs.BranchParts.{no_answer, answer_for, answer_of, AreFew, IsPattern, ArePatterns, label_of, IsChild, AreInSlots, IsBranch, IsTrie, IsBounded}
-use Rattle.virtiofs_map.specs.FirstRule.{acts, pattern, longest}
+use Rattle.std.proofs.lemmas.Option.{get_or_from_slice_get, slice_get_cases, slice_get_within, slice_get_read, slice_get-get_or}
+use Rattle.virtiofs_map.specs.BranchParts.{no_answer, answer_for, answer_of, AreFew, IsPattern, ArePatterns, label_of, IsChild, AreInSlots, BeginsPattern, IsBranch, IsTrie, IsBounded}
+use Rattle.virtiofs_map.specs.FirstRule.{acts, pattern}
 use Rattle.virtiofs_map.specs.GrowthParts.{text, number, start_of, AreReady, IsLeast, IsUpto, IsPart, ArePlaces, IsKid, IsGrown, AreGrown}
 use Rattle.virtiofs_map.specs.Names.{begins, fits}
 use Rattle.virtiofs_map.specs.Rule.{MappingRule, type_number, RuleType, Prefix, Okay, Bad, Unsupported}
@@ -40,17 +40,6 @@ first_at_most p (y ∷ ys) zero x e passes =
 first_at_most p (y ∷ ys) (suc at) x e passes =
     let later = first_at_most p ys at x e passes in
     cond_both (not (p y)) (1 + position_or_len p ys) 0 (λ n. n ≤ suc at) (λ _. omega (arith, later)) (λ _. omega arith)
-
--- a pattern of a rule is no longer than the longest
-pub no_longer : (side : Side) (rules : List MappingRule) (at : ℕ) (rule : MappingRule) → slice_get rules at ≡ Some rule → acts side rule ≡ true → length (pattern side rule) ≤ longest side rules
-no_longer side [] at rule e acting = absurd cc
-no_longer side (r ∷ rules) zero rule e acting =
-    let same : r ≡ rule = cc in
-    subst (λ one. length (pattern side rule) ≤ cond (acts side one) (max (length (pattern side one)) (longest side rules)) (longest side rules)) (sym same)
-    (subst (λ b. length (pattern side rule) ≤ cond b (max (length (pattern side rule)) (longest side rules)) (longest side rules)) (sym acting) (omega arith))
-no_longer side (r ∷ rules) (suc at) rule e acting =
-    let later = no_longer side rules at rule e acting in
-    cond_both (acts side r) (max (length (pattern side r)) (longest side rules)) (longest side rules) (λ n. length (pattern side rule) ≤ n) (λ _. omega (arith, later)) (λ _. later)
 
 -- the pattern at a place, with the rule whose it is
 record IsOf (side : Side) (rules : List MappingRule) (bytes : List ℕ) (patterns : List Pattern) (i : ℕ) : Type 0 where
@@ -379,20 +368,28 @@ module _ (side : Side) (rules : List MappingRule) (bytes : List ℕ) (patterns :
                     ∙ take_at (text patterns i) (drop (length (text patterns i)) (take part.depth (text patterns part.low))) (length (text patterns i)) refl;
               }
 
-    short : length (way_of patterns parts at) ≤ longest side rules
-    short =
-        let same = ap length (way_here at part there) in
-        let size = way_size in
-        elim is.some [
-          | inl z ↦ omega (arith, same, size, z)
-          | inr l ↦
-              (let w = is.within in
-              let of = rule_of side rules bytes patterns of_rules part.low (omega (arith, l, w)) in
-              let long = is.long part.low (omega arith) l in
-              let top = no_longer side rules of.place of.rule of.here of.acting in
-              let are = ap length of.are in
-              omega (arith, same, size, long, top, are))
-        ]
+    -- the way begins the first pattern of the part
+    front : (way_of patterns parts at ≡ []) ⊎ BeginsPattern side rules (way_of patterns parts at)
+    front = elim is.some [
+      | inl z ↦ inl (way_here at part there ∙ ap (λ n. take n (text patterns part.low)) z)
+      | inr l ↦
+          (let w = is.within in
+          let of = rule_of side rules bytes patterns of_rules part.low (omega (arith, l, w)) in
+          let more = drop part.depth (text patterns part.low) in
+          inr (record {
+            rule = of.rule;
+            inside = (
+              of.place,
+              slice_get_within rules of.place of.rule of.here,
+              get_or_from_slice_get rules of.place of.rule
+                  of.rule of.here,
+            );
+            acting = of.acting;
+            starts = begins_from (way_of patterns parts at) (pattern side of.rule) more
+                (sym of.are ∙ sym (take-append-drop part.depth (text patterns part.low))
+                ∙ ap (λ s. s ++ more) (sym (way_here at part there)));
+          }))
+    ]
 
     is_branch : IsBranch side rules branches bytes (way_of patterns parts) at branch
     is_branch = record {
@@ -403,7 +400,7 @@ module _ (side : Side) (rules : List MappingRule) (bytes : List ℕ) (patterns :
       ways = ways;
       whole = whole;
       complete = complete;
-      short = short;
+      front = front;
     }
 
   -- the branches are a trie

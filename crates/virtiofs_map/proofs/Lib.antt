@@ -60,6 +60,7 @@ mod RuleWordLemmas
 mod SameEndsLemmas
 mod SearchLemmas
 mod ServerListLemmas
+mod SharedLemmas
 mod SpecificationLawLemmas
 mod SpecificationLemmas
 mod SpecificationPrefixLemmas
@@ -70,6 +71,7 @@ mod StoredLemmas
 mod TerminatedLemmas
 mod TrimLemmas
 mod WalkAnswerLemmas
+mod WayLemmas
 mod WordLemmas
 mod WrittenLemmas
 mod ZipLemmas

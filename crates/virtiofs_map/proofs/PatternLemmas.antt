@@ -17,7 +17,7 @@ use Rattle.virtiofs_map.specs.GrowthParts.{AreReady}
 use Rattle.virtiofs_map.specs.Rule.{HasNoZero, MappingRule, type_number}
 use Rattle.virtiofs_map.specs.declared.xattrmap.patterns.Pattern.{Pattern}
 use Rattle.virtiofs_map.specs.declared.xattrmap.scopes.Side.{Side}
-use Rattle.virtiofs_map.proofs.WalkAnswerLemmas.{pattern_no_zero}
+use Rattle.virtiofs_map.proofs.WayLemmas.{pattern_no_zero}
 
 -- the rule at the place has a pattern
 pub patterns_more : (side : Side) (rules : List MappingRule) (bytes : List ℕ) (place : ℕ) (patterns : List Pattern) (one : Pattern)

@@ -1,10 +1,10 @@
 -- A trie of patterns whose pieces have labels. Only private functions cite these words.
-use Rattle.std.specs.Prelude.{◌≡◌, ◌≢◌, ◌⊎◌, ℕ, ◌+◌, ◌-◌, ◌*◌, ◌<◌, ◌≤◌, true, false, if◌then◌else◌, List, [], ◌∷◌, ◌++◌, length, take, drop, Contains, All, Option, Some, slice_get, slice_index}
+use Rattle.std.specs.Prelude.{◌≡◌, ◌≢◌, ◌⊎◌, ℕ, ◌+◌, ◌-◌, ◌*◌, ◌<◌, ◌≤◌, Bool, true, false, if◌then◌else◌, List, [], ◌∷◌, ◌++◌, length, take, drop, Contains, All, Option, Some, slice_get, slice_index}
 use Rattle.std.specs.List.{flat_map}
 use Rattle.std.specs.Option.{option_map_or}
-use Rattle.virtiofs_map.specs.FirstRule.{acts, pattern, longest, deciding_length}
+use Rattle.virtiofs_map.specs.FirstRule.{CountsFronts, acts, pattern, longest, deciding_length, shared}
 use Rattle.virtiofs_map.specs.Names.{begins, first}
-use Rattle.virtiofs_map.specs.Rule.{MappingRule, type_number}
+use Rattle.virtiofs_map.specs.Rule.{MappingRule, HasNoZero, type_number}
 use Rattle.virtiofs_map.specs.Steps.{count_after}
 use Rattle.virtiofs_map.specs.ByteWordParts.{word_bytes}
 use Rattle.virtiofs_map.specs.declared.xattrmap.branches.Branch.{Branch}
@@ -58,6 +58,13 @@ pub record AreInSlots (branches : List Branch) (parent : Branch) : Type 0 where
   pub high : parent.low + parent.width ≤ 256
   pub slots : (k : ℕ) (child : Branch) → k < parent.width → slice_get branches (parent.first + k) ≡ Some child → child.head ≢ 0 → child.head ≡ parent.low + k
 
+-- the bytes begin the pattern of a rule that acts on the side
+pub record BeginsPattern (side : Side) (rules : List MappingRule) (front : List ℕ) : Type 0 where
+  pub rule : MappingRule
+  pub inside : Contains rules rule
+  pub acting : acts side rule ≡ true
+  pub starts : begins front (pattern side rule) ≡ true
+
 -- a branch stands for a way: the bytes that lead to it from the root
 pub record IsBranch (side : Side) (rules : List MappingRule) (branches : List Branch) (bytes : List ℕ) (way : ℕ → List ℕ) (at : ℕ) (branch : Branch) : Type 0 where
   pub answers : branch.answer ≡ answer_of side rules (way at)
@@ -76,8 +83,8 @@ pub record IsBranch (side : Side) (rules : List MappingRule) (branches : List Br
   pub complete : (byte : ℕ) (rule : MappingRule)
       → Contains rules rule → acts side rule ≡ true → begins (way at ++ byte ∷ []) (pattern side rule) ≡ true
       → (next : ℕ) × (child : Branch) × IsChild branches branch byte next child
-  -- the way is no longer than the longest pattern
-  pub short : length (way at) ≤ longest side rules
+  -- the way is empty, or begins the pattern of a rule
+  pub front : (way at ≡ []) ⊎ BeginsPattern side rules (way at)
 
 -- the branches are a trie of the patterns of that side, whose labels stand among the bytes; the root is the first
 pub record IsTrie (side : Side) (rules : List MappingRule) (branches : List Branch) (bytes : List ℕ) : Type 0 where
@@ -194,16 +201,15 @@ pub record IsTrieIn (side : Side) (rules : List MappingRule) (rows bytes : List 
 
 -- ---- what a walk promises
 
--- a walk found the answer of a name, and the bytes that it passed hold no zero where the bytes of the labels hold none
-pub record Passes (side : Side) (rules : List MappingRule) (bytes name : List ℕ) (answer passed : ℕ) : Type 0 where
+-- a walk found the answer of a name, and the bytes that it passed hold no zero where the patterns of the rules hold none
+pub record Passes (side : Side) (rules : List MappingRule) (name : List ℕ) (answer passed : ℕ) : Type 0 where
   pub walks : Walks side rules name answer passed
-  pub no_zero : All (λ byte. byte ≢ 0) bytes → All (λ byte. byte ≢ 0) (take passed name)
+  pub no_zero : All HasNoZero rules → All (λ byte. byte ≢ 0) (take passed name)
 
--- a walk found the answer of a name, and counted one step more than the bytes that it passed
+-- a walk found the answer of a name, and counted one step more than the most bytes that the name shares with a pattern
 pub record CountsWalk (side : Side) (rules : List MappingRule) (name : List ℕ) (answer before after : ℕ) : Type 0 where
-  pub passed : ℕ
-  pub walks : Walks side rules name answer passed
-  pub counted : after ≡ count_after before (passed + 1)
+  pub answers : answer ≡ answer_of side rules name
+  pub counted : CountsFronts side rules name before after
 
 -- ---- a step of a walk
 
@@ -229,27 +235,24 @@ pub record StepsTo (branches : List Branch) (bytes : List ℕ) (parent : Branch)
   pub passed : rest ≡ byte ∷ label_of bytes child ++ left
   pub counted : after ≡ count_after before (length (label_of bytes child) + 1)
 
--- so many bytes of the rest lead into a child
-pub record LeadsInto (branches : List Branch) (bytes : List ℕ) (parent : Branch) (rest : List ℕ) (count : ℕ) : Type 0 where
-  pub byte : ℕ
-  pub child : Branch
-  pub to : LeadsTo branches parent byte child
-  pub within : count ≤ length (label_of bytes child) + 1
-  pub same : take count rest ≡ take count (byte ∷ label_of bytes child)
+-- nothing is left, or its first byte leads nowhere; nothing was counted
+pub record Ends (branches : List Branch) (parent : Branch) (rest : List ℕ) (before after : ℕ) : Type 0 where
+  pub nowhere : (byte : ℕ) (left : List ℕ) → rest ≡ byte ∷ left → LeadsNowhere branches parent byte
+  pub counted : after ≡ before
 
--- the label of a child that the byte leads to does not begin what is left
-pub record Misses (branches : List Branch) (bytes : List ℕ) (parent : Branch) (byte : ℕ) (left : List ℕ) : Type 0 where
+-- the first byte of the rest leads to a child whose label does not begin what is left; where the count is whole, that byte was counted and those that the label shares with what is left
+pub record Misses (branches : List Branch) (bytes : List ℕ) (parent : Branch) (rest : List ℕ) (whole : Bool) (before after : ℕ) : Type 0 where
+  pub byte : ℕ
+  pub left : List ℕ
+  pub split : rest ≡ byte ∷ left
   pub child : Branch
   pub to : LeadsTo branches parent byte child
   pub unlike : begins (label_of bytes child) left ≡ false
+  pub counted : whole ≡ true → after ≡ count_after before (shared (label_of bytes child) left + 1)
 
--- no child can be passed: none is there, or the label of one does not fit; the bytes that were counted lead into one
-pub record StaysAt (branches : List Branch) (bytes : List ℕ) (parent : Branch) (rest : List ℕ) (before after : ℕ) : Type 0 where
-  pub ended : (byte : ℕ) (left : List ℕ) → rest ≡ byte ∷ left → LeadsNowhere branches parent byte ⊎ Misses branches bytes parent byte left
-  pub shared : ℕ
-  pub within : shared ≤ length rest
-  pub counted : before ≤ 18446744073709551615 → after ≡ count_after before shared
-  pub into : (shared ≡ 0) ⊎ LeadsInto branches bytes parent rest shared
+-- no child can be passed: none is there, or the label of one does not fit
+abbrev pub StaysAt : List Branch → List ℕ → Branch → List ℕ → Bool → ℕ → ℕ → Type 0
+StaysAt branches bytes parent rest whole before after = Ends branches parent rest before after ⊎ Misses branches bytes parent rest whole before after
 
 -- a walk stands at a branch: its way was passed, each byte of it was counted, and the rest of the name is left
 pub record StandsAt (side : Side) (rules : List MappingRule) (branches : List Branch) (bytes : List ℕ) (trie : IsTrie side rules branches bytes) (name : List ℕ) (branch : Branch) (rest : List ℕ) (before count : ℕ) : Type 0 where
@@ -258,4 +261,3 @@ pub record StandsAt (side : Side) (rules : List MappingRule) (branches : List Br
   pub real : IsReal at branch
   pub split : name ≡ trie.way at ++ rest
   pub counted : count ≡ count_after before (length (trie.way at) + 1)
-  pub no_zero : All (λ byte. byte ≢ 0) bytes → All (λ byte. byte ≢ 0) (trie.way at)

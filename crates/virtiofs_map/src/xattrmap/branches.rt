@@ -168,7 +168,8 @@ impl<'a> Trie<'a> {
         ensures step { (branches : List Branch) → AreRowsOf self.entry.rows.now branches
             → IsReadable branches self.entry.bytes.now parent
             → MatchOption result
-            (StaysAt branches self.entry.bytes.now parent rest.now steps.old steps.new)
+            (StaysAt branches self.entry.bytes.now parent rest.now whole_count
+            steps.old steps.new)
             (λ found. StepsTo branches self.entry.bytes.now parent rest.now
             found.0 found.1.now steps.old steps.new) }
         ensures shorter { IfSome result (λ found. length found.1.now < length rest.now) }
@@ -178,7 +179,7 @@ impl<'a> Trie<'a> {
         let label = self.label(child)?;
         let Some(left) = after_front(after, label) else {
             if whole_count {
-                steps.count_more(shared_length(after, label) as u64 + 1);
+                steps.count_more(shared_length(label, after) as u64 + 1);
             }
             return None;
         };

@@ -1,6 +1,7 @@
 //! Comparing rows of bytes: whether one begins with another, and how far two agree.
 
-ghost use Rattle.std.specs.Prelude.{◌≡◌, ◌↔◌, ◌≤◌, ◌<◌, ◌+◌, ◌*◌, false, IsTrue, MatchOption, length, take, ◌++◌};
+ghost use Rattle.std.specs.Prelude.{◌≡◌, ◌↔◌, ◌≤◌, ◌<◌, ◌+◌, ◌*◌, false, IsTrue, MatchOption, length, ◌++◌};
+ghost use Rattle.virtiofs_map.specs.FirstRule.{shared};
 ghost use Rattle.virtiofs_map.specs.Names.{begins};
 
 /// Whether two rows of bytes are the same, by their first `N` bytes and their last `N`.
@@ -66,9 +67,7 @@ pub(crate) fn after_front<'a>(row: &'a [u8], front: &[u8]) -> Option<&'a [u8]>
 
 /// How many bytes two rows share at their beginning.
 pub(crate) fn shared_length(one: &[u8], other: &[u8]) -> usize
-    ensures within_one { result ≤ length one.now }
-    ensures within_other { result ≤ length other.now }
-    ensures same { take result one.now ≡ take result other.now }
+    ensures { result ≡ shared one.now other.now }
 {
     let most = one.len().min(other.len());
     let mut count = 0;

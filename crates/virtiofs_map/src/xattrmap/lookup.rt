@@ -3,7 +3,7 @@
 ghost use Rattle.std.specs.Option.{option_map};
 ghost use Rattle.std.specs.Prelude.{◌≡◌, length, slice_get, All, IfSome};
 ghost use Rattle.virtiofs_map.specs.BranchParts.{IsTrieIn};
-ghost use Rattle.virtiofs_map.specs.FirstRule.{CountsLookup};
+ghost use Rattle.virtiofs_map.specs.FirstRule.{CountsFronts, CountsLookup};
 ghost use Rattle.virtiofs_map.specs.Names.{deciding, first};
 ghost use Rattle.virtiofs_map.specs.Rule.{HasNoZero};
 ghost use Rattle.virtiofs_map.specs.RuleParts.{rule_meant};
@@ -62,12 +62,15 @@ impl<A: Allocator> XattrMap<A> {
     /// no rule decides the name. It takes no memory.
     ///
     /// The steps are one for the root of the trie, and one for each byte that the beginning of the
-    /// name shares with patterns. Where a rule decides the name, these are at least one more than
-    /// its pattern on that side has bytes. They are at most one more than the name has bytes, and
-    /// at most one more than the longest pattern of that side has.
+    /// name shares with the pattern of that side with which it shares the most. Where a rule decides
+    /// the name, these are at least one more than its pattern on that side has bytes. They are at
+    /// most one more than the name has bytes, and at most one more than the longest pattern of that
+    /// side has.
     pub fn first_rule(&self, side: Side, name: XattrName<'_>, steps: &mut Steps) -> Option<usize>
         ensures first { result ≡ first side self.now name.entry.bytes.now }
         ensures steps { CountsLookup side self.now name.entry.bytes.now steps.old steps.new }
+        // One step more is counted than the most bytes that the name shares with a pattern.
+        ensures fronts { CountsFronts side self.now name.entry.bytes.now steps.old steps.new }
     {
         first_place(self.patterns(side), name.bytes, steps)
     }

@@ -1,8 +1,8 @@
 //! Walks along a trie.
 
-ghost use Rattle.std.specs.Prelude.{◌≡◌, ◌≤◌, List, length};
+ghost use Rattle.std.specs.Prelude.{◌≡◌, ◌≤◌, true, List, length};
 ghost use Rattle.virtiofs_map.specs.BranchParts.{CountsWalk, IsTrieIn, Passes};
-ghost use Rattle.virtiofs_map.specs.FirstRule.{CountsLookup};
+ghost use Rattle.virtiofs_map.specs.FirstRule.{CountsFronts, CountsLookup};
 ghost use Rattle.virtiofs_map.specs.Names.{first};
 ghost use Rattle.virtiofs_map.specs.Rule.{MappingRule};
 ghost use Rattle.virtiofs_map.specs.declared.xattrmap.scopes.Side.{Side};
@@ -19,9 +19,9 @@ use crate::xattrmap::branches::{NO_ANSWER, Trie};
 fn walk(trie: Trie<'_>, name: &[u8], whole_count: bool, steps: &mut Steps) -> (u64, usize)
     ensures passes { (side : Side) (rules : List MappingRule)
         → IsTrieIn side rules trie.entry.rows.now trie.entry.bytes.now
-        → Passes side rules trie.entry.bytes.now name.now result.0 result.1 }
+        → Passes side rules name.now result.0 result.1 }
     ensures counts { (side : Side) (rules : List MappingRule)
-        → IsTrieIn side rules trie.entry.rows.now trie.entry.bytes.now
+        → IsTrieIn side rules trie.entry.rows.now trie.entry.bytes.now → whole_count ≡ true
         → CountsWalk side rules name.now result.0 steps.old steps.new }
     ensures within { result.1 ≤ length name.now }
 {
@@ -40,14 +40,15 @@ fn walk(trie: Trie<'_>, name: &[u8], whole_count: bool, steps: &mut Steps) -> (u
 pub(crate) fn look_up(trie: Trie<'_>, name: &[u8]) -> (u64, usize)
     ensures passes { (side : Side) (rules : List MappingRule)
         → IsTrieIn side rules trie.entry.rows.now trie.entry.bytes.now
-        → Passes side rules trie.entry.bytes.now name.now result.0 result.1 }
+        → Passes side rules name.now result.0 result.1 }
     ensures within { result.1 ≤ length name.now }
 {
     walk(trie, name, false, &mut Steps::new())
 }
 
-/// The place of the first rule that fits a name. At least one step more is counted than the pattern
-/// that decides has bytes, and at most one more than the name and than the longest pattern.
+/// The place of the first rule that fits a name. One step more is counted than the most bytes that
+/// the name shares with a pattern. So at least one more is counted than the pattern that decides has
+/// bytes, and at most one more than the name and than the longest pattern.
 // (a counter of its own stays in a register)
 pub(crate) fn first_place(trie: Trie<'_>, name: &[u8], steps: &mut Steps) -> Option<usize>
     ensures first { (side : Side) (rules : List MappingRule)
@@ -56,6 +57,9 @@ pub(crate) fn first_place(trie: Trie<'_>, name: &[u8], steps: &mut Steps) -> Opt
     ensures steps { (side : Side) (rules : List MappingRule)
         → IsTrieIn side rules trie.entry.rows.now trie.entry.bytes.now
         → CountsLookup side rules name.now steps.old steps.new }
+    ensures fronts { (side : Side) (rules : List MappingRule)
+        → IsTrieIn side rules trie.entry.rows.now trie.entry.bytes.now
+        → CountsFronts side rules name.now steps.old steps.new }
 {
     let mut counted = Steps::new();
     let (answer, _) = walk(trie, name, true, &mut counted);

@@ -1,11 +1,12 @@
-use Rattle.std.proofs.Common.{◌≡◌, ◌≤◌, ◌-◌, take}
+use Rattle.std.proofs.Common.{◌≡◌, ◌+◌, ◌≤◌, ◌-◌, drop}
+use Rattle.virtiofs_map.specs.FirstRule.{shared}
 use Rattle.virtiofs_map.proofs.xattrmap.fronts.shared_length.Given as goal
 
--- the bytes so far are the same
+-- so many bytes are the same, and what is shared of the rests comes behind them
 abbrev pub invariant-loop-count : goal.invariant-loop-count
 invariant-loop-count l = record {
   within : l.count ≤ l.most;
-  same : take l.count l.one ≡ take l.count l.other;
+  so_far : l.count + shared (drop l.count l.one) (drop l.count l.other) ≡ shared l.one l.other;
 }
 
 -- what is left

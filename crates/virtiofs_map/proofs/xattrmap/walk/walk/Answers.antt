@@ -24,12 +24,14 @@ pub returns-clause-passes : goal.returns-clause-passes
 returns-clause-passes c = λ side rules inside.
     (let stands = c.loop-child.invariant.stands side rules inside in
     let readable = stands_readable side rules c.args.trie.rows.now c.args.trie.bytes.now inside c.args.name.now c.args.steps.now c.loop-child.branch c.loop-child.rest.now c.loop-child.steps stands in
-    stands_passed side rules c.args.trie.rows.now c.args.trie.bytes.now inside c.args.name.now c.args.steps.now c.loop-child.branch c.loop-child.rest.now c.loop-child.steps stands c.enter.new.steps
+    stands_passed side rules c.args.trie.rows.now c.args.trie.bytes.now inside c.args.name.now c.args.steps.now
+    c.loop-child.branch c.loop-child.rest.now c.loop-child.steps stands c.args.whole_count c.enter.new.steps
     (c.in_default.ensures.step inside.branches inside.rows_of readable))
 
 pub returns-clause-counts : goal.returns-clause-counts
-returns-clause-counts c = λ side rules inside.
+returns-clause-counts c = λ side rules inside whole.
     (let stands = c.loop-child.invariant.stands side rules inside in
     let readable = stands_readable side rules c.args.trie.rows.now c.args.trie.bytes.now inside c.args.name.now c.args.steps.now c.loop-child.branch c.loop-child.rest.now c.loop-child.steps stands in
-    stands_counted side rules c.args.trie.rows.now c.args.trie.bytes.now inside c.args.name.now c.args.steps.now c.loop-child.branch c.loop-child.rest.now c.loop-child.steps stands c.enter.new.steps
-    (c.in_default.ensures.step inside.branches inside.rows_of readable))
+    stands_counted side rules c.args.trie.rows.now c.args.trie.bytes.now inside c.args.name.now c.args.steps.now
+    c.loop-child.branch c.loop-child.rest.now c.loop-child.steps stands c.args.whole_count c.enter.new.steps
+    (c.in_default.ensures.step inside.branches inside.rows_of readable) whole)
