@@ -22,6 +22,7 @@ mod BuildLemmas
 mod ByteWordLemmas
 mod ChildrenLemmas
 mod CutLemmas
+mod FirstNameLemmas
 mod FirstRuleLemmas
 mod FittingLemmas
 mod FrontLemmas

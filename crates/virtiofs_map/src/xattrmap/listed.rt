@@ -1,52 +1,78 @@
 //! The host's names as the guest sees them, one at a time and where they stand.
 
-ghost use Rattle.std.specs.Prelude.{◌≡◌, ◌==◌, ◌+◌, ◌<◌, ◌≤◌, length, IfOk, IfErr, MatchOption};
 ghost use Rattle.std.specs.List.{before_first, after_first};
+ghost use Rattle.std.specs.Option.{option_map};
+ghost use Rattle.std.specs.Prelude.{◌≡◌, ◌≢◌, ◌==◌, ◌+◌, ◌<◌, ◌≤◌, List, length, take, position, All, IfOk, IfErr, IfSome, MatchOption};
 ghost use Rattle.virtiofs_map.specs.Listing.{listing, list_of};
-ghost use Rattle.virtiofs_map.specs.Names.{IsListed, IsHidden, IsUndecided, host_answer, server_answer};
+ghost use Rattle.virtiofs_map.specs.Names.{IsListed, IsHidden, IsUndecided, deciding, host_answer, server_answer};
+ghost use Rattle.virtiofs_map.specs.Rule.{MappingRule};
+ghost use Rattle.virtiofs_map.specs.RuleParts.{rule_meant};
 
 use crate::xattrmap::XattrMap;
 use crate::xattrmap::errors::{Error, ErrorKind};
-use crate::xattrmap::rules::RuleKind;
+use crate::xattrmap::rules::{RuleKind, RuleRef};
 use crate::xattrmap::scopes::Side;
 use std::alloc::{Allocator, Global};
 use std::iter::FusedIterator;
 use std::marker::Model;
 
+/// Where the first zero stands.
+fn first_zero(list: &[u8]) -> Option<usize>
+    ensures { result ≡ position (λ byte. byte == 0) list.now }
+{
+    list.iter().position(|byte| *byte == 0)
+}
+
 /// The first name of a list, up to a zero or to the end, and the rest of the list after that zero.
-pub(crate) fn cut_name(list: &[u8]) -> (&[u8], &[u8])
-    ensures name { result.0.now ≡ before_first (λ byte. byte == 0) list.now }
-    ensures rest { result.1.now ≡ after_first (λ byte. byte == 0) list.now }
+/// The zero is looked for behind the bytes of the name that were passed, which hold none.
+pub(crate) fn cut_name(list: &[u8], passed: usize) -> (&[u8], &[u8])
+    requires { passed ≤ length list.now }
+    ensures name { All (λ byte. byte ≢ 0) (take passed list.now)
+        → result.0.now ≡ before_first (λ byte. byte == 0) list.now }
+    ensures rest { All (λ byte. byte ≢ 0) (take passed list.now)
+        → result.1.now ≡ after_first (λ byte. byte == 0) list.now }
     ensures shorter { 0 < length list.now → length result.1.now < length list.now }
     ensures within { length result.0.now + length result.1.now ≤ length list.now }
     ensures zero { 0 < length result.1.now
         → length result.0.now + length result.1.now < length list.now }
 {
-    match list.iter().position(|byte| *byte == 0) {
-        Some(end) => (&list[..end], &list[end + 1..]),
+    match first_zero(&list[passed..]) {
+        Some(further) => {
+            let end = passed + further;
+            (&list[..end], &list[end + 1..])
+        }
         None => (list, &[]),
     }
 }
 
-impl<A: Allocator> XattrMap<A> {
-    /// What the guest sees of one name of the host: `None` where it is hidden.
-    fn listed_as<'n>(&self, name: &'n [u8]) -> Result<Option<&'n [u8]>, ErrorKind<A>>
-        ensures decided { IfOk result (λ shown. MatchOption shown
-            (host_answer self.now name.now ≡ IsHidden)
-            (λ listed. host_answer self.now name.now ≡ IsListed listed.now)) }
-        ensures undecided { IfErr result (λ _. host_answer self.now name.now ≡ IsUndecided) }
-        ensures error { IfErr result (λ cause. cause ≡ ErrorKind.UnterminatedMapping) }
-    {
-        let Some(rule) = self.deciding(Side::Server, name) else {
-            return Err(ErrorKind::UnterminatedMapping);
-        };
-        Ok(match rule.kind {
-            RuleKind::Okay => Some(name),
-            RuleKind::Prefix => Some(&name[rule.prepend.len()..]),
-            RuleKind::Bad | RuleKind::Unsupported => None,
-        })
-    }
+/// What the guest sees of a name of the host, by the rule that decides it: `None` where it is
+/// hidden.
+fn listed_as<'n, A: Allocator>(
+    rule: Option<RuleRef<'_>>,
+    name: &'n [u8],
+) -> Result<Option<&'n [u8]>, ErrorKind<A>>
+    requires { IfSome rule (λ rule. length rule.prepend.now ≤ length name.now) }
+    ensures decided { (rules : List MappingRule)
+        → option_map rule_meant rule.entry ≡ deciding Side.Server rules name.now
+        → IfOk result (λ shown. MatchOption shown
+        (host_answer rules name.now ≡ IsHidden)
+        (λ listed. host_answer rules name.now ≡ IsListed listed.now)) }
+    ensures undecided { (rules : List MappingRule)
+        → option_map rule_meant rule.entry ≡ deciding Side.Server rules name.now
+        → IfErr result (λ _. host_answer rules name.now ≡ IsUndecided) }
+    ensures error { IfErr result (λ cause. cause ≡ ErrorKind.UnterminatedMapping) }
+{
+    let Some(rule) = rule else {
+        return Err(ErrorKind::UnterminatedMapping);
+    };
+    Ok(match rule.kind {
+        RuleKind::Okay => Some(name),
+        RuleKind::Prefix => Some(&name[rule.prepend.len()..]),
+        RuleKind::Bad | RuleKind::Unsupported => None,
+    })
+}
 
+impl<A: Allocator> XattrMap<A> {
     /// The names of the host's list that the guest sees, in order, each under the name that it
     /// sees and without a zero. The list holds names with a zero after each, where the last needs
     /// none and an empty name counts for nothing.
@@ -110,12 +136,13 @@ impl<'m, 'a, A: Allocator> Iterator for ListedNames<'m, 'a, A> {
 
     fn next(&mut self) -> Option<Result<&'a [u8], Error<A>>> {
         'names: while !self.rest.is_empty() {
-            let (name, rest) = cut_name(self.rest);
+            let (rule, passed) = self.map.deciding_first(self.rest);
+            let (name, rest) = cut_name(self.rest, passed);
             self.rest = rest;
             if name.is_empty() {
                 continue;
             }
-            match self.map.listed_as(name) {
+            match listed_as(rule, name) {
                 Ok(Some(listed)) => return Some(Ok(listed)),
                 Ok(None) => {}
                 Err(cause) => {

@@ -1,7 +1,8 @@
 //! The rules of a map, and the first one that fits a name.
 
+ghost use Rattle.std.specs.List.{before_first};
 ghost use Rattle.std.specs.Option.{option_map};
-ghost use Rattle.std.specs.Prelude.{◌≡◌, length, slice_get, All, IfSome};
+ghost use Rattle.std.specs.Prelude.{◌≡◌, ◌≢◌, ◌==◌, ◌≤◌, length, take, slice_get, All, IfSome};
 ghost use Rattle.virtiofs_map.specs.BranchParts.{IsTrieIn};
 ghost use Rattle.virtiofs_map.specs.FirstRule.{CountsFronts, CountsLookup};
 ghost use Rattle.virtiofs_map.specs.Names.{deciding, first};
@@ -36,7 +37,8 @@ impl<A: Allocator> XattrMap<A> {
 
     /// The trie of the patterns of that side.
     fn patterns(&self, side: Side) -> Trie<'_>
-        ensures { IsTrieIn side self.now result.rows.now result.bytes.now }
+        ensures trie { IsTrieIn side self.now result.rows.now result.bytes.now }
+        ensures no_zero { All HasNoZero self.now }
     {
         let rows = match side {
             Side::Client => self.client.as_slice(),
@@ -55,6 +57,21 @@ impl<A: Allocator> XattrMap<A> {
             return None;
         }
         self.rule((answer / 4) as usize)
+    }
+
+    /// The rule that decides the first name of a list of the host, and so many bytes of that name
+    /// that were passed to find it. The name goes on to a zero or to the end of the list.
+    pub(crate) fn deciding_first(&self, list: &[u8]) -> (Option<RuleRef<'_>>, usize)
+        ensures found { option_map rule_meant result.0
+            ≡ deciding Side.Server self.now (before_first (λ byte. byte == 0) list.now) }
+        ensures no_zero { All (λ byte. byte ≢ 0) (take result.1 list.now) }
+        ensures within { result.1 ≤ length list.now }
+    {
+        let (answer, passed) = look_up(self.patterns(Side::Server), list);
+        if answer == NO_ANSWER {
+            return (None, passed);
+        }
+        (self.rule((answer / 4) as usize), passed)
     }
 
     /// The position of the first rule that decides the name on that side, counted from 0 in the

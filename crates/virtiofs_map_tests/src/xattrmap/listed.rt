@@ -63,7 +63,7 @@ type Given = (
     Ending,
 );
 
-const GIVEN: [Given; 12] = [
+const GIVEN: [Given; 15] = [
     (
         BOTH,
         b"user.virtiofs.a\0trusted.b\0c\0user.virtiofs.",
@@ -72,6 +72,20 @@ const GIVEN: [Given; 12] = [
     ),
     (BOTH, b"trusted.b\0", &[], Ending::Whole),
     (BOTH, b"user.virtiofs.\0\0\0x", &[b"", b"x"], Ending::Whole),
+    // A pattern does not go on beyond the end of a name.
+    (
+        BOTH,
+        b"user.\0virtiofs.a\0user.virtiofs\0.b",
+        &[b"user.", b"virtiofs.a", b"user.virtiofs", b".b"],
+        Ending::Whole,
+    ),
+    (":ok:server::ab:", b"a\0b", &[], Ending::Undecided),
+    (
+        ":prefix:server::abc: :ok:server:::",
+        b"abc\0ab\0c\0abcd",
+        &[b"", b"ab", b"c", b"d"],
+        Ending::Whole,
+    ),
     (":ok:client:::", b"", &[], Ending::Whole),
     (":ok:client:::", b"\0\0", &[], Ending::Whole),
     (":ok:client:::", b"x", &[], Ending::Undecided),

@@ -2,8 +2,8 @@
 
 ghost use Rattle.std.specs.Prelude.{◌≡◌, ◌+◌, ◌∷◌, [], ◌++◌, ◌<◌, ◌≤◌, ℕ, List, length};
 ghost use Rattle.virtiofs_map.specs.Names.{host_answer, server_answer};
-ghost use Rattle.virtiofs_map.specs.NamesImage.{IsImage, IsNoImage, WritesList};
-ghost use Rattle.virtiofs_map.specs.NamesImageParts.{ArePartsOf, Holds, IsNoLonger, IsSeenAs};
+ghost use Rattle.virtiofs_map.specs.NamesImage.{IsImage, IsNoImage, Says, WritesList};
+ghost use Rattle.virtiofs_map.specs.NamesImageParts.{Holds, IsNoLonger, IsSeenAs};
 ghost use Rattle.virtiofs_map.specs.Rule.{MappingRule};
 ghost use Rattle.virtiofs_map.specs.declared.xattrmap.scopes.Side.TheVariants.{Server};
 
@@ -22,14 +22,15 @@ pub(crate) enum Seen<'n> {
     Listed(&'n [u8]),
 }
 
-/// What the guest sees of one name of the host. What is listed is no longer than the name.
+/// What the guest sees of a name of the host, by what decides it. What is listed is no longer than
+/// the name.
 #[inline(always)]
-fn seen_as<'n>(parts: Parts<'_>, name: &'n [u8]) -> Seen<'n>
-    ensures seen { (rules : List MappingRule) → ArePartsOf Server rules parts.entry
+fn seen_as<'n>(decision: Decision<'_>, name: &'n [u8]) -> Seen<'n>
+    ensures seen { (rules : List MappingRule) → Says Server rules name.now decision.entry
         → IsSeenAs (host_answer rules name.now) result }
     ensures short { IsNoLonger (length name.now) result }
 {
-    match parts.decide(name) {
+    match decision {
         Decision::NoMap => Seen::NoMap,
         Decision::Undecided => Seen::Undecided,
         Decision::Okay => Seen::Listed(name),
@@ -77,12 +78,13 @@ pub fn write_list(image: &[u8], list: &[u8], out: &mut [u8]) -> ListWritten
     let mut rest = list;
     let mut end = 0;
     'names: while !rest.is_empty() {
-        let (name, left) = cut_name(rest);
+        let (decision, passed) = parts.decide_first(rest);
+        let (name, left) = cut_name(rest, passed);
         rest = left;
         if name.is_empty() {
             continue;
         }
-        match seen_as(parts, name) {
+        match seen_as(decision, name) {
             Seen::NoMap => return ListWritten::NoMap,
             Seen::Undecided => return ListWritten::Undecided,
             Seen::Hidden => {}

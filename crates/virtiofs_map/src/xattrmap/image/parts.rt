@@ -1,6 +1,7 @@
 //! The parts of an image by which names are decided.
 
-ghost use Rattle.std.specs.Prelude.{◌≡◌, ◌↔◌, ℕ, List, IsNone, IsSomeAnd, IsTrue, is_some};
+ghost use Rattle.std.specs.List.{before_first};
+ghost use Rattle.std.specs.Prelude.{◌≡◌, ◌≢◌, ◌==◌, ◌↔◌, ◌≤◌, ℕ, List, length, take, All, IsNone, IsSomeAnd, IsTrue, is_some};
 ghost use Rattle.virtiofs_map.specs.BranchParts.{answer_of};
 ghost use Rattle.virtiofs_map.specs.Names.{deciding};
 ghost use Rattle.virtiofs_map.specs.NamesImage.{IsImage, IsNoImage, Says};
@@ -76,6 +77,21 @@ impl<'m> Parts<'m> {
     {
         let (answer, _) = look_up(Trie::new(self.rows, self.bytes), name);
         self.say(answer)
+    }
+
+    /// What the rule does that decides the first name of a list, and so many bytes of that name that
+    /// were passed to find it. The name goes on to a zero or to the end of the list.
+    #[inline(always)]
+    pub(crate) fn decide_first(self, list: &[u8]) -> (Decision<'m>, usize)
+        ensures says { (side : Side) (rules : List MappingRule) → ArePartsOf side rules self.entry
+            → Says side rules (before_first (λ byte. byte == 0) list.now) result.0 }
+        ensures no_zero { (side : Side) (rules : List MappingRule)
+            → ArePartsOf side rules self.entry
+            → All (λ byte. byte ≢ 0) (take result.1 list.now) }
+        ensures within { result.1 ≤ length list.now }
+    {
+        let (answer, passed) = look_up(Trie::new(self.rows, self.bytes), list);
+        (self.say(answer), passed)
     }
 
     /// Whether some rule fits the name.

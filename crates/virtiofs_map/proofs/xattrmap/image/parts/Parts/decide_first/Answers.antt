@@ -1,0 +1,17 @@
+use Rattle.std.proofs.Common.{◌∙◌}
+use Rattle.std.specs.List.{before_first}
+use Rattle.virtiofs_map.proofs.FirstNameLemmas.{answer_of_list}
+use Rattle.virtiofs_map.proofs.ServerListLemmas.{is_zero}
+use Rattle.virtiofs_map.proofs.xattrmap.image.parts.Parts.decide_first.Goals as goal
+
+pub returns-clause-says : goal.returns-clause-says
+returns-clause-says c = λ side rules parts.
+    (let passes = c.look_up-answer.ensures.passes side rules
+    (rw (c.new.ensures.rows, c.new.ensures.bytes) parts.trie) in
+    c.say.ensures side rules (before_first is_zero c.args.list.now) parts
+    (passes.walks.answers ∙ answer_of_list side rules c.args.list.now parts.no_zero))
+
+pub returns-clause-no_zero : goal.returns-clause-no_zero
+returns-clause-no_zero c = λ side rules parts.
+    (c.look_up-answer.ensures.passes side rules (rw (c.new.ensures.rows, c.new.ensures.bytes) parts.trie)).no_zero
+    parts.no_zero
