@@ -38,8 +38,8 @@
  * No function keeps a pointer after it has returned.
  *
  * MEMORY. Only `.._make`, `.._make_texts`, `virtiofs_spec_read` and the decisions
- * `.._audit`, `.._audit_listed` and `.._apart` ask for memory. They give all of it
- * back before they return. They use malloc, realloc and free, which are the C
+ * `.._audit`, `.._audit_listed`, `.._apart` and `.._share_none` ask for memory. They
+ * give all of it back before they return. They use malloc, realloc and free, which are the C
  * library's, or as good: all three of one allocator, aligned to 16 bytes. So these
  * calls must not be made in a signal handler, or in the child of a fork of a program
  * with threads. All other calls may.
@@ -310,6 +310,12 @@ uint32_t virtiofs_map_names_apart(const uint8_t *bytes, size_t map_len,
                                   const uint8_t *other_bytes, size_t other_len,
                                   bool *yes, uint8_t *out, size_t room, size_t *len);
 
+/* As virtiofs_names_share_none. */
+VIRTIOFS_CHECKED((1, 3, 5, 6, 8))
+uint32_t virtiofs_map_names_share_none(const uint8_t *bytes, size_t map_len,
+                                       const uint8_t *other_bytes, size_t other_len,
+                                       bool *yes, uint8_t *out, size_t room, size_t *len);
+
 /* A pointer and its length. Where the length is 0, the pointer becomes an aligned address
    that is not NULL. */
 #define VIRTIOFS_SLICE(type, at, len) ((len) ? (at) : (type *)(uintptr_t)16), (len)
@@ -530,8 +536,8 @@ static inline uint32_t virtiofs_names_server(struct virtiofs_names map,
  * in the order of bytes; the beginning of a name comes before the name. OK: *yes tells
  * whether the answer is yes for all names. Where the code is not OK, *yes is false.
  *
- * The time of `.._audit`, `.._audit_listed` and `.._apart` grows with the square of the
- * number of rules. For 6,400 rules it is of the order of seconds: 1.5 were seen, and up to 8
+ * The time of `.._audit`, `.._audit_listed`, `.._apart` and `.._share_none` grows with the
+ * square of the number of rules. For 6,400 rules it is of the order of seconds: 1.5 were seen, and up to 8
  * on a busy machine. So ask them when a map is made, and not while a guest waits.
  */
 
@@ -579,6 +585,22 @@ static inline uint32_t virtiofs_names_apart(struct virtiofs_names first,
     return virtiofs_map_names_apart(VIRTIOFS_SLICE(const uint8_t, first.bytes, first.len),
                                     VIRTIOFS_SLICE(const uint8_t, second.bytes, second.len),
                                     yes, VIRTIOFS_SLICE(uint8_t, out, room), len);
+}
+
+/* Whether no non-empty name of the host is reached by both guests, that is, whether no name of
+   the first guest passes as a name of the host as which some name of the second passes too.
+   virtiofs_names_apart is about lists, and this call about what a name opens: neither answer
+   follows from the other. OK: where *yes is false, the least name of the first guest whose
+   host name the second reaches too is in `out`. NO_ROOM; NO_MEMORY. NO_MAP: one of the two
+   is no map. Both may be the same map. */
+VIRTIOFS_CHECKED((3, 6))
+static inline uint32_t virtiofs_names_share_none(struct virtiofs_names first,
+                                                 struct virtiofs_names second, bool *yes,
+                                                 uint8_t *out, size_t room, size_t *len)
+{
+    return virtiofs_map_names_share_none(VIRTIOFS_SLICE(const uint8_t, first.bytes, first.len),
+                                         VIRTIOFS_SLICE(const uint8_t, second.bytes, second.len),
+                                         yes, VIRTIOFS_SLICE(uint8_t, out, room), len);
 }
 
 #ifdef __cplusplus

@@ -69,6 +69,8 @@ mod ffi {
             out: *mut u8, room: usize, len: &mut usize) -> u32;
         pub fn virtiofs_map_names_apart(bytes: *const u8, map_len: usize, other_bytes: *const u8, other_len: usize,
             yes: &mut bool, out: *mut u8, room: usize, len: &mut usize) -> u32;
+        pub fn virtiofs_map_names_share_none(bytes: *const u8, map_len: usize, other_bytes: *const u8, other_len: usize,
+            yes: &mut bool, out: *mut u8, room: usize, len: &mut usize) -> u32;
     }
 
     /// The numbers of a map, which `make` writes into a buffer that is always long enough, or the fault.
@@ -754,12 +756,20 @@ pub mod xattrmap {
         /// Whether the other map hides every non-empty name of the host that the guest of this map can reach. Then
         /// names that the guest of this map reaches make no difference to the lists of the other.
         pub fn keeps_apart(&self, other: &XattrMap) -> Result<Audit, Error> {
+            self.compared(other, ffi::virtiofs_map_names_apart)
+        }
+
+        /// Whether no non-empty name of the host is reached by the guest of this map and by that of the other. The
+        /// name of a `No` is one of the guest of this map, and the least whose host name the other reaches too.
+        pub fn shares_no_name(&self, other: &XattrMap) -> Result<Audit, Error> {
+            self.compared(other, ffi::virtiofs_map_names_share_none)
+        }
+
+        fn compared(&self, other: &XattrMap, call: Comparison) -> Result<Audit, Error> {
             let (bytes, map_len) = (self.bytes.as_ptr(), self.bytes.len());
             let (others, other_len) = (other.bytes.as_ptr(), other.bytes.len());
             // Sound: the maps are lent for the call, which writes to `yes`, `len` and the room of `out` alone.
-            told(|yes, out, room, len| unsafe {
-                ffi::virtiofs_map_names_apart(bytes, map_len, others, other_len, yes, out, room, len)
-            })
+            told(|yes, out, room, len| unsafe { call(bytes, map_len, others, other_len, yes, out, room, len) })
         }
 
         fn decided(&self, call: Decision) -> Result<Audit, Error> {
@@ -770,6 +780,8 @@ pub mod xattrmap {
     }
 
     type Decision = unsafe extern "C" fn(*const u8, usize, &mut bool, *mut u8, usize, &mut usize) -> u32;
+    type Comparison =
+        unsafe extern "C" fn(*const u8, usize, *const u8, usize, &mut bool, *mut u8, usize, &mut usize) -> u32;
 
     /// The answer of a decision, which is asked again where its name has more than `ROOM` bytes.
     fn told(ask: impl Fn(&mut bool, *mut u8, usize, &mut usize) -> u32) -> Result<Audit, Error> {

@@ -125,6 +125,8 @@ static int are_names_well(const uint8_t *bytes, size_t map_len, int with_audits)
     code = virtiofs_names_audit_listed(map, &yes, buffer(9), 9, &len);
     all &= is_well(code, audits, len, 9) && (!code || !yes);
     code = virtiofs_names_apart(map, map, &yes, buffer(9), 9, &len);
+    all &= is_well(code, audits, len, 9) && (!code || !yes);
+    code = virtiofs_names_share_none(map, map, &yes, buffer(9), 9, &len);
     return all && is_well(code, audits, len, 9) && (!code || !yes);
 }
 

@@ -157,7 +157,7 @@ fn ask_names(names: &XattrMap, state: &mut u64) {
     let list = b"trusted.virtiofs.security.selinux\0security.selinux\0user.note\0a.ab";
     let _ = (names.map_server_xattrlist(list.to_vec()), names.is_terminated());
     if random(state) % 64 == 0 {
-        let _ = (names.audit(), names.audit_listed(), names.keeps_apart(names));
+        let _ = (names.audit(), names.audit_listed(), names.keeps_apart(names), names.shares_no_name(names));
     }
 }
 

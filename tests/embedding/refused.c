@@ -162,6 +162,11 @@ static enum answer apart(void)
     return by_code(virtiofs_names_apart(names, other, &yes, out, ROOM, &len), VIRTIOFS_OK);
 }
 
+static enum answer share_none(void)
+{
+    return by_code(virtiofs_names_share_none(names, other, &yes, out, ROOM, &len), VIRTIOFS_OK);
+}
+
 /* ---- calls that take none ---- */
 
 static enum answer guest(void)
@@ -246,6 +251,7 @@ static const struct row {
     { "names_audit", audit, 1 },
     { "names_audit_listed", audit_listed, 1 },
     { "names_apart", apart, 1 },
+    { "names_share_none", share_none, 1 },
     { "uids_make of none", no_specs, 0 },
     { "uids_guest", guest, 0 },
     { "gids_host", host, 0 },

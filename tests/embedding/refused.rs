@@ -159,6 +159,7 @@ fn audits(tally: &mut Tally) {
     tally.refuse("audit_listed", || map.audit_listed().map_or_else(is_memory, |audit| Some(audit == wanted)));
     let wanted = Audit::No(c"\x01".into());
     tally.refuse("keeps_apart", || map.keeps_apart(&map).map_or_else(is_memory, |audit| Some(audit == wanted)));
+    tally.refuse("shares_no_name", || map.shares_no_name(&map).map_or_else(is_memory, |audit| Some(audit == wanted)));
 }
 
 fn lookups(tally: &mut Tally) {

@@ -387,7 +387,7 @@ static struct virtiofs_names names_of(uint8_t *bytes, const char *rules)
     return map;
 }
 
-enum form { CLIENT, SERVER, TERMINATED, AUDIT, AUDIT_LISTED, APART };
+enum form { CLIENT, SERVER, TERMINATED, AUDIT, AUDIT_LISTED, APART, SHARE_NONE };
 
 static uint32_t ask(enum form form, struct virtiofs_names map, struct virtiofs_names second, const uint8_t *asked,
                     size_t asked_len, bool *yes, uint8_t *out, size_t room, size_t *len)
@@ -398,6 +398,7 @@ static uint32_t ask(enum form form, struct virtiofs_names map, struct virtiofs_n
     case AUDIT: return virtiofs_names_audit(map, yes, out, room, len);
     case AUDIT_LISTED: return virtiofs_names_audit_listed(map, yes, out, room, len);
     case APART: return virtiofs_names_apart(map, second, yes, out, room, len);
+    case SHARE_NONE: return virtiofs_names_share_none(map, second, yes, out, room, len);
     default: *len = 0; return virtiofs_names_terminated(map, yes);
     }
 }
@@ -405,7 +406,7 @@ static uint32_t ask(enum form form, struct virtiofs_names map, struct virtiofs_n
 static const struct names_row {
     enum form form;
     const char *rules;
-    const char *asked; /* of APART the second rules */
+    const char *asked; /* of APART and SHARE_NONE the second rules */
     size_t asked_len;
     uint32_t code;
     bool yes; /* of a decision */
@@ -466,6 +467,13 @@ static const struct names_row {
     NO(APART, ":ok:all:::", ":ok:all:::", "\1"),
     YES(APART, ":map::a.:", ":unsupported:server::a.: :ok:all:::"),
     NO(APART, ":prefix:all:x:a.: :bad:all:::", ":map::a.:", "x"),
+    YES(APART, ":ok:client::: :bad:server:::", ":ok:client::: :bad:server:::"),
+    NO(SHARE_NONE, ":ok:client::: :bad:server:::", ":ok:client::: :bad:server:::", "\1"),
+    YES(SHARE_NONE, ":map::a.:", ":map::b.:"),
+    NO(SHARE_NONE, ":map::a.:", ":map::a.b.:", "b."),
+    NO(SHARE_NONE, ":map::a.b.:", ":map::a.:", ""),
+    YES(SHARE_NONE, ":bad:all:::", ":ok:all:::"),
+    NO(SHARE_NONE, ":prefix:all:x:a.: :bad:all:::", ":map::a.:", "x"),
 #undef NAMES
 #undef YES
 #undef NO
@@ -481,7 +489,7 @@ static void test_names(void)
         uint8_t bytes[2][BYTES];
         struct virtiofs_names map = names_of(bytes[0], row->rules), second = { NULL, 0 };
         SEE_ROW(map.len > 0 && map.len <= virtiofs_names_bound(strlen(row->rules)), row->rules);
-        if (row->form == APART) {
+        if (row->form >= APART) {
             second = names_of(bytes[1], row->asked);
             SEE_ROW(second.len > 0, row->asked);
         }
@@ -595,6 +603,7 @@ static void test_pointers_to_nothing(void)
     SEE(virtiofs_names_server(map, (const uint8_t *)"user.ab", 7, NULL, 0, &len) == VIRTIOFS_NO_ROOM && len == 3);
     SEE(virtiofs_names_audit(map, &yes, NULL, 0, &len) == VIRTIOFS_OK && yes && !len);
     SEE(virtiofs_names_apart(map, map, &yes, NULL, 0, &len) == VIRTIOFS_OK && !yes && !len);
+    SEE(virtiofs_names_share_none(map, map, &yes, NULL, 0, &len) == VIRTIOFS_OK && !yes && !len);
     map = names_of(bytes, ":ok:client:::");
     SEE(virtiofs_names_client(map, NULL, 0, NULL, 0, &len) == VIRTIOFS_AS_IT_IS && !len);
     SEE(virtiofs_names_audit(map, &yes, NULL, 0, &len) == VIRTIOFS_NO_ROOM && !yes && len == 1);
@@ -639,15 +648,18 @@ static void see_no_map(const uint32_t *words, size_t count, const uint8_t *bytes
         SEE_ROW(virtiofs_gids_guest(groups, 1, &to) == VIRTIOFS_NO_MAP && to == 17, row);
         SEE_ROW(virtiofs_gids_host(groups, 1, &to) == VIRTIOFS_NO_MAP && to == 17, row);
     }
-    for (int form = CLIENT; (bytes || !len) && form <= APART + 1; form++) {
-        static const uint8_t asked[] = { 'a', 'b', 0, 'c' };
-        uint8_t out[1] = { UNTOUCHED };
-        size_t told = 77, asked_len = form == CLIENT ? 2 : 4;
-        bool yes = true, is_second = form > APART;
-        SEE_ROW(ask(is_second ? APART : (enum form)form, is_second ? map : names, is_second ? names : map, asked,
-                    asked_len, &yes, out, 1, &told) == VIRTIOFS_NO_MAP,
-                row);
-        SEE_ROW(!told && (form == SERVER || out[0] == UNTOUCHED) && (form < TERMINATED || !yes), row);
+    for (int form = CLIENT; (bytes || !len) && form <= SHARE_NONE; form++) {
+        for (int is_second = 0; is_second <= (form >= APART); is_second++) {
+            static const uint8_t asked[] = { 'a', 'b', 0, 'c' };
+            uint8_t out[1] = { UNTOUCHED };
+            size_t told = 77, asked_len = form == CLIENT ? 2 : 4;
+            bool yes = true;
+            SEE_ROW(ask((enum form)form, is_second ? map : names, is_second ? names : map, asked, asked_len, &yes, out,
+                        1, &told)
+                        == VIRTIOFS_NO_MAP,
+                    row);
+            SEE_ROW(!told && (form == SERVER || out[0] == UNTOUCHED) && (form < TERMINATED || !yes), row);
+        }
     }
 }
 
@@ -735,6 +747,7 @@ static void test_rounds(void)
         wrong += virtiofs_names_audit(names, &yes, out, 32, &len) != VIRTIOFS_OK || !yes;
         wrong += virtiofs_names_audit_listed(names, &yes, out, 2, &len) != VIRTIOFS_NO_ROOM || yes;
         wrong += virtiofs_names_apart(names, names, &yes, out, 32, &len) != VIRTIOFS_OK || yes;
+        wrong += virtiofs_names_share_none(names, names, &yes, out, 32, &len) != VIRTIOFS_OK || yes;
         free(words);
         free(bytes);
     }

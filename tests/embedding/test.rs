@@ -501,6 +501,16 @@ fn audits_tell_the_least_name() {
     assert_eq!(map.keeps_apart(&map).unwrap(), no(b"\x01"));
 }
 
+#[test]
+fn two_guests_share_no_name() {
+    let map = rules(":ok:client::: :bad:server:::");
+    assert_eq!(map.keeps_apart(&map).unwrap(), Audit::Yes);
+    assert_eq!(map.shares_no_name(&map).unwrap(), no(b"\x01"));
+    assert_eq!(rules(":map::a.:").shares_no_name(&rules(":map::b.:")).unwrap(), Audit::Yes);
+    assert_eq!(rules(":map::a.:").shares_no_name(&rules(":map::a.b.:")).unwrap(), no(b"b."));
+    assert_eq!(rules(":map::a.b.:").shares_no_name(&rules(":map::a.:")).unwrap(), no(b""));
+}
+
 /// The least name has just the room that a decision asks for first, one byte more, and many.
 #[test]
 fn names_of_audits_have_any_length() {

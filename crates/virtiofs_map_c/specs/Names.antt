@@ -75,3 +75,7 @@ abbrev pub TellsLeast : (List ℕ → Type 0) → List ℕ → ℕ → Bool → 
 TellsLeast bad old code all len new =
     ((audit : Audit Global) × AnswersLeast bad audit × TellsFound audit old code all len new)
     ⊎ TellsNo no_memory old code all len new
+
+-- that one of two is no map is told; or out of memory
+abbrev pub TellsNoMap : List ℕ → ℕ → Bool → ℕ → List ℕ → Type 0
+TellsNoMap old code all len new = TellsNo no_map old code all len new ⊎ TellsNo no_memory old code all len new

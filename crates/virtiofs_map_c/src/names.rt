@@ -1,6 +1,6 @@
 //! Maps of attribute names, in the caller's bytes.
 ghost use Rattle.std.specs.Prelude.{◌≡◌, ◌≢◌, ◌↔◌, ◌+◌, ◌*◌, ℕ, List, Contains, IsTrue, false, min};
-ghost use Rattle.virtiofs_map.specs.Audit.{IsLost, IsStray, IsSeen, Terminated};
+ghost use Rattle.virtiofs_map.specs.Audit.{IsLost, IsStray, IsSeen, IsShared, Terminated};
 ghost use Rattle.virtiofs_map.specs.LookupAnswers.{IsDecidedBy};
 ghost use Rattle.virtiofs_map.specs.Names.{server_answer};
 ghost use Rattle.virtiofs_map.specs.NamesImage.{IsImage, IsNoImage};
@@ -8,22 +8,24 @@ ghost use Rattle.virtiofs_map.specs.Rule.{MappingRule, Okay, Prefix};
 ghost use Rattle.virtiofs_map_c.specs.Codes.{ok, as_it_is, no_map};
 ghost use Rattle.virtiofs_map_c.specs.Faults.{no_fault};
 ghost use Rattle.virtiofs_map_c.specs.Makes.{IsAnswered, TellsFault, MakesOrTells, TellsThis};
-ghost use Rattle.virtiofs_map_c.specs.Names.{AnswersClient, IsClientCode, TellsNames, TellsServer, TellsLeast};
+ghost use Rattle.virtiofs_map_c.specs.Names.{AnswersClient, IsClientCode, TellsNames, TellsServer, TellsLeast, TellsNo, TellsNoMap};
 ghost use Rattle.virtiofs_map_c.specs.Rules.{BytesSayRules, BytesFault, HasBytesFault, IsBytesTold};
 
 mod lookups;
 mod made;
+mod opened;
 mod reading;
 
 use crate::buffer::nothing;
-use crate::codes::{NO_MAP, NO_MEMORY, NO_NAME, NO_ROOM, OK, UNTERMINATED};
+use crate::codes::{NO_MAP, NO_NAME, NO_ROOM, OK, UNTERMINATED};
 use crate::fault::Fault;
 use lookups::{tell, tell_client, tell_none};
 use made::{made, tell_of_rules};
+use opened::{both, opened};
 use std::alloc::Global;
-use virtiofs_map::audit::{audit, audit_listed, keeps_apart};
+use virtiofs_map::audit::{audit, audit_listed, keeps_apart, shares_no_name};
+use virtiofs_map::xattrmap::Side;
 use virtiofs_map::xattrmap::image::{Decision, ListWritten, decide, is_terminated, write_list};
-use virtiofs_map::xattrmap::{Side, XattrMap};
 
 /// How many bytes the map of a text of that length has at most.
 #[unsafe(no_mangle)]
@@ -149,11 +151,11 @@ pub extern "C" fn virtiofs_map_names_audit(
 ) -> u32
     ensures answer { (rules : List MappingRule) → IsImage rules bytes.now
         → TellsLeast (IsLost rules) out.old result all.new len.new out.new }
+    ensures no_map { IsNoImage bytes.now → TellsNo no_map out.old result all.new len.new out.new }
 {
-    match XattrMap::of_image(alloc, bytes) {
-        Ok(Some(map)) => tell(audit(alloc, &map), all, out, len),
-        Ok(None) => tell_none(NO_MAP, all, len),
-        Err(_) => tell_none(NO_MEMORY, all, len),
+    match opened(alloc, bytes) {
+        Ok(map) => tell(audit(alloc, &map), all, out, len),
+        Err(code) => tell_none(code, all, len),
     }
 }
 
@@ -168,11 +170,11 @@ pub extern "C" fn virtiofs_map_names_audit_listed(
 ) -> u32
     ensures answer { (rules : List MappingRule) → IsImage rules bytes.now
         → TellsLeast (IsStray rules) out.old result all.new len.new out.new }
+    ensures no_map { IsNoImage bytes.now → TellsNo no_map out.old result all.new len.new out.new }
 {
-    match XattrMap::of_image(alloc, bytes) {
-        Ok(Some(map)) => tell(audit_listed(alloc, &map), all, out, len),
-        Ok(None) => tell_none(NO_MAP, all, len),
-        Err(_) => tell_none(NO_MEMORY, all, len),
+    match opened(alloc, bytes) {
+        Ok(map) => tell(audit_listed(alloc, &map), all, out, len),
+        Err(code) => tell_none(code, all, len),
     }
 }
 
@@ -189,15 +191,33 @@ pub extern "C" fn virtiofs_map_names_apart(
     ensures answer { (rules others : List MappingRule) → IsImage rules first.now
         → IsImage others second.now
         → TellsLeast (IsSeen rules others) out.old result all.new len.new out.new }
+    ensures no_map { IsNoImage first.now → TellsNo no_map out.old result all.new len.new out.new }
+    ensures no_other { IsNoImage second.now → TellsNoMap out.old result all.new len.new out.new }
 {
-    let one = match XattrMap::of_image(alloc, first) {
-        Ok(Some(map)) => map,
-        Ok(None) => return tell_none(NO_MAP, all, len),
-        Err(_) => return tell_none(NO_MEMORY, all, len),
-    };
-    match XattrMap::of_image(alloc, second) {
-        Ok(Some(other)) => tell(keeps_apart(alloc, &one, &other), all, out, len),
-        Ok(None) => tell_none(NO_MAP, all, len),
-        Err(_) => tell_none(NO_MEMORY, all, len),
+    match both(alloc, first, second) {
+        Ok((one, other)) => tell(keeps_apart(alloc, &one, &other), all, out, len),
+        Err(code) => tell_none(code, all, len),
+    }
+}
+
+/// Whether no name of the host is reached by a guest with the first map and by one with the second.
+#[unsafe(no_mangle)]
+pub extern "C" fn virtiofs_map_names_share_none(
+    alloc: Global,
+    first: &[u8],
+    second: &[u8],
+    all: &mut bool,
+    out: &mut [u8],
+    len: &mut usize,
+) -> u32
+    ensures answer { (rules others : List MappingRule) → IsImage rules first.now
+        → IsImage others second.now
+        → TellsLeast (IsShared rules others) out.old result all.new len.new out.new }
+    ensures no_map { IsNoImage first.now → TellsNo no_map out.old result all.new len.new out.new }
+    ensures no_other { IsNoImage second.now → TellsNoMap out.old result all.new len.new out.new }
+{
+    match both(alloc, first, second) {
+        Ok((one, other)) => tell(shares_no_name(alloc, &one, &other), all, out, len),
+        Err(code) => tell_none(code, all, len),
     }
 }

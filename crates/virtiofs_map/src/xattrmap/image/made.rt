@@ -1,6 +1,6 @@
 //! A map made of an image.
 
-ghost use Rattle.std.specs.Prelude.{◌≡◌, ◌≢◌, ◌↔◌, List, All, IfOk, IfSome, IsFalse, IsNone, IsSomeAnd};
+ghost use Rattle.std.specs.Prelude.{◌≡◌, ◌≢◌, ◌↔◌, List, All, IfOk, IfSome, IsFalse, IsNone, IsOkAnd, IsSomeAnd};
 ghost use Rattle.virtiofs_map.specs.NamesImage.{AreRuleRows, IsImage, IsNoImage};
 ghost use Rattle.virtiofs_map.specs.Rule.{HasNoZero, MappingRule};
 
@@ -50,7 +50,7 @@ impl<A: Allocator + Copy> XattrMap<A> {
     /// The map of the rules that an image has, in memory of its own; `None` where the bytes are no
     /// image.
     pub fn of_image(alloc: A, image: &[u8]) -> Result<Option<XattrMap<A>>, AllocError>
-        ensures closed { IsNoImage image.now → IfOk result (λ made. IsNone made) }
+        ensures closed { IsNoImage image.now → IsOkAnd result (λ made. IsNone made) }
         ensures map { (rules : List MappingRule) → IsImage rules image.now
             → IfOk result (λ made. IsSomeAnd made (λ map. map ≡ rules)) }
     {
