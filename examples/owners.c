@@ -9,8 +9,9 @@
 
 #include "virtiofs_map.h"
 
-/* The longest name of an extended attribute, and the longest list of names, that Linux has. */
-enum { NAME_ROOM = 255, LIST_ROOM = 65536 };
+/* The longest name of an extended attribute, and the longest list of names, that Linux has; and the entries of an
+   access control list that this daemon takes. */
+enum { NAME_ROOM = 255, LIST_ROOM = 65536, ENTRIES = 64 };
 
 /* A map of user ids, in memory that the caller frees once no thread asks it any more. Zeros where there is none. */
 static struct virtiofs_uids make_users(const char *const *settings, size_t count)
@@ -103,6 +104,42 @@ static void show_list(struct virtiofs_names names, const char *list, size_t list
     printf("\n");
 }
 
+/* Makes a value that the guest sets one of the host, in place. Answers a code, for which the header has an errno; where
+   it is not VIRTIOFS_OK, the value is as it was. */
+static uint32_t set_value(struct virtiofs_uids users, struct virtiofs_gids groups, const char *name, uint8_t *value,
+                          size_t len)
+{
+    struct virtiofs_entry_room entries[ENTRIES];
+    struct virtiofs_fault fault;
+    switch (virtiofs_carries_ids((const uint8_t *)name, strlen(name))) {
+    case VIRTIOFS_ACL:
+        return virtiofs_acl_to_host(users, groups, value, len, entries, ENTRIES, &fault);
+    case VIRTIOFS_CAPABILITY:
+        return virtiofs_capability_to_host(users, value, len, &fault);
+    default:
+        return VIRTIOFS_OK;
+    }
+}
+
+/* What becomes of `setfacl -m u:5:rw file` of the guest: the id of the second entry. */
+static void show_right(struct virtiofs_uids users)
+{
+    uint8_t list[] = { 2,  0, 0, 0,                               /* version 2 */
+                       1,  0, 6, 0, 0xff, 0xff, 0xff, 0xff,       /* the owner: rw */
+                       2,  0, 6, 0, 5,    0,    0,    0,          /* user 5: rw */
+                       4,  0, 4, 0, 0xff, 0xff, 0xff, 0xff,       /* the group: r */
+                       16, 0, 6, 0, 0xff, 0xff, 0xff, 0xff,       /* the mask: rw */
+                       32, 0, 0, 0, 0xff, 0xff, 0xff, 0xff };     /* all others: nothing */
+    uint32_t words[3];
+    size_t count;
+    struct virtiofs_fault fault;
+    if (virtiofs_gids_make(NULL, 0, words, 3, &count, &fault) != VIRTIOFS_OK)
+        return;
+    const struct virtiofs_gids groups = { words, count };
+    if (set_value(users, groups, "system.posix_acl_access", list, sizeof list) == VIRTIOFS_OK)
+        printf("what the guest lets user 5 do, user %d of the host may\n", list[16] + 256 * list[17]);
+}
+
 int main(void)
 {
     static const char *const settings[] = { "map:0:1000:10", "forbid-guest:10:4294967284" };
@@ -119,6 +156,7 @@ int main(void)
         show_name(names, "trusted.virtiofs.x");
         show_name(names, "user.note");
         show_list(names, host_list, sizeof host_list);
+        show_right(users);
     }
     free((void *)users.words);
     free((void *)names.bytes);

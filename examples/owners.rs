@@ -3,24 +3,31 @@
 
 #[path = "../bindings/rust/virtiofs_map.rs"]
 mod virtiofs_map;
+#[path = "../bindings/rust/virtiofs_map_acl.rs"]
+mod virtiofs_map_acl;
 
 use std::convert::TryFrom;
 use std::error::Error;
 use std::ffi::CStr;
 use std::thread;
-use virtiofs_map::soft_idmap::{cmdline, GuestUid, HostUid, IdMap};
+use virtiofs_map::soft_idmap::{cmdline, GuestGid, GuestUid, HostGid, HostUid, IdMap};
 use virtiofs_map::xattrmap::{AppliedRule, XattrMap};
+use virtiofs_map_acl::{acl_to_host, capability_to_host, carries_ids, EntryRoom, ValueKind};
+
+/// The entries of an access control list that this daemon takes.
+const ENTRIES: usize = 64;
 
 /// The maps of a share.
 struct Maps {
     users: IdMap<GuestUid, HostUid>,
+    groups: IdMap<GuestGid, HostGid>,
     names: XattrMap,
 }
 
 impl Maps {
     fn new(settings: &[&str], rules: &str) -> Result<Maps, Box<dyn Error>> {
         let specs = settings.iter().map(|text| text.parse::<cmdline::IdMap>()).collect::<Result<Vec<_>, _>>()?;
-        Ok(Maps { users: IdMap::try_from(specs)?, names: XattrMap::try_from(rules)? })
+        Ok(Maps { users: IdMap::try_from(specs)?, groups: IdMap::empty(), names: XattrMap::try_from(rules)? })
     }
 
     /// Who owns a file on the host that the guest gave to this user.
@@ -49,6 +56,32 @@ impl Maps {
         println!("the guest sees {}", String::from_utf8_lossy(&seen).trim_end_matches('\0').replace('\0', " "));
         Ok(())
     }
+
+    /// Makes a value that the guest sets one of the host, in place. It is as it was where that is an error.
+    fn set_value(&self, name: &CStr, value: &mut [u8]) -> Result<(), Box<dyn Error>> {
+        match carries_ids(name) {
+            Some(ValueKind::Acl) => {
+                acl_to_host(&self.users, &self.groups, value, &mut [EntryRoom::default(); ENTRIES])?;
+            }
+            Some(ValueKind::Capability) => capability_to_host(&self.users, value)?,
+            None => {}
+        }
+        Ok(())
+    }
+
+    /// What becomes of `setfacl -m u:5:rw file` of the guest: the id of the second entry.
+    fn show_right(&self) -> Result<(), Box<dyn Error>> {
+        let mut list = *b"\x02\0\0\0\
+            \x01\0\x06\0\xff\xff\xff\xff\
+            \x02\0\x06\0\x05\0\0\0\
+            \x04\0\x04\0\xff\xff\xff\xff\
+            \x10\0\x06\0\xff\xff\xff\xff\
+            \x20\0\0\0\xff\xff\xff\xff";
+        self.set_value(c"system.posix_acl_access", &mut list)?;
+        let id = u32::from_le_bytes([list[16], list[17], list[18], list[19]]);
+        println!("what the guest lets user 5 do, user {id} of the host may");
+        Ok(())
+    }
 }
 
 fn main() -> Result<(), Box<dyn Error>> {
@@ -60,5 +93,6 @@ fn main() -> Result<(), Box<dyn Error>> {
     maps.show_name(c"security.selinux")?;
     maps.show_name(c"trusted.virtiofs.x")?;
     maps.show_name(c"user.note")?;
-    maps.show_list(b"trusted.virtiofs.security.selinux\0security.selinux\0user.note\0")
+    maps.show_list(b"trusted.virtiofs.security.selinux\0security.selinux\0user.note\0")?;
+    maps.show_right()
 }

@@ -2,9 +2,10 @@
  * virtiofs_map: which user ids, group ids and extended attribute names cross
  * between a guest machine and its host, for C and for whatever calls C.
  *
- * A daemon that shares a directory asks three things: what a guest's id is on
+ * A daemon that shares a directory asks four things: what a guest's id is on
  * the host and the other way round, which name the host has for a name that the
- * guest asks for, and which names of a list from the host the guest gets to see.
+ * guest asks for, which names of a list from the host the guest gets to see, and
+ * what becomes of a value that holds ids: an access control list or a capability.
  *
  * MAPS. A map is plain numbers in the caller's memory: words for ids, bytes for
  * names. A `make` writes them. From then on every call only reads them. There is
@@ -65,6 +66,8 @@
  *   VIRTIOFS_NO_MEMORY     ENOMEM
  *   VIRTIOFS_NO_MAP        EINVAL
  *   VIRTIOFS_NO_NAME       EINVAL
+ *   VIRTIOFS_MERGES        EPERM
+ *   VIRTIOFS_ROOT_MOVES    EPERM
  *
  * No function prints, and none ends the program.
  */
@@ -112,11 +115,13 @@ enum virtiofs_code {
     VIRTIOFS_DENIED = 3,       /* the guest may not use the name */
     VIRTIOFS_UNSUPPORTED = 4,  /* the name is refused as unsupported */
     VIRTIOFS_UNTERMINATED = 5, /* no rule decides the name, or a name of the list */
-    VIRTIOFS_REFUSED = 6,      /* a text or a list has a fault, told in *fault */
+    VIRTIOFS_REFUSED = 6,      /* a text, a list or a value has a fault, told in *fault */
     VIRTIOFS_NO_ROOM = 7,      /* the buffer is too short */
     VIRTIOFS_NO_MEMORY = 8,    /* a request for memory was refused */
     VIRTIOFS_NO_MAP = 9,       /* the words, or the bytes, are no map */
-    VIRTIOFS_NO_NAME = 10      /* the bytes are no name: one of them is zero */
+    VIRTIOFS_NO_NAME = 10,     /* the bytes are no name: one of them is zero */
+    VIRTIOFS_MERGES = 11,      /* two ids of the value would become one */
+    VIRTIOFS_ROOT_MOVES = 12   /* the capability has no field for the id of root */
 };
 
 /* ---- specifications of ids ---- */
@@ -184,8 +189,21 @@ enum virtiofs_fault_kind {
     VIRTIOFS_FAULT_INCOMPLETE = 14, /* a field is not closed by the delimiter */
     VIRTIOFS_FAULT_MAP_RULE = 15,   /* something follows a map rule */
     VIRTIOFS_FAULT_NO_RULES = 16,   /* it has no rules */
-    VIRTIOFS_FAULT_NUL_KEY = 17,    /* a key holds U+0000 */
-    VIRTIOFS_FAULT_NUL_PREPEND = 18 /* a prepend holds U+0000 */
+    VIRTIOFS_FAULT_NUL_KEY = 17,      /* a key holds U+0000 */
+    VIRTIOFS_FAULT_NUL_PREPEND = 18, /* a prepend holds U+0000 */
+
+    /* of a value with ids */
+    VIRTIOFS_FAULT_SHORT = 19,      /* it is shorter than the 4 bytes that begin each value */
+    VIRTIOFS_FAULT_VERSION = 20,    /* there is no such version, or no such revision */
+    VIRTIOFS_FAULT_SIZE = 21,       /* its last entry is cut off, or its length is not that
+                                       of its revision */
+    VIRTIOFS_FAULT_ROOM = 22,       /* comes with the code VIRTIOFS_NO_ROOM */
+    VIRTIOFS_FAULT_TAG = 23,        /* there is no such tag */
+    VIRTIOFS_FAULT_PERMISSION = 24, /* permissions above 7 */
+    VIRTIOFS_FAULT_NO_ID = 25,      /* the id is 4294967295, which is no id to Linux */
+    VIRTIOFS_FAULT_FORBIDDEN = 26,  /* comes with the code VIRTIOFS_FORBIDDEN */
+    VIRTIOFS_FAULT_MERGES = 27,     /* comes with the code VIRTIOFS_MERGES */
+    VIRTIOFS_FAULT_ROOT_MOVES = 28  /* comes with the code VIRTIOFS_ROOT_MOVES */
 };
 
 /* The direction in which a range is at fault. */
@@ -195,7 +213,8 @@ enum virtiofs_direction { VIRTIOFS_GUEST_TO_HOST = 0, VIRTIOFS_HOST_TO_GUEST = 1
 enum virtiofs_end { VIRTIOFS_SOURCE = 0, VIRTIOFS_TARGET = 1 };
 
 /* The first fault, told completely. What a kind does not use is 0. Where the code is
-   VIRTIOFS_OK or VIRTIOFS_NO_ROOM, all of it is 0. */
+   VIRTIOFS_OK or VIRTIOFS_NO_MAP, all of it is 0; so it is where a `make` answers
+   VIRTIOFS_NO_ROOM. */
 struct virtiofs_fault {
     /* One of enum virtiofs_fault_kind. */
     uint32_t kind;
@@ -205,10 +224,12 @@ struct virtiofs_fault {
        ids that they become up to 4294967295. */
     uint32_t end;
     /* Of a list: the place of the specification or of its text, from 0. Of a text
-       of rules: the number of the rule, from 1; 0 where no rule is to blame. */
+       of rules: the number of the rule, from 1; 0 where no rule is to blame. Of an
+       access control list: the place of the entry, from 0. */
     size_t place;
     /* LENGTH: how many numbers the word takes, and how many there are. Where no
-       separator follows the word, 1 and 0. */
+       separator follows the word, 1 and 0. ROOM: how many entries there are, and for how
+       many room is lent. VERSION: 0, and the version or the revision. */
     size_t expected;
     size_t seen;
     /* PREFIX, VALUE, SCOPE and TYPE: `wanted` is how many bytes the text at fault has.
@@ -218,6 +239,23 @@ struct virtiofs_fault {
     size_t wanted;
     /* OVERFLOW and INTERSECTS: the specification at fault. */
     struct virtiofs_spec spec;
+};
+
+/* ---- values with ids ---- */
+
+/* What ids the values of an attribute hold. */
+enum virtiofs_value_kind {
+    VIRTIOFS_NO_IDS = 0,    /* none */
+    VIRTIOFS_ACL = 1,       /* those of users and groups in an access control list */
+    VIRTIOFS_CAPABILITY = 2 /* that of root in a capability */
+};
+
+/* Room for one entry of an access control list. The caller need not set it: a call
+   overwrites it, and what it leaves there means nothing. */
+struct virtiofs_entry_room {
+    uint16_t tag;
+    uint32_t id;
+    size_t entry;
 };
 
 /* ---- what the archive has ----
@@ -315,6 +353,52 @@ VIRTIOFS_CHECKED((1, 3, 5, 6, 8))
 uint32_t virtiofs_map_names_share_none(const uint8_t *bytes, size_t map_len,
                                        const uint8_t *other_bytes, size_t other_len,
                                        bool *yes, uint8_t *out, size_t room, size_t *len);
+
+/* As virtiofs_carries_ids. */
+VIRTIOFS_CHECKED((1))
+uint32_t virtiofs_map_carries_ids(const uint8_t *name, size_t name_len);
+
+/* As virtiofs_acl_to_host. */
+VIRTIOFS_CHECKED((1, 3, 5, 7, 9))
+uint32_t virtiofs_map_acl_to_host(const uint32_t *users, size_t user_count,
+                                  const uint32_t *groups, size_t group_count,
+                                  uint8_t *value, size_t len,
+                                  struct virtiofs_entry_room *entries, size_t room,
+                                  struct virtiofs_fault *fault);
+
+/* As virtiofs_acl_to_guest. */
+VIRTIOFS_CHECKED((1, 3, 5, 7, 9))
+uint32_t virtiofs_map_acl_to_guest(const uint32_t *users, size_t user_count,
+                                   const uint32_t *groups, size_t group_count,
+                                   uint8_t *value, size_t len,
+                                   struct virtiofs_entry_room *entries, size_t room,
+                                   struct virtiofs_fault *fault);
+
+/* As virtiofs_capability_to_host. */
+VIRTIOFS_CHECKED((1, 3, 5))
+uint32_t virtiofs_map_capability_to_host(const uint32_t *users, size_t user_count,
+                                         uint8_t *value, size_t len,
+                                         struct virtiofs_fault *fault);
+
+/* As virtiofs_capability_to_guest. */
+VIRTIOFS_CHECKED((1, 3, 5))
+uint32_t virtiofs_map_capability_to_guest(const uint32_t *users, size_t user_count,
+                                          uint8_t *value, size_t len,
+                                          struct virtiofs_fault *fault);
+
+/* As virtiofs_capability_to_host_in_revision_3. */
+VIRTIOFS_CHECKED((1, 3, 5, 6))
+uint32_t virtiofs_map_capability_to_host_in_revision_3(const uint32_t *users, size_t user_count,
+                                                       const uint8_t *value, size_t len,
+                                                       uint8_t *written,
+                                                       struct virtiofs_fault *fault);
+
+/* As virtiofs_capability_to_guest_in_revision_3. */
+VIRTIOFS_CHECKED((1, 3, 5, 6))
+uint32_t virtiofs_map_capability_to_guest_in_revision_3(const uint32_t *users, size_t user_count,
+                                                        const uint8_t *value, size_t len,
+                                                        uint8_t *written,
+                                                        struct virtiofs_fault *fault);
 
 /* A pointer and its length. Where the length is 0, the pointer becomes an aligned address
    that is not NULL. */
@@ -601,6 +685,114 @@ static inline uint32_t virtiofs_names_share_none(struct virtiofs_names first,
     return virtiofs_map_names_share_none(VIRTIOFS_SLICE(const uint8_t, first.bytes, first.len),
                                          VIRTIOFS_SLICE(const uint8_t, second.bytes, second.len),
                                          yes, VIRTIOFS_SLICE(uint8_t, out, room), len);
+}
+
+/* ---- ids inside values ----
+ *
+ * The values of three attributes hold ids. A daemon that maps ids has to map these too, or
+ * a right that the guest gives to its user 1000 goes to the host's user 1000. Each call
+ * changes the ids in place and no other byte, and a value keeps its length. The whole value
+ * is tested first: where the code is not OK, no byte of it has changed, and *fault tells
+ * the first fault. No call asks for memory.
+ */
+
+/* What ids the values of the host's attribute of that name hold: one of
+   enum virtiofs_value_kind. `system.posix_acl_access` and `system.posix_acl_default` have
+   access control lists, `security.capability` has capabilities, and no other has any. */
+static inline uint32_t virtiofs_carries_ids(const uint8_t *name, size_t name_len)
+{
+    return virtiofs_map_carries_ids(VIRTIOFS_SLICE(const uint8_t, name, name_len));
+}
+
+/* Makes an access control list of the guest one of the host: each id of a user (tag 2) and
+   of a group (tag 8) becomes what its map makes of it. `entries` has `room` elements, and
+   the call needs one for each entry of the value: (len - 4) / 8. OK. REFUSED: SHORT, VERSION
+   or SIZE; or TAG, PERMISSION or NO_ID with the place of the entry. NO_ROOM: ROOM.
+   FORBIDDEN: a specification forbids the id of the entry. MERGES: an earlier entry of the
+   same tag has another id, and both would become one. NO_MAP: `users` or `groups` is none. */
+VIRTIOFS_CHECKED((7))
+static inline uint32_t virtiofs_acl_to_host(struct virtiofs_uids users,
+                                            struct virtiofs_gids groups,
+                                            uint8_t *value, size_t len,
+                                            struct virtiofs_entry_room *entries, size_t room,
+                                            struct virtiofs_fault *fault)
+{
+    return virtiofs_map_acl_to_host(
+        VIRTIOFS_SLICE(const uint32_t, users.words, users.count),
+        VIRTIOFS_SLICE(const uint32_t, groups.words, groups.count),
+        VIRTIOFS_SLICE(uint8_t, value, len),
+        VIRTIOFS_SLICE(struct virtiofs_entry_room, entries, room), fault);
+}
+
+/* Makes an access control list of the host one of the guest. It has the codes of
+   virtiofs_acl_to_host. */
+VIRTIOFS_CHECKED((7))
+static inline uint32_t virtiofs_acl_to_guest(struct virtiofs_uids users,
+                                             struct virtiofs_gids groups,
+                                             uint8_t *value, size_t len,
+                                             struct virtiofs_entry_room *entries, size_t room,
+                                             struct virtiofs_fault *fault)
+{
+    return virtiofs_map_acl_to_guest(
+        VIRTIOFS_SLICE(const uint32_t, users.words, users.count),
+        VIRTIOFS_SLICE(const uint32_t, groups.words, groups.count),
+        VIRTIOFS_SLICE(uint8_t, value, len),
+        VIRTIOFS_SLICE(struct virtiofs_entry_room, entries, room), fault);
+}
+
+/* Makes a capability of the guest one of the host: the id of root, the last word of
+   revision 3, becomes what the map makes of it. Revisions 1 and 2 mean root 0, and stay as
+   they are where 0 stays 0. OK. REFUSED: SHORT, VERSION, SIZE or NO_ID. FORBIDDEN: a
+   specification forbids the id of root. ROOT_MOVES: the revision is 1 or 2, and 0 does not
+   stay 0; virtiofs_capability_to_host_in_revision_3 can write the value. NO_MAP. */
+VIRTIOFS_CHECKED((4))
+static inline uint32_t virtiofs_capability_to_host(struct virtiofs_uids users,
+                                                   uint8_t *value, size_t len,
+                                                   struct virtiofs_fault *fault)
+{
+    return virtiofs_map_capability_to_host(
+        VIRTIOFS_SLICE(const uint32_t, users.words, users.count),
+        VIRTIOFS_SLICE(uint8_t, value, len), fault);
+}
+
+/* Makes a capability of the host one of the guest. It has the codes of
+   virtiofs_capability_to_host. */
+VIRTIOFS_CHECKED((4))
+static inline uint32_t virtiofs_capability_to_guest(struct virtiofs_uids users,
+                                                    uint8_t *value, size_t len,
+                                                    struct virtiofs_fault *fault)
+{
+    return virtiofs_map_capability_to_guest(
+        VIRTIOFS_SLICE(const uint32_t, users.words, users.count),
+        VIRTIOFS_SLICE(uint8_t, value, len), fault);
+}
+
+/* Writes a capability of the guest, of any revision, as one of the host in revision 3, to
+   the 24 bytes of `written`: with the same flags and sets, and with what the id of root
+   becomes. OK. REFUSED; FORBIDDEN; NO_MAP, as virtiofs_capability_to_host has them. Where
+   the code is not OK, `written` is as it was. The value itself stays. */
+VIRTIOFS_CHECKED((4, 5))
+static inline uint32_t virtiofs_capability_to_host_in_revision_3(struct virtiofs_uids users,
+                                                                 const uint8_t *value, size_t len,
+                                                                 uint8_t *written,
+                                                                 struct virtiofs_fault *fault)
+{
+    return virtiofs_map_capability_to_host_in_revision_3(
+        VIRTIOFS_SLICE(const uint32_t, users.words, users.count),
+        VIRTIOFS_SLICE(const uint8_t, value, len), written, fault);
+}
+
+/* Writes a capability of the host as one of the guest in revision 3. It has the codes of
+   virtiofs_capability_to_host_in_revision_3. */
+VIRTIOFS_CHECKED((4, 5))
+static inline uint32_t virtiofs_capability_to_guest_in_revision_3(struct virtiofs_uids users,
+                                                                  const uint8_t *value, size_t len,
+                                                                  uint8_t *written,
+                                                                  struct virtiofs_fault *fault)
+{
+    return virtiofs_map_capability_to_guest_in_revision_3(
+        VIRTIOFS_SLICE(const uint32_t, users.words, users.count),
+        VIRTIOFS_SLICE(const uint8_t, value, len), written, fault);
 }
 
 #ifdef __cplusplus

@@ -205,6 +205,7 @@ def in_c(tally, with_, linked):
         ("the tests in C", "test.c"),
         ("shared pages in C", "pages.c"),
         ("changed numbers in C", "changed.c"),
+        ("ids inside values in C", "values.c"),
         ("refused memory in C", "refused.c", WRAPPED),
     ):
         program = made(name, f"{TESTS}/{file}", *flags)
@@ -255,6 +256,7 @@ def in_rust(tally, with_, linked):
     made = lambda name, file, *flags: made_program(tally, name, [*rust_words(with_, linked), *flags, file])
     for name, file, *flags in (
         ("the tests in Rust", "test.rs", "--test"),
+        ("ids inside values in Rust", "values.rs", "--test"),
         ("shared pages and changed numbers in Rust", "pages.rs"),
         ("refused memory in Rust", "refused.rs", "-C", f"link-arg={WRAPPED}"),
     ):
@@ -283,21 +285,26 @@ def under_sanitizer(tally, with_, linked):
         return
     leaks = {"env": {**os.environ, "ASAN_OPTIONS": "detect_leaks=1"}}
     words = [with_.sanitizing, *C_FLAGS, *SANITIZED]
-    name = "the tests in C under AddressSanitizer"
-    program = made_program(tally, name, [*words, f"{TESTS}/test.c", *linked, "-pthread"])
-    if program:
-        tally.add(name, *run([program], **leaks))
+    for name, file in (
+        ("the tests in C under AddressSanitizer", "test.c"),
+        ("ids inside values in C under AddressSanitizer", "values.c"),
+    ):
+        program = made_program(tally, name, [*words, f"{TESTS}/{file}", *linked, "-pthread"])
+        if program:
+            tally.add(name, *run([program], **leaks))
     # (a program that lets a map leak has to be found out, or the run before shows nothing of that)
     name = "a leak under AddressSanitizer"
     program = made_program(tally, name, [*words, f"{TESTS}/leak.c", *linked])
     if program:
         status, said = run([program], **leaks)
         tally.see(name, "" if status and "LeakSanitizer: detected memory leaks" in said else "it is not found", said)
-    if with_.rust:
-        name = "the tests in Rust under AddressSanitizer"
-        # (what rustc compiles is not instrumented; each request for memory goes by the sanitizer all the same)
-        flags = ["-C", f"linker={with_.sanitizing}", "-C", f"link-arg={SANITIZED[0]}", "--test", f"{TESTS}/test.rs"]
-        program = made_program(tally, name, [*rust_words(with_, linked), *flags])
+    # (what rustc compiles is not instrumented; each request for memory goes by the sanitizer all the same)
+    flags = ["-C", f"linker={with_.sanitizing}", "-C", f"link-arg={SANITIZED[0]}", "--test"]
+    for name, file in (
+        ("the tests in Rust under AddressSanitizer", "test.rs"),
+        ("ids inside values in Rust under AddressSanitizer", "values.rs"),
+    ):
+        program = with_.rust and made_program(tally, name, [*rust_words(with_, linked), *flags, f"{TESTS}/{file}"])
         if program:
             tally.add(name, *run([program], **leaks))
 

@@ -46,7 +46,8 @@ WANTED = {
     **dict.fromkeys(f"share/doc/virtiofs_map/kit/{it}" for it in OF_KIT),
     PAGE: "docs/virtiofs_mapcheck.1",
     RECORD: None,
-    **{f"{RUST}/{it}": f"bindings/rust/{it}" for it in ("Cargo.toml", "build.rs", "lib.rs", "virtiofs_map.rs")},
+    **{f"{RUST}/{it}": f"bindings/rust/{it}" for it in ("Cargo.toml", "build.rs", "lib.rs")},
+    **{f"{RUST}/{it}": f"bindings/rust/{it}" for it in ("virtiofs_map.rs", "virtiofs_map_acl.rs")},
 }
 QUESTION = ["ids", "map:0:1000:10", "ask", "guest=5", "host=1005", "guest=10", "guest=1005"]
 COMPLETED = """source "$1"; shift; COMP_WORDS=(virtiofs_mapcheck "$@"); COMP_CWORD=$#

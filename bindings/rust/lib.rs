@@ -1,8 +1,8 @@
 // SPDX-License-Identifier: BSD-3-Clause
 //! Which user ids, group ids and extended attribute names cross between a guest machine and its host.
 //!
-//! These are virtiofsd's modules with their names, types, kinds of error and texts, over a library that is proved. A
-//! daemon makes its maps once, and asks them in any number of threads:
+//! These are virtiofsd's modules with their names, types, kinds of error and texts, over a library that is proved, and
+//! a module [`acl`] for ids inside values. A daemon makes its maps once, and asks them in any number of threads:
 //!
 //! ```
 //! use virtiofs_map::soft_idmap::{cmdline, GuestUid, HostUid, IdMap};
@@ -28,6 +28,7 @@
 //! | tells the owner of a file | [`map_host`](soft_idmap::IdMap::map_host) |
 //! | gets, sets or removes an attribute | [`map_client_xattr`](xattrmap::XattrMap::map_client_xattr) |
 //! | lists attributes | [`map_server_xattrlist`](xattrmap::XattrMap::map_server_xattrlist) |
+//! | lets the guest set access control lists or capabilities | [`acl`] |
 //!
 //! Where a guest's id is forbidden, the error becomes an `io::Error` of the kind `PermissionDenied`. A name that is
 //! denied is answered by EPERM, and one that is unsupported by ENOTSUP.
@@ -37,5 +38,7 @@
 
 #[path = "virtiofs_map.rs"]
 mod virtiofs_map;
+#[path = "virtiofs_map_acl.rs"]
+pub mod acl;
 
 pub use self::virtiofs_map::*;

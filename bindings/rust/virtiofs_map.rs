@@ -14,7 +14,7 @@
 
 /// What `include/virtiofs_map.h` declares, as far as this file calls it.
 #[rustfmt::skip]
-mod ffi {
+pub(super) mod ffi {
     /// One specification.
     #[repr(C)]
     #[derive(Clone, Copy, Default)]
@@ -34,10 +34,9 @@ mod ffi {
     }
 
     pub const OK: u32 = 0; pub const AS_IT_IS: u32 = 1; pub const DENIED: u32 = 3; pub const UNSUPPORTED: u32 = 4;
-    pub const NO_ROOM: u32 = 7;
+    pub const NO_ROOM: u32 = 7; pub const GUEST_TO_HOST: u32 = 0;
     pub const GUEST: u32 = 0; pub const HOST: u32 = 1; pub const SQUASH_GUEST: u32 = 2;
     pub const SQUASH_HOST: u32 = 3; pub const MAP: u32 = 4; pub const FORBID_GUEST: u32 = 5;
-    pub const GUEST_TO_HOST: u32 = 0;
 
     pub const FAULT_OVERFLOW: u32 = 4; pub const FAULT_INTERSECTS: u32 = 5;
     pub const FAULT_PREFIX: u32 = 6; pub const FAULT_LENGTH: u32 = 7; pub const FAULT_VALUE: u32 = 8;
@@ -345,6 +344,7 @@ pub mod soft_idmap {
         /// How far one group id is above another.
         pub struct GidOffset(u32);
 
+        #[rustfmt::skip]
         macro_rules! id {
             ($type:ident, $side:ident, $other_type:ident = $other:ident, $offset:ident, $doc:expr) => {
                 #[doc = $doc]
@@ -353,46 +353,32 @@ pub mod soft_idmap {
                 pub struct $type(u32);
 
                 impl From<u32> for $type {
-                    fn from(number: u32) -> Self {
-                        $type(number)
-                    }
+                    fn from(number: u32) -> Self { $type(number) }
                 }
 
                 impl Id for $type {
                     type Inner = u32;
-                    fn is_root(&self) -> bool {
-                        self.0 == 0
-                    }
-                    fn into_inner(self) -> u32 {
-                        self.0
-                    }
+                    fn is_root(&self) -> bool { self.0 == 0 }
+                    fn into_inner(self) -> u32 { self.0 }
                 }
 
                 impl $side for $type {
                     type $other_type = $other;
-                    fn id_mapped(self) -> $other {
-                        $other(self.0)
-                    }
+                    fn id_mapped(self) -> $other { $other(self.0) }
                 }
 
                 impl Add<$offset> for $type {
                     type Output = $type;
-                    fn add(self, offset: $offset) -> $type {
-                        $type(self.0 + offset.0)
-                    }
+                    fn add(self, offset: $offset) -> $type { $type(self.0 + offset.0) }
                 }
 
                 impl Sub<$type> for $type {
                     type Output = $offset;
-                    fn sub(self, from: $type) -> $offset {
-                        $offset(self.0 - from.0)
-                    }
+                    fn sub(self, from: $type) -> $offset { $offset(self.0 - from.0) }
                 }
 
                 impl Display for $type {
-                    fn fmt(&self, f: &mut Formatter<'_>) -> fmt::Result {
-                        write!(f, "{}", self.0)
-                    }
+                    fn fmt(&self, f: &mut Formatter<'_>) -> fmt::Result { write!(f, "{}", self.0) }
                 }
             };
         }
@@ -457,6 +443,11 @@ pub mod soft_idmap {
                 unsafe { ffi::virtiofs_map_ids_make(specs.as_ptr(), specs.len(), to, room, wanted, fault) }
             })?;
             Ok(IdMap { words, pair: PhantomData })
+        }
+
+        /// The numbers, for `virtiofs_map_acl.rs`.
+        pub(in super::super) fn words(&self) -> &[u32] {
+            &self.words
         }
 
         /// The host's id for a guest's.

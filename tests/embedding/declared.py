@@ -6,8 +6,8 @@ import glob
 import os
 import re
 
-# What a type of C is in Rust. Structs have their names in lower case, without the header's prefix.
-OF_C = {"uint8_t": "u8", "uint32_t": "u32", "size_t": "usize"}
+# What a type of C is in Rust. Structs have their names in small letters alone, without the header's prefix.
+OF_C = {"uint8_t": "u8", "uint16_t": "u16", "uint32_t": "u32", "size_t": "usize"}
 
 
 def text_of(file):
@@ -15,16 +15,20 @@ def text_of(file):
         return it.read()
 
 
+def plain_name(name):
+    return name.replace("_", "").lower()
+
+
 def of_c(said):
     """The kind of an argument, a member or an answer in C: its type, and whether it leads to what may be written."""
     word = next(it for it in re.findall(r"\w+", said) if it not in ("const", "struct"))
-    word = OF_C.get(word, word.replace("virtiofs_", ""))
+    word = OF_C.get(word) or plain_name(word.replace("virtiofs_", ""))
     return f"{'leads to' if 'const' in said else 'writes to'} {word}" if "*" in said else word
 
 
 def of_rust_type(said):
-    """The same of a type of Rust. A slice of bytes in an array is a text of C."""
-    word = "text" if "[&[u8]]" in said else re.findall(r"\w+", said)[-1].lower()
+    """The same of a type of Rust. A slice of bytes in an array is a text of C, and an array is its elements."""
+    word = "text" if "[&[u8]]" in said else plain_name(re.findall(r"\w+", said.split(";")[0])[-1])
     pointer = re.match(r"\s*(?:\*const|\*mut|&mut|&)", said)
     return f"{'writes to' if 'mut' in pointer[0] else 'leads to'} {word}" if pointer else word
 
@@ -47,11 +51,11 @@ def of_header(text):
 
 
 def arguments_in_c(said):
-    """The arguments of C that one of Rust's comes to: none for the allocator, and two for a slice."""
+    """The arguments of C that one of Rust's comes to: none for the allocator, two for a slice, and one for an array."""
     of_type = said.split(":", 1)[1]
     if of_type.strip() == "Global":
         return []
-    return [of_rust_type(of_type), *(["usize"] if "[" in of_type else [])]
+    return [of_rust_type(of_type), *(["usize"] if "[" in of_type and ";" not in of_type else [])]
 
 
 def of_rust(text):
@@ -81,12 +85,12 @@ def constants(text, pattern):
 
 def structs_of_header(text):
     found = re.findall(r"\bstruct virtiofs_(\w+)\s*\{([^{}]*)\}", without_comments(text))
-    return {name: [of_c(it) for it in body.split(";") if it.strip()] for name, body in found}
+    return {plain_name(name): [of_c(it) for it in body.split(";") if it.strip()] for name, body in found}
 
 
 def structs_of_rust(text):
     found = re.findall(r"#\[repr\(C\)\][^{}]*?\bstruct (\w+)\s*\{([^{}]*)\}", without_comments(text))
-    return {name.lower(): [of_rust_type(it.split(":", 1)[1]) for it in parts_of(body)] for name, body in found}
+    return {plain_name(name): [of_rust_type(it.split(":", 1)[1]) for it in parts_of(body)] for name, body in found}
 
 
 def differences(what, wanted, found, is_part):
@@ -101,8 +105,10 @@ def differences(what, wanted, found, is_part):
 def compared(top):
     """Each comparison by its name, with what it found."""
     header = text_of(f"{top}/include/virtiofs_map.h")
-    rust = text_of(f"{top}/bindings/rust/virtiofs_map.rs")
+    rust = "\n".join(text_of(f"{top}/bindings/rust/{it}") for it in ("virtiofs_map.rs", "virtiofs_map_acl.rs"))
     files = sorted(glob.glob(f"{top}/crates/virtiofs_map_c/src/**/*.rt", recursive=True))
+    # (one struct is the library's own)
+    files.append(f"{top}/crates/virtiofs_map/src/acl/merges.rt")
     crate = "\n".join(text_of(it) for it in files)
     declared, structs = of_header(header), structs_of_header(header)
     numbers = constants(header, r"\bVIRTIOFS_(\w+)\s*=\s*(\d+)")

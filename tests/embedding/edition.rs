@@ -1,17 +1,21 @@
-//! A program that has the Rust file as a module, for every edition. It ends with 0.
+//! A program that has the two Rust files as modules, for every edition. It ends with 0.
 
 #[path = "../../bindings/rust/virtiofs_map.rs"]
 mod virtiofs_map;
+#[path = "../../bindings/rust/virtiofs_map_acl.rs"]
+mod virtiofs_map_acl;
 
 use std::convert::TryFrom;
 use virtiofs_map::idmap::UidMap;
 use virtiofs_map::soft_idmap::{cmdline, GuestUid, HostUid, IdMap};
 use virtiofs_map::xattrmap::XattrMap;
+use virtiofs_map_acl::{capability_to_host, CapabilityError};
 
 fn main() {
     let spec: cmdline::IdMap = "map:0:1000:10".parse().expect("a specification");
     let map = IdMap::<GuestUid, HostUid>::try_from(vec![spec]).expect("an accepted list");
     assert_eq!(map.map_guest(GuestUid::from(5)).expect("no forbidden id"), HostUid::from(1005));
+    assert_eq!(capability_to_host(&map, &mut []), Err(CapabilityError::TooShort));
     assert_eq!(":0:1:2:".parse::<UidMap>().expect("a range").outside_uid, 1);
     assert!(XattrMap::try_from(":ok:all:::").expect("a text of rules").is_terminated());
 }

@@ -232,6 +232,33 @@ static enum answer terminated(void)
     return by_code(virtiofs_names_terminated(names, &yes), VIRTIOFS_OK);
 }
 
+/* A list of two users. */
+static enum answer ask_acl(uint8_t one, uint8_t other_user, uint32_t of_ample)
+{
+    uint8_t value[] = { 2, 0, 0, 0, 2, 0, 7, 0, one, 0, 0, 0, 2, 0, 7, 0, other_user, 0, 0, 0 };
+    struct virtiofs_entry_room entries[2];
+    return by_code(virtiofs_acl_to_host(users, groups, value, sizeof value, entries, 2, &fault), of_ample);
+}
+
+static enum answer acl(void)
+{
+    return ask_acl(5, 20, VIRTIOFS_OK);
+}
+
+static enum answer acl_that_merges(void)
+{
+    return ask_acl(20, 21, VIRTIOFS_MERGES);
+}
+
+static enum answer capability(void)
+{
+    uint8_t value[20] = { 0, 0, 0, 2 }, written[24];
+    uint32_t code = virtiofs_capability_to_host(users, value, sizeof value, &fault);
+    if (code != VIRTIOFS_ROOT_MOVES)
+        return WRONG;
+    return by_code(virtiofs_capability_to_host_in_revision_3(users, value, sizeof value, written, &fault), VIRTIOFS_OK);
+}
+
 static const struct row {
     const char *name;
     enum answer (*call)(void);
@@ -262,6 +289,9 @@ static const struct row {
     { "names_client of a name that is denied", client_denied, 0 },
     { "names_server", server, 0 },
     { "names_terminated", terminated, 0 },
+    { "acl_to_host", acl, 0 },
+    { "acl_to_host of ids that merge", acl_that_merges, 0 },
+    { "capability_to_host, and in revision 3", capability, 0 },
 };
 
 /* Runs a call with its first request refused, its second, and so on. Tells how many requests it makes. */

@@ -6,6 +6,8 @@
 
 #[path = "../../bindings/rust/virtiofs_map.rs"]
 mod virtiofs_map;
+#[path = "../../bindings/rust/virtiofs_map_acl.rs"]
+mod virtiofs_map_acl;
 
 use std::alloc::{GlobalAlloc, Layout};
 use std::ffi::{c_void, CStr, CString};
@@ -15,6 +17,7 @@ use std::sync::atomic::{AtomicUsize, Ordering::Relaxed};
 use virtiofs_map::idmap::UidMap;
 use virtiofs_map::soft_idmap::{cmdline, GuestUid, HostUid, IdMap};
 use virtiofs_map::xattrmap::{AppliedRule, Audit, Error, ErrorKind, XattrMap};
+use virtiofs_map_acl::{acl_to_host, capability_to_host_in_revision_3, carries_ids, EntryRoom};
 
 type Users = IdMap<GuestUid, HostUid>;
 
@@ -181,6 +184,10 @@ fn lookups(tally: &mut Tally) {
     }
     tally.count("whether a map is terminated", 0, || names.is_terminated());
     tally.count("a copy of a map", 1, || names.clone());
+    let (groups, mut list, mut room) = (IdMap::empty(), *b"\x02\0\0\0\x02\0\x07\0\x05\0\0\0", [EntryRoom::default()]);
+    tally.count("the kind of a value", 0, || carries_ids(c"security.capability"));
+    tally.count("an access control list", 0, || acl_to_host(&users, &groups, &mut list, &mut room));
+    tally.count("a capability", 0, || capability_to_host_in_revision_3(&users, b"\0\0\0\x01\0\0\0\0\0\0\0\0"));
 }
 
 fn long(len: usize) -> CString {

@@ -25,6 +25,14 @@ HasRootFault-any users direction value NoId fault = fault users direction
 HasRootFault-any users direction value Forbidden fault = absurd fault
 HasRootFault-any users direction value RootMoves fault = absurd fault
 
+pub stays-any : (value : List ℕ) (error : CapabilityError) → IsFaultOfAny value error → error ≢ RootMoves
+stays-any value TooShort fault moves = absurd (cc)
+stays-any value (Revision revision) fault moves = absurd (cc)
+stays-any value Length fault moves = absurd (cc)
+stays-any value NoId fault moves = absurd (cc)
+stays-any value Forbidden fault moves = fault
+stays-any value RootMoves fault moves = fault
+
 -- one that no revision 3 mends is a fault in place too
 pub HasCapabilityFault-root : (users : List IdMap) (direction : Direction) (value : List ℕ) (error : CapabilityError) → HasRootFault users direction value error → HasCapabilityFault users direction value error
 HasCapabilityFault-root users direction value TooShort fault = fault
@@ -66,6 +74,12 @@ pub without_field : (revision size : ℕ) → HasSize revision size → size ≢
 without_field revision size (inl one) other = omega arith
 without_field revision size (inr (inl two)) other = omega arith
 without_field revision size (inr (inr three)) other = absurd (other three.1)
+
+-- a value that is not as long is of another revision
+pub other_revision : (revision size : ℕ) → HasSize revision size → size ≢ 24 → revision ≢ 3
+other_revision revision size (inl one) other three = omega (arith, one.0)
+other_revision revision size (inr (inl two)) other three = omega (arith, two.0)
+other_revision revision size (inr (inr three)) other is = other three.1
 
 pub root_of-zero : (value : List ℕ) → IsSized value → revision_of value ≢ 3 → root_of value ≡ 0
 root_of-zero value sized other = root_of-none value (no_field _ _ sized.sized other)
@@ -115,7 +129,11 @@ HasCapabilityFault-one users direction value RootMoves NoId accepted first secon
 HasCapabilityFault-one users direction value RootMoves Forbidden accepted first second = absurd (forbidden_moves users direction value accepted second first)
 HasCapabilityFault-one users direction value RootMoves RootMoves accepted first second = refl
 
-HasRoot-no_fault : (users : List IdMap) (direction : Direction) (value : List ℕ) (error : CapabilityError) → Accepted users → HasRoot users direction value → ¬ HasRootFault users direction value error
+pub HasRootFault-one : (users : List IdMap) (direction : Direction) (value : List ℕ) (error other : CapabilityError) → Accepted users → HasRootFault users direction value error → HasRootFault users direction value other → error ≡ other
+HasRootFault-one users direction value error other accepted first second =
+    HasCapabilityFault-one users direction value error other accepted (HasCapabilityFault-root users direction value error first) (HasCapabilityFault-root users direction value other second)
+
+pub HasRoot-no_fault : (users : List IdMap) (direction : Direction) (value : List ℕ) (error : CapabilityError) → Accepted users → HasRoot users direction value → ¬ HasRootFault users direction value error
 HasRoot-no_fault users direction value TooShort accepted has fault = omega (arith, has.capability.sized.word)
 HasRoot-no_fault users direction value (Revision revision) accepted has fault = fault.2 (rw fault.1 (HasSize-revision _ _ has.capability.sized.sized))
 HasRoot-no_fault users direction value Length accepted has fault = fault.2 has.capability.sized.sized
@@ -127,31 +145,13 @@ HasRoot-no_fault users direction value RootMoves accepted has fault = fault
 stays_moves : (users : List IdMap) (direction : Direction) (value : List ℕ) → Accepted users → RootGoesAcross users direction value → ¬ HasCapabilityFault users direction value RootMoves
 stays_moves users direction value accepted goes fault = fault.2.2 (Becomes-one users direction 0 fault.2.0 0 accepted fault.2.1 (goes.stays fault.1))
 
-RootGoesAcross-no_fault : (users : List IdMap) (direction : Direction) (value : List ℕ) (error : CapabilityError) → Accepted users → RootGoesAcross users direction value → ¬ HasCapabilityFault users direction value error
+pub RootGoesAcross-no_fault : (users : List IdMap) (direction : Direction) (value : List ℕ) (error : CapabilityError) → Accepted users → RootGoesAcross users direction value → ¬ HasCapabilityFault users direction value error
 RootGoesAcross-no_fault users direction value TooShort accepted goes fault = HasRoot-no_fault users direction value TooShort accepted goes.has_root fault
 RootGoesAcross-no_fault users direction value (Revision revision) accepted goes fault = HasRoot-no_fault users direction value (Revision revision) accepted goes.has_root fault
 RootGoesAcross-no_fault users direction value Length accepted goes fault = HasRoot-no_fault users direction value Length accepted goes.has_root fault
 RootGoesAcross-no_fault users direction value NoId accepted goes fault = HasRoot-no_fault users direction value NoId accepted goes.has_root fault
 RootGoesAcross-no_fault users direction value Forbidden accepted goes fault = HasRoot-no_fault users direction value Forbidden accepted goes.has_root fault
 RootGoesAcross-no_fault users direction value RootMoves accepted goes fault = stays_moves users direction value accepted goes fault
-
--- ---- what a call says of its refusals
-
-pub complete_in_place : (users : List IdMap) (direction : Direction) (value : List ℕ) (r : Result (Unit {0}) CapabilityError) → Accepted users → IfErr r (HasCapabilityFault users direction value) → RootGoesAcross users direction value → IsOk r
-complete_in_place users direction value (Ok done) accepted refused goes = refl
-complete_in_place users direction value (Err error) accepted refused goes = absurd (RootGoesAcross-no_fault users direction value error accepted goes refused)
-
-pub faulty_in_place : (users : List IdMap) (direction : Direction) (value : List ℕ) (r : Result (Unit {0}) CapabilityError) (fault : CapabilityError) → Accepted users → IfErr r (HasCapabilityFault users direction value) → OnOk r (RootGoesAcross users direction value) → HasCapabilityFault users direction value fault → IsErrAnd r (λ e. e ≡ fault)
-faulty_in_place users direction value (Ok done) fault accepted refused goes has = absurd (RootGoesAcross-no_fault users direction value fault accepted goes has)
-faulty_in_place users direction value (Err error) fault accepted refused goes has = HasCapabilityFault-one users direction value error fault accepted refused has
-
-pub complete_written : (users : List IdMap) (direction : Direction) (value : List ℕ) (r : Result (Unit {0}) CapabilityError) → Accepted users → IfErr r (HasRootFault users direction value) → HasRoot users direction value → IsOk r
-complete_written users direction value (Ok done) accepted refused has = refl
-complete_written users direction value (Err error) accepted refused has = absurd (HasRoot-no_fault users direction value error accepted has refused)
-
-pub faulty_written : (users : List IdMap) (direction : Direction) (value : List ℕ) (r : Result (Unit {0}) CapabilityError) (fault : CapabilityError) → Accepted users → IfErr r (HasRootFault users direction value) → OnOk r (HasRoot users direction value) → HasRootFault users direction value fault → IsErrAnd r (λ e. e ≡ fault)
-faulty_written users direction value (Ok done) fault accepted refused has wrong = absurd (HasRoot-no_fault users direction value fault accepted has wrong)
-faulty_written users direction value (Err error) fault accepted refused has wrong = HasCapabilityFault-one users direction value error fault accepted (HasCapabilityFault-root users direction value error refused) (HasCapabilityFault-root users direction value fault wrong)
 
 -- ---- and back
 

@@ -5,7 +5,7 @@ use Rattle.std.proofs.lemmas.Bool.{cases_order}
 use Rattle.virtiofs_map.proofs.AclMergeLemmas.{Accepted-for}
 use Rattle.virtiofs_map.proofs.MappingLawLemmas.{Becomes-forbidden}
 use Rattle.virtiofs_map.specs.Acl.{entry_count, tag_of, id_of, IsTag, HasId, IsWhole, IsSound, AllSound, GoesAcross, IsEntryFault, IsFirstUnsound, IsFirstMerged, HasAclFault}
-use Rattle.virtiofs_map.specs.AclParts.{IsSizeFault}
+use Rattle.virtiofs_map.specs.AclParts.{IsSizeFault, IsUnsoundBelow}
 use Rattle.virtiofs_map.specs.Build.{Accepted}
 use Rattle.virtiofs_map.specs.declared.acl.errors.AclError.{AclError}
 use Rattle.virtiofs_map.specs.declared.acl.errors.AclError.TheVariants.{TooShort, Version, Length, Room, Entry}
@@ -21,6 +21,18 @@ HasAclFault-size users groups direction room value (Version version) fault = fau
 HasAclFault-size users groups direction room value Length fault = fault users groups direction
 HasAclFault-size users groups direction room value (Room needed) fault = fault users groups direction
 HasAclFault-size users groups direction room value (Entry k wrong) fault = absurd fault
+
+-- the first entry that is not sound is one, once the sizes are right
+pub HasAclFault-unsound_below : (users groups : List IdMap) (direction : Direction) (room : ℕ) (value : List ℕ) (error : AclError) → IsWhole value → entry_count value ≤ room → IsUnsoundBelow users groups direction value (entry_count value) error → HasAclFault users groups direction room value error
+HasAclFault-unsound_below users groups direction room value TooShort whole fits wrong = absurd wrong
+HasAclFault-unsound_below users groups direction room value (Version version) whole fits wrong = absurd wrong
+HasAclFault-unsound_below users groups direction room value Length whole fits wrong = absurd wrong
+HasAclFault-unsound_below users groups direction room value (Room needed) whole fits wrong = absurd wrong
+HasAclFault-unsound_below users groups direction room value (Entry k UnknownTag) whole fits wrong = record { whole = whole; fits = fits; is_entry = wrong.0; before = wrong.1; wrong = wrong.2 }
+HasAclFault-unsound_below users groups direction room value (Entry k Permission) whole fits wrong = record { whole = whole; fits = fits; is_entry = wrong.0; before = wrong.1; wrong = wrong.2 }
+HasAclFault-unsound_below users groups direction room value (Entry k NoId) whole fits wrong = record { whole = whole; fits = fits; is_entry = wrong.0; before = wrong.1; wrong = wrong.2 }
+HasAclFault-unsound_below users groups direction room value (Entry k Forbidden) whole fits wrong = record { whole = whole; fits = fits; is_entry = wrong.0; before = wrong.1; wrong = wrong.2 }
+HasAclFault-unsound_below users groups direction room value (Entry k Merges) whole fits wrong = absurd wrong.2
 
 -- ---- of an entry by itself
 
@@ -153,15 +165,3 @@ HasAclFault-one users groups direction room value (Entry k fault) (Version versi
 HasAclFault-one users groups direction room value (Entry k fault) Length ua ga first second = absurd (second.2 (HasAclFault-reached users groups direction room value k fault first).whole.whole)
 HasAclFault-one users groups direction room value (Entry k fault) (Room needed) ua ga first second = absurd (omega (arith, second.1, second.2, (HasAclFault-reached users groups direction room value k fault first).fits))
 HasAclFault-one users groups direction room value (Entry j fault) (Entry k other) ua ga first second = entry_one users groups direction room value j k fault other ua ga first second
-
--- ---- what a call says of its refusals
-
--- where the error of a refusal is the first fault, a list that goes across is not refused
-pub complete_from_refused : (users groups : List IdMap) (direction : Direction) (room : ℕ) (value : List ℕ) (r : Result (Unit {0}) AclError) → Accepted users → Accepted groups → IfErr r (HasAclFault users groups direction room value) → GoesAcross users groups direction room value → IsOk r
-complete_from_refused users groups direction room value (Ok done) users_accepted groups_accepted refused goes = refl
-complete_from_refused users groups direction room value (Err error) users_accepted groups_accepted refused goes = absurd (GoesAcross-no_fault users groups direction room value error users_accepted groups_accepted goes refused)
-
--- and a list with a fault is refused with that fault
-pub faulty_from_refused : (users groups : List IdMap) (direction : Direction) (room : ℕ) (value : List ℕ) (r : Result (Unit {0}) AclError) (fault : AclError) → Accepted users → Accepted groups → IfErr r (HasAclFault users groups direction room value) → OnOk r (GoesAcross users groups direction room value) → HasAclFault users groups direction room value fault → IsErrAnd r (λ e. e ≡ fault)
-faulty_from_refused users groups direction room value (Ok done) fault users_accepted groups_accepted refused goes has = absurd (GoesAcross-no_fault users groups direction room value fault users_accepted groups_accepted goes has)
-faulty_from_refused users groups direction room value (Err error) fault users_accepted groups_accepted refused goes has = HasAclFault-one users groups direction room value error fault users_accepted groups_accepted refused has

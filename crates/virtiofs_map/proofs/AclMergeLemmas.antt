@@ -65,6 +65,17 @@ Places-permutation users groups direction value count placed sorted permutation 
       (found, Contains-permutation placed sorted found permutation listed, is_k);
 }
 
+-- whatever ids are looked up in, the room holds entries of the value alone
+pub entries-more : (count : ℕ) (placed : List EntryRoom) → All (λ one. one.entry < count) placed → All (λ one. one.entry < count + 1) placed
+entries-more count placed below = All-weaker (λ one. one.entry < count) (λ one. one.entry < count + 1) (λ one less. omega arith) placed below
+
+pub entries-push : (count : ℕ) (placed : List EntryRoom) (one : EntryRoom) → All (λ one. one.entry < count) placed → one.entry < count + 1 → All (λ one. one.entry < count + 1) (placed ++ one ∷ [])
+entries-push count placed one below here = All-push (λ one. one.entry < count + 1) placed one (entries-more count placed below) here
+
+pub in_value : (value : List ℕ) (count : ℕ) (placed sorted : List EntryRoom) → 4 + 8 * count ≤ length value → IsPermutation placed sorted → All (λ one. one.entry < count) placed → All (λ one. 12 + 8 * one.entry ≤ length value) sorted
+in_value value count placed sorted fits permutation below =
+    All-weaker (λ one. one.entry < count) (λ one. 12 + 8 * one.entry ≤ length value) (λ one less. omega arith) sorted (All-permutation (λ one. one.entry < count) placed sorted permutation below)
+
 -- ---- their order
 
 -- the order of the derive
@@ -239,7 +250,3 @@ first_found users groups direction value count placed (Some k) users_accepted gr
       merges = placed_merge users groups direction value count k placed places clash;
       before = λ j earlier merges. let least : k ≤ j = merge_placed users groups direction value count j placed (Some k) users_accepted groups_accepted order places meets (omega arith) merges in omega arith;
     }
-
--- each of them lies in the value
-pub in_value : (users groups : List IdMap) (direction : Direction) (value : List ℕ) (count : ℕ) (placed : List EntryRoom) → 4 + 8 * count ≤ length value → Places users groups direction value count placed → All (λ one. 12 + 8 * one.entry ≤ length value) placed
-in_value users groups direction value count placed fits places = All-weaker (IsPlaced users groups direction value count) (λ one. 12 + 8 * one.entry ≤ length value) (λ one is. omega (arith, is.is_entry)) placed places.right

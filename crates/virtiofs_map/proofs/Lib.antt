@@ -1,5 +1,6 @@
 pub mod ForCallers
 mod AclCapabilityLemmas
+mod AclChangeLemmas
 mod AclFaultLemmas
 mod AclLawLemmas
 mod AclMergeLemmas

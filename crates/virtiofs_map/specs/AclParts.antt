@@ -1,12 +1,32 @@
 -- What the parts of the calls on access control lists answer. Only private functions cite these words.
 use Rattle.std.specs.Prelude.{◌≡◌, ◌≢◌, ◌⊎◌, ℕ, ◌<◌, ◌≤◌, List, length, All, Contains, slice_index, slice_index_or, Option, Some, IsSomeAnd}
 use Rattle.virtiofs_map.specs.Acl.{tag_of, id_of, HasId, specs_for, IsSound, IsEntryFault, HasAclFault, MergesEarlier, IsIdByte}
+use Rattle.virtiofs_map.specs.Build.{Accepted}
 use Rattle.virtiofs_map.specs.Mapping.{Becomes}
+use Rattle.virtiofs_map.specs.WordParts.{Table, HasRanges}
 use Rattle.virtiofs_map.specs.declared.acl.errors.AclError.{AclError}
 use Rattle.virtiofs_map.specs.declared.acl.errors.AclError.TheVariants.{Entry}
 use Rattle.virtiofs_map.specs.declared.acl.merges.EntryRoom.{EntryRoom}
 use Rattle.virtiofs_map.specs.declared.cmdline.IdMap.{IdMap}
 use Rattle.virtiofs_map.specs.declared.soft_idmap.entry.Direction.{Direction}
+
+-- ---- what ids are looked up in
+
+-- that is said of each list of specifications of which these are the ranges in a direction
+abbrev pub OfRanges : Table → (List IdMap → Direction → Type 0) → Type 0
+OfRanges table says = (specs : List IdMap) (direction : Direction) → Accepted specs → HasRanges specs direction table → says specs direction
+
+-- these are the ranges of users and of groups in a direction
+pub record AreWays (users groups : List IdMap) (direction : Direction) (user_ranges group_ranges : Table) : Type 0 where
+  pub users_accepted : Accepted users
+  pub groups_accepted : Accepted groups
+  pub of_users : HasRanges users direction user_ranges
+  pub of_groups : HasRanges groups direction group_ranges
+
+-- that is said of each two lists of which these are the ranges in a direction
+abbrev pub OfWays : Table → Table → (List IdMap → List IdMap → Direction → Type 0) → Type 0
+OfWays user_ranges group_ranges says =
+    (users groups : List IdMap) (direction : Direction) → AreWays users groups direction user_ranges group_ranges → says users groups direction
 
 -- ---- the tests
 

@@ -40,5 +40,6 @@ pub mod SpecificationParts
 pub mod SpecificationText
 pub mod Specifications
 pub mod Steps
+pub mod ValueChanges
 pub mod ValueKinds
 pub mod WordParts

@@ -28,6 +28,7 @@ ghost use Rattle.virtiofs_map.specs.declared.soft_idmap.entry.Direction.TheVaria
 mod capabilities;
 mod entries;
 mod errors;
+pub mod image;
 mod lists;
 mod little_endian;
 mod merges;
@@ -41,7 +42,7 @@ pub use errors::{AclError, CapabilityError, EntryFault};
 use lists::translate;
 pub use merges::EntryRoom;
 use std::alloc::Allocator;
-use ways::{Ways, is_accepted};
+use ways::Ways;
 
 /// What values hold ids.
 #[derive(Clone, Copy, Debug, PartialEq, Eq)]
@@ -107,12 +108,7 @@ pub fn acl_to_host<A: Allocator>(
     ensures leads_back { OnOk result (AllMapped users.now groups.now GuestToHost value.old
         → ComesBack users.now groups.now GuestToHost (length room.old) value.old value.new) }
 {
-    let direction = Direction::GuestToHost;
-    let ways = Ways {
-        users,
-        groups,
-        direction,
-    };
+    let ways = Ways::of_maps(users, groups, Direction::GuestToHost);
     translate(&ways, value, room)
 }
 
@@ -145,12 +141,7 @@ pub fn acl_to_guest<A: Allocator>(
     ensures leads_back { OnOk result (AllMapped users.now groups.now HostToGuest value.old
         → ComesBack users.now groups.now HostToGuest (length room.old) value.old value.new) }
 {
-    let direction = Direction::HostToGuest;
-    let ways = Ways {
-        users,
-        groups,
-        direction,
-    };
+    let ways = Ways::of_maps(users, groups, Direction::HostToGuest);
     translate(&ways, value, room)
 }
 
@@ -180,8 +171,8 @@ pub fn capability_to_host<A: Allocator>(
         IsMappedBothWays users.now GuestToHost (root_of value.old)
         → RootComesBack users.now GuestToHost value.old value.new) }
 {
-    is_accepted(users);
-    translate_root(users, Direction::GuestToHost, value)
+    let ranges = users.ranges(Direction::GuestToHost);
+    translate_root(&ranges, value)
 }
 
 /// Makes a capability of the host one of the guest, as [`capability_to_host`] does the other way.
@@ -206,8 +197,8 @@ pub fn capability_to_guest<A: Allocator>(
         IsMappedBothWays users.now HostToGuest (root_of value.old)
         → RootComesBack users.now HostToGuest value.old value.new) }
 {
-    is_accepted(users);
-    translate_root(users, Direction::HostToGuest, value)
+    let ranges = users.ranges(Direction::HostToGuest);
+    translate_root(&ranges, value)
 }
 
 /// Writes a capability of the guest as one of the host in revision 3, of any revision: the flags and
@@ -231,8 +222,8 @@ pub fn capability_to_host_in_revision_3<A: Allocator>(
         → IsErrAnd result (λ e. e ≡ fault) }
     ensures unchanged { OnErr result (written.new ≡ written.old) }
 {
-    is_accepted(users);
-    write_revision_3(users, Direction::GuestToHost, value, written)
+    let ranges = users.ranges(Direction::GuestToHost);
+    write_revision_3(&ranges, value, written)
 }
 
 /// Writes a capability of the host as one of the guest in revision 3, as
@@ -256,6 +247,6 @@ pub fn capability_to_guest_in_revision_3<A: Allocator>(
         → IsErrAnd result (λ e. e ≡ fault) }
     ensures unchanged { OnErr result (written.new ≡ written.old) }
 {
-    is_accepted(users);
-    write_revision_3(users, Direction::HostToGuest, value, written)
+    let ranges = users.ranges(Direction::HostToGuest);
+    write_revision_3(&ranges, value, written)
 }

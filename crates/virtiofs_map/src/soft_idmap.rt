@@ -17,11 +17,10 @@ ghost use Rattle.virtiofs_map.specs.declared.soft_idmap.entry.Direction.TheVaria
 
 use crate::id_types::{GuestId, HostId, Id, IdNumber};
 use crate::{Steps, cmdline};
-use lookup::look_up;
 use row::Answer;
 use std::alloc::{Allocator, Global};
 use std::marker::{Model, PhantomData};
-use words::{Ranges, Words};
+use words::Words;
 
 mod build;
 mod entry;
@@ -38,6 +37,8 @@ mod write;
 
 pub use entry::Direction;
 pub use errors::{FaultKind, IdMapBuildError, MapError, RangeEnd, SpecsError};
+pub(crate) use lookup::look_up;
+pub(crate) use words::{Ranges, image_ranges};
 
 /// A map of ids between a guest and its host.
 ///
@@ -264,7 +265,7 @@ impl<Guest: GuestId<HostType = Host>, Host: HostId<GuestType = Guest>, A: Alloca
     }
 
     /// The ranges of a direction.
-    fn ranges(&self, direction: Direction) -> Ranges<'_>
+    pub(crate) fn ranges(&self, direction: Direction) -> Ranges<'_>
         ensures accepted { Accepted self.now }
         ensures ranges { HasRanges self.now direction result }
         ensures counted { result.count ≡ acting self.now direction }

@@ -7,3 +7,4 @@ mod QuoteLemmas
 mod RangesLemmas
 mod RulesLemmas
 mod TextsLemmas
+mod ValuesLemmas

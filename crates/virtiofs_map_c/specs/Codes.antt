@@ -33,3 +33,20 @@ no_map = 9
 
 abbrev pub no_name : ℕ
 no_name = 10
+
+abbrev pub merges : ℕ
+merges = 11
+
+abbrev pub root_moves : ℕ
+root_moves = 12
+
+-- ---- kinds of values
+
+abbrev pub no_ids : ℕ
+no_ids = 0
+
+abbrev pub acl : ℕ
+acl = 1
+
+abbrev pub capability : ℕ
+capability = 2

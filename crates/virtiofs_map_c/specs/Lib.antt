@@ -8,3 +8,4 @@ pub mod Ranges
 pub mod Replies
 pub mod Rules
 pub mod Texts
+pub mod Values

@@ -32,3 +32,18 @@ pub const NO_MAP: u32 = 9;
 
 /// The bytes are no name.
 pub const NO_NAME: u32 = 10;
+
+/// Two ids of a value would become one.
+pub const MERGES: u32 = 11;
+
+/// The revision of a capability has no field for the id of root, which does not stay 0.
+pub const ROOT_MOVES: u32 = 12;
+
+/// The values of a name hold no ids.
+pub const NO_IDS: u32 = 0;
+
+/// The values of a name are access control lists.
+pub const ACL: u32 = 1;
+
+/// The values of a name are capabilities.
+pub const CAPABILITY: u32 = 2;

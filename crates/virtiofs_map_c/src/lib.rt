@@ -12,4 +12,5 @@ mod fault;
 mod ids;
 mod names;
 mod texts;
+mod values;
 mod version;

@@ -2,7 +2,7 @@
 
 mod errors;
 mod example;
-mod image;
+pub(crate) mod image;
 
 use crate::id_types::projects::{GuestProject, HostProject, ProjectNumber};
 use std::alloc::Global;

@@ -1,18 +1,17 @@
 //! The capability of a file, tested and then written.
-ghost use Rattle.std.specs.Prelude.{◌≡◌, ◌↔◌, IfErr, IfOk, IfSome, IsNone, OnOk, OnErr, Some};
+ghost use Rattle.std.specs.Prelude.{◌≡◌, ◌≢◌, ◌↔◌, IfErr, IfOk, IfSome, IsNone, OnOk, OnErr, Some};
 ghost use Rattle.virtiofs_map.specs.AclLaws.{AreBytes};
-ghost use Rattle.virtiofs_map.specs.Build.{Accepted};
-ghost use Rattle.virtiofs_map.specs.Capability.{revision_of, IsRevision, HasSize, root_of, IsCapability, RootBecomes, KeepsFront, IsInRevision3, HasRoot, RootGoesAcross, HasRootFault, HasCapabilityFault, RootComesBack};
+ghost use Rattle.virtiofs_map.specs.AclParts.{OfRanges};
+ghost use Rattle.virtiofs_map.specs.Capability.{IsRevision, HasSize, root_of, IsCapability, IsInRevision3, HasRootFault};
 ghost use Rattle.virtiofs_map.specs.CapabilityParts.{IsFaultOfAny};
 ghost use Rattle.virtiofs_map.specs.Mapping.{Becomes};
-ghost use Rattle.virtiofs_map.specs.MappingLaws.{IsMappedBothWays};
+ghost use Rattle.virtiofs_map.specs.ValueChanges.{ChangesRoot, WritesRevision3};
+ghost use Rattle.virtiofs_map.specs.declared.acl.errors.CapabilityError.TheVariants.{RootMoves};
 
 use crate::acl::errors::CapabilityError;
 use crate::acl::little_endian::{read_four, write_four};
 use crate::acl::ways::becomes;
-use crate::id_types::{GuestUid, HostUid};
-use crate::soft_idmap::{Direction, IdMap};
-use std::alloc::Allocator;
+use crate::soft_idmap::Ranges;
 
 /// How many bytes the values of a revision have, if there is such a revision.
 fn size_of(revision: u8) -> Option<usize>
@@ -55,40 +54,29 @@ fn root_of(value: &[u8]) -> Result<u32, CapabilityError>
 }
 
 /// What the id of root becomes.
-fn new_root<A: Allocator>(
-    users: &IdMap<GuestUid, HostUid, A>,
-    direction: Direction,
-    value: &[u8],
-) -> Result<u32, CapabilityError>
-    ensures root { IfOk result (λ root.
-        Becomes users.now direction (root_of value.now) (Some root)) }
+fn new_root(users: &Ranges<'_>, value: &[u8]) -> Result<u32, CapabilityError>
+    ensures root { OfRanges users.now (λ specs direction. IfOk result (λ root.
+        Becomes specs direction (root_of value.now) (Some root))) }
     ensures capability { OnOk result (IsCapability value.now) }
-    ensures refused { IfErr result (HasRootFault users.now direction value.now) }
-    ensures specs { OnOk result (Accepted users.now) }
+    ensures refused { OfRanges users.now (λ specs direction.
+        IfErr result (HasRootFault specs direction value.now)) }
+    ensures has_field { IfErr result (λ e. e ≢ RootMoves) }
     ensures bytes { AreBytes value.now }
 {
     let root = root_of(value)?;
-    match becomes(users, direction, root) {
+    match becomes(users, root) {
         Some(new_root) => Ok(new_root),
         None => Err(CapabilityError::Forbidden),
     }
 }
 
 /// Tests a capability, and writes what the id of root becomes where it has no fault.
-pub(crate) fn translate_root<A: Allocator>(
-    users: &IdMap<GuestUid, HostUid, A>,
-    direction: Direction,
-    value: &mut [u8],
-) -> Result<(), CapabilityError>
-    ensures root { OnOk result (RootBecomes users.now direction value.old value.new) }
-    ensures front { OnOk result (KeepsFront value.old value.new) }
-    ensures accepted { OnOk result (RootGoesAcross users.now direction value.old) }
-    ensures refused { IfErr result (HasCapabilityFault users.now direction value.old) }
+pub(crate) fn translate_root(users: &Ranges<'_>, value: &mut [u8]) -> Result<(), CapabilityError>
+    ensures change { OfRanges users.now (λ specs direction.
+        ChangesRoot specs direction value.old value.new result) }
     ensures unchanged { OnErr result (value.new ≡ value.old) }
-    ensures leads_back { OnOk result (IsMappedBothWays users.now direction (root_of value.old)
-        → RootComesBack users.now direction value.old value.new) }
 {
-    let root = new_root(users, direction, value)?;
+    let root = new_root(users, value)?;
     if value.len() == 24 {
         write_four(value, 20, root);
     } else if root != 0 {
@@ -97,24 +85,30 @@ pub(crate) fn translate_root<A: Allocator>(
     Ok(())
 }
 
-/// Tests a capability, and writes it in revision 3, with what the id of root becomes.
-pub(crate) fn write_revision_3<A: Allocator>(
-    users: &IdMap<GuestUid, HostUid, A>,
-    direction: Direction,
-    value: &[u8],
-    written: &mut [u8; 24],
-) -> Result<(), CapabilityError>
-    ensures root { OnOk result (RootBecomes users.now direction value.now written.new) }
-    ensures same { OnOk result (IsInRevision3 value.now written.new) }
-    ensures accepted { OnOk result (HasRoot users.now direction value.now) }
-    ensures refused { IfErr result (HasRootFault users.now direction value.now) }
-    ensures unchanged { OnErr result (written.new ≡ written.old) }
+/// Writes a capability in revision 3, with that id of root.
+fn write_with_root(value: &[u8], root: u32, written: &mut [u8; 24])
+    ensures root { root_of written.new ≡ root }
+    ensures same { IsInRevision3 value.now written.new }
 {
-    let root = new_root(users, direction, value)?;
     for place in 0..20 {
         written[place] = if place < value.len() { value[place] } else { 0 };
     }
     written[3] = 3;
     write_four(written, 20, root);
+}
+
+/// Tests a capability, and writes it in revision 3, with what the id of root becomes.
+pub(crate) fn write_revision_3(
+    users: &Ranges<'_>,
+    value: &[u8],
+    written: &mut [u8; 24],
+) -> Result<(), CapabilityError>
+    ensures change { OfRanges users.now (λ specs direction.
+        WritesRevision3 specs direction value.now written.new result) }
+    ensures has_field { IfErr result (λ e. e ≢ RootMoves) }
+    ensures unchanged { OnErr result (written.new ≡ written.old) }
+{
+    let root = new_root(users, value)?;
+    write_with_root(value, root, written);
     Ok(())
 }

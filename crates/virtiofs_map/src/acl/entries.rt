@@ -2,12 +2,11 @@
 ghost use Rattle.std.specs.Prelude.{◌≡◌, ◌↔◌, ℕ, ◌+◌, ◌*◌, ◌<◌, ◌≤◌, IsTrue, IfOk, IfErr, IfNone, IfSome, OnOk, length};
 ghost use Rattle.virtiofs_map.specs.Acl.{entry_count, tag_of, permissions_of, id_of, IsTag, HasId, IsWhole, IsSound, IsEntryFault};
 ghost use Rattle.virtiofs_map.specs.AclLaws.{AreBytes};
-ghost use Rattle.virtiofs_map.specs.AclParts.{IsSizeFault, AllSoundBelow, IsUnsoundBelow};
+ghost use Rattle.virtiofs_map.specs.AclParts.{IsSizeFault, AllSoundBelow, IsUnsoundBelow, OfWays};
 
 use crate::acl::errors::{AclError, EntryFault};
 use crate::acl::little_endian::{read_four, read_two};
 use crate::acl::ways::Ways;
-use std::alloc::Allocator;
 
 /// An entry, as its bytes say.
 #[derive(Clone, Copy)]
@@ -73,12 +72,12 @@ fn is_tag(tag: u16) -> bool
 }
 
 /// What is wrong with an entry by itself, if anything is.
-fn fault_at<A: Allocator>(ways: &Ways<A>, value: &[u8], k: usize) -> Option<EntryFault>
+fn fault_at(ways: &Ways<'_>, value: &[u8], k: usize) -> Option<EntryFault>
     requires { 12 + 8 * k ≤ length value.now }
-    ensures sound { IfNone result
-        (IsSound ways.now.users.now ways.now.groups.now ways.now.direction value.now k) }
-    ensures wrong { IfSome result
-        (IsEntryFault ways.now.users.now ways.now.groups.now ways.now.direction value.now k) }
+    ensures sound { OfWays ways.now.users ways.now.groups (λ users groups direction.
+        IfNone result (IsSound users groups direction value.now k)) }
+    ensures wrong { OfWays ways.now.users ways.now.groups (λ users groups direction.
+        IfSome result (IsEntryFault users groups direction value.now k)) }
 {
     let entry = entry_at(value, k);
     if !is_tag(entry.tag) {
@@ -100,16 +99,12 @@ fn fault_at<A: Allocator>(ways: &Ways<A>, value: &[u8], k: usize) -> Option<Entr
 }
 
 /// Tests each entry by itself, in order.
-pub(crate) fn test_entries<A: Allocator>(
-    ways: &Ways<A>,
-    value: &[u8],
-    count: usize,
-) -> Result<(), AclError>
+pub(crate) fn test_entries(ways: &Ways<'_>, value: &[u8], count: usize) -> Result<(), AclError>
     requires { 4 + 8 * count ≤ length value.now }
-    ensures sound { OnOk result (AllSoundBelow
-        ways.now.users.now ways.now.groups.now ways.now.direction value.now count) }
-    ensures refused { IfErr result (IsUnsoundBelow
-        ways.now.users.now ways.now.groups.now ways.now.direction value.now count) }
+    ensures sound { OfWays ways.now.users ways.now.groups (λ users groups direction.
+        OnOk result (AllSoundBelow users groups direction value.now count)) }
+    ensures refused { OfWays ways.now.users ways.now.groups (λ users groups direction.
+        IfErr result (IsUnsoundBelow users groups direction value.now count)) }
 {
     for k in 0..count {
         if let Some(fault) = fault_at(ways, value, k) {

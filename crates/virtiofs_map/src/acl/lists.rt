@@ -1,26 +1,20 @@
 //! An access control list, tested as a whole and then written.
-ghost use Rattle.std.specs.Prelude.{◌≡◌, ◌+◌, ◌*◌, ◌≤◌, IfErr, OnOk, OnErr, length};
-ghost use Rattle.virtiofs_map.specs.Acl.{entry_count, GoesAcross, HasAclFault};
-ghost use Rattle.virtiofs_map.specs.AclLaws.{IsTranslated, AllMapped, ComesBack};
-ghost use Rattle.virtiofs_map.specs.AclParts.{AllSoundBelow, IsWritten};
-ghost use Rattle.virtiofs_map.specs.Build.{Accepted};
+ghost use Rattle.std.specs.Prelude.{◌≡◌, ◌+◌, ◌*◌, ◌≤◌, OnErr, length};
+ghost use Rattle.virtiofs_map.specs.AclParts.{AllSoundBelow, IsWritten, OfWays};
+ghost use Rattle.virtiofs_map.specs.ValueChanges.{ChangesList};
 
 use crate::acl::entries::{count_entries, entry_at, test_entries};
 use crate::acl::errors::{AclError, EntryFault};
 use crate::acl::little_endian::write_four;
 use crate::acl::merges::{EntryRoom, first_merged};
-use crate::acl::ways::{Ways, is_accepted};
-use std::alloc::Allocator;
+use crate::acl::ways::Ways;
 
 /// Writes what each id becomes in its place.
-fn write_entries<A: Allocator>(ways: &Ways<A>, value: &mut [u8], count: usize)
-    requires in_value { 4 + 8 * count ≤ length value.old }
-    requires sound { AllSoundBelow
-        ways.now.users.now ways.now.groups.now ways.now.direction value.old count }
-    requires users { Accepted ways.now.users.now }
-    requires groups { Accepted ways.now.groups.now }
-    ensures { IsWritten ways.now.users.now ways.now.groups.now ways.now.direction
-        value.old value.new count }
+fn write_entries(ways: &Ways<'_>, value: &mut [u8], count: usize)
+    requires { 4 + 8 * count ≤ length value.old }
+    ensures { OfWays ways.now.users ways.now.groups (λ users groups direction.
+        AllSoundBelow users groups direction value.old count
+        → IsWritten users groups direction value.old value.new count) }
 {
     for k in 0..count {
         let entry = entry_at(value, k);
@@ -33,27 +27,15 @@ fn write_entries<A: Allocator>(ways: &Ways<A>, value: &mut [u8], count: usize)
 }
 
 /// Tests a list, and writes what its ids become where it has no fault.
-pub(crate) fn translate<A: Allocator>(
-    ways: &Ways<A>,
+pub(crate) fn translate(
+    ways: &Ways<'_>,
     value: &mut [u8],
     room: &mut [EntryRoom],
 ) -> Result<(), AclError>
-    ensures users { Accepted ways.now.users.now }
-    ensures groups { Accepted ways.now.groups.now }
-    ensures translated { OnOk result (IsTranslated
-        ways.now.users.now ways.now.groups.now ways.now.direction value.old value.new) }
+    ensures change { OfWays ways.now.users ways.now.groups (λ users groups direction.
+        ChangesList users groups direction (length room.old) value.old value.new result) }
     ensures unchanged { OnErr result (value.new ≡ value.old) }
-    ensures accepted { OnOk result (GoesAcross ways.now.users.now ways.now.groups.now
-        ways.now.direction (length room.old) value.old) }
-    ensures leads_back { OnOk result (
-        AllMapped ways.now.users.now ways.now.groups.now ways.now.direction value.old
-        → ComesBack ways.now.users.now ways.now.groups.now ways.now.direction
-        (length room.old) value.old value.new) }
-    ensures refused { IfErr result (HasAclFault ways.now.users.now ways.now.groups.now
-        ways.now.direction (length room.old) value.old) }
 {
-    is_accepted(ways.users);
-    is_accepted(ways.groups);
     let count = count_entries(value, room.len())?;
     test_entries(ways, value, count)?;
     if let Some(entry) = first_merged(ways, value, count, room) {

@@ -2,18 +2,18 @@
 //!
 //! Entries of one tag whose ids become the same number stand beside each other once they are sorted
 //! by what their ids become. So neighbours are enough to see whether two ids would merge.
-ghost use Rattle.std.specs.Prelude.{◌≡◌, ◌⊎◌, ◌↔◌, ℕ, ◌+◌, ◌*◌, ◌≤◌, All, IsTrue, IfNone, IfSome, Some, length, take};
-ghost use Rattle.virtiofs_map.specs.AclParts.{AllSoundBelow, Places, AreInOrder, Clashes, HasClash, MeetsClashes, NoneMerges, IsFirstToMerge};
-ghost use Rattle.virtiofs_map.specs.Build.{Accepted};
+ghost use Rattle.std.specs.Prelude.{◌≡◌, ◌⊎◌, ◌↔◌, ℕ, ◌+◌, ◌*◌, ◌<◌, ◌≤◌, All, IsTrue, IfNone, IfSome, Some, length, take};
+ghost use Rattle.virtiofs_map.specs.AclParts.{AllSoundBelow, Places, AreInOrder, Clashes, HasClash, MeetsClashes, NoneMerges, IsFirstToMerge, OfWays};
 
 use crate::acl::entries::entry_at;
 use crate::acl::ways::Ways;
-use std::alloc::Allocator;
 
 /// Room for one entry of an access control list: a caller lends a slice of these to
 /// [`acl_to_host`](crate::acl::acl_to_host) and [`acl_to_guest`](crate::acl::acl_to_guest).
 ///
-/// What a call leaves in it says nothing, and it may be lent again.
+/// What a call leaves in it says nothing, and it may be lent again. It is C's
+/// `struct virtiofs_entry_room`.
+#[repr(C)]
 #[derive(Clone, Copy, Debug, PartialEq, Eq, PartialOrd, Ord)]
 pub struct EntryRoom {
     tag: u16,
@@ -34,16 +34,14 @@ impl EntryRoom {
 
 /// Puts each entry that has an id into the room, with what its id becomes. Answers how many these
 /// are.
-fn place<A: Allocator>(ways: &Ways<A>, value: &[u8], count: usize, room: &mut [EntryRoom]) -> usize
+fn place(ways: &Ways<'_>, value: &[u8], count: usize, room: &mut [EntryRoom]) -> usize
     requires in_value { 4 + 8 * count ≤ length value.now }
     requires fits { count ≤ length room.old }
-    requires sound { AllSoundBelow
-        ways.now.users.now ways.now.groups.now ways.now.direction value.now count }
-    requires users { Accepted ways.now.users.now }
-    requires groups { Accepted ways.now.groups.now }
     ensures within { result ≤ count }
-    ensures placed { Places ways.now.users.now ways.now.groups.now ways.now.direction value.now
-        count (take result room.new) }
+    ensures entries { All (λ one. one.entry < count) (take result room.new) }
+    ensures placed { OfWays ways.now.users ways.now.groups (λ users groups direction.
+        AllSoundBelow users groups direction value.now count
+        → Places users groups direction value.now count (take result room.new)) }
 {
     let mut used = 0;
     for k in 0..count {
@@ -103,22 +101,20 @@ fn least_clash(value: &[u8], placed: &[EntryRoom]) -> Option<usize>
 }
 
 /// The first entry whose id would become what another id of an earlier entry of its tag becomes.
-pub(crate) fn first_merged<A: Allocator>(
-    ways: &Ways<A>,
+pub(crate) fn first_merged(
+    ways: &Ways<'_>,
     value: &[u8],
     count: usize,
     room: &mut [EntryRoom],
 ) -> Option<usize>
     requires in_value { 4 + 8 * count ≤ length value.now }
     requires fits { count ≤ length room.old }
-    requires sound { AllSoundBelow
-        ways.now.users.now ways.now.groups.now ways.now.direction value.now count }
-    requires users { Accepted ways.now.users.now }
-    requires groups { Accepted ways.now.groups.now }
-    ensures none { IfNone result (NoneMerges
-        ways.now.users.now ways.now.groups.now ways.now.direction value.now count) }
-    ensures first { IfSome result (IsFirstToMerge
-        ways.now.users.now ways.now.groups.now ways.now.direction value.now count) }
+    ensures none { OfWays ways.now.users ways.now.groups (λ users groups direction.
+        AllSoundBelow users groups direction value.now count
+        → IfNone result (NoneMerges users groups direction value.now count)) }
+    ensures first { OfWays ways.now.users ways.now.groups (λ users groups direction.
+        AllSoundBelow users groups direction value.now count
+        → IfSome result (IsFirstToMerge users groups direction value.now count)) }
 {
     let used = place(ways, value, count, room);
     let placed = &mut room[..used];

@@ -1,86 +1,80 @@
 //! What becomes of an id of either kind in one direction.
-ghost use Rattle.std.specs.Prelude.{◌≡◌};
+//!
+//! The ranges of a map and those of an image are the same, so a value is changed by the one as by the
+//! other. What the contracts promise holds for each list of specifications of which they are the
+//! ranges.
+ghost use Rattle.std.specs.Prelude.{List, IsSome, IsSomeAnd};
 ghost use Rattle.virtiofs_map.specs.Acl.{specs_for};
-ghost use Rattle.virtiofs_map.specs.Build.{Accepted};
+ghost use Rattle.virtiofs_map.specs.AclParts.{AreWays, OfRanges, OfWays};
+ghost use Rattle.virtiofs_map.specs.Image.{HasKind, IsImage};
 ghost use Rattle.virtiofs_map.specs.Mapping.{Becomes};
+ghost use Rattle.virtiofs_map.specs.declared.cmdline.IdMap.{IdMap as Specification};
 
-use crate::id_types::{GuestGid, GuestId, GuestUid, HostGid, HostId, HostUid, Id, IdNumber};
-use crate::soft_idmap::{Direction, IdMap};
+use crate::Steps;
+use crate::id_types::{GuestGid, GuestUid, HostGid, HostUid};
+use crate::soft_idmap::image::Answer;
+use crate::soft_idmap::{Direction, IdMap, Ranges, image_ranges, look_up};
 use std::alloc::Allocator;
 
-/// The maps of users and of groups, and the direction in which ids go.
-#[derive(Clone, Copy)]
-pub(crate) struct Ways<'a, A: Allocator> {
-    pub(crate) users: &'a IdMap<GuestUid, HostUid, A>,
-    pub(crate) groups: &'a IdMap<GuestGid, HostGid, A>,
-    pub(crate) direction: Direction,
+/// The ranges of users and of groups, in the direction in which ids go.
+#[derive(Drop)]
+pub(crate) struct Ways<'a> {
+    users: Ranges<'a>,
+    groups: Ranges<'a>,
 }
 
-impl<A: Allocator> Ways<'_, A> {
+impl<'a> Ways<'a> {
+    /// Those of two maps.
+    pub(crate) fn of_maps<A: Allocator>(
+        users: &'a IdMap<GuestUid, HostUid, A>,
+        groups: &'a IdMap<GuestGid, HostGid, A>,
+        direction: Direction,
+    ) -> Ways<'a>
+        ensures { AreWays users.now groups.now direction result.users result.groups }
+    {
+        Ways {
+            users: users.ranges(direction),
+            groups: groups.ranges(direction),
+        }
+    }
+
+    /// Those of two images; `None` where one of them is none.
+    pub(crate) fn of_images(
+        users: &'a [u32],
+        groups: &'a [u32],
+        direction: Direction,
+    ) -> Option<Ways<'a>>
+        ensures images { (specs others : List Specification) → IsImage specs users.now
+            → IsImage others groups.now
+            → IsSomeAnd result (λ ways. AreWays specs others direction ways.users ways.groups) }
+        ensures user_kind { IsSome result → HasKind users.now }
+        ensures group_kind { IsSome result → HasKind groups.now }
+    {
+        let users = image_ranges(users, direction)?;
+        let groups = image_ranges(groups, direction)?;
+        Some(Ways { users, groups })
+    }
+
     /// What an id becomes, of an entry with that tag; `None` where its use fails.
     pub(crate) fn becomes(&self, tag: u16, id: u32) -> Option<u32>
-        ensures { Becomes (specs_for self.now.users.now self.now.groups.now tag) self.now.direction
-            id result }
+        ensures { OfWays self.now.users self.now.groups (λ users groups direction.
+            Becomes (specs_for users groups tag) direction id result) }
     {
         if tag == 2 {
-            becomes(self.users, self.direction, id)
+            becomes(&self.users, id)
         } else {
-            becomes(self.groups, self.direction, id)
+            becomes(&self.groups, id)
         }
     }
 }
 
-/// What a number becomes; `None` where its use fails.
-pub(crate) fn becomes<
-    Guest: GuestId<HostType = Host>,
-    Host: HostId<GuestType = Guest>,
-    A: Allocator,
->(map: &IdMap<Guest, Host, A>, direction: Direction, n: u32) -> Option<u32>
-    ensures accepted { Accepted map.now }
-    ensures becomes { Becomes map.now direction n result }
+/// What a number becomes; `None` where its use fails, or where these are no ranges.
+pub(crate) fn becomes(ranges: &Ranges<'_>, n: u32) -> Option<u32>
+    ensures { OfRanges ranges.now (λ specs direction. Becomes specs direction n result) }
 {
-    match direction {
-        Direction::GuestToHost => {
-            let id: Guest = id_of(n);
-            match map.map_guest(id) {
-                Ok(host) => Some(number_of(host)),
-                Err(_) => None,
-            }
-        }
-        Direction::HostToGuest => {
-            let id: Host = id_of(n);
-            match map.map_host(id) {
-                Ok(guest) => Some(number_of(guest)),
-                Err(_) => None,
-            }
-        }
+    match look_up(ranges, n, &mut Steps::new()) {
+        Answer::Becomes(value) => Some(value),
+        Answer::Fails => None,
+        Answer::NoImage => None,
     }
-}
-
-/// Law: a map is made of an accepted list. It looks one id up to know it.
-pub(crate) fn is_accepted<
-    Guest: GuestId<HostType = Host>,
-    Host: HostId<GuestType = Guest>,
-    A: Allocator,
->(map: &IdMap<Guest, Host, A>)
-    ensures { Accepted map.now }
-{
-    let _ = becomes(map, Direction::GuestToHost, 0);
-}
-
-/// The number of an id.
-fn number_of<I: Id>(id: I) -> u32
-    ensures { result ≡ I.number id }
-{
-    id.into_inner().to_u32()
-}
-
-/// The id of a number.
-fn id_of<I: Id>(n: u32) -> I
-    ensures { I.number result ≡ n }
-{
-    let inner = I::Inner::from_u32(n);
-    let id = I::from(inner);
-    I::keeps(inner, id);
-    id
 }

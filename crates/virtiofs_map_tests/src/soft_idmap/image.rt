@@ -8,7 +8,7 @@ use virtiofs_map::soft_idmap::Direction;
 use virtiofs_map::soft_idmap::image::{Answer, look_up, most_words, write_image};
 
 /// The image of the specifications that the texts say.
-fn image_of(alloc: Global, texts: &[&str]) -> Result<Vec<u32>, Fail> {
+pub(crate) fn image_of(alloc: Global, texts: &[&str]) -> Result<Vec<u32>, Fail> {
     let specs = specs_of(alloc, texts)?;
     let mut words = Vec::from_elem(alloc, 7, most_words(specs.len()))?;
     let len = write_image(alloc, &specs, &mut words)?;

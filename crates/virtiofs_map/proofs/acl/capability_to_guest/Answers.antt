@@ -1,9 +1,15 @@
-use Rattle.virtiofs_map.proofs.AclCapabilityLemmas.{complete_in_place, faulty_in_place}
 use Rattle.virtiofs_map.proofs.acl.capability_to_guest.Goals as goal
 
-pub returns-clause-complete : goal.returns-clause-complete
-returns-clause-complete g c = λ goes. complete_in_place _ _ _ _ c.is_accepted.ensures c.translate_root.ensures.refused goes
-
-pub returns-clause-faulty : goal.returns-clause-faulty
-returns-clause-faulty g c = λ fault has.
-    faulty_in_place _ _ _ _ fault c.is_accepted.ensures c.translate_root.ensures.refused c.translate_root.ensures.accepted has
+pub returns : goal.returns
+returns g c =
+    let change = c.translate_root.ensures.change _ _ c.ranges-ranges.ensures.accepted c.ranges-ranges.ensures.ranges in
+    record {
+      root = change.root;
+      front = change.front;
+      accepted = change.accepted;
+      complete = change.complete;
+      refused = change.refused;
+      faulty = change.faulty;
+      unchanged = change.unchanged;
+      leads_back = change.leads_back;
+    }

@@ -1,6 +1,6 @@
-use Rattle.virtiofs_map.specs.AclParts.{IsWritten}
+use Rattle.virtiofs_map.specs.AclParts.{AllSoundBelow, IsWritten, OfWays}
 use Rattle.virtiofs_map.proofs.acl.lists.write_entries.Given as goal
 
 -- the ids of the entries so far are written
 abbrev pub invariant-loop-k : goal.invariant-loop-k
-invariant-loop-k g l = IsWritten l.ways.users.now l.ways.groups.now l.ways.direction l.initial.value l.value l.k
+invariant-loop-k l = OfWays l.ways.users l.ways.groups (λ users groups direction. AllSoundBelow users groups direction l.initial.value l.k → IsWritten users groups direction l.initial.value l.value l.k)

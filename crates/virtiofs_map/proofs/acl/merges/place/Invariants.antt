@@ -1,10 +1,11 @@
-use Rattle.std.proofs.Common.{◌≤◌, take}
-use Rattle.virtiofs_map.specs.AclParts.{Places}
+use Rattle.std.proofs.Common.{◌<◌, ◌≤◌, All, take}
+use Rattle.virtiofs_map.specs.AclParts.{AllSoundBelow, Places, OfWays}
 use Rattle.virtiofs_map.proofs.acl.merges.place.Given as goal
 
 -- the room holds the entries so far that have an id
 abbrev pub invariant-loop-k : goal.invariant-loop-k
-invariant-loop-k g l = record {
+invariant-loop-k l = record {
   within : l.used ≤ l.k;
-  placed : Places l.ways.users.now l.ways.groups.now l.ways.direction l.value l.k (take l.used l.room);
+  entries : All (λ one. one.entry < l.k) (take l.used l.room);
+  placed : OfWays l.ways.users l.ways.groups (λ users groups direction. AllSoundBelow users groups direction l.value l.k → Places users groups direction l.value l.k (take l.used l.room));
 }

@@ -1,0 +1,122 @@
+-- What the calls tell that change the ids in a value.
+use Rattle.std.specs.Prelude.{◌≡◌, ◌≢◌, ◌⊎◌, ℕ, List, Option, Some, None, Result, Ok, Err}
+use Rattle.virtiofs_map.specs.Acl.{GoesAcross, HasAclFault}
+use Rattle.virtiofs_map.specs.AclLaws.{IsTranslated, AllMapped, ComesBack}
+use Rattle.virtiofs_map.specs.Capability.{root_of, RootBecomes, KeepsFront, IsInRevision3, HasRoot, RootGoesAcross, HasRootFault, HasCapabilityFault, RootComesBack}
+use Rattle.virtiofs_map.specs.MappingLaws.{IsMappedBothWays}
+use Rattle.virtiofs_map.specs.declared.acl.errors.AclError.{AclError}
+use Rattle.virtiofs_map.specs.declared.acl.errors.AclError.TheVariants as lists
+use Rattle.virtiofs_map.specs.declared.acl.errors.CapabilityError.{CapabilityError}
+use Rattle.virtiofs_map.specs.declared.acl.errors.CapabilityError.TheVariants as capabilities
+use Rattle.virtiofs_map.specs.declared.acl.errors.EntryFault.{EntryFault}
+use Rattle.virtiofs_map.specs.declared.acl.errors.EntryFault.TheVariants.{UnknownTag, Permission, NoId, Forbidden, Merges}
+use Rattle.virtiofs_map.specs.declared.cmdline.IdMap.{IdMap as Specification}
+use Rattle.virtiofs_map.specs.declared.soft_idmap.entry.Direction.{Direction}
+use Rattle.virtiofs_map_c.specs.Codes.{ok, forbidden, refused, no_room, no_map, merges, root_moves}
+use Rattle.virtiofs_map_c.specs.Faults.{no_fault, fault_of_kind, told_at}
+use Rattle.virtiofs_map_c.specs.declared.fault.Fault.{Fault}
+
+-- ---- how a fault is told
+
+-- a version, or a revision, that there is not
+abbrev pub version_told : ℕ → Fault
+version_told version = record (fault_of_kind 20) { seen = version }
+
+-- the kind of what is wrong with an entry
+abbrev pub entry_kind : EntryFault → ℕ
+entry_kind UnknownTag = 23
+entry_kind Permission = 24
+entry_kind NoId = 25
+entry_kind Forbidden = 26
+entry_kind Merges = 27
+
+-- why a list does not go across, where room is lent for that many entries
+abbrev pub acl_told : ℕ → AclError → Fault
+acl_told room lists.TooShort = fault_of_kind 19
+acl_told room (lists.Version version) = version_told version
+acl_told room lists.Length = fault_of_kind 21
+acl_told room (lists.Room needed) = record (fault_of_kind 22) { expected = needed; seen = room }
+acl_told room (lists.Entry k fault) = told_at (entry_kind fault) k 0 0
+
+-- its code
+abbrev pub acl_code : AclError → ℕ
+acl_code (lists.Room needed) = no_room
+acl_code (lists.Entry k Forbidden) = forbidden
+acl_code (lists.Entry k Merges) = merges
+acl_code error = refused
+
+-- why a capability does not
+abbrev pub capability_told : CapabilityError → Fault
+capability_told capabilities.TooShort = fault_of_kind 19
+capability_told (capabilities.Revision revision) = version_told revision
+capability_told capabilities.Length = fault_of_kind 21
+capability_told capabilities.NoId = fault_of_kind 25
+capability_told capabilities.Forbidden = fault_of_kind 26
+capability_told capabilities.RootMoves = fault_of_kind 28
+
+-- its code
+abbrev pub capability_code : CapabilityError → ℕ
+capability_code capabilities.Forbidden = forbidden
+capability_code capabilities.RootMoves = root_moves
+capability_code error = refused
+
+-- the error is told, with its code
+pub record IsAclTold (room code : ℕ) (told : Fault) (error : AclError) : Type 0 where
+  pub code_told : code ≡ acl_code error
+  pub numbers : told ≡ acl_told room error
+
+pub record IsCapabilityTold (code : ℕ) (told : Fault) (error : CapabilityError) : Type 0 where
+  pub code_told : code ≡ capability_code error
+  pub numbers : told ≡ capability_told error
+
+-- a code that comes with no fault
+abbrev pub IsCode : ℕ → ℕ → Fault → Type 0
+IsCode answered code told = (code ≡ answered) × (told ≡ no_fault)
+
+-- what became of a value is told: that the maps are none, that it is done, or its error
+abbrev pub IsAnswerTold : {E : Type 0} → (ℕ → Fault → E → Type 0) → Option (Result (Unit {0}) E) → ℕ → Fault → Type 0
+IsAnswerTold is_told None code told = IsCode no_map code told
+IsAnswerTold is_told (Some (Ok done)) code told = IsCode ok code told
+IsAnswerTold is_told (Some (Err error)) code told = is_told code told error
+
+-- ---- what the calls answer
+
+-- a list that goes across has each id changed and nothing else, and comes back where `map` covers its ids; of any other the first fault is told
+pub record ChangesAcl (users groups : List Specification) (direction : Direction) (room : ℕ) (old new : List ℕ) (code : ℕ) (told : Fault) : Type 0 where
+  pub done : code ≡ ok → IsTranslated users groups direction old new
+  pub accepted : code ≡ ok → GoesAcross users groups direction room old
+  pub complete : GoesAcross users groups direction room old → code ≡ ok
+  pub refused : code ≢ ok → (error : AclError) × HasAclFault users groups direction room old error × IsAclTold room code told error
+  pub faulty : (error : AclError) → HasAclFault users groups direction room old error → IsAclTold room code told error
+  pub leads_back : code ≡ ok → AllMapped users groups direction old → ComesBack users groups direction room old new
+
+-- the id of root in a capability that goes across is changed and nothing else, and comes back where a `map` covers it; of any other the first fault is told
+pub record ChangesCapability (users : List Specification) (direction : Direction) (old new : List ℕ) (code : ℕ) (told : Fault) : Type 0 where
+  pub root : code ≡ ok → RootBecomes users direction old new
+  pub front : code ≡ ok → KeepsFront old new
+  pub accepted : code ≡ ok → RootGoesAcross users direction old
+  pub complete : RootGoesAcross users direction old → code ≡ ok
+  pub refused : code ≢ ok → (error : CapabilityError) × HasCapabilityFault users direction old error × IsCapabilityTold code told error
+  pub faulty : (error : CapabilityError) → HasCapabilityFault users direction old error → IsCapabilityTold code told error
+  pub leads_back : code ≡ ok → IsMappedBothWays users direction (root_of old) → RootComesBack users direction old new
+
+-- a capability is written in revision 3, with what the id of root becomes; where it is none, or the use of root fails, the first fault is told
+pub record WritesCapability (users : List Specification) (direction : Direction) (value written : List ℕ) (code : ℕ) (told : Fault) : Type 0 where
+  pub root : code ≡ ok → RootBecomes users direction value written
+  pub same : code ≡ ok → IsInRevision3 value written
+  pub accepted : code ≡ ok → HasRoot users direction value
+  pub complete : HasRoot users direction value → code ≡ ok
+  pub refused : code ≢ ok → (error : CapabilityError) × HasRootFault users direction value error × IsCapabilityTold code told error
+  pub faulty : (error : CapabilityError) → HasRootFault users direction value error → IsCapabilityTold code told error
+
+-- ---- the codes that they have
+
+abbrev pub IsAclCode : ℕ → Type 0
+IsAclCode code =
+    (code ≡ ok) ⊎ ((code ≡ forbidden) ⊎ ((code ≡ refused) ⊎ ((code ≡ no_room) ⊎ ((code ≡ no_map) ⊎ (code ≡ merges)))))
+
+abbrev pub IsRootCode : ℕ → Type 0
+IsRootCode code = (code ≡ ok) ⊎ ((code ≡ forbidden) ⊎ ((code ≡ refused) ⊎ (code ≡ no_map)))
+
+abbrev pub IsCapabilityCode : ℕ → Type 0
+IsCapabilityCode code = IsRootCode code ⊎ (code ≡ root_moves)

@@ -1,0 +1,154 @@
+//! Ids inside values of the caller's, by maps of the caller's.
+ghost use Rattle.std.specs.Prelude.{◌≡◌, ◌≢◌, ◌⊎◌, ◌↔◌, ◌≤◌, List, length};
+ghost use Rattle.virtiofs_map.specs.Image.{HasKind, IsImage};
+ghost use Rattle.virtiofs_map.specs.ValueKinds.{HasLists, HasCapability};
+ghost use Rattle.virtiofs_map.specs.declared.cmdline.IdMap.{IdMap as Specification};
+ghost use Rattle.virtiofs_map.specs.declared.soft_idmap.entry.Direction.TheVariants.{GuestToHost, HostToGuest};
+ghost use Rattle.virtiofs_map_c.specs.Codes.{ok, no_map, acl, capability};
+ghost use Rattle.virtiofs_map_c.specs.Faults.{no_fault};
+ghost use Rattle.virtiofs_map_c.specs.Values.{ChangesAcl, ChangesCapability, WritesCapability, IsAclCode, IsCapabilityCode, IsRootCode};
+
+mod told;
+
+use crate::codes::{ACL, CAPABILITY, NO_IDS};
+use crate::fault::Fault;
+use told::{tell_acl, tell_capability};
+use virtiofs_map::acl::image::{translate_acl, translate_capability, write_revision_3};
+use virtiofs_map::acl::{EntryRoom, ValueKind, carries_ids};
+use virtiofs_map::soft_idmap::Direction;
+use virtiofs_map::xattrmap::XattrName;
+
+/// Which ids the values of an attribute hold.
+#[unsafe(no_mangle)]
+pub extern "C" fn virtiofs_map_carries_ids(name: &[u8]) -> u32
+    ensures lists { (result ≡ acl) ↔ HasLists name.now }
+    ensures capability { (result ≡ capability) ↔ HasCapability name.now }
+    ensures kind { result ≤ 2 }
+{
+    let Some(name) = XattrName::new(name) else {
+        return NO_IDS;
+    };
+    match carries_ids(name) {
+        Some(ValueKind::Acl) => ACL,
+        Some(ValueKind::Capability) => CAPABILITY,
+        None => NO_IDS,
+    }
+}
+
+/// Makes an access control list of the guest one of the host, in place.
+#[unsafe(no_mangle)]
+pub extern "C" fn virtiofs_map_acl_to_host(
+    users: &[u32],
+    groups: &[u32],
+    value: &mut [u8],
+    room: &mut [EntryRoom],
+    fault: &mut Fault,
+) -> u32
+    ensures answer { (specs others : List Specification) → IsImage specs users.now
+        → IsImage others groups.now → ChangesAcl specs others GuestToHost
+        (length room.old) value.old value.new result fault.new }
+    ensures unchanged { result ≢ ok → value.new ≡ value.old }
+    ensures no_map { (¬ HasKind users.now) ⊎ (¬ HasKind groups.now) → result ≡ no_map }
+    ensures no_fault { (result ≡ ok) ⊎ (result ≡ no_map) → fault.new ≡ no_fault }
+    ensures code { IsAclCode result }
+{
+    let lent = room.len();
+    let answer = translate_acl(users, groups, Direction::GuestToHost, value, room);
+    tell_acl(answer, lent, fault)
+}
+
+/// Makes an access control list of the host one of the guest, in place.
+#[unsafe(no_mangle)]
+pub extern "C" fn virtiofs_map_acl_to_guest(
+    users: &[u32],
+    groups: &[u32],
+    value: &mut [u8],
+    room: &mut [EntryRoom],
+    fault: &mut Fault,
+) -> u32
+    ensures answer { (specs others : List Specification) → IsImage specs users.now
+        → IsImage others groups.now → ChangesAcl specs others HostToGuest
+        (length room.old) value.old value.new result fault.new }
+    ensures unchanged { result ≢ ok → value.new ≡ value.old }
+    ensures no_map { (¬ HasKind users.now) ⊎ (¬ HasKind groups.now) → result ≡ no_map }
+    ensures no_fault { (result ≡ ok) ⊎ (result ≡ no_map) → fault.new ≡ no_fault }
+    ensures code { IsAclCode result }
+{
+    let lent = room.len();
+    let answer = translate_acl(users, groups, Direction::HostToGuest, value, room);
+    tell_acl(answer, lent, fault)
+}
+
+/// Makes a capability of the guest one of the host, in place.
+#[unsafe(no_mangle)]
+pub extern "C" fn virtiofs_map_capability_to_host(
+    users: &[u32],
+    value: &mut [u8],
+    fault: &mut Fault,
+) -> u32
+    ensures answer { (specs : List Specification) → IsImage specs users.now
+        → ChangesCapability specs GuestToHost value.old value.new result fault.new }
+    ensures unchanged { result ≢ ok → value.new ≡ value.old }
+    ensures no_map { (¬ HasKind users.now) → result ≡ no_map }
+    ensures no_fault { (result ≡ ok) ⊎ (result ≡ no_map) → fault.new ≡ no_fault }
+    ensures code { IsCapabilityCode result }
+{
+    let answer = translate_capability(users, Direction::GuestToHost, value);
+    tell_capability(answer, fault)
+}
+
+/// Makes a capability of the host one of the guest, in place.
+#[unsafe(no_mangle)]
+pub extern "C" fn virtiofs_map_capability_to_guest(
+    users: &[u32],
+    value: &mut [u8],
+    fault: &mut Fault,
+) -> u32
+    ensures answer { (specs : List Specification) → IsImage specs users.now
+        → ChangesCapability specs HostToGuest value.old value.new result fault.new }
+    ensures unchanged { result ≢ ok → value.new ≡ value.old }
+    ensures no_map { (¬ HasKind users.now) → result ≡ no_map }
+    ensures no_fault { (result ≡ ok) ⊎ (result ≡ no_map) → fault.new ≡ no_fault }
+    ensures code { IsCapabilityCode result }
+{
+    let answer = translate_capability(users, Direction::HostToGuest, value);
+    tell_capability(answer, fault)
+}
+
+/// Writes a capability of the guest as one of the host in revision 3.
+#[unsafe(no_mangle)]
+pub extern "C" fn virtiofs_map_capability_to_host_in_revision_3(
+    users: &[u32],
+    value: &[u8],
+    written: &mut [u8; 24],
+    fault: &mut Fault,
+) -> u32
+    ensures answer { (specs : List Specification) → IsImage specs users.now
+        → WritesCapability specs GuestToHost value.now written.new result fault.new }
+    ensures unchanged { result ≢ ok → written.new ≡ written.old }
+    ensures no_map { (¬ HasKind users.now) → result ≡ no_map }
+    ensures no_fault { (result ≡ ok) ⊎ (result ≡ no_map) → fault.new ≡ no_fault }
+    ensures code { IsRootCode result }
+{
+    let answer = write_revision_3(users, Direction::GuestToHost, value, written);
+    tell_capability(answer, fault)
+}
+
+/// Writes a capability of the host as one of the guest in revision 3.
+#[unsafe(no_mangle)]
+pub extern "C" fn virtiofs_map_capability_to_guest_in_revision_3(
+    users: &[u32],
+    value: &[u8],
+    written: &mut [u8; 24],
+    fault: &mut Fault,
+) -> u32
+    ensures answer { (specs : List Specification) → IsImage specs users.now
+        → WritesCapability specs HostToGuest value.now written.new result fault.new }
+    ensures unchanged { result ≢ ok → written.new ≡ written.old }
+    ensures no_map { (¬ HasKind users.now) → result ≡ no_map }
+    ensures no_fault { (result ≡ ok) ⊎ (result ≡ no_map) → fault.new ≡ no_fault }
+    ensures code { IsRootCode result }
+{
+    let answer = write_revision_3(users, Direction::HostToGuest, value, written);
+    tell_capability(answer, fault)
+}
