@@ -8,7 +8,7 @@
  *   -o translate_uid=SPEC   a specification of user ids, as often as needed
  *   -o translate_gid=SPEC   the same for groups
  *   -o xattrmap=RULES       the rules for names; without it each name passes as it is
- *   -o posix_acl            access control lists cross; without it they are hidden and unsupported
+ *   -o posix_acl            access control lists cross, with their ids; without it they are hidden and unsupported
  *
  * In these texts a comma is written `\,` and a backslash `\\`, since commas part options. It ends with 0 once it is
  * unmounted, with 1 where it cannot serve the directory, as where a text is refused, and with 2 where its words are
@@ -90,6 +90,7 @@ static int error_of(uint32_t code)
     case VIRTIOFS_FORBIDDEN:
     case VIRTIOFS_DENIED:
     case VIRTIOFS_UNTERMINATED:
+    case VIRTIOFS_MERGES:
         return EPERM;
     case VIRTIOFS_UNSUPPORTED:
         return ENOTSUP;
@@ -656,25 +657,60 @@ static void on_statfs(fuse_req_t req, fuse_ino_t number)
 
 /* ---- requests about extended attributes ---- */
 
-/* Whether the host's kernel finds ids in the values of that name. */
-static bool holds_ids(const char *host_name)
+/* The calls on values with ids, in one direction. */
+struct way {
+    uint32_t (*list)(struct virtiofs_uids, struct virtiofs_gids, uint8_t *, size_t, struct virtiofs_entry_room *,
+                     size_t, struct virtiofs_fault *);
+    uint32_t (*capability)(struct virtiofs_uids, uint8_t *, size_t, struct virtiofs_fault *);
+    uint32_t (*in_revision_3)(struct virtiofs_uids, const uint8_t *, size_t, uint8_t *, struct virtiofs_fault *);
+};
+
+static const struct way TO_HOST = {
+    virtiofs_acl_to_host, virtiofs_capability_to_host, virtiofs_capability_to_host_in_revision_3,
+};
+static const struct way TO_GUEST = {
+    virtiofs_acl_to_guest, virtiofs_capability_to_guest, virtiofs_capability_to_guest_in_revision_3,
+};
+
+static uint32_t list_across(const struct share *share, const struct way *way, uint8_t *value, size_t len)
 {
-    return is_access_list(host_name) || !strcmp(host_name, "security.capability");
+    struct virtiofs_fault fault;
+    struct virtiofs_entry_room *entries = calloc(len / 8 + 1, sizeof *entries);
+    if (!entries)
+        return VIRTIOFS_NO_MEMORY;
+    uint32_t code = way->list(share->users, share->groups, value, len, entries, len / 8 + 1, &fault);
+    free(entries);
+    return code;
 }
 
-/* Makes a value that the guest sets one of the host, in place, with room for CAPABILITY_ROOM bytes at least. As long as
-   C has no calls for that, a value with ids is refused: as it is, its ids would be those of others. */
-static int value_to_host(const struct share *share, const char *host_name, uint8_t *value, size_t *len)
+/* A capability without a field for the id of root gets one, where this id does not stay 0. */
+static uint32_t capability_across(const struct share *share, const struct way *way, uint8_t *value, size_t *len)
 {
-    (void)share, (void)value, (void)len;
-    return holds_ids(host_name) ? ENOTSUP : 0;
+    struct virtiofs_fault fault;
+    uint8_t written[CAPABILITY_ROOM];
+    uint32_t code = way->capability(share->users, value, *len, &fault);
+    if (code != VIRTIOFS_ROOT_MOVES)
+        return code;
+    code = way->in_revision_3(share->users, value, *len, written, &fault);
+    if (code == VIRTIOFS_OK)
+        memcpy(value, written, *len = sizeof written);
+    return code;
 }
 
-/* Makes a value of the host one of the guest, the same way. */
-static int value_to_guest(const struct share *share, const char *host_name, uint8_t *value, size_t *len)
+/* Makes the ids in a value of the host's attribute of that name those of the other side, in place, with room for
+   CAPABILITY_ROOM bytes at least. A value with an id that may not cross, or with two that would become one, is not set,
+   and is not told: whoever is asked for rights by it then refuses. */
+static int value_across(const struct share *share, const struct way *way, const char *host_name, uint8_t *value,
+                        size_t *len)
 {
-    (void)share, (void)value, (void)len;
-    return holds_ids(host_name) ? ENOTSUP : 0;
+    switch (virtiofs_carries_ids((const uint8_t *)host_name, strlen(host_name))) {
+    case VIRTIOFS_ACL:
+        return error_of(list_across(share, way, value, *len));
+    case VIRTIOFS_CAPABILITY:
+        return error_of(capability_across(share, way, value, len));
+    default:
+        return 0;
+    }
 }
 
 /* Answers with bytes, or with how many there are, where the caller has no room and asks for that alone. */
@@ -703,7 +739,7 @@ static void on_getxattr(fuse_req_t req, fuse_ino_t number, const char *guest_nam
         len = error ? 0 : read;
     }
     if (!error)
-        error = value_to_guest(share_of(req), name, value, &len);
+        error = value_across(share_of(req), &TO_GUEST, name, value, &len);
     reply_bytes(req, error, value, len, room);
     free(value);
 }
@@ -741,18 +777,14 @@ static void on_setxattr(fuse_req_t req, fuse_ino_t number, const char *guest_nam
                         int flags)
 {
     char name[NAME_ROOM];
-    uint8_t *changed = NULL;
-    int error = name_to_host(share_of(req), guest_name, name);
-    if (!error && holds_ids(name)) {
-        changed = malloc(len + CAPABILITY_ROOM);
-        error = changed ? 0 : ENOMEM;
-        if (changed) {
-            memcpy(changed, value, len);
-            error = value_to_host(share_of(req), name, changed, &len);
-        }
+    uint8_t *changed = malloc(len + CAPABILITY_ROOM);
+    int error = changed ? name_to_host(share_of(req), guest_name, name) : ENOMEM;
+    if (!error) {
+        memcpy(changed, value, len);
+        error = value_across(share_of(req), &TO_HOST, name, changed, &len);
     }
     if (!error)
-        error = set_value(req, fd_of(req, number), name, changed ? (const char *)changed : value, len, flags);
+        error = set_value(req, fd_of(req, number), name, changed, len, flags);
     fuse_reply_err(req, error);
     free(changed);
 }

@@ -29,6 +29,7 @@ TOP = os.path.dirname(HERE)
 sys.dont_write_bytecode = True
 sys.path[:0] = [HERE, f"{HERE}/mount"]
 import cases as single
+import values
 from configuration import Configuration
 from embedding import ARCHIVE, C_FLAGS, SANITIZED, compiler, kit, left_out, run, written
 from mounting import Mounted, files_room, unmount, why_none
@@ -167,10 +168,13 @@ def single_cases(bench):
     shifted = Configuration("shifted", single.SHIFTED, single.SHIFTED)
     own_names = Configuration("own names", rules=single.OWN_NAMES)
     of_nobody = Configuration("nobody", *([["guest:5:4294967295:1"]] * 2))
+    specs = [*single.SHIFTED, f"forbid-guest:{values.FORBIDDEN}:10", f"host:{values.SEEN_ONLY}:5:1"]
+    with_lists = Configuration("lists", specs, specs, posix_acl=True)
     for configuration, all_cases in (
-        (plain, (single.plain_lengths, single.hidden_lists, single.contents, lambda it: single.full_list(it, ""))),
+        (plain, (single.plain_lengths, values.hidden_lists, single.contents, lambda it: single.full_list(it, ""))),
         (own_names, (single.long_names, single.empty_names, single.other_system_names)),
-        (Configuration("to system.", rules=":prefix:all:posix_acl_:system.: :ok:all:::"), (single.system_by_rules,)),
+        (Configuration("to system.", rules=":prefix:all:posix_acl_:system.: :ok:all:::"), (values.lists_by_rules,)),
+        (with_lists, values.ALL),
         (Configuration("prepended", rules=":map::trusted.of.:"), (lambda it: single.full_list(it, "trusted.of."),)),
         (shifted, (single.rights, single.other_system_names, single.descriptors)),
         (of_nobody, (single.nobody,)),

@@ -1,9 +1,8 @@
-"""Single cases on a mount: limits, owners that no file has, rights, values with ids, and a daemon that is killed."""
+"""Single cases on a mount: limits, owners that no file has, rights, and a daemon that is killed."""
 import contextlib
 import os
 import shutil
 import stat
-import struct
 import threading
 import time
 
@@ -123,31 +122,6 @@ def other_system_names(cases):
     cases.same("nothing on the host", attributes_of(host), {})
 
 
-def system_by_rules(cases):
-    """Rules that make the name of an access control list of a name of the guest's."""
-    host, guest = cases.file("by_rules")
-    found = outcome(os.setxattr, guest, "posix_acl_access", access_list((2, 7, 5)))
-    cases.same("a name that rules make one in system., set", found, "ENOTSUP")
-    os.setxattr(host, "system.posix_acl_access", access_list((2, 6, 1000)))
-    cases.same("the same, got", outcome(os.getxattr, guest, "posix_acl_access"), "ENOTSUP")
-    cases.same("the same in a list", os.listxattr(guest), [])
-
-
-def hidden_lists(cases):
-    """Without `posix_acl`."""
-    host, guest = cases.file("hidden")
-    value = access_list((2, 6, 1000))
-    os.setxattr(host, "system.posix_acl_access", value)
-    os.setxattr(host, "user.note", b"v")
-    cases.same("an access control list is hidden", os.listxattr(guest), ["user.note"])
-    found = outcome(os.getxattr, guest, "system.posix_acl_access")
-    cases.same("an access control list, got", found in ("ENOTSUP", "ENODATA") or found, True)
-    found = outcome(os.setxattr, guest, "system.posix_acl_access", access_list((2, 7, 5)))
-    cases.same("an access control list, set", found, "ENOTSUP")
-    cases.same("an access control list, removed", outcome(os.removexattr, guest, "system.posix_acl_access"), "ENOTSUP")
-    cases.same("it is as it was on the host", os.getxattr(host, "system.posix_acl_access"), value)
-
-
 def nobody(cases):
     """Under guest:5:4294967295:1, to which a chown would leave the owner, and setfsuid the daemon root."""
     host, guest = cases.file("nobody", owners=(7, 7))
@@ -248,18 +222,6 @@ def descriptors(cases):
         time.sleep(0.01)
     more = held() - before
     cases.see("descriptors of files that are gone", "" if more <= FILES_HELD // 2 else f"{more} for {FILES_HELD}")
-
-
-# ---- access control lists ----
-
-
-def access_list(*entries):
-    """A list of the kernel's form: the owner's entry, these for users (2) and groups (8), and the others."""
-    ids = sorted(entries)
-    no_id = 0xFFFFFFFF
-    users, groups = ([it for it in ids if it[0] == tag] for tag in (2, 8))
-    parts = [(1, 6, no_id), *users, (4, 4, no_id), *groups, *([(16, 7, no_id)] if ids else []), (32, 4, no_id)]
-    return b"\2\0\0\0" + b"".join(struct.pack("<HHI", *it) for it in parts)
 
 
 # ---- a daemon that is killed ----
