@@ -5,6 +5,7 @@ mod AclFaultLemmas
 mod AclLawLemmas
 mod AclMergeLemmas
 mod AclWriteLemmas
+mod AgainLemmas
 mod AnswerLemmas
 mod AuditAlikeLemmas
 mod AuditCountLemmas
@@ -30,6 +31,8 @@ mod FrontLemmas
 mod GrownTrieLemmas
 mod GrowthLemmas
 mod GrowthTextLemmas
+mod IdAuditLemmas
+mod ImageLemmas
 mod KeptRuleLemmas
 mod KidLemmas
 mod LevelLemmas
@@ -48,10 +51,13 @@ mod NumeralLemmas
 mod OrderLemmas
 mod PatternLemmas
 mod PatternOrderLemmas
+mod PieceLemmas
+mod PiecesLemmas
 mod PlaceLemmas
 mod PlacedLemmas
 mod ReadSoFarLemmas
 mod ReaderLemmas
+mod RoundTripLemmas
 mod RowLemmas
 mod RuleEqualityLemmas
 mod RuleFieldLemmas
@@ -63,6 +69,7 @@ mod SameEndsLemmas
 mod SearchLemmas
 mod ServerListLemmas
 mod SharedLemmas
+mod SpanLemmas
 mod SpecificationLawLemmas
 mod SpecificationLemmas
 mod SpecificationPrefixLemmas
@@ -70,6 +77,7 @@ mod SpecificationPrintedLemmas
 mod SpecificationsLemmas
 mod StandingLemmas
 mod StoredLemmas
+mod StretchLemmas
 mod TerminatedLemmas
 mod TrimLemmas
 mod WalkAnswerLemmas

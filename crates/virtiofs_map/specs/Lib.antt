@@ -13,6 +13,8 @@ pub mod Capability
 pub mod CapabilityParts
 pub mod FirstRule
 pub mod GrowthParts
+pub mod IdAudit
+pub mod IdAuditParts
 pub mod Image
 pub mod ImageAnswer
 pub mod Listing
@@ -28,6 +30,8 @@ pub mod NamesImageParts
 pub mod NamespaceParts
 pub mod NamespaceText
 pub mod Numeral
+pub mod PieceParts
+pub mod Pieces
 pub mod Printed
 pub mod RangeParts
 pub mod Refusal

@@ -11,6 +11,7 @@
 pub mod acl;
 pub mod audit;
 pub mod cmdline;
+pub mod id_audit;
 pub mod id_types;
 pub mod idmap;
 pub mod soft_idmap;

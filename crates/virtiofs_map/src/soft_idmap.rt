@@ -26,11 +26,15 @@ mod build;
 mod entry;
 mod errors;
 pub mod image;
+mod joins;
 pub mod laws;
 mod lookup;
+mod piece;
+mod pieces;
 mod placed;
 mod row;
 mod search;
+mod stretches;
 mod texts;
 mod words;
 mod write;
@@ -38,6 +42,8 @@ mod write;
 pub use entry::Direction;
 pub use errors::{FaultKind, IdMapBuildError, MapError, RangeEnd, SpecsError};
 pub(crate) use lookup::look_up;
+pub use piece::{Outcome, Piece};
+pub use pieces::Pieces;
 pub(crate) use words::{Ranges, image_ranges};
 
 /// A map of ids between a guest and its host.
@@ -322,14 +328,14 @@ impl<Guest: GuestId<HostType = Host>, Host: HostId<GuestType = Guest>, A: Alloca
 }
 
 /// The number of an id.
-fn number_of<I: Id>(id: I) -> u32
+pub(crate) fn number_of<I: Id>(id: I) -> u32
     ensures { result ≡ I.number id }
 {
     id.into_inner().to_u32()
 }
 
 /// The id of a number.
-fn id_of<I: Id>(n: u32) -> I
+pub(crate) fn id_of<I: Id>(n: u32) -> I
     ensures { I.number result ≡ n }
 {
     let inner = I::Inner::from_u32(n);

@@ -7,8 +7,9 @@ use rationed::Rationed;
 use std::alloc::Allocator;
 use std::process::Abort;
 use virtiofs_map::Steps;
+use virtiofs_map::id_audit::{Astray, IdAudit, comes_back, reaches};
 use virtiofs_map::id_types::{GuestUid, HostUid, Id};
-use virtiofs_map::soft_idmap::IdMap;
+use virtiofs_map::soft_idmap::{Direction, IdMap, Outcome, Piece};
 use virtiofs_map::xattrmap::{ListedNames, Side, XattrMap, XattrName};
 
 /// A map of users with the memory of these tests.
@@ -73,6 +74,25 @@ fn guest_counted(map: &Users<'_>, number: u32, steps: &mut Steps) -> Option<u32>
     }
 }
 
+/// Asks a map for its pieces and about all its ids.
+fn assert_audited(rt: &impl Abort, map: &Users<'_>) {
+    let mut pieces = map.pieces(Direction::GuestToHost);
+    let first = Piece {
+        first: 0,
+        last: 9,
+        becomes: Outcome::OneToOne { to: 1000 },
+    };
+    assert!(rt; pieces.next() == Some(first));
+    let no = Astray {
+        guest: GuestUid::from(1000),
+        host: HostUid::from(1000),
+        back: GuestUid::from(0),
+    };
+    assert!(rt; comes_back(map) == IdAudit::No(no));
+    let reached = reaches(map, HostUid::from(21), HostUid::from(30));
+    assert!(rt; reached == Some(GuestUid::from(22)));
+}
+
 fn assert_ids(rt: &impl Abort, map: &Users<'_>, wanted: &[Numbers]) {
     for (number, host, guest) in wanted {
         assert!(rt; host_of(map, *number) == *host, "guest {number}");
@@ -104,6 +124,7 @@ fn assert_looked_up(rt: &impl Abort, heap: Heap<'_>) {
     let before = heap.asked();
     assert_ids(rt, &map, &MAPPED);
     assert_counted(rt, &map, &MAPPED);
+    assert_audited(rt, &map);
     assert!(rt; heap.asked() == before);
 }
 

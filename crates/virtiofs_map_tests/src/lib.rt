@@ -1,8 +1,8 @@
 //! Tests of the library `virtiofs_map` by its public calls alone.
 //!
-//! - `acl`, `audit`, `cmdline`, `id_types`, `idmap`, `soft_idmap` and `xattrmap`: known inputs of the
-//!   library's module of that name, each with its answer. The three modules `example` show how a
-//!   daemon calls the library, with contracts of its own.
+//! - `acl`, `audit`, `cmdline`, `id_audit`, `id_types`, `idmap`, `soft_idmap` and `xattrmap`: known
+//!   inputs of the library's module of that name, each with its answer. The three modules `example`
+//!   show how a daemon calls the library, with contracts of its own.
 //!
 //! The crate `virtiofs_map_limits` has the tests with refused memory and with hostile texts. There is
 //! nothing here but tests.
@@ -14,6 +14,8 @@ mod acl;
 mod audit;
 #[cfg(test)]
 mod cmdline;
+#[cfg(test)]
+mod id_audit;
 #[cfg(test)]
 mod id_types;
 #[cfg(test)]

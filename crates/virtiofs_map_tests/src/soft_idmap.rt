@@ -3,6 +3,7 @@
 mod errors;
 mod example;
 pub(crate) mod image;
+mod pieces;
 
 use crate::id_types::projects::{GuestProject, HostProject, ProjectNumber};
 use std::alloc::Global;

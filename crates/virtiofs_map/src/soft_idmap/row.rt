@@ -13,6 +13,8 @@ ghost use Rattle.virtiofs_map.specs.RangeParts.{HasNumbers};
 ghost use Rattle.virtiofs_map.specs.WordParts.{IsRow, SaysEntry};
 ghost use Rattle.virtiofs_map.specs.declared.soft_idmap.entry.Entry.{Entry};
 
+use super::entry::Entry;
+
 /// The kind of a range that maps one to one: all of the distance is added.
 pub(crate) const MAPS: u32 = u32::MAX;
 
@@ -41,6 +43,17 @@ pub(crate) fn ones_if_below(n: u64, other: u64) -> u64
     ensures above { other ≤ n → result ≡ 0 }
 {
     n.wrapping_sub(other) / 4294967296
+}
+
+/// The range of a row that begins at `first`.
+pub(crate) fn entry_of_row(first: u32, count: u32, to: u32, kind: u32) -> Entry
+    ensures { (entry : Entry) → first ≡ first_of entry → IsRow count to kind entry → result ≡ entry }
+{
+    match kind {
+        MAPS => Entry::Map { first, to, count },
+        SQUASHES => Entry::Squash { first, to, count },
+        _ => Entry::Fail { first, count },
+    }
 }
 
 /// What a row makes of a number, where the range begins at `first`.

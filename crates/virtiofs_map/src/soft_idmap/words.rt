@@ -15,8 +15,9 @@ ghost use Rattle.virtiofs_map.specs.declared.soft_idmap.entry.Direction.TheVaria
 ghost use Rattle.virtiofs_map.specs.declared.soft_idmap.entry.Entry.{Entry};
 
 use super::Direction;
+use super::entry::Entry;
 use super::placed::Placed;
-use super::row::{Answer, ones_if_below, say};
+use super::row::{Answer, entry_of_row, ones_if_below, say};
 use super::write::{KIND, write_words};
 use crate::Steps;
 use std::alloc::{AllocError, Allocator};
@@ -178,6 +179,21 @@ impl<'a> Ranges<'a> {
         steps.tick();
         let first = self.words[self.firsts + at];
         Range { end: at + 1, first }
+    }
+
+    /// The whole of a range, and counts a step.
+    pub(crate) fn entry(&self, at: usize, steps: &mut Steps) -> Entry
+        requires { at < self.now.count }
+        ensures { (range : Entry) → IsAt self.now at range → result ≡ range }
+    {
+        let range = self.read(at, steps);
+        let row = self.rows + 3 * at;
+        entry_of_row(
+            range.first,
+            self.words[row],
+            self.words[row + 1],
+            self.words[row + 2],
+        )
     }
 
     /// What the last range makes of a number. Where there is no last range the first one is asked,

@@ -6,8 +6,9 @@ use std::process::Abort;
 use std::test::Fail;
 use std::time::Instant;
 use virtiofs_map::Steps;
+use virtiofs_map::id_audit::{IdAudit, comes_back, ids_apart, is_alone, reaches};
 use virtiofs_map::id_types::{GuestUid, HostUid, Id};
-use virtiofs_map::soft_idmap::IdMap;
+use virtiofs_map::soft_idmap::{Direction, IdMap};
 use virtiofs_map::xattrmap::{Side, XattrMap, XattrName};
 
 /// How many rules there are at first.
@@ -171,6 +172,39 @@ fn assert_ids(rt: &impl Abort, map: &IdMap<GuestUid, HostUid>) {
     }
 }
 
+/// The numbers of a `No` of `comes_back`.
+fn astray(map: &IdMap<GuestUid, HostUid>) -> Option<(u32, u32)> {
+    match comes_back(map) {
+        IdAudit::Yes => None,
+        IdAudit::No(no) => Some((no.guest.into_inner(), no.back.into_inner())),
+    }
+}
+
+/// The numbers of a `No` of `is_alone`.
+fn sharing(alloc: Global, map: &IdMap<GuestUid, HostUid>) -> Option<(u32, u32)> {
+    match is_alone(alloc, map).ok()? {
+        IdAudit::Yes => None,
+        IdAudit::No(no) => Some((no.guest.into_inner(), no.other.into_inner())),
+    }
+}
+
+/// The number of a `No` of `ids_apart`.
+fn meeting(alloc: Global, map: &IdMap<GuestUid, HostUid>) -> Option<u32> {
+    match ids_apart(alloc, map, map).ok()? {
+        IdAudit::Yes => None,
+        IdAudit::No(guest) => Some(guest.into_inner()),
+    }
+}
+
+fn assert_audits(rt: &impl Abort, alloc: Global, map: &IdMap<GuestUid, HostUid>) {
+    assert!(rt; map.pieces(Direction::GuestToHost).count() == 200_000);
+    assert!(rt; astray(map) == Some((5_000_000, 0)));
+    assert!(rt; sharing(alloc, map) == Some((0, 5_000_000)));
+    assert!(rt; meeting(alloc, map) == Some(0));
+    let reached = reaches(map, HostUid::from(5_999_994), HostUid::from(5_999_995));
+    assert!(rt; reached == Some(GuestUid::from(999_994)));
+}
+
 fn assert_many(rt: &impl Abort, alloc: Global, is_rising: bool) {
     let Some(texts) = specification_texts(alloc, is_rising) else {
         panic!(rt; "memory ends");
@@ -179,6 +213,9 @@ fn assert_many(rt: &impl Abort, alloc: Global, is_rising: bool) {
         panic!(rt; "the texts are refused");
     };
     assert_ids(rt, &map);
+    if is_rising {
+        assert_audits(rt, alloc, &map);
+    }
 }
 
 #[test]

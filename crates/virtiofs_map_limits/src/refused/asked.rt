@@ -17,6 +17,10 @@ pub(super) enum Asked {
     Image(&'static str),
     /// `IdMap::from_specs` of these texts.
     Texts(&'static str),
+    /// `is_alone` of the map of these texts.
+    Alone(&'static str),
+    /// `ids_apart` of the maps of these texts.
+    IdsApart(&'static str, &'static str),
     /// `XattrMap::try_from` of this text.
     Rules(&'static str),
     /// A question to the map of these rules.
@@ -32,6 +36,8 @@ impl Asked {
             Asked::Build(texts) => ids::build(ample, alloc, texts),
             Asked::Image(texts) => ids::image(ample, alloc, texts),
             Asked::Texts(texts) => ids::texts(ample, alloc, texts),
+            Asked::Alone(texts) => ids::alone(ample, alloc, texts),
+            Asked::IdsApart(texts, others) => ids::apart(ample, alloc, texts, others),
             Asked::Rules(rules) => maps::rules(ample, alloc, rules),
             Asked::Of(rules, question) => questions::of(ample, alloc, rules, question),
         }

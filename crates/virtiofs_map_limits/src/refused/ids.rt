@@ -3,6 +3,7 @@
 use crate::told::{Heap, Told};
 use std::alloc::AllocError;
 use virtiofs_map::cmdline;
+use virtiofs_map::id_audit::{ids_apart, is_alone};
 use virtiofs_map::id_types::{GuestUid, HostUid};
 use virtiofs_map::soft_idmap::image::write_image;
 use virtiofs_map::soft_idmap::{IdMap, IdMapBuildError, SpecsError};
@@ -89,6 +90,33 @@ pub(super) fn texts<'h>(ample: Heap<'h>, alloc: Heap<'h>, texts: &str) -> Told<'
         Ok(map) => lookups(ample, &map),
         Err(error) if is_want(&error, texts.len()) => Told::OutOfMemory,
         Err(error) => Told::of(ample, &error),
+    }
+}
+
+/// The map of texts, made with ample memory.
+fn users_of<'h>(ample: Heap<'h>, texts: &str) -> Option<Users<'h>> {
+    Users::try_from(ample, specs_of(ample, texts)?).ok()
+}
+
+/// Asks whether each id has an id of the host of its own.
+pub(super) fn alone<'h>(ample: Heap<'h>, alloc: Heap<'h>, texts: &str) -> Told<'h> {
+    let Some(map) = users_of(ample, texts) else {
+        return Told::Trouble;
+    };
+    match is_alone(alloc, &map) {
+        Ok(answer) => Told::of(ample, &answer),
+        Err(AllocError) => Told::OutOfMemory,
+    }
+}
+
+/// Asks whether no id of the host is reached by both maps.
+pub(super) fn apart<'h>(ample: Heap<'h>, alloc: Heap<'h>, texts: &str, others: &str) -> Told<'h> {
+    let (Some(map), Some(other)) = (users_of(ample, texts), users_of(ample, others)) else {
+        return Told::Trouble;
+    };
+    match ids_apart(alloc, &map, &other) {
+        Ok(answer) => Told::of(ample, &answer),
+        Err(AllocError) => Told::OutOfMemory,
     }
 }
 

@@ -2,11 +2,11 @@
 
 use crate::refused::asked::Asked;
 use crate::refused::questions::Question;
-use Asked::{Build, Image, Of, Rules, Specification, Texts};
+use Asked::{Alone, Build, IdsApart, Image, Of, Rules, Specification, Texts};
 use Question::{Apart, Audit, AuditCounted, AuditListed, Client, Clone, Server, Shares};
 
 /// Calls that cannot do without memory.
-pub(super) const TAKE: [Asked; 56] = [
+pub(super) const TAKE: [Asked; 60] = [
     Specification("foo:x"),
     Specification("foo:1"),
     Specification("foo"),
@@ -29,6 +29,13 @@ pub(super) const TAKE: [Asked; 56] = [
     Texts("host:5000:1:2|squash-guest:20:7:5|map:0:1000:10"),
     Texts("host:5000:1:2|map:0:1000:10|squash-guest:20:7:5"),
     Texts("guest:0:100:10|guest:5:200:1|map:1:2"),
+    Alone("map:0:1000:10|forbid-guest:10:4294967285"),
+    Alone("squash-guest:20:7:5|guest:0:1000:10"),
+    IdsApart(
+        "map:0:1000:10|forbid-guest:10:4294967285",
+        "map:0:2000:10|forbid-guest:10:4294967285",
+    ),
+    IdsApart("squash-guest:20:7:5", "map:0:1000:10"),
     Rules("xokxallxxx"),
     Rules(":ok:all:::\u{a0}ok\u{a0}all\u{a0}\u{a0}\u{a0}:ok:all:::"),
     Rules(":ok:all:::\u{a0}ok\u{a0}all\u{a0}\u{a0}\u{a0}"),
