@@ -9,8 +9,8 @@ use virtiofs_map::id_types::{GuestGid, GuestUid, HostGid, HostUid};
 use virtiofs_map::soft_idmap::IdMap;
 use virtiofs_map::xattrmap::XattrName;
 
-/// Makes a value that the guest sets one of the host, in place. `false`: the value is refused, and
-/// is as it was.
+/// Converts, in place, a value that the guest sets into the value for the host. `false`: the value
+/// is rejected, and is unchanged.
 fn set_by_guest(
     users: &IdMap<GuestUid, HostUid>,
     groups: &IdMap<GuestGid, HostGid>,
