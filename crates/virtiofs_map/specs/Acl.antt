@@ -53,7 +53,7 @@ pub record IsIdByte (value : List ℕ) (count place : ℕ) : Type 0 where
   pub after : 8 + 8 * entry ≤ place
   pub before : place < 12 + 8 * entry
 
--- every byte that is none of an id stays, and no byte is added
+-- the length, and every byte that does not belong to an id, are unchanged
 pub record KeepsRest (old new : List ℕ) : Type 0 where
   pub size : length new ≡ length old
   pub rest : (place : ℕ) → ¬ IsIdByte old (entry_count old) place → slice_index new place ≡ slice_index old place
@@ -73,7 +73,7 @@ pub record IsSound (users groups : List IdMap) (direction : Direction) (value : 
   pub is_id : HasId (tag_of value k) → id_of value k ≢ 4294967295
   pub goes : HasId (tag_of value k) → (n : ℕ) × Becomes (specs_for users groups (tag_of value k)) direction (id_of value k) (Some n)
 
--- an earlier entry of that tag has another id, and both ids would become one
+-- an earlier entry with the same tag has another id, and both ids would become the same id
 pub record MergesEarlier (users groups : List IdMap) (direction : Direction) (value : List ℕ) (k : ℕ) : Type 0 where
   pub has_id : HasId (tag_of value k)
   pub earlier : ℕ
@@ -84,13 +84,13 @@ pub record MergesEarlier (users groups : List IdMap) (direction : Direction) (va
   pub one : Becomes (specs_for users groups (tag_of value k)) direction (id_of value earlier) (Some both)
   pub other : Becomes (specs_for users groups (tag_of value k)) direction (id_of value k) (Some both)
 
--- every entry is sound by itself
+-- the value is whole, the lent room is enough, and every entry is sound by itself
 pub record AllSound (users groups : List IdMap) (direction : Direction) (room : ℕ) (value : List ℕ) : Type 0 where
   pub whole : IsWhole value
   pub fits : entry_count value ≤ room
   pub sound : (k : ℕ) → k < entry_count value → IsSound users groups direction value k
 
--- every entry is sound by itself, and no two ids of one tag would become one
+-- the same, and no two different ids with the same tag would become the same id
 pub record GoesAcross (users groups : List IdMap) (direction : Direction) (room : ℕ) (value : List ℕ) : Type 0 where
   pub all_sound : AllSound users groups direction room value
   pub apart : (k : ℕ) → k < entry_count value → ¬ MergesEarlier users groups direction value k
@@ -123,7 +123,7 @@ pub record IsFirstMerged (users groups : List IdMap) (direction : Direction) (ro
   pub before : (j : ℕ) → j < k → ¬ MergesEarlier users groups direction value j
   pub merges : MergesEarlier users groups direction value k
 
--- the first fault of a value, where room is lent for that many entries
+-- the first fault of a value, if room is lent for that many entries
 abbrev pub HasAclFault : List IdMap → List IdMap → Direction → ℕ → List ℕ → AclError → Type 0
 HasAclFault users groups direction room value TooShort = length value < 4
 HasAclFault users groups direction room value (Version version) =

@@ -1,4 +1,4 @@
--- What the parts of the calls on access control lists answer. Only private functions cite these words.
+-- What the parts of the calls on access control lists return. Only private functions cite these definitions.
 use Rattle.std.specs.Prelude.{◌≡◌, ◌≢◌, ◌⊎◌, ℕ, ◌<◌, ◌≤◌, List, length, All, Contains, slice_index, slice_index_or, Option, Some, IsSomeAnd}
 use Rattle.virtiofs_map.specs.Acl.{tag_of, id_of, HasId, specs_for, IsSound, IsEntryFault, HasAclFault, MergesEarlier, IsIdByte}
 use Rattle.virtiofs_map.specs.Build.{Accepted}
@@ -12,7 +12,7 @@ use Rattle.virtiofs_map.specs.declared.soft_idmap.entry.Direction.{Direction}
 
 -- ---- what ids are looked up in
 
--- that is said of each list of specifications of which these are the ranges in a direction
+-- `says` holds for each list of specifications and each direction of which these are the ranges
 abbrev pub OfRanges : Table → (List IdMap → Direction → Type 0) → Type 0
 OfRanges table says = (specs : List IdMap) (direction : Direction) → Accepted specs → HasRanges specs direction table → says specs direction
 
@@ -23,7 +23,7 @@ pub record AreWays (users groups : List IdMap) (direction : Direction) (user_ran
   pub of_users : HasRanges users direction user_ranges
   pub of_groups : HasRanges groups direction group_ranges
 
--- that is said of each two lists of which these are the ranges in a direction
+-- `says` holds for each two lists and each direction of which these are the ranges
 abbrev pub OfWays : Table → Table → (List IdMap → List IdMap → Direction → Type 0) → Type 0
 OfWays user_ranges group_ranges says =
     (users groups : List IdMap) (direction : Direction) → AreWays users groups direction user_ranges group_ranges → says users groups direction
@@ -35,7 +35,7 @@ abbrev pub IsSizeFault : ℕ → List ℕ → AclError → Type 0
 IsSizeFault room value (Entry k fault) = ⊥
 IsSizeFault room value error = (users groups : List IdMap) (direction : Direction) → HasAclFault users groups direction room value error
 
--- the first entries, that many of them, are sound
+-- the first `count` entries are sound
 abbrev pub AllSoundBelow : List IdMap → List IdMap → Direction → List ℕ → ℕ → Type 0
 AllSoundBelow users groups direction value count = (k : ℕ) → k < count → IsSound users groups direction value k
 
@@ -59,18 +59,18 @@ pub record Places (users groups : List IdMap) (direction : Direction) (value : L
   pub right : All (IsPlaced users groups direction value count) placed
   pub each : (k : ℕ) → k < count → HasId (tag_of value k) → (one : EntryRoom) × Contains placed one × (one.entry ≡ k)
 
--- by tag, then by what the id becomes, then by number, one does not come after the other
+-- `one` is not after `other` in the order by tag, then by what the id becomes, then by entry number
 abbrev pub IsNotAfter : EntryRoom → EntryRoom → Type 0
 IsNotAfter one other =
     (one.tag < other.tag)
     ⊎ ((one.tag ≡ other.tag) × (one.id < other.id))
     ⊎ ((one.tag ≡ other.tag) × (one.id ≡ other.id) × (one.entry ≤ other.entry))
 
--- no entry comes after one that stands behind it
+-- the entries are in this order
 abbrev pub AreInOrder : List EntryRoom → Type 0
 AreInOrder placed = (i j : ℕ) (d : EntryRoom) → i ≤ j → j < length placed → IsNotAfter (slice_index_or placed i d) (slice_index_or placed j d)
 
--- two entries of one tag have different ids that become one
+-- two entries with the same tag have different ids that become the same id
 pub record Clashes (value : List ℕ) (one other : EntryRoom) : Type 0 where
   pub tag : one.tag ≡ other.tag
   pub id : one.id ≡ other.id
@@ -86,17 +86,18 @@ pub record HasClash (value : List ℕ) (placed : List EntryRoom) (k : ℕ) : Typ
   pub order : one.entry ≤ other.entry
   pub is : other.entry ≡ k
 
--- of each two of the first entries that clash, the second has no lesser number than the one that was found
+-- for any two of the first `high` sorted entries that clash, a number was found, and the entry number of the second
+-- is at least that number
 abbrev pub MeetsClashes : List ℕ → List EntryRoom → ℕ → Option ℕ → Type 0
 MeetsClashes value placed high found =
     (i j : ℕ) (d : EntryRoom) → i < j → j < high → j < length placed → Clashes value (slice_index_or placed i d) (slice_index_or placed j d)
     → IsSomeAnd found (λ k. k ≤ (slice_index_or placed j d).entry)
 
--- none of the first entries, that many of them, merges with an earlier one
+-- none of the first `count` entries merges with an earlier one
 abbrev pub NoneMerges : List IdMap → List IdMap → Direction → List ℕ → ℕ → Type 0
 NoneMerges users groups direction value count = (k : ℕ) → k < count → ¬ MergesEarlier users groups direction value k
 
--- entry k is the first of these entries that merges with an earlier one
+-- entry k is one of the first `count` entries, and the first entry that merges with an earlier one
 pub record IsFirstToMerge (users groups : List IdMap) (direction : Direction) (value : List ℕ) (count k : ℕ) : Type 0 where
   pub is_entry : k < count
   pub merges : MergesEarlier users groups direction value k
@@ -104,7 +105,7 @@ pub record IsFirstToMerge (users groups : List IdMap) (direction : Direction) (v
 
 -- ---- writing
 
--- the ids of the first entries, that many of them, have become what they are to be, and no other byte has changed
+-- the ids of the first `count` entries have become what they are to be, and no other byte has changed
 pub record IsWritten (users groups : List IdMap) (direction : Direction) (old new : List ℕ) (count : ℕ) : Type 0 where
   pub size : length new ≡ length old
   pub written : (k : ℕ) → k < count → HasId (tag_of old k) → Becomes (specs_for users groups (tag_of old k)) direction (id_of old k) (Some (id_of new k))

@@ -20,18 +20,18 @@ pub record IsLeast (bad : List ℕ → Type 0) (name : List ℕ) : Type 0 where
   pub is_bad : bad name
   pub none_before : (other : List ℕ) → bad other → ¬ IsBefore other name
 
--- `Yes` where no name is bad, and else `No` with the least name that is
+-- `Yes` if no name is bad, and else `No` with the least bad name
 abbrev pub AnswersLeast : {A : Type 0} → (List ℕ → Type 0) → Audit A → Type 0
 AnswersLeast bad Yes = (name : List ℕ) → ¬ bad name
 AnswersLeast bad (No name) = IsLeast bad name
 
 -- ---- does every name list back
 
--- each name that passes, the empty one left out, is listed back
+-- each non-empty name that passes is listed back
 abbrev pub Sound : List MappingRule → Type 0
 Sound rules = (name host : List ℕ) → IsName name → name ≢ [] → client_answer rules name ≡ Passes host → ListsBack rules name
 
--- a name, not empty, that passes and is not listed back
+-- a non-empty name that passes and is not listed back
 pub record IsLost (rules : List MappingRule) (name : List ℕ) : Type 0 where
   pub is_name : IsName name
   pub not_empty : name ≢ []
@@ -45,11 +45,11 @@ most_tried rules = 255 + count_by (λ rule. rule.client) rules + count_by (λ ru
 
 -- ---- does a listed name open its host name
 
--- each host name that is listed, the empty one left out, is opened: the name under which it is listed passes as it
+-- for each non-empty host name that is listed: the name under which it is listed passes, and becomes that host name
 abbrev pub OpensListed : List MappingRule → Type 0
 OpensListed rules = (host name : List ℕ) → IsName host → host ≢ [] → host_answer rules host ≡ IsListed name → client_answer rules name ≡ Passes host
 
--- a host name, not empty, that is listed under a name that does not pass as it
+-- a non-empty host name that is listed under a name that does not pass, or becomes another host name
 pub record IsStray (rules : List MappingRule) (host : List ℕ) : Type 0 where
   pub is_name : IsName host
   pub not_empty : host ≢ []
@@ -59,7 +59,7 @@ pub record IsStray (rules : List MappingRule) (host : List ℕ) : Type 0 where
 
 -- ---- are two guests on one host kept apart
 
--- a host name, not empty, that the guest reaches: some name, the empty one too, passes as it
+-- a non-empty host name that the guest reaches: some name, perhaps the empty one, passes and becomes that host name
 pub record Reached (rules : List MappingRule) (host : List ℕ) : Type 0 where
   pub is_host : IsName host
   pub not_empty : host ≢ []
@@ -71,7 +71,7 @@ pub record Reached (rules : List MappingRule) (host : List ℕ) : Type 0 where
 abbrev pub Apart : List MappingRule → List MappingRule → Type 0
 Apart rules others = (host : List ℕ) → Reached rules host → host_answer others host ≡ IsHidden
 
--- a name that passes as a host name, not empty, which the second map does not hide
+-- a name that passes and becomes a non-empty host name which the second map does not hide
 pub record IsSeen (rules others : List MappingRule) (name : List ℕ) : Type 0 where
   pub is_name : IsName name
   pub host : List ℕ
@@ -101,11 +101,11 @@ Isolated rules others =
 
 -- ---- do two guests reach one host name
 
--- no host name is reached by both
+-- no non-empty host name is reached by both
 abbrev pub SharesNoName : List MappingRule → List MappingRule → Type 0
 SharesNoName rules others = (host : List ℕ) → Reached rules host → ¬ Reached others host
 
--- a name that passes as a host name which the second map reaches too
+-- a name that passes and becomes a non-empty host name which the second map reaches too
 pub record IsShared (rules others : List MappingRule) (name : List ℕ) : Type 0 where
   pub is_name : IsName name
   pub host : List ℕ

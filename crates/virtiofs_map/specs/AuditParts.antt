@@ -1,4 +1,5 @@
--- What the private functions of an audit say: what is asked of a name, which names are tried, and what was found. Only they cite these words.
+-- What the private functions of an audit say: what is asked about a name, which names are tried, and what was found.
+-- Only they cite these definitions.
 use Rattle.std.specs.Prelude.{ℕ, Bool, true, false, ◌&&◌, not, ◌==◌, nat_eq, nat_lt, if◌then◌else◌, List, [], ◌∷◌, ◌++◌, map, length, drop, Option, Some, None, is_none, option_map, option_and_then}
 use Rattle.std.specs.Cmp.Lexicographic.{pointwise, slice_cmp}
 use Rattle.std.specs.List.{list_all, list_any, filter_map, flat_map, range_with_len}
@@ -17,7 +18,7 @@ use Rattle.virtiofs_map.specs.declared.xattrmap.scopes.Side.TheVariants.{Client,
 
 -- ---- how a rule lets a name through
 
--- what a host's name has before the guest's; none where the rule lets no name through
+-- what a rule puts before a guest's name to make the host's name; none if the rule lets no name through
 abbrev pub front_by : RuleType → List ℕ → Option (List ℕ)
 front_by Okay prepend = Some []
 front_by Prefix prepend = Some prepend
@@ -27,7 +28,7 @@ front_by Unsupported prepend = None
 abbrev pub front_of : MappingRule → Option (List ℕ)
 front_of rule = front_by rule.kind rule.prepend
 
--- what a host's name has before the guest's, by the first rule that fits the name on that side
+-- the same for the first rule that fits the name on that side
 abbrev pub front : Side → List MappingRule → List ℕ → Option (List ℕ)
 front side rules name = option_and_then front_of (deciding side rules name)
 
@@ -36,12 +37,12 @@ front side rules name = option_and_then front_of (deciding side rules name)
 abbrev pub some_byte : List ℕ → Bool
 some_byte name = not (length name == 0)
 
--- as much is taken off as was put before the name
+-- the part that the host rule removes is as long as `added`, the part that the guest rule put before the name
 abbrev pub cuts : List ℕ → Option (List ℕ) → Bool
 cuts added None = false
 cuts added (Some cut) = length cut == length added
 
--- the name passes and does not list back
+-- the name passes and is not listed back
 abbrev pub is_lost : List MappingRule → List ℕ → Bool
 is_lost rules name =
     some_byte name && option_map_or (λ added. not (cuts added (front Server rules (added ++ name)))) (front Client rules name) false
@@ -53,39 +54,39 @@ is_hidden rules host = option_map_or (λ rule. is_none (front_of rule)) (decidin
 abbrev pub all_bytes : List ℕ → Bool
 all_bytes name = list_all (λ byte. nat_lt byte 256) name
 
--- the name passes as a host name, not empty, of which the test holds
+-- the name passes and becomes a non-empty host name for which the test is true
 abbrev pub passes_where : (List ℕ → Bool) → List MappingRule → List ℕ → Bool
 passes_where test rules name =
     option_map_or (λ added. some_byte (added ++ name) && (all_bytes (added ++ name) && test (added ++ name))) (front Client rules name) false
 
--- the name passes as a host name, not empty, that the others do not hide
+-- the name passes and becomes a non-empty host name that the others do not hide
 abbrev pub is_seen : List MappingRule → List MappingRule → List ℕ → Bool
 is_seen rules others = passes_where (λ host. not (is_hidden others host)) rules
 
--- what was taken off is put before the name
+-- the part that was removed (`cut`) is the part that the guest rule puts before the name
 abbrev pub adds : List ℕ → Option (List ℕ) → Bool
 adds cut None = false
 adds cut (Some added) = pointwise nat_eq added cut
 
--- the host name is listed under a name that does not pass as it
+-- the host name is listed under a name that does not pass, or becomes another host name
 abbrev pub is_stray : List MappingRule → List ℕ → Bool
 is_stray rules host =
     some_byte host && option_map_or (λ cut. not (adds cut (front Client rules (drop (length cut) host)))) (front Server rules host) false
 
--- a name that begins with the rule's key passes as the host name, with what the rule puts before it
+-- a name that starts with the rule's key passes and becomes the host name, with what the rule puts before it
 abbrev pub passes_as : List MappingRule → List ℕ → MappingRule → Bool
 passes_as rules host rule =
     rule.client && option_map_or (λ added. begins added host && (begins rule.key (drop (length added) host) && adds added (front Client rules (drop (length added) host)))) (front_of rule) false
 
--- some name passes as the host name
+-- some name passes and becomes the host name
 abbrev pub is_reached : List MappingRule → List ℕ → Bool
 is_reached rules host = list_any (passes_as rules host) rules
 
--- the name passes as a host name, not empty, that the others reach
+-- the name passes and becomes a non-empty host name that the others reach
 abbrev pub is_shared : List MappingRule → List MappingRule → List ℕ → Bool
 is_shared rules others = passes_where (is_reached others) rules
 
--- the answer to the question is yes for this name
+-- the name is bad for this audit
 abbrev pub bad : {A : Type 0} → Question A → List ℕ → Bool
 bad (Lost rules) = is_lost rules.now
 bad (Seen rules others) = is_seen rules.now others.now
@@ -126,16 +127,17 @@ told (No name) = Some name
 
 -- ---- which names are tried
 
--- what a host name begins with that the rule decides on the server's side, or that a name passes as which it decides on the client's side
+-- the beginning that a rule fixes for host names. On the server's side: the prepend of the rule. On the client's
+-- side: what the rule puts before a name, followed by its key (none if the rule lets no name through).
 abbrev pub host_pattern : Side → MappingRule → Option (List ℕ)
 host_pattern Client rule = option_map (λ added. added ++ rule.key) (front_of rule)
 host_pattern Server rule = Some rule.prepend
 
--- what is left of the pattern after the front, where that begins it
+-- the rest of the pattern after `added`, if the pattern starts with it
 abbrev pub rest_after : List ℕ → List ℕ → Option (List ℕ)
 rest_after added pattern = if begins added pattern then Some (drop (length added) pattern) else None
 
--- the same of the pattern of a rule for that side
+-- the same for the pattern of a rule for that side
 abbrev pub rest_of : Side → List ℕ → MappingRule → Option (List ℕ)
 rest_of side added rule =
     if acts side rule then option_and_then (rest_after added) (host_pattern side rule) else None
@@ -143,7 +145,8 @@ rest_of side added rule =
 abbrev pub rests : Side → List MappingRule → List ℕ → List (List ℕ)
 rests side rules added = filter_map (rest_of side added) rules
 
--- the key of a rule for the client, and what is left of the others' patterns after what the rule puts before a name
+-- the key of a rule for the client; and, for each pattern of the other map that starts with what the rule puts before
+-- a name, the rest of that pattern
 abbrev pub guest_names_of : Side → List MappingRule → MappingRule → List (List ℕ)
 guest_names_of side others rule =
     if rule.client then rule.key ∷ option_map_or (rests side others) (front_of rule) [] else []
@@ -151,14 +154,15 @@ guest_names_of side others rule =
 abbrev pub guest_names : Side → List MappingRule → List MappingRule → List (List ℕ)
 guest_names side others rules = flat_map (guest_names_of side others) rules
 
--- the key of a rule for the client, after what was taken off
+-- the part that was removed, followed by the key of a rule for the client
 abbrev pub whole_of : List ℕ → MappingRule → Option (List ℕ)
 whole_of cut rule = if rule.client then Some (cut ++ rule.key) else None
 
 abbrev pub wholes : List MappingRule → List ℕ → List (List ℕ)
 wholes rules cut = filter_map (whole_of cut) rules
 
--- the prepend of a rule for the server, and what it takes off with each key after it
+-- the prepend of a rule for the server; and, for each rule of the other map for the client, the part that the
+-- server's rule removes followed by that rule's key
 abbrev pub host_names_of : List MappingRule → MappingRule → List (List ℕ)
 host_names_of others rule =
     if rule.server then rule.prepend ∷ option_map_or (wholes others) (front_of rule) [] else []

@@ -1,4 +1,5 @@
--- A trie of patterns whose pieces have labels. Only private functions cite these words.
+-- A trie of patterns whose pieces have labels. Only private functions, the invariant of `XattrMap` and `NamesImage`
+-- cite these definitions.
 use Rattle.std.specs.Prelude.{◌≡◌, ◌≢◌, ◌⊎◌, ℕ, ◌+◌, ◌-◌, ◌*◌, ◌<◌, ◌≤◌, Bool, true, false, if◌then◌else◌, List, [], ◌∷◌, ◌++◌, length, take, drop, Contains, All, Option, Some, slice_get, slice_index}
 use Rattle.std.specs.List.{flat_map}
 use Rattle.std.specs.Option.{option_map_or}
@@ -40,7 +41,7 @@ AreFew rules = length rules < 70368744177663
 abbrev pub label_of : List ℕ → Branch → List ℕ
 label_of bytes branch = take branch.length (drop branch.label bytes)
 
--- the place holds no hole: it is the root, or a byte leads to it
+-- the place is not a hole: it is the root, or a byte leads to it
 abbrev pub IsReal : ℕ → Branch → Type 0
 IsReal at branch = (at ≡ 0) ⊎ (branch.head ≢ 0)
 
@@ -65,7 +66,7 @@ pub record BeginsPattern (side : Side) (rules : List MappingRule) (front : List 
   pub acting : acts side rule ≡ true
   pub starts : begins front (pattern side rule) ≡ true
 
--- a branch stands for a way: the bytes that lead to it from the root
+-- a branch stands for its way: the path of bytes that lead to it from the root
 pub record IsBranch (side : Side) (rules : List MappingRule) (branches : List Branch) (bytes : List ℕ) (way : ℕ → List ℕ) (at : ℕ) (branch : Branch) : Type 0 where
   pub answers : branch.answer ≡ answer_of side rules (way at)
   -- the places of its children are places of branches, and its label stands among the bytes
@@ -75,15 +76,15 @@ pub record IsBranch (side : Side) (rules : List MappingRule) (branches : List Br
   -- a child's way is longer by the byte that leads to it and by its label
   pub ways : (byte next : ℕ) (child : Branch) → IsChild branches branch byte next child
       → way next ≡ way at ++ byte ∷ label_of bytes child
-  -- a pattern that goes on with the byte goes on with the whole way of the child
+  -- a pattern that starts with the way and the byte starts with the whole way of the child
   pub whole : (byte next : ℕ) (child : Branch) (rule : MappingRule) → IsChild branches branch byte next child
       → Contains rules rule → acts side rule ≡ true → begins (way at ++ byte ∷ []) (pattern side rule) ≡ true
       → begins (way next) (pattern side rule) ≡ true
-  -- where a pattern goes on with a byte, there is a child for that byte
+  -- if a pattern starts with the way and a byte, there is a child for that byte
   pub complete : (byte : ℕ) (rule : MappingRule)
       → Contains rules rule → acts side rule ≡ true → begins (way at ++ byte ∷ []) (pattern side rule) ≡ true
       → (next : ℕ) × (child : Branch) × IsChild branches branch byte next child
-  -- the way is empty, or begins the pattern of a rule
+  -- the way is empty, or the pattern of some rule starts with it
   pub front : (way at ≡ []) ⊎ BeginsPattern side rules (way at)
 
 -- the branches are a trie of the patterns of that side, whose labels stand among the bytes; the root is the first

@@ -1,4 +1,4 @@
--- Which lists of specifications a map is made of, and what is wrong with the others.
+-- From which lists of specifications a map is made, and what is wrong with the others.
 use Rattle.std.specs.Prelude.{◌≡◌, ℕ, ◌+◌, ◌-◌, ◌≤◌, List, take, All, AllPairs, Contains, Option, Some, None, IsSomeAnd, IfSome, slice_get, ⊤}
 use Rattle.virtiofs_map.specs.Mapping.{entry_of, first_of, count_of, Covers}
 use Rattle.virtiofs_map.specs.declared.cmdline.IdMap.{IdMap}
@@ -27,8 +27,8 @@ HasTarget (Fail first count) = ⊤
 abbrev pub Meet : IdMap → IdMap → Direction → Type 0
 Meet spec other direction = (n : ℕ) × Covers spec direction n × Covers other direction n
 
--- no range holds a number above 4294967294, no number becomes one above 4294967295, and no two specifications cover
--- one number in one direction
+-- no range contains a number above 4294967294, no number becomes one above 4294967295, and no two specifications
+-- cover the same number in the same direction
 pub record Accepted (specs : List IdMap) : Type 0 where
   pub source : (direction : Direction) → All (λ spec. IfSome (entry_of spec direction) HasSource) specs
   pub target : (direction : Direction) → All (λ spec. IfSome (entry_of spec direction) HasTarget) specs
@@ -44,14 +44,15 @@ pub record Fits (earlier : List IdMap) (spec : IdMap) (direction : Direction) : 
   pub apart : ¬ MeetsEarlier earlier spec direction
   pub target : IfSome (entry_of spec direction) HasTarget
 
--- the specification stands at that index, and those before it are accepted; where the direction is from host to
--- guest, the specification fits from guest to host
+-- the tests of a build come to this specification in this direction: it has that index, those before it are accepted,
+-- and, for the direction from host to guest, it passed the tests from guest to host
 pub record IsReached (specs : List IdMap) (spec : IdMap) (index : ℕ) (direction : Direction) : Type 0 where
   pub here : slice_get specs index ≡ Some spec
   pub before : Accepted (take index specs)
   pub guest_first : direction ≡ HostToGuest → Fits (take index specs) spec GuestToHost
 
--- what is wrong with a list that is not accepted: the specification at fault, its index, and the direction
+-- what is wrong with a list that is not accepted: the specification at fault, its index, the direction and, for an
+-- overflow, which range goes too far
 pub data BuildFault : Type 0 where
   RangeOverflow : IdMap → ℕ → Direction → RangeEnd → BuildFault
   Intersects : IdMap → ℕ → Direction → BuildFault
@@ -72,7 +73,7 @@ HasFirstFault specs (RangeOverflow spec index direction Target) =
     × (¬ MeetsEarlier (take index specs) spec direction)
     × IsSomeAnd (entry_of spec direction) (λ entry. ¬ HasTarget entry)
 
--- the fault that an error tells; none where a request for memory was refused
+-- the fault that an error reports; none if the error is out of memory
 abbrev pub build_fault_of : IdMapBuildError → Option BuildFault
 build_fault_of (errors.RangeOverflow spec index direction range_end) =
     Some (RangeOverflow spec index direction range_end)

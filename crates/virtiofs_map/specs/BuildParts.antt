@@ -1,4 +1,4 @@
--- What the parts of the build answer. Only private functions cite these words.
+-- What the parts of the build answer. Only private functions cite these definitions.
 use Rattle.std.specs.Prelude.{◌≡◌, ℕ, List, Contains, IsSomeAnd, IfSome}
 use Rattle.virtiofs_map.specs.Mapping.{entry_of, EntryCovers, Covers}
 use Rattle.virtiofs_map.specs.Build.{HasSource, HasTarget, MeetsEarlier, BuildFault, RangeOverflow, Intersects}

@@ -1,4 +1,4 @@
--- Numbers of eight bytes, the lowest byte first. Only private functions cite these words.
+-- Numbers of eight bytes, the lowest byte first. Only private functions and `NamesImage` cite these definitions.
 use Rattle.std.specs.Int.{w64, from_le_bytes, to_le_bytes}
 use Rattle.std.specs.Prelude.{ℕ, List, take, drop}
 

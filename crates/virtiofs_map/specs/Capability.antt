@@ -23,7 +23,8 @@ IsRevision revision = (revision ≡ 1) ⊎ (revision ≡ 2) ⊎ (revision ≡ 3)
 abbrev pub HasSize : ℕ → ℕ → Type 0
 HasSize revision size = ((revision ≡ 1) × (size ≡ 12)) ⊎ ((revision ≡ 2) × (size ≡ 20)) ⊎ ((revision ≡ 3) × (size ≡ 24))
 
--- the id of root: the last word of revision 3. Revisions 1 and 2 end before it, and mean 0, as any byte past the end of a list does.
+-- the id of root: the last word of revision 3. Values of revisions 1 and 2 end before it, and there it is 0, because
+-- `slice_index` is 0 past the end of a list.
 abbrev pub root_of : List ℕ → ℕ
 root_of value = four_bytes value 20
 
@@ -43,12 +44,13 @@ pub record IsCapability (value : List ℕ) : Type 0 where
 abbrev pub RootBecomes : List IdMap → Direction → List ℕ → List ℕ → Type 0
 RootBecomes users direction old new = Becomes users direction (root_of old) (Some (root_of new))
 
--- all that stands before the id of root stays, and no byte is added
+-- the length, and every byte before the id of root, are unchanged
 pub record KeepsFront (old new : List ℕ) : Type 0 where
   pub size : length new ≡ length old
   pub front : (place : ℕ) → place < 20 → slice_index new place ≡ slice_index old place
 
--- the value in revision 3, but for the id of root: the flags, and both sets, with zeros where the value has ended
+-- `written` is `value` converted to revision 3, apart from the id of root: with the same flags and the same two sets;
+-- bytes that a shorter value does not have are 0
 pub record IsInRevision3 (value written : List ℕ) : Type 0 where
   pub revision : revision_of written ≡ 3
   pub flags : (place : ℕ) → place < 3 → slice_index written place ≡ slice_index value place
@@ -56,13 +58,14 @@ pub record IsInRevision3 (value written : List ℕ) : Type 0 where
 
 -- ---- which values go across
 
--- the value is a capability, and the specifications forbid no use of its root
+-- the value is a capability, and the specifications do not forbid its id of root
 pub record HasRoot (users : List IdMap) (direction : Direction) (value : List ℕ) : Type 0 where
   pub capability : IsCapability value
   pub root : ℕ
   pub becomes : Becomes users direction (root_of value) (Some root)
 
--- the value is a capability, the specifications forbid no use of its root, and root stays 0 where the value has no field for another
+-- the value is a capability, the specifications do not forbid its id of root, and, if the value has no field for the
+-- id of root, 0 is mapped to 0
 pub record RootGoesAcross (users : List IdMap) (direction : Direction) (value : List ℕ) : Type 0 where
   pub has_root : HasRoot users direction value
   pub stays : revision_of value ≢ 3 → Becomes users direction 0 (Some 0)

@@ -1,4 +1,4 @@
--- What the parts of the calls on capabilities answer. Only private functions cite these words.
+-- What the parts of the calls on capabilities answer. Only private functions cite these definitions.
 use Rattle.std.specs.Prelude.{List, ℕ}
 use Rattle.virtiofs_map.specs.Capability.{HasRootFault}
 use Rattle.virtiofs_map.specs.declared.acl.errors.CapabilityError.{CapabilityError}

@@ -13,7 +13,7 @@ abbrev pub acts : Side → MappingRule → Bool
 acts Client rule = rule.client
 acts Server rule = rule.server
 
--- what the rule compares names of that side with
+-- what a name of that side must start with, for the rule to fit it
 abbrev pub pattern : Side → MappingRule → List ℕ
 pattern Client rule = rule.key
 pattern Server rule = rule.prepend
@@ -27,7 +27,8 @@ longest side (rule ∷ rules) = if acts side rule then max (length (pattern side
 abbrev pub deciding_length : Side → List MappingRule → List ℕ → ℕ
 deciding_length side rules name = option_map_or (λ rule. length (pattern side rule)) (deciding side rules name) 0
 
--- a lookup counted one step more than the deciding pattern has bytes, or more, but at most one more than the name and than the longest pattern
+-- a lookup counted at least 1 + the length of the deciding pattern (0 if there is none) steps, and at most 1 + the
+-- smaller of the length of the name and that of the longest pattern
 abbrev pub CountsLookup : Side → List MappingRule → List ℕ → ℕ → ℕ → Type 0
 CountsLookup side rules name = CountsBetween (deciding_length side rules name + 1) (min (length name) (longest side rules) + 1)
 
@@ -40,6 +41,6 @@ abbrev pub most_shared : Side → List MappingRule → List ℕ → ℕ
 most_shared side [] name = 0
 most_shared side (rule ∷ rules) name = if acts side rule then max (shared (pattern side rule) name) (most_shared side rules name) else most_shared side rules name
 
--- a lookup counted one step more than that, as far as the counter goes
+-- a lookup counted one step more than that; the counter saturates
 abbrev pub CountsFronts : Side → List MappingRule → List ℕ → ℕ → ℕ → Type 0
 CountsFronts side rules name before after = after ≡ count_after before (most_shared side rules name + 1)

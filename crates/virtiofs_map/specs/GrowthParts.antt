@@ -1,4 +1,4 @@
--- What holds while a trie of patterns grows. Only private functions cite these words.
+-- What holds while a trie of patterns grows. Only private functions cite these definitions.
 use Rattle.std.specs.Prelude.{◌≡◌, ◌≢◌, ◌⊎◌, ℕ, ◌+◌, ◌-◌, ◌<◌, ◌≤◌, Bool, false, List, [], length, take, drop, All, Some, slice_get, slice_index}
 use Rattle.std.specs.Option.{option_map_or}
 use Rattle.virtiofs_map.specs.BranchParts.{no_answer, AreInOrder}
@@ -38,7 +38,7 @@ start_of patterns at = option_map_or (λ one. one.start) (slice_get patterns at)
 
 -- ---- the least answer
 
--- the value is the least answer of those patterns that are chosen, or that of no rule where none is
+-- the value is the least answer of those patterns that are chosen, or that of no rule if none is chosen
 pub record IsLeast (patterns : List Pattern) (chosen : ℕ → Type 0) (value : ℕ) : Type 0 where
   pub top : value ≤ no_answer
   pub below : (i : ℕ) → chosen i → value ≤ number patterns i
@@ -52,19 +52,20 @@ pub record IsLeastOf (patterns : List Pattern) (base low high value : ℕ) : Typ
 
 -- ---- parts
 
--- the pattern at the place begins the way of a part, and is shorter
+-- the way of a part starts with the pattern at that place, and is longer
 pub record IsInside (patterns : List Pattern) (part : Part) (i : ℕ) : Type 0 where
   pub within : i < length patterns
   pub short : length (text patterns i) < part.depth
   pub front : take (length (text patterns i)) (text patterns part.low) ≡ text patterns i
 
--- the pattern at the place begins the way of a part
+-- the way of a part starts with the pattern at that place
 pub record IsUpto (patterns : List Pattern) (part : Part) (i : ℕ) : Type 0 where
   pub within : i < length patterns
   pub short : length (text patterns i) ≤ part.depth
   pub front : take (length (text patterns i)) (text patterns part.low) ≡ text patterns i
 
--- the part has the patterns that begin with its way, and its answer is that of the patterns inside the way
+-- a part has exactly the patterns that start with its way (the path of bytes that leads to it), and its answer is the
+-- least of those of the shorter patterns that its way starts with
 pub record IsPart (patterns : List Pattern) (part : Part) : Type 0 where
   pub some : (part.depth ≡ 0) ⊎ (part.low < part.high)
   pub rising : part.low ≤ part.high
@@ -74,13 +75,13 @@ pub record IsPart (patterns : List Pattern) (part : Part) : Type 0 where
   pub whole : (i : ℕ) → i < length patterns → take part.depth (text patterns i) ≡ take part.depth (text patterns part.low) → (part.low ≤ i) × (i < part.high)
   pub least : IsLeast patterns (IsInside patterns part) part.answer
 
--- a place between those of branches
+-- a hole: an unused place between children, for a byte that leads nowhere
 pub record IsHole (at : ℕ) (part : Part) : Type 0 where
   pub later : at ≢ 0
   pub empty : part.low ≡ part.high
   pub head : part.head ≡ 0
 
--- some pattern is so long
+-- some pattern has at least that length
 pub record IsReached (patterns : List Pattern) (depth : ℕ) : Type 0 where
   pub at : ℕ
   pub within : at < length patterns
@@ -108,7 +109,7 @@ pub record IsLonger (old new : List Part) : Type 0 where
 
 -- ---- children
 
--- the patterns of a part that go on with a byte, which is the child's
+-- `kid` is the child part for one byte: it has the patterns of `part` whose next byte is `kid.head`
 pub record IsKid (patterns : List Pattern) (part kid : Part) : Type 0 where
   pub from : part.low ≤ kid.low
   pub some : kid.low < kid.high

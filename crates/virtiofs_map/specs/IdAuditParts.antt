@@ -1,4 +1,4 @@
--- What the parts of the audits of ids say. Only private functions cite these words.
+-- What the parts of the audits of ids say. Only private functions cite these definitions.
 use Rattle.std.specs.Prelude.{◌≡◌, ◌≢◌, ◌⊎◌, ◌↔◌, ◌&&◌, if◌then◌else◌, ℕ, ◌+◌, ◌-◌, ◌<◌, ◌≤◌, nat_le, nat_lt, List, All, Contains, Option, Some, None, sum_by}
 use Rattle.std.specs.List.Sorted.{IsNonDecreasingBy}
 use Rattle.virtiofs_map.specs.IdAudit.{GoesTo}

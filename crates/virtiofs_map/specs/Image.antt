@@ -9,7 +9,7 @@ use Rattle.virtiofs_map.specs.declared.soft_idmap.entry.Direction.TheVariants.{G
 abbrev pub HasKind : List ℕ → Type 0
 HasKind words = slice_index words 0 ≡ 1768190721
 
--- the words, or the first of them, are the image of a map of the specifications
+-- the words, or a leading part of them, are the image of a map of the specifications
 pub record IsImage (specs : List IdMap) (words : List ℕ) : Type 0 where
   pub kind : HasKind words
   pub room : 3 + 4 * guest_count words + 4 * host_count words ≤ length words
@@ -19,7 +19,8 @@ pub record IsImage (specs : List IdMap) (words : List ℕ) : Type 0 where
 abbrev pub image_length : List IdMap → ℕ
 image_length specs = 3 + 4 * acting specs GuestToHost + 4 * acting specs HostToGuest
 
--- Where the image fits, it is the beginning of the words, and the rest of them is as it was; else all of them are as they were.
+-- If the image fits, it is the beginning of the words, and the rest of them is unchanged; else all of them are
+-- unchanged.
 pub record IsWritten (specs : List IdMap) (old new : List ℕ) : Type 0 where
   pub image : image_length specs ≤ length old → IsImage specs (take (image_length specs) new)
   pub rest : image_length specs ≤ length old → drop (image_length specs) new ≡ drop (image_length specs) old

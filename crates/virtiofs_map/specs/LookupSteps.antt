@@ -14,7 +14,8 @@ covers_some (Some entry) = nat_lt 0 (count_of entry)
 abbrev pub acting : List IdMap → Direction → ℕ
 acting specs direction = count_by (λ spec. covers_some (entry_of spec direction)) specs
 
--- how many times a number can be halved until it is 0, of so many times at most
+-- how many times a number can be halved until it is 0, but at most as many times as the first argument says (so that
+-- the recursion ends)
 unfoldable pub halvings_within : ℕ → ℕ → ℕ
 halvings_within zero m = 0
 halvings_within (suc times) zero = 0
@@ -24,7 +25,7 @@ halvings_within (suc times) (suc m) = suc (halvings_within times (suc m / 2))
 unfoldable pub binary_digits : ℕ → ℕ
 binary_digits m = halvings_within m m
 
--- a lookup reads at least one range, where a specification acts in the direction
+-- a lookup reads at least one range, if a specification acts in the direction
 abbrev pub least_steps : List IdMap → Direction → ℕ
 least_steps specs direction = min 1 (acting specs direction)
 

@@ -1,18 +1,20 @@
--- What one map rule means, said of its key and its prepend alone, in bytes.
+-- What a single map rule means, stated by its key and its prepend alone, in bytes.
 use Rattle.std.specs.Prelude.{◌≡◌, ◌≢◌, ◌⊎◌, ℕ, ◌<◌, Bool, true, false, not, if◌then◌else◌, List, [], ◌∷◌, ◌++◌, length, drop, filter, encode_utf8_all, All, Some, None}
 use Rattle.std.specs.List.{filter_map}
 use Rattle.virtiofs_map.specs.Rule.{MappingRule}
 use Rattle.virtiofs_map.specs.RuleText.{RuleAsWritten, Map, RuleText, expanded}
 use Rattle.virtiofs_map.specs.Names.{begins, ClientAnswer, Passes, IsDenied, IsUnterminated, client_answer, HostAnswer, IsListed, IsHidden, host_answer, listed_name, names, as_list, server_answer, ListsBack}
 
--- a name that begins with the key passes with the prepend before it; of the others, one that begins with the prepend is denied
+-- a name that starts with the key passes with the prepend before it; any other name that starts with the prepend is
+-- denied
 abbrev pub map_client : List ℕ → List ℕ → List ℕ → ClientAnswer
 map_client key prepend name =
     if begins key name then Passes (prepend ++ name)
     else if begins prepend name then IsDenied
     else Passes name
 
--- a host name that begins with the prepend is listed without it; of the others, one that begins with the key is hidden
+-- a host name that starts with the prepend is listed without it; any other host name that starts with the key is
+-- hidden
 abbrev pub map_server : List ℕ → List ℕ → List ℕ → HostAnswer
 map_server key prepend name =
     if begins prepend name then IsListed (drop (length prepend) name)
@@ -36,17 +38,18 @@ pub record IsMapRule (key prepend : List ℕ) (rules : List MappingRule) : Type 
   pub lists_back : (name host : List ℕ) → IsName name → client_answer rules name ≡ Passes host → ListsBack rules name
   pub client_terminated : (name : List ℕ) → client_answer rules name ≢ IsUnterminated
   pub server_terminated : (list : List ℕ) → server_answer rules list ≢ None
-  -- with a key, what passes begins with the prepend and the key, or with neither of them
+  -- if the key is not empty, a name that passes starts, on the host, with the prepend followed by the key, or with
+  -- neither of the two
   pub fronts : (name host : List ℕ) → key ≢ [] → client_answer rules name ≡ Passes host
       → (begins (prepend ++ key) host ≡ true) ⊎ ((begins key host ≡ false) × (begins prepend host ≡ false))
-  -- with no key, a name that is listed to the guest is one that it may use, for the same name of the host
+  -- if the key is empty, a name under which a host name is listed passes, and becomes that host name
   pub way_back : (name host : List ℕ) → key ≡ [] → host_answer rules host ≡ IsListed name → client_answer rules name ≡ Passes host
 
 -- one map rule, as it is written, in characters
 abbrev pub map_rule : List ℕ → List ℕ → RuleAsWritten
 map_rule key prepend = record { head = Map; key = key; prepend = prepend }
 
--- where the text is one map rule, the rules mean what it means
+-- if the text is one map rule, the rules mean what it means
 abbrev pub ReadsMapRule : List ℕ → List MappingRule → Type 0
 ReadsMapRule text rules = (key prepend : List ℕ) → RuleText text (map_rule key prepend ∷ []) → IsMapRule (encode_utf8_all key) (encode_utf8_all prepend) rules
 
@@ -56,7 +59,8 @@ ReadsMapRule text rules = (key prepend : List ℕ) → RuleText text (map_rule k
 abbrev pub Agree : List ℕ → List ℕ → (List ℕ → Bool) → Type 0
 Agree list other set = filter (λ name. not (set name)) (names list) ≡ filter (λ name. not (set name)) (names other)
 
--- where the rules are one map rule with no key, names that begin with another prepend make no difference to the list, if neither prepend begins the other
+-- if the rules are one map rule with an empty key, names that start with another prepend make no difference to the
+-- list, provided that neither prepend is the beginning of the other
 abbrev pub KeepsGuestsApart : List MappingRule → List ℕ → Type 0
 KeepsGuestsApart rules list =
     (prepend another other : List ℕ) → rules ≡ expanded (map_rule [] prepend ∷ [])

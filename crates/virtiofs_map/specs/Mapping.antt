@@ -42,7 +42,8 @@ count_of (Fail first count) = count
 abbrev pub EntryCovers : Entry → ℕ → Type 0
 EntryCovers entry n = InRange (first_of entry) (count_of entry) n
 
--- what a covered number becomes: the number that is as far above the target, the target itself, or nothing where its use fails
+-- what a covered number becomes: the number that is as far above the target as it is above the first number, the
+-- target itself, or nothing if its use fails
 abbrev pub target_of : Entry → ℕ → Option ℕ
 target_of (Map first to count) n = Some (to + (n - first))
 target_of (Squash first to count) n = Some to
@@ -52,12 +53,13 @@ target_of (Fail first count) n = None
 abbrev pub Covers : IdMap → Direction → ℕ → Type 0
 Covers spec direction n = IsSomeAnd (entry_of spec direction) (λ entry. EntryCovers entry n)
 
--- the specification covers the number in that direction, and makes that of it
+-- the specification covers the number in that direction, and maps it to `value`
 abbrev pub Maps : IdMap → Direction → ℕ → Option ℕ → Type 0
 Maps spec direction n value =
     IsSomeAnd (entry_of spec direction) (λ entry. EntryCovers entry n × (target_of entry n ≡ value))
 
--- a specification of the list covers the number and makes that of it, or none covers it and it stays itself
+-- some specification of the list covers the number and maps it to `value`, or none covers it and `value` is the
+-- number itself
 abbrev pub Becomes : List IdMap → Direction → ℕ → Option ℕ → Type 0
 Becomes specs direction n value =
     ((spec : IdMap) × Contains specs spec × Maps spec direction n value)

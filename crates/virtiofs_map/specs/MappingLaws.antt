@@ -7,12 +7,12 @@ use Rattle.virtiofs_map.specs.declared.cmdline.IdMap.TheVariants.{Bidirectional}
 use Rattle.virtiofs_map.specs.declared.soft_idmap.entry.Direction.{Direction}
 use Rattle.virtiofs_map.specs.declared.soft_idmap.entry.Direction.TheVariants.{GuestToHost, HostToGuest}
 
--- a number becomes one thing only
+-- a number becomes only one result
 abbrev pub HasOneValue : List IdMap → Type 0
 HasOneValue specs = (direction : Direction) (n : ℕ) (value other : Option ℕ)
     → Becomes specs direction n value → Becomes specs direction n other → value ≡ other
 
--- the two lists make the same of each number
+-- the two lists map each number to the same result
 abbrev pub MeansTheSame : List IdMap → List IdMap → Type 0
 MeansTheSame specs others = (direction : Direction) (n : ℕ) (value : Option ℕ)
     → Becomes specs direction n value ↔ Becomes others direction n value
@@ -26,7 +26,7 @@ IsOrderFree specs = (others : List IdMap)
 abbrev pub KeepsGreatest : List IdMap → Type 0
 KeepsGreatest specs = (direction : Direction) → Becomes specs direction 4294967295 (Some 4294967295)
 
--- a `map` of the list covers the number in that direction
+-- a `map` specification of the list, which maps both ways, covers the number in that direction
 pub record IsMappedBothWays (specs : List IdMap) (direction : Direction) (n : ℕ) : Type 0 where
   pub guest : ℕ
   pub host : ℕ

@@ -10,7 +10,7 @@ use Rattle.virtiofs_map.specs.declared.xattrmap.scopes.Side.TheVariants.{Client,
 abbrev pub begins : List ℕ → List ℕ → Bool
 begins front name = starts_with nat_eq name front
 
--- the rule acts on that side, and what it compares names with there begins the name
+-- the rule acts on that side, and the name starts with the rule's pattern for that side
 abbrev pub fits : Side → List ℕ → MappingRule → Bool
 fits Client name rule = rule.client && begins rule.key name
 fits Server name rule = rule.server && begins rule.prepend name

@@ -21,7 +21,8 @@ use Rattle.virtiofs_map.specs.declared.xattrmap.spans.Span.{Span}
 abbrev pub image_kind : ℕ
 image_kind = 100606831918016118
 
--- the start of a part: after the first number stand five more, where the four parts begin, one after the other, and where the last one ends
+-- the start of a part. An image begins with six numbers: its kind, the starts of the four parts, in order, and the
+-- end of the last part.
 abbrev pub part_start : List ℕ → ℕ → ℕ
 part_start image which = word_at image (8 * which + 8)
 
@@ -58,7 +59,7 @@ pub record AreRuleRows (rules : List MappingRule) (rows bytes : List ℕ) : Type
   pub spans : List Span
   pub stand : AreSpans bytes rules spans
   pub are : rows ≡ rule_rows rules spans
-  -- so few bytes that a place takes no more than its share of eight
+  -- fewer than 2^48 bytes, so that a position fits into 48 bits
   pub few : length bytes < 281474976710656
 
 -- ---- what an image says

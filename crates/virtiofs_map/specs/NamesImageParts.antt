@@ -1,4 +1,4 @@
--- How images of maps of names are written and read. Only private functions cite these words.
+-- How images of maps of names are written and read. Only private functions cite these definitions.
 use Rattle.std.specs.Prelude.{◌≡◌, ⊤, ℕ, ◌+◌, ◌*◌, ◌<◌, ◌≤◌, List, [], ◌∷◌, ◌++◌, length, drop, All}
 use Rattle.std.specs.List.{flat_map}
 use Rattle.virtiofs_map.specs.BranchParts.{IsTrieIn}
@@ -14,7 +14,8 @@ use Rattle.virtiofs_map.specs.declared.xattrmap.scopes.Side.{Side}
 
 -- ---- writing
 
--- the bytes so far stand at the beginning, and behind them what was there; where there is no room for them, anything may
+-- the buffer starts with the bytes written so far, and the rest is unchanged; if they do not fit, the buffer may
+-- contain anything
 pub record Holds (so_far old new : List ℕ) : Type 0 where
   pub same : length new ≡ length old
   pub are : length so_far ≤ length old → new ≡ so_far ++ drop (length so_far) old

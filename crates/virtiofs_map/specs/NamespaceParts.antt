@@ -1,4 +1,4 @@
--- What the parts of the reader of ranges answer. Only private functions cite these words.
+-- What the parts of the reader of ranges answer. Only private functions cite these definitions.
 use Rattle.std.specs.Prelude.{◌≡◌, ℕ, List, ◌∷◌, ◌++◌}
 use Rattle.virtiofs_map.specs.Separator.{Lacks}
 

@@ -28,14 +28,14 @@ pub record IsEnclosed (text : List ℕ) (delimiter : ℕ) (inner : List ℕ) : T
   pub whole : text ≡ delimiter ∷ inner ++ delimiter ∷ []
   pub delimits : is_alphanumeric delimiter ≡ false
 
--- the last character is alphanumeric, or the text does not begin with that character as well
+-- the last character is alphanumeric, or the text is not two or more characters of which the first equals the last
 pub record HasNoDelimiter (text : List ℕ) : Type 0 where
   pub front : List ℕ
   pub last : ℕ
   pub ends : text ≡ front ++ last ∷ []
   pub wrong : (is_alphanumeric last ≡ true) ⊎ ((inner : List ℕ) → text ≢ last ∷ inner ++ last ∷ [])
 
--- between the first and the last delimiter there are not three fields
+-- between the first and the last delimiter there are not exactly three fields
 pub record HasOtherCount (text : List ℕ) : Type 0 where
   pub delimiter : ℕ
   pub inner : List ℕ

@@ -1,4 +1,4 @@
--- What the parts of a piece's making say. Only private functions cite these words.
+-- What the parts of a piece's making say. Only private functions cite these definitions.
 use Rattle.std.specs.Prelude.{◌≡◌, ◌==◌, ℕ, Bool, true, false, ◌≤◌, List, Option}
 use Rattle.virtiofs_map.specs.Pieces.{value_by, value_in, IsNamed, BecomeBy}
 use Rattle.virtiofs_map.specs.WordParts.{Table, IsAt, HasRanges}

@@ -1,4 +1,4 @@
--- What the ranges of a map stand for, and how they are found. Only private functions cite these words.
+-- What the ranges of a map stand for, and how they are found. Only private functions cite these definitions.
 use Rattle.std.specs.Prelude.{◌≡◌, ◌≢◌, ◌⊎◌, ℕ, ◌+◌, ◌-◌, ◌^◌, ◌<◌, ◌≤◌, List, length, take, slice_index_or, All, AllPairs, Contains, Option, Some, IfSome, MatchOption}
 use Rattle.std.specs.List.Sorted.{IsNonDecreasingBy}
 use Rattle.virtiofs_map.specs.Mapping.{entry_of, first_of, count_of}
@@ -39,8 +39,8 @@ pub record Stores (specs : List IdMap) (direction : Direction) (ranges : List En
 
 -- ---- a search
 
--- a search stands between low and high: the range before low, which was found, begins at or below n, and those from
--- high on begin above it
+-- a search has narrowed its result to the positions from low to high: the range before low, which was found, begins
+-- at or below n, and those from high on begin above n
 pub record Searched (ranges : List Entry) (n low high : ℕ) (found : Option Entry) : Type 0 where
   pub order : low ≤ high
   pub within : high ≤ length ranges
@@ -48,7 +48,7 @@ pub record Searched (ranges : List Entry) (n low high : ℕ) (found : Option Ent
       (λ range. (1 ≤ low) × (slice_index_or ranges (low - 1) range ≡ range) × (first_of range ≤ n))
   pub above : (k : ℕ) (d : Entry) → high ≤ k → k < length ranges → n < first_of (slice_index_or ranges k d)
 
--- after the steps so far there are enough digits for the ranges that are left
+-- the ranges that are left are fewer than 2 to the power of the steps that are still allowed
 pub record HasDigitsFor (left taken most : ℕ) : Type 0 where
   pub digits : ℕ
   pub room : left < 2 ^ digits
@@ -71,14 +71,15 @@ pub record IsPlaced (specs : List IdMap) (direction : Direction) (placed : Place
   pub sets_up : entry_of spec direction ≡ Some placed.entry
   pub counted : 1 ≤ count_of placed.entry
 
--- of the first specifications, that many of them: each entry of the direction that covers a number, once, with the index of its specification
+-- `placed` has, for each of the first `count` specifications, its entry in that direction if that covers a number:
+-- each entry once, with the index of its specification
 pub record Places (specs : List IdMap) (direction : Direction) (count : ℕ) (placed : List Placed) : Type 0 where
   pub from : All (λ one. IsPlaced specs direction one × (one.index < count)) placed
   pub each : (index : ℕ) (spec : IdMap) (entry : Entry) → index < count → StandsAt specs index spec → entry_of spec direction ≡ Some entry → 1 ≤ count_of entry → Contains placed (record { entry = entry; index = index })
   pub once : AllPairs (λ one other. one.index ≢ other.index) placed
   pub counted : length placed ≡ acting (take count specs) direction
 
--- each entry of the direction that covers a number, once, with the index of its specification, in the order of their first numbers
+-- the same for all specifications of the list, in the order of the first numbers of the entries
 pub record PlacesInOrder (specs : List IdMap) (direction : Direction) (placed : List Placed) : Type 0 where
   pub places : Places specs direction (length specs) placed
   pub rising : IsNonDecreasingBy (λ one. first_of one.entry) placed
@@ -89,14 +90,14 @@ pub record ArePlaced (specs : List IdMap) (guests hosts : List Placed) : Type 0 
   pub from_guest : PlacesInOrder specs GuestToHost guests
   pub from_host : PlacesInOrder specs HostToGuest hosts
 
--- the entries of the first specifications, that many of them, precede one another
+-- no two entries of the first `count` specifications overlap, and they are in order
 abbrev pub ArePrecedingBelow : ℕ → List Placed → Type 0
 ArePrecedingBelow count placed =
     AllPairs (λ one other. one.index < count → other.index < count → Precedes one.entry other.entry) placed
 
 -- ---- the test of a front of the list
 
--- how far the test has come: end is the greatest end so far, and that of an entry
+-- progress of the test: `end` is at least the end of each entry tested so far, and is the end of one of them, or 0
 pub record KeepsApartTo (count end : ℕ) (placed : List Placed) : Type 0 where
   pub preceding : ArePrecedingBelow count placed
   pub before : All (λ one. one.index < count → first_of one.entry + count_of one.entry ≤ end) placed

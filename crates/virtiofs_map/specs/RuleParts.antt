@@ -1,4 +1,4 @@
--- What the private functions on rules and their text say. Only they cite these words.
+-- What the private functions on rules and their text say. Only they cite these definitions.
 use Rattle.std.specs.Prelude.{◌≡◌, ◌⊎◌, ℕ, ◌-◌, Bool, List, [], ◌∷◌, take, drop, ◌==◌, Contains, IsSomeAnd}
 use Rattle.std.specs.Int.RustNames.{bit_and}
 use Rattle.std.specs.Str.{chars}
@@ -107,7 +107,8 @@ IsOpened text = (d : ℕ) × (body : List ℕ) × Opens text d body
 abbrev pub BeginsWithFault : List ℕ → RuleFault → Type 0
 BeginsWithFault text fault = (d : ℕ) × (body : List ℕ) × Opens text d body × HasRuleFault d body fault
 
--- the text does not begin with a key or a prepend: no d closes it, or it holds U+0000
+-- the field `which` (key or prepend) at the start of the text is at fault: the delimiter `d` does not close it, or it
+-- contains U+0000
 abbrev pub HasPatternFault : ℕ → List ℕ → PatternField → RuleFault → Type 0
 HasPatternFault d text which fault =
     ((fault ≡ IncompleteRule) × Lacks d text) ⊎ ((fault ≡ NulInPattern which) × (field : List ℕ) × (rest : List ℕ) × Fields d text (field ∷ []) rest × Contains field 0)

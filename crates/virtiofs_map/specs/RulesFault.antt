@@ -14,7 +14,7 @@ use Rattle.virtiofs_map.specs.declared.xattrmap.errors.ErrorKind.TheVariants as 
 
 -- what is wrong with a rule
 pub data RuleFault : Type 0 where
-  -- this stands in the place of a scope or of a type, and these are the ones that there are
+  -- the text that stands in place of a scope, and the list of scopes that the error prints; and the same for a type
   InvalidScope : List ℕ → List ℕ → RuleFault
   InvalidType : List ℕ → List ℕ → RuleFault
   IncompleteRule : RuleFault
@@ -27,12 +27,12 @@ pub data RulesFault : Type 0 where
   NoRules : RulesFault
   -- the rule of that number, counted from 1, is at fault
   InRule : ℕ → RuleFault → RulesFault
-  -- no text is wrong in this way: what an error tells that is no fault of a text
+  -- no text has this fault: it is that of an error that is no fault of a text
   NotOfText : RulesFault
 
 -- ---- the fault that an error tells
 
--- the fault of a rule, if that is what the error tells
+-- the fault of a rule, if the error is about one
 abbrev pub rule_fault_of : {A : Type 0} → ErrorKind A → Option RuleFault
 rule_fault_of (kinds.InvalidScope got expected) = Some (InvalidScope (chars (string_bytes got)) (chars expected.now))
 rule_fault_of (kinds.InvalidType got expected) = Some (InvalidType (chars (string_bytes got)) (chars expected.now))
@@ -41,14 +41,15 @@ rule_fault_of kinds.MapRuleViolation = Some MapRuleViolation
 rule_fault_of (kinds.NulInPattern pattern) = Some (NulInPattern pattern)
 rule_fault_of other = None
 
--- what an error tells that blames this rule, or none
+-- the fault of an error with this cause that blames the rule of that number, or blames no rule
 abbrev pub fault_at : {A : Type 0} → Option ℕ → ErrorKind A → Option RulesFault
 fault_at (Some k) cause = Some (option_map_or (InRule k) (rule_fault_of cause) NotOfText)
 fault_at None kinds.OutOfMemory = None
 fault_at None kinds.NoRulesProvided = Some NoRules
 fault_at None other = Some NotOfText
 
--- The fault of a text that the error tells: none where it tells that a request for memory was refused, and for that it may blame no rule.
+-- The fault of a text that the error reports. There is none if the error is out of memory and blames no rule. (Out of
+-- memory that blames a rule is `NotOfText`.)
 abbrev pub rules_fault_of : {A : Type 0} → Error A → Option RulesFault
 rules_fault_of error = fault_at error.rule error.cause
 

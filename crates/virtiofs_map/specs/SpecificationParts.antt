@@ -1,4 +1,4 @@
--- What the parts of the readers of specifications answer. Only private functions cite these words.
+-- What the parts of the readers of specifications answer. Only private functions cite these definitions.
 use Rattle.std.specs.Prelude.{◌≡◌, ◌≢◌, ◌⊎◌, ℕ, List, length}
 use Rattle.std.specs.Str.{chars}
 use Rattle.virtiofs_map.specs.Numeral.{IsNumeral}

@@ -1,4 +1,4 @@
--- The texts that say a specification, as `map:0:1000:10`, and what is wrong with the others.
+-- The texts that mean a specification, as `map:0:1000:10`, and what is wrong with the others.
 use Rattle.std.specs.Prelude.{◌≡◌, ◌≢◌, ◌⊎◌, ⊤, ℕ, Bool, false, ◌||◌, ◌==◌, List, [], ◌∷◌, ◌++◌, length, map, codes, string_bytes, Option, Some, None, Err}
 use Rattle.std.specs.List.{AllPass, AllZip}
 use Rattle.std.specs.Char.{to_ascii_lowercase}
@@ -44,7 +44,7 @@ numbers_of (SquashHost from_host to_guest count) = from_host ∷ to_guest ∷ co
 numbers_of (Bidirectional guest host count) = guest ∷ host ∷ count ∷ []
 numbers_of (ForbidGuest from_guest count) = from_guest ∷ count ∷ []
 
--- the text says the specification: its word, in upper or lower case, and its numbers between separators
+-- the text means the specification: it is its word, in upper or lower case, and its numbers between separators
 pub record Says (text : List ℕ) (spec : IdMap) : Type 0 where
   pub prefix : List ℕ
   pub separator : ℕ
@@ -83,7 +83,7 @@ pub record HasNonNumeral (text field : List ℕ) : Type 0 where
   pub cut : IsCut text prefix separator rest
   pub first : IsFirstNonNumeral (split_at_each separator rest) field
 
--- each field is a numeral, and the prefix in lower case, which is the word, is that of no specification
+-- each field is a numeral; `word` is the prefix in lower case, and it is not the word of any specification
 pub record HasUnknownPrefix (text word : List ℕ) : Type 0 where
   pub prefix : List ℕ
   pub seen : ℕ
@@ -91,7 +91,7 @@ pub record HasUnknownPrefix (text word : List ℕ) : Type 0 where
   pub is : word ≡ lowered prefix
   pub unknown : (spec : IdMap) → lowered prefix ≢ word_of spec
 
--- each field is a numeral, and the prefix is the word of a specification with another count of numbers
+-- each field is a numeral, and the prefix is the word of a specification that takes another count of numbers
 pub record HasWrongCount (text : List ℕ) (expected seen : ℕ) : Type 0 where
   pub prefix : List ℕ
   pub spec : IdMap
@@ -113,14 +113,15 @@ HasSpecificationFault text (InvalidLength expected seen) =
 HasSpecificationFault text (InvalidValue field) = HasNonNumeral text field
 HasSpecificationFault text (InvalidPrefix word) = HasUnknownPrefix text word
 
--- the fault that an error tells; none where a request for memory was refused
+-- the fault that an error reports; none if the error is out of memory
 abbrev pub specification_fault_of : {A : Type 0} → IdMapError A → Option SpecificationFault
 specification_fault_of (errors.InvalidPrefix prefix) = Some (InvalidPrefix (chars (string_bytes prefix)))
 specification_fault_of (errors.InvalidLength expected seen) = Some (InvalidLength expected seen)
 specification_fault_of (errors.InvalidValue value error) = Some (InvalidValue (chars (string_bytes value)))
 specification_fault_of errors.OutOfMemory = None
 
--- where an error is about a field, it says of that field what the standard library's `parse` says of it
+-- if an error is about a field, its explanation is one that the standard library's contract of `parse` allows for
+-- that field
 abbrev pub IsExplained : {A : Type 0} → IdMapError A → Type 0
 IsExplained (errors.InvalidValue value error) = ExplainsUnsignedError {T = ℕ} 10 (string_bytes value) (Err error)
 IsExplained (errors.InvalidPrefix prefix) = ⊤

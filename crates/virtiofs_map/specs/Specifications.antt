@@ -1,4 +1,4 @@
--- What a list of texts says, and what is wrong with one of which no map is made.
+-- What a list of texts means, and what is wrong with a list of texts from which no map can be made.
 use Rattle.std.specs.Prelude.{ℕ, ◌<◌, List, length, map, take, slice_get, Option, IsSomeAnd, ⊤}
 use Rattle.std.specs.Borrow.{Bor}
 use Rattle.std.specs.List.{AllZip}
@@ -30,7 +30,7 @@ pub record HasUnbuilt (texts : List (List ℕ)) (fault : BuildFault) : Type 0 wh
   pub say : AllSay texts specs
   pub first : HasFirstFault specs fault
 
--- what is wrong with a list of texts of which no map is made
+-- what is wrong with a list of texts from which no map can be made
 pub data SpecsFault : Type 0 where
   Unread : ℕ → SpecificationFault → SpecsFault
   Unbuilt : BuildFault → SpecsFault
@@ -40,7 +40,7 @@ abbrev pub HasSpecsFault : List (List ℕ) → SpecsFault → Type 0
 HasSpecsFault texts (Unread index fault) = HasFirstUnread texts index fault
 HasSpecsFault texts (Unbuilt fault) = HasUnbuilt texts fault
 
--- the fault that an error tells; none where a request for memory was refused
+-- the fault that an error reports; none if the error is out of memory
 abbrev pub specs_fault_of : {A : Type 0} → SpecsError A → Option SpecsFault
 specs_fault_of (Spec index cause) = option_map (Unread index) (specification_fault_of cause)
 specs_fault_of (Build error) = option_map Unbuilt (build_fault_of error)

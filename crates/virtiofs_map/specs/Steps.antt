@@ -1,11 +1,11 @@
 -- How a count of steps grows.
 use Rattle.std.specs.Prelude.{◌≡◌, ℕ, ◌+◌, ◌≤◌, min}
 
--- the count after some steps more; it stays at 18446744073709551615
+-- the count after some steps more; it saturates at 18446744073709551615
 abbrev pub count_after : ℕ → ℕ → ℕ
 count_after count steps = min (count + steps) 18446744073709551615
 
--- a call counted at least so many steps and at most so many, as far as the counter goes
+-- a call counted at least `least` and at most `most` steps; the counter saturates
 pub record CountsBetween (least most before after : ℕ) : Type 0 where
   pub steps : ℕ
   pub at_least : least ≤ steps

@@ -1,5 +1,5 @@
 -- What the words of a map stand for, and how they are searched. Only private functions, the invariant of a map and
--- IsImage cite these words.
+-- `Image` cite these definitions.
 use Rattle.std.specs.Prelude.{◌≡◌, ◌⊎◌, ℕ, zero, suc, ◌+◌, ◌*◌, ◌<◌, ◌≤◌, List, length, slice_index, slice_get, Option, Some, None}
 use Rattle.virtiofs_map.specs.Build.{Accepted}
 use Rattle.virtiofs_map.specs.ImageAnswer.{SaysValue}
@@ -102,7 +102,7 @@ abbrev pub before : List Entry → ℕ → Option Entry
 before ranges zero = None
 before ranges (suc k) = slice_get ranges k
 
--- where the words are those of ranges in order, a search stands between low and high
+-- if the words are those of ranges in order, a search has narrowed its result to the positions from low to high
 abbrev pub Searches : Table → ℕ → ℕ → ℕ → Type 0
 Searches table n low high =
     (ranges : List Entry) → AreRanges ranges → Tabulates table ranges → Searched ranges n low high (before ranges low)

@@ -1,20 +1,24 @@
 //! Ids inside the values of extended attributes.
 //!
 //! The values of three attributes hold ids of users and groups: the two access control lists of a
-//! file, and its capability. A daemon that maps ids has to map these too, or a right that the guest
-//! gives to its user 1000 goes to the host's. [`carries_ids`] says which names have such values.
+//! file, and its capability. A daemon that maps ids has to map these too. Otherwise a right that
+//! the guest gives to its user 1000 would go to user 1000 of the host. [`carries_ids`] says which
+//! names have such values.
 //!
-//! Each call changes ids in place, and nothing else: a value keeps its length. It tests the whole
-//! value first, and where it answers an error, no byte has changed. No memory is taken.
+//! The calls that convert a value change its ids in place and nothing else, and the value keeps its
+//! length. Only the two calls `.._in_revision_3` write a new value, into memory that the caller
+//! lends. Each call tests the whole value first; if it returns an error, no byte has changed.
+//! Nothing is allocated.
 //!
 //! An access control list is a header of 4 bytes that says version 2, and entries of 8 bytes: a
 //! tag, permissions, and a field for an id, all with the lowest byte first. Only the tags 2 (a user)
-//! and 8 (a group) have an id; the field of the others is kept as it is. Two users of a list may not
-//! become one, since one would get the rights of the other; nor may two groups.
+//! and 8 (a group) have an id; the field of the others is unchanged. Two users of a list may not
+//! become the same user, since one would get the rights of the other; nor may two groups.
 //!
-//! A capability ends with the id of root, in revision 3. Revisions 1 and 2 have none and mean 0, so
-//! they go across as they are where 0 stays 0; where it does not, a call writes the same in revision
-//! 3 into memory that the caller lends.
+//! A capability of revision 3 ends with the id of root: the user id that is root for this
+//! capability. Revisions 1 and 2 have no such field, and the id counts as 0. So they are accepted
+//! unchanged if 0 is mapped to 0. If it is not, [`capability_to_host_in_revision_3`] writes the
+//! same in revision 3 into memory that the caller lends.
 ghost use Rattle.std.specs.Prelude.{◌≡◌, ◌↔◌, IsOk, IfErr, IsErrAnd, OnOk, OnErr, Some, length};
 ghost use Rattle.virtiofs_map.specs.Acl.{IdsBecome, KeepsRest, GoesAcross, HasAclFault};
 ghost use Rattle.virtiofs_map.specs.AclLaws.{AllMapped, ComesBack};
@@ -44,7 +48,7 @@ pub use merges::EntryRoom;
 use std::alloc::Allocator;
 use ways::Ways;
 
-/// What values hold ids.
+/// The two kinds of values that contain ids.
 #[derive(Clone, Copy, Debug, PartialEq, Eq)]
 pub enum ValueKind {
     /// Access control lists: [`acl_to_host`] and [`acl_to_guest`].
@@ -53,10 +57,11 @@ pub enum ValueKind {
     Capability,
 }
 
-/// Which ids the values of that name hold, if any.
+/// Which kind of ids the values of that name contain, if any.
 ///
 /// `system.posix_acl_access` and `system.posix_acl_default` have access control lists, and
-/// `security.capability` has capabilities. The name is the host's, as the kernel knows it.
+/// `security.capability` has capabilities. `name` is the attribute's name on the host, as the
+/// host's kernel knows it: the name after the attribute map was applied.
 pub fn carries_ids(name: XattrName<'_>) -> Option<ValueKind>
     ensures acl { (result ≡ Some ValueKind.Acl) ↔ HasLists name.entry.bytes.now }
     ensures capability { (result ≡ Some ValueKind.Capability) ↔ HasCapability name.entry.bytes.now }
@@ -72,20 +77,23 @@ pub fn carries_ids(name: XattrName<'_>) -> Option<ValueKind>
     None
 }
 
-/// Makes an access control list of the guest one of the host: each id becomes what its map makes of
-/// it, in place.
+/// Converts an access control list of the guest, in place, into one for the host: each id of a user
+/// is mapped by `users`, and each id of a group by `groups`.
 ///
 /// `room` needs one element for each entry of the value: a value of n bytes has (n - 4) / 8
-/// entries. What `room` held is overwritten. The entries are sorted in it, to see whether two ids
-/// would become one.
+/// entries. The content of `room` is overwritten. The entries are sorted in it, to see whether two
+/// ids would become the same id.
 ///
 /// # Errors
 ///
-/// The error is the first of these, and then no byte of the value has changed:
-/// [`AclError::TooShort`], [`AclError::Version`], [`AclError::Length`], [`AclError::Room`], and
-/// [`AclError::Entry`] with the first entry that fails the tests of its tag, its permissions, and
-/// its id; else with the first entry whose id would become what another id of an earlier entry of
-/// its tag becomes.
+/// The error is the first of these that applies, and then no byte of the value has changed:
+///
+/// - [`AclError::TooShort`], [`AclError::Version`], [`AclError::Length`] and [`AclError::Room`], in
+///   this order;
+/// - [`AclError::Entry`] for the first entry whose tag, permissions or id is wrong (tested in this
+///   order);
+/// - [`AclError::Entry`] with [`EntryFault::Merges`], for the first entry such that an earlier
+///   entry with the same tag and a different id would become the same id.
 pub fn acl_to_host<A: Allocator>(
     users: &IdMap<GuestUid, HostUid, A>,
     groups: &IdMap<GuestGid, HostGid, A>,
@@ -112,8 +120,8 @@ pub fn acl_to_host<A: Allocator>(
     translate(&ways, value, room)
 }
 
-/// Makes an access control list of the host one of the guest, as [`acl_to_host`] does the other
-/// way.
+/// Converts an access control list of the host, in place, into one for the guest, as
+/// [`acl_to_host`] does the other way.
 ///
 /// # Errors
 ///
@@ -145,15 +153,16 @@ pub fn acl_to_guest<A: Allocator>(
     translate(&ways, value, room)
 }
 
-/// Makes a capability of the guest one of the host: the id of root becomes what the map makes of
-/// it, in place. A value of revision 1 or 2 stays as it is.
+/// Converts a capability of the guest, in place, into one for the host: the id of root is mapped by
+/// `users`. A value of revision 1 or 2 is unchanged.
 ///
 /// # Errors
 ///
-/// The error is the first of these, and then no byte of the value has changed:
+/// The error is the first of these that applies, and then no byte of the value has changed:
 /// [`CapabilityError::TooShort`], [`CapabilityError::Revision`], [`CapabilityError::Length`],
-/// [`CapabilityError::NoId`], [`CapabilityError::Forbidden`], and [`CapabilityError::RootMoves`],
-/// where [`capability_to_host_in_revision_3`] can write the value.
+/// [`CapabilityError::NoId`], [`CapabilityError::Forbidden`], and [`CapabilityError::RootMoves`].
+/// After `RootMoves` the caller can use [`capability_to_host_in_revision_3`], which can write the
+/// value.
 pub fn capability_to_host<A: Allocator>(
     users: &IdMap<GuestUid, HostUid, A>,
     value: &mut [u8],
@@ -175,7 +184,8 @@ pub fn capability_to_host<A: Allocator>(
     translate_root(&ranges, value)
 }
 
-/// Makes a capability of the host one of the guest, as [`capability_to_host`] does the other way.
+/// Converts a capability of the host, in place, into one for the guest, as [`capability_to_host`]
+/// does the other way.
 ///
 /// # Errors
 ///
@@ -201,12 +211,13 @@ pub fn capability_to_guest<A: Allocator>(
     translate_root(&ranges, value)
 }
 
-/// Writes a capability of the guest as one of the host in revision 3, of any revision: the flags and
-/// the two sets are the same, and the id of root is what the map makes of it.
+/// Reads a capability of the guest, of any revision, and writes the same for the host in revision
+/// 3: the flags and the two sets are the same, and the id of root is mapped by `users`.
 ///
 /// # Errors
 ///
-/// Those of [`capability_to_host`] but the last, in the same order, and then nothing is written.
+/// Those of [`capability_to_host`] except `RootMoves`, in the same order, and then nothing is
+/// written.
 pub fn capability_to_host_in_revision_3<A: Allocator>(
     users: &IdMap<GuestUid, HostUid, A>,
     value: &[u8],
@@ -226,12 +237,13 @@ pub fn capability_to_host_in_revision_3<A: Allocator>(
     write_revision_3(&ranges, value, written)
 }
 
-/// Writes a capability of the host as one of the guest in revision 3, as
-/// [`capability_to_host_in_revision_3`] does the other way.
+/// Reads a capability of the host, of any revision, and writes the same for the guest in revision
+/// 3, as [`capability_to_host_in_revision_3`] does the other way.
 ///
 /// # Errors
 ///
-/// Those of [`capability_to_guest`] but the last, in the same order, and then nothing is written.
+/// Those of [`capability_to_guest`] except `RootMoves`, in the same order, and then nothing is
+/// written.
 pub fn capability_to_guest_in_revision_3<A: Allocator>(
     users: &IdMap<GuestUid, HostUid, A>,
     value: &[u8],

@@ -1,14 +1,19 @@
-//! What a map does to all names, decided with proof.
+//! Audits: questions about all names at once. The answers are proved to be right.
 //!
 //! A map answers for one name at a time ([`xattrmap`](crate::xattrmap)). An administrator asks
-//! about all names at once, before a share goes live: does the guest get back each name that it
-//! sets, does a name that it sees in a list open that very attribute, do two guests on one host see
-//! or open what is the other one's, is any name left without a rule? An audit answers for every name
-//! there is. Where the answer is no, it gives the least name that shows it, in byte order.
+//! about all names at once, before a share goes live: does the guest see each name that it sets,
+//! does a name that it sees in a list open the attribute that was listed, do two guests on one host
+//! see or open the other's attributes, is any name left without a rule? An audit answers for every
+//! name there is. If the answer is no, it gives the least name that shows it, in byte order.
+//!
+//! A name of the guest *passes as* a name of the host if the first rule that fits it lets it
+//! through and makes it that name; so it *opens* the attribute of that name. A guest *reaches* a
+//! name of the host if some name, perhaps the empty one, passes as it. A name of the host is
+//! *hidden* if the first rule that fits it says that it is not listed.
 //!
 //! - [`audit`]: does each name that passes to the host come back in the list that the guest gets?
-//!   `:prefix:client:trusted.:user.: :ok:all:::` is a map that loses a name: `trusted.` passes as
-//!   `user.trusted.`, which is listed as that.
+//!   `:prefix:client:trusted.:user.: :ok:all:::` is a map that loses a name: the guest sets
+//!   `trusted.`, the host stores `user.trusted.`, and the guest's list shows `user.trusted.`.
 //! - [`audit_listed`]: does each name in the guest's list open the attribute of the host that was
 //!   listed?
 //! - [`keeps_apart`]: is each name of the host that the first guest reaches hidden by the other
@@ -17,7 +22,7 @@
 //!   `:ok:client::: :bad:server:::` are kept apart, since no list shows a name, and share every name.
 //! - [`XattrMap::is_terminated`]: does each name of either side have a rule?
 //!
-//! There is no end of names, but few need to be tried: two names that begin with the same patterns
+//! There is no end of names, but few need to be tried: two names that start with the same patterns
 //! are treated alike. The names to try are found from the patterns, and are tried one after the
 //! other.
 ghost use Rattle.std.specs.Prelude.{◌≡◌, ◌↔◌, IfOk, OnOk, OnErr};
@@ -39,16 +44,16 @@ use least::Tried;
 use questions::Question;
 use std::alloc::{AllocError, Allocator};
 
-/// Whether each name that passes is listed back: from the list of its host name alone the guest
-/// gets the list of this name alone. The empty name is left out. `No` has the least name that
+/// Whether each non-empty name that passes is listed back: if the host's list has only the host
+/// name of that name, the guest's list has only that name. `No` has the least non-empty name that
 /// passes and is not listed back.
 ///
-/// Memory: room for the longest name of the host that is looked up, and for a few names that are
+/// Memory: space for the longest name of the host that is looked up, and for a few names that are
 /// not listed back.
 ///
 /// # Errors
 ///
-/// `AllocError`: a request for memory was refused.
+/// `AllocError`: an allocation failed.
 pub fn audit<A: Allocator + Copy>(alloc: A, map: &XattrMap<A>) -> Result<Audit<A>, AllocError>
     ensures answer { IfOk result (AnswersLeast (IsLost map.now)) }
     ensures sound { IfOk result (λ audit. (audit ≡ Yes) ↔ Sound map.now) }
@@ -56,13 +61,13 @@ pub fn audit<A: Allocator + Copy>(alloc: A, map: &XattrMap<A>) -> Result<Audit<A
     audit_counted(alloc, map, &mut Steps::new())
 }
 
-/// The answer of [`audit`], with a count of the names that were tried. With k rules for the
-/// client's side and s rules for the server's side these are at least one and at most 255 + k + k *
-/// s. Where a request for memory was refused, none is counted.
+/// Answers as [`audit`] does, and counts the names that were tried. The count is at least 1 and at
+/// most 255 + k + k * s, where k rules act on the client's side and s on the server's. (The counter
+/// saturates at 18446744073709551615.) If an allocation fails, nothing is counted.
 ///
 /// # Errors
 ///
-/// `AllocError`: a request for memory was refused.
+/// `AllocError`: an allocation failed.
 pub fn audit_counted<A: Allocator + Copy>(
     alloc: A,
     map: &XattrMap<A>,
@@ -80,19 +85,23 @@ pub fn audit_counted<A: Allocator + Copy>(
     Ok(tried.into_answer())
 }
 
-/// Whether the second map hides every non-empty host name that a guest with the first map can
-/// reach, by any name, the empty one too. A host name that the second map has no rule for is not
-/// hidden, nor is one that it lists as the empty name. `No` has the least name of the first map
-/// that passes as a non-empty host name which the second map does not hide.
+/// Whether the second map (`q`) hides every non-empty host name that a guest with the first map
+/// (`r`) reaches. A host name that the second map has no rule for is not hidden, nor is one that it
+/// lists as the empty name. `No` has the least name of the first guest that passes as a non-empty
+/// host name which the second map does not hide.
 ///
-/// `Yes` comes exactly where this holds of any two lists from the host: if they differ only in
-/// names that the first map reaches, the second map answers both alike.
+/// The answer is `Yes` if and only if this holds for all pairs of lists from the host: if they
+/// differ only in names that the first guest reaches, the second map makes the same of both.
 ///
-/// `Yes` in one direction says nothing of the other: ask again with the maps the other way round.
+/// The answer for (first, second) says nothing about the answer for (second, first): call this
+/// again with the maps exchanged.
+///
+/// Memory: space for the longest name of the host that is looked up, and for a few names of the
+/// first guest that the second map does not hide.
 ///
 /// # Errors
 ///
-/// `AllocError`: a request for memory was refused.
+/// `AllocError`: an allocation failed.
 pub fn keeps_apart<A: Allocator + Copy>(
     alloc: A,
     r: &XattrMap<A>,
@@ -100,7 +109,7 @@ pub fn keeps_apart<A: Allocator + Copy>(
 ) -> Result<Audit<A>, AllocError>
     ensures answer { IfOk result (AnswersLeast (IsSeen r.now q.now)) }
     ensures apart { IfOk result (λ audit. (audit ≡ Yes) ↔ Apart r.now q.now) }
-    // Yes comes exactly where the guests are isolated.
+    // The answer is Yes if and only if the guests are isolated.
     ensures isolated { IfOk result (λ audit. (audit ≡ Yes) ↔ Isolated r.now q.now) }
 {
     let question = Question::Seen(r, q);
@@ -110,20 +119,21 @@ pub fn keeps_apart<A: Allocator + Copy>(
     Ok(tried.into_answer())
 }
 
-/// Whether no non-empty host name is reached by both guests: by the first map from some name, and by
-/// the second map from some name, the empty names too. Then neither guest opens by name what the
-/// other one opens. `No` has the least name of the first map that passes as a non-empty host name
-/// which the second map reaches too.
+/// `Yes` if there is no non-empty host name that both guests reach, the one with the first map
+/// (`r`) and the one with the second (`q`). Then neither guest opens by name what the other one
+/// opens. `No` has the least name of the first guest that passes as a non-empty host name which the
+/// second guest reaches too.
 ///
-/// `Yes` in one direction is `Yes` in the other. It says nothing of lists, which may show a guest
-/// names that it does not reach: see [`keeps_apart`].
+/// The answer is `Yes` for (first, second) if and only if it is `Yes` for (second, first). It says
+/// nothing about lists, which may show a guest names that it does not reach: see [`keeps_apart`].
 ///
-/// Memory: room for the longest name of the host that is looked up, for what a rule of the second
-/// map puts before its key with that key, and for a few names that both guests reach.
+/// Memory: space for the longest name of the host that is looked up, for the longest prepend + key
+/// of a rule of the second map, and for a few names of the first guest that pass as what both guests
+/// reach.
 ///
 /// # Errors
 ///
-/// `AllocError`: a request for memory was refused.
+/// `AllocError`: an allocation failed.
 pub fn shares_no_name<A: Allocator + Copy>(
     alloc: A,
     r: &XattrMap<A>,
@@ -141,13 +151,15 @@ pub fn shares_no_name<A: Allocator + Copy>(
     Ok(tried.into_answer())
 }
 
-/// Whether each non-empty host name that is listed to the guest is opened by the name under which
-/// it is listed: that name has to pass as this very name of the host. `No` has the least name of
-/// the host that is listed and is not opened so.
+/// For each non-empty host name H that is listed to the guest under a name N: does N pass as H?
+/// `No` has the least non-empty host name for which it does not.
+///
+/// Memory: space for the longest name of the host that is tried, and for a few names for which the
+/// answer is no.
 ///
 /// # Errors
 ///
-/// `AllocError`: a request for memory was refused.
+/// `AllocError`: an allocation failed.
 pub fn audit_listed<A: Allocator + Copy>(
     alloc: A,
     map: &XattrMap<A>,

@@ -10,8 +10,8 @@ use thiserror::Error;
 /// One specification of a mapping between guest ids and host ids.
 #[derive(Clone, Copy, Debug, PartialEq, Eq)]
 pub enum IdMap {
-    /// `guest:FROM:TO:COUNT`: each of `count` guest ids, from `from_guest` on, becomes the host id
-    /// that is as far above `to_host`.
+    /// `guest:FROM:TO:COUNT`: maps `count` guest ids, starting with `from_guest`: the guest id
+    /// `from_guest + i` becomes the host id `to_host + i`.
     Guest {
         /// The first guest id.
         from_guest: u32,
@@ -21,8 +21,8 @@ pub enum IdMap {
         count: u32,
     },
 
-    /// `host:FROM:TO:COUNT`: each of `count` host ids, from `from_host` on, becomes the guest id
-    /// that is as far above `to_guest`.
+    /// `host:FROM:TO:COUNT`: maps `count` host ids, starting with `from_host`: the host id
+    /// `from_host + i` becomes the guest id `to_guest + i`.
     Host {
         /// The first host id.
         from_host: u32,
@@ -54,7 +54,7 @@ pub enum IdMap {
         count: u32,
     },
 
-    /// `map:GUEST:HOST:COUNT`: what `guest:GUEST:HOST:COUNT` and `host:HOST:GUEST:COUNT` say
+    /// `map:GUEST:HOST:COUNT`: what `guest:GUEST:HOST:COUNT` and `host:HOST:GUEST:COUNT` do
     /// together.
     Bidirectional {
         /// The first guest id.
@@ -77,12 +77,12 @@ pub enum IdMap {
 /// Why a text is no specification.
 #[derive(Debug, Drop, Error)]
 pub enum IdMapError<A: Allocator = Global> {
-    /// The word is none of the six; here its ASCII letters are in lower case.
+    /// The word is none of the six. Contains the word, with its ASCII letters in lower case.
     #[error("Invalid ID map prefix {0}")]
     InvalidPrefix(String<A>),
 
-    /// The word takes another count of numbers than there are. Where no separator follows the word,
-    /// `expected` is 1 and `seen` is 0.
+    /// The count of numbers is not the one that the word takes. If there is no separator after the
+    /// word, `expected` is 1 and `seen` is 0, as in virtiofsd.
     #[error("Invalid ID map length (expected {expected} elements, got {seen} elements)")]
     InvalidLength {
         /// How many numbers the word takes.
@@ -100,7 +100,7 @@ pub enum IdMapError<A: Allocator = Global> {
         error: ParseIntError,
     },
 
-    /// A request for memory was refused.
+    /// An allocation failed.
     #[error("Out of memory")]
     OutOfMemory,
 }

@@ -21,7 +21,7 @@
 //!
 //! Contracts see an id and an offset by its `number`, from 0 to 4294967295. A method of these
 //! traits whose body is empty is a law: it does nothing when it runs, and its contract is a fact
-//! about the values that it is handed, which each implementer proves. A generic caller names the
+//! about its arguments that each implementer proves. A generic caller names the
 //! laws that it needs:
 //!
 //! ```text
@@ -73,11 +73,12 @@ pub trait Id: Copy + Clone + Debug + Display + Eq + Ord + From<Self::Inner> + Su
     fn bounded(self)
         ensures { number self ≤ 4294967295 };
 
-    /// Law: `From` keeps the number. With `identified` it is the inverse of `into_inner`.
+    /// Law: if `made` is what `From` makes of `inner`, both have the same number. With
+    /// `identified`, `From` is the inverse of `into_inner`.
     fn keeps(inner: Self::Inner, made: Self)
         ensures { Self.from_gives inner made → number made ≡ Self.Inner.number inner };
 
-    /// Law: two ids with one number are the same id.
+    /// Law: two ids with the same number are equal.
     fn identified(self, other: Self)
         ensures { number self ≡ number other → self ≡ other };
 
@@ -88,7 +89,7 @@ pub trait Id: Copy + Clone + Debug + Display + Eq + Ord + From<Self::Inner> + Su
             Some (nat_cmp (number self) (number other)) }
         ensures total { Self.cmp self other ≡ nat_cmp (number self) (number other) };
 
-    /// Law: `self - other` may be taken exactly where `other` is at most `self`.
+    /// Law: `self - other` may be taken if and only if `other` is at most `self`.
     fn subtracts(self, other: Self)
         ensures { Self.can_sub self other ↔ (Self.number other ≤ Self.number self) };
 }
@@ -104,17 +105,17 @@ pub trait GuestId: Id
     fn id_mapped(self) -> Self::HostType
         ensures { Self.HostType.number result ≡ Self.number self };
 
-    /// Law: `self - other` is the difference of the numbers.
+    /// Law: if `offset` is `self - other`, its number is the difference of the numbers.
     fn difference(self, other: Self, offset: Self::Offset)
         ensures { Self.sub_gives self other offset →
             Self.Offset.number offset ≡ Self.number self - Self.number other };
 
-    /// Law: `self + offset` may be taken exactly where the sum is at most 4294967295.
+    /// Law: `self + offset` may be taken if and only if the sum is at most 4294967295.
     fn adds(self, offset: <Self::HostType as Id>::Offset)
         ensures { Self.can_add self offset ↔
             (Self.number self + Self.HostType.Offset.number offset ≤ 4294967295) };
 
-    /// Law: `self + offset` is the sum of the numbers.
+    /// Law: if `total` is `self + offset`, its number is the sum of the numbers.
     fn sum(self, offset: <Self::HostType as Id>::Offset, total: Self)
         ensures { Self.add_gives self offset total →
             Self.number total ≡ Self.number self + Self.HostType.Offset.number offset };
@@ -131,17 +132,17 @@ pub trait HostId: Id
     fn id_mapped(self) -> Self::GuestType
         ensures { Self.GuestType.number result ≡ Self.number self };
 
-    /// Law: `self - other` is the difference of the numbers.
+    /// Law: if `offset` is `self - other`, its number is the difference of the numbers.
     fn difference(self, other: Self, offset: Self::Offset)
         ensures { Self.sub_gives self other offset →
             Self.Offset.number offset ≡ Self.number self - Self.number other };
 
-    /// Law: `self + offset` may be taken exactly where the sum is at most 4294967295.
+    /// Law: `self + offset` may be taken if and only if the sum is at most 4294967295.
     fn adds(self, offset: <Self::GuestType as Id>::Offset)
         ensures { Self.can_add self offset ↔
             (Self.number self + Self.GuestType.Offset.number offset ≤ 4294967295) };
 
-    /// Law: `self + offset` is the sum of the numbers.
+    /// Law: if `total` is `self + offset`, its number is the sum of the numbers.
     fn sum(self, offset: <Self::GuestType as Id>::Offset, total: Self)
         ensures { Self.add_gives self offset total →
             Self.number total ≡ Self.number self + Self.GuestType.Offset.number offset };

@@ -38,7 +38,8 @@ pub struct GidMap {
 /// Why a text is no range.
 #[derive(Debug, PartialEq, Eq, Drop, Error)]
 pub enum IdMapError {
-    /// The last character is alphanumeric, or the text does not begin with it too.
+    /// The last character is alphanumeric, or it is the whole text, or the text starts with another
+    /// character.
     #[error("A delimiter has been found that does not match the delimiter the map started with")]
     InvalidDelimiter,
 
@@ -46,7 +47,8 @@ pub enum IdMapError {
     #[error("The map is empty or incorrect number of values are provided")]
     IncompleteMap,
 
-    /// The first field that is no number from 0 to 4294967295, by what is wrong with it.
+    /// A field is not a number from 0 to 4294967295. Contains the parse error of the first such
+    /// field.
     #[error("{0}")]
     InvalidValue(ParseIntError),
 }
@@ -69,12 +71,12 @@ impl UidMap {
 
     /// Reads a range of user ids. It takes no memory.
     ///
-    /// An empty text is [`IdMapError::IncompleteMap`]. Else the last character is the delimiter. If
-    /// it is alphanumeric, or the text does not begin with it too, the text is
-    /// [`IdMapError::InvalidDelimiter`]. If there are not three fields between the first and the
-    /// last delimiter, it is [`IdMapError::IncompleteMap`]. If a field is no number from 0 to
-    /// 4294967295, it is [`IdMapError::InvalidValue`]. A number is decimal digits, with any zeros
-    /// before them, and may have a `+` in front.
+    /// An empty text gives [`IdMapError::IncompleteMap`]. Otherwise the last character is the
+    /// delimiter. If it is alphanumeric, or it is the whole text, or the text starts with another
+    /// character, the error is [`IdMapError::InvalidDelimiter`]. If there are not exactly three
+    /// fields between the first and the last delimiter, it is [`IdMapError::IncompleteMap`]. If a
+    /// field is not a number from 0 to 4294967295, it is [`IdMapError::InvalidValue`]. A number is
+    /// an optional `+`, and then one or more decimal digits; leading zeros are allowed.
     pub fn from_str(text: &str) -> Result<UidMap, IdMapError>
         ensures read { IfOk result (λ map.
             SaysNamespace (chars text.now) map.inside_uid map.outside_uid map.count) }

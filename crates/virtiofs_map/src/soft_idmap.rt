@@ -1,6 +1,6 @@
 //! Maps of ids between a guest and its host.
 //!
-//! An [`IdMap`] is made of specifications ([`crate::cmdline`]). In each direction, from guest to
+//! An [`IdMap`] is made from specifications ([`crate::cmdline`]). In each direction, from guest to
 //! host and from host to guest, at most one of them covers a number, and says what it becomes. A
 //! number that none covers stays itself.
 ghost use Rattle.std.specs.Prelude.{◌≡◌, ℕ, List, [], Some, None, IsOk, IfOk, IfErr, IsOkAnd, IsErrAnd, OnOk, OnErr, MatchResult};
@@ -48,9 +48,9 @@ pub(crate) use words::{Ranges, image_ranges};
 
 /// A map of ids between a guest and its host.
 ///
-/// Contracts see a map as the list of its specifications. That list is accepted: no range of ids
-/// reaches past 4294967294, no range that ids become reaches past 4294967295, and no two
-/// specifications cover one number in one direction.
+/// In contracts a map is the list of its specifications. That list is *accepted*: no range of
+/// source ids goes past 4294967294, no range of target ids goes past 4294967295, and no two
+/// specifications cover the same number in the same direction.
 #[derive(Drop)]
 pub struct IdMap<
     Guest: GuestId<HostType = Host>,
@@ -83,7 +83,7 @@ impl<Guest: GuestId<HostType = Host>, Host: HostId<GuestType = Guest>, A: Alloca
 > {
     /// The map of no specification, which maps every number to itself.
     ///
-    /// It takes no memory from the allocator.
+    /// It does not allocate.
     pub fn empty(alloc: A) -> Self
         ensures { result ≡ [] }
     {
@@ -95,20 +95,21 @@ impl<Guest: GuestId<HostType = Host>, Host: HostId<GuestType = Guest>, A: Alloca
         }
     }
 
-    /// Makes a map of a list of specifications.
+    /// Makes a map from a list of specifications.
     ///
-    /// The specifications are tested one after another, each from guest to host and then from host
-    /// to guest. The first test that fails is the error, and the list is dropped:
+    /// For each specification in order, and for each direction (first from guest to host, then from
+    /// host to guest), these three tests are made in this order. The first test that fails
+    /// determines the error, and the list is dropped:
     ///
-    /// 1. The range of numbers that are mapped does not go past 4294967294; else
+    /// 1. The range of source numbers does not go past 4294967294; else
     ///    [`IdMapBuildError::RangeOverflow`] with [`RangeEnd::Source`].
     /// 2. No earlier specification covers one of these numbers; else
     ///    [`IdMapBuildError::Intersects`].
-    /// 3. The range of numbers that they become does not go past 4294967295; else
+    /// 3. The range of target numbers does not go past 4294967295; else
     ///    [`IdMapBuildError::RangeOverflow`] with [`RangeEnd::Target`].
     ///
-    /// A specification with a count of 0 passes each test. Where a request for memory is refused,
-    /// the error is [`IdMapBuildError::OutOfMemory`].
+    /// A specification with a count of 0 passes each test. If an allocation fails, the error is
+    /// [`IdMapBuildError::OutOfMemory`].
     pub fn try_from(alloc: A, specs: Vec<cmdline::IdMap, A>) -> Result<Self, IdMapBuildError>
         ensures read { IfOk result (λ map. map ≡ specs.items) }
         ensures accepted { OnOk result (Accepted specs.items) }
@@ -132,15 +133,16 @@ impl<Guest: GuestId<HostType = Host>, Host: HostId<GuestType = Guest>, A: Alloca
         })
     }
 
-    /// Makes a map of a list of texts, each of which is read as [`cmdline::IdMap::from_str`] does.
+    /// Makes a map from a list of texts, each of which is read as [`cmdline::IdMap::from_str`]
+    /// does.
     ///
-    /// All texts are read first. The first text that is no specification is the error
-    /// [`SpecsError::Spec`], even where no map could be made of the texts before it. Where all
-    /// texts are read, the error is that of [`IdMap::try_from`], in [`SpecsError::Build`].
+    /// All texts are read first. The first text that is no specification gives the error
+    /// [`SpecsError::Spec`], even if no map could be made from the texts before it. If all texts
+    /// can be read, the error is that of [`IdMap::try_from`], in [`SpecsError::Build`].
     ///
-    /// Where a request for memory is refused, the error is [`cmdline::IdMapError::OutOfMemory`] in
-    /// [`SpecsError::Spec`], with the index of a text before which all texts are specifications, or
-    /// else [`IdMapBuildError::OutOfMemory`] in [`SpecsError::Build`].
+    /// If an allocation fails, the error is either [`SpecsError::Spec`] with
+    /// [`cmdline::IdMapError::OutOfMemory`] and the index of some text, where all texts before that
+    /// one are specifications; or [`SpecsError::Build`] with [`IdMapBuildError::OutOfMemory`].
     pub fn from_specs(alloc: A, texts: &[&str]) -> Result<Self, SpecsError<A>>
         ensures read { IfOk result (AllSay (texts_of texts.now)) }
         ensures accepted { IfOk result Accepted }
@@ -167,7 +169,7 @@ impl<Guest: GuestId<HostType = Host>, Host: HostId<GuestType = Guest>, A: Alloca
     Host,
     A,
 > {
-    /// The host's id for a guest's. It takes no memory.
+    /// Maps an id of the guest to the id of the host. It does not allocate.
     ///
     /// A specification that covers the number of the id says what it becomes. An id that none
     /// covers keeps its number, as 4294967295 always does. Where a specification forbids the id,
@@ -191,10 +193,10 @@ impl<Guest: GuestId<HostType = Host>, Host: HostId<GuestType = Guest>, A: Alloca
         self.look_up(Direction::GuestToHost, id, &mut Steps::new())
     }
 
-    /// The host's id for a guest's, as [`IdMap::map_guest`] gives it, and a count of its steps.
+    /// Maps an id of the guest as [`IdMap::map_guest`] does, and counts steps.
     ///
     /// A step is a reading of a range; a range that is read twice counts twice. Let n be the number
-    /// of specifications that cover one guest id or more. Where n is 0 the lookup takes no step.
+    /// of specifications that cover one guest id or more. If n is 0, the lookup takes no step.
     /// Else it takes at least one, and at most as many as n has binary digits.
     pub fn map_guest_counted(&self, id: Guest, steps: &mut Steps) -> Result<Host, MapError<Guest>>
         ensures accepted { Accepted self.now }
@@ -218,7 +220,7 @@ impl<Guest: GuestId<HostType = Host>, Host: HostId<GuestType = Guest>, A: Alloca
         self.look_up(Direction::GuestToHost, id, steps)
     }
 
-    /// The guest's id for a host's. It takes no memory.
+    /// Maps an id of the host to the id of the guest. It does not allocate.
     ///
     /// A specification that covers the number of the id says what it becomes. An id that none
     /// covers keeps its number, as 4294967295 always does. Where a specification forbids the id,
@@ -243,10 +245,10 @@ impl<Guest: GuestId<HostType = Host>, Host: HostId<GuestType = Guest>, A: Alloca
         self.look_up(Direction::HostToGuest, id, &mut Steps::new())
     }
 
-    /// The guest's id for a host's, as [`IdMap::map_host`] gives it, and a count of its steps.
+    /// Maps an id of the host as [`IdMap::map_host`] does, and counts steps.
     ///
     /// A step is a reading of a range; a range that is read twice counts twice. Let n be the number
-    /// of specifications that cover one host id or more. Where n is 0 the lookup takes no step.
+    /// of specifications that cover one host id or more. If n is 0, the lookup takes no step.
     /// Else it takes at least one, and at most as many as n has binary digits.
     pub fn map_host_counted(&self, id: Host, steps: &mut Steps) -> Result<Guest, MapError<Host>>
         ensures accepted { Accepted self.now }

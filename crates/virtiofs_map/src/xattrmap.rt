@@ -1,25 +1,26 @@
 //! Extended attribute names between a guest and its host.
 //!
-//! A shared folder's files carry extended attributes, and host and guest do not always mean the
-//! same by a name. A map is a list of rules that says what becomes of each name: a name that the
-//! guest asks for is let through, given a prefix, or turned away, and the list of names that the
-//! host answers with is cut down to what the guest may see. The first rule that fits a name decides
-//! it.
+//! A shared folder's files have extended attributes, and host and guest do not always mean the same
+//! by a name. A map is a list of rules that says what becomes of each name: a name that the guest
+//! uses passes unchanged, passes with a prepend before it, or is rejected, and the list of names
+//! from the host is reduced to what the guest may see. The first rule that fits a name decides it.
 //!
 //! # Rules as text
 //!
 //! A map is read from a text of rules, such as `:prefix:all:trusted.:user.virtiofs.:`. The first
 //! character of a rule is its delimiter: any character that is not a space, a tab, a line feed, a
-//! form feed or a carriage return. The delimiter closes each field, and no field holds it. Any
+//! form feed or a carriage return. The delimiter closes each field, and no field contains it. Any
 //! number of those five blanks may stand between rules, and each rule may have a delimiter of its
 //! own. White space at both ends of the text does not count.
 //!
 //! - `:TYPE:SCOPE:KEY:PREPEND:` is a rule. A name from the guest is compared with the key, and a
 //!   name from the host with the prepend.
 //! - `:map:KEY:PREPEND:` is short for two or three rules that keep a guest's names apart from the
-//!   host's. It must be the last rule.
+//!   host's. With an empty key these are `:prefix:all::PREPEND:` and `:bad:all:::`. With a key they
+//!   are `:prefix:all:KEY:PREPEND:`, `:bad:all:PREPEND:KEY:` and `:ok:all:::`. It must be the last
+//!   rule.
 //!
-//! | Type | A guest's name that begins with the key | A host's name that begins with the prepend |
+//! | Type | A guest's name that starts with the key | A host's name that starts with the prepend |
 //! |---|---|---|
 //! | `prefix` | goes to the host with the prepend before it | is listed without the prepend |
 //! | `ok` | goes to the host as it is | is listed as it is |
@@ -70,8 +71,8 @@ use std::alloc::{AllocError, Allocator, Global};
 use std::marker::Model;
 use trie_rows::trie_rows;
 
-/// A map of attribute names: its rules, in order. A contract sees it as the list of its rules,
-/// where each `map` rule stands as the two or three rules that it is short for.
+/// A map of attribute names: its rules, in order. In contracts it is the list of its rules, where
+/// each `map` rule is replaced by the two or three rules that it is short for.
 #[derive(Drop)]
 #[derive_where(Debug)]
 pub struct XattrMap<A: Allocator = Global> {
@@ -130,17 +131,17 @@ impl<A: Allocator + Copy> XattrMap<A> {
     /// # Errors
     ///
     /// The first fault of the text, with the number of the rule that has it, counted from 1. A rule
-    /// is read field by field, and whether a field is closed is tested before what it holds:
+    /// is read field by field, and whether a field is closed is tested before its content:
     ///
     /// - `IncompleteRule`: the delimiter does not close a field.
     /// - `InvalidType`, `InvalidScope`: there is no such type, or no such scope.
-    /// - `NulInPattern`: the key or the prepend holds U+0000.
+    /// - `NulInPattern`: the key or the prepend contains U+0000.
     /// - `MapRuleViolation`: anything at all follows the last field of a `map` rule.
     ///
     /// Two errors blame no rule:
     ///
-    /// - `NoRulesProvided`: the text is empty or white space alone.
-    /// - `OutOfMemory`: a request for memory was refused.
+    /// - `NoRulesProvided`: the text is empty or only white space.
+    /// - `OutOfMemory`: an allocation failed.
     pub fn try_from(alloc: A, text: &str) -> Result<XattrMap<A>, Error<A>>
         ensures read { IfOk result (SaysRules (chars text.now)) }
         ensures complete { (rules : List MappingRule) → SaysRules (chars text.now) rules

@@ -8,7 +8,8 @@ use crate::xattrmap::rules::{RuleKind, RuleRef};
 use crate::xattrmap::{Side, XattrMap};
 use std::alloc::{AllocError, Allocator};
 
-/// What an audit asks of a name. The name is bad where the answer is yes.
+/// What an audit asks about one name. If the answer is yes, the name is bad, and the audit as a
+/// whole answers `No`.
 #[derive(Drop)]
 pub(crate) enum Question<'m, A: Allocator> {
     /// Does the name pass without being listed back?

@@ -8,11 +8,11 @@ use std::alloc::Allocator;
 
 impl<A: Allocator> XattrMap<A> {
     /// Whether no name is ever left without a rule: neither `map_client_xattr` nor
-    /// `map_server_xattrlist` answers `UnterminatedMapping` for any name or list. It takes no
-    /// memory.
+    /// `map_server_xattrlist` returns `UnterminatedMapping` for any name or list. It does not
+    /// allocate.
     ///
-    /// A rule that fits a name fits all names that begin with it. So the empty name decides for
-    /// the guest, and the names of one byte decide for the host, whose names are not empty.
+    /// A rule that fits a name fits all names that start with it. So it is enough to look up the
+    /// empty name for the guest, and the names of one byte for the host, whose names are not empty.
     pub fn is_terminated(&self) -> bool
         ensures { IsTrue result ↔ Terminated self.now }
     {

@@ -1,19 +1,20 @@
 //! What holds of every text of a specification.
 //!
-//! These functions do nothing when they run. A caller calls one to have its contract as a fact.
+//! These functions do nothing when they run. In a proof, a call of one makes its contract available
+//! to the caller.
 ghost use Rattle.std.specs.Prelude.{◌≡◌, ◌^◌, ◌<◌, ℕ, List, All};
 ghost use Rattle.std.specs.Str.{chars};
 ghost use Rattle.virtiofs_map.specs.Printed.{specification_text};
 ghost use Rattle.virtiofs_map.specs.SpecificationText.{Says, numbers_of, SpecificationFault, HasSpecificationFault};
 ghost use Rattle.virtiofs_map.specs.declared.cmdline.IdMap.{IdMap};
 
-/// A text says at most one specification.
+/// A text means at most one specification.
 pub fn one_value()
     ensures { (text : List ℕ) (spec other : IdMap)
         → Says text spec → Says text other → spec ≡ other }
 {}
 
-/// A text that says a specification has no fault.
+/// A text that means a specification has no fault.
 pub fn no_fault()
     ensures { (text : List ℕ) (spec : IdMap) (fault : SpecificationFault)
         → Says text spec → ¬ HasSpecificationFault text fault }
@@ -26,7 +27,7 @@ pub fn one_fault()
 {}
 
 /// The printed form of a specification whose numbers are below 2^32, as those of every
-/// [`IdMap`](super::IdMap) are, is a text that says that specification.
+/// [`IdMap`](super::IdMap) are, is a text that means that specification.
 pub fn reads_back()
     ensures { (spec : IdMap) → All (λ n. n < 2 ^ 32) (numbers_of spec)
         → Says (chars (specification_text spec)) spec }

@@ -216,14 +216,14 @@ impl IdMap {
     ///
     /// 1. A separator ends the prefix; else [`IdMapError::InvalidLength`] with `expected` 1 and
     ///    `seen` 0.
-    /// 2. Each field after the prefix is a number: decimal digits, with any zeros before them and
-    ///    at most one `+` in front, from 0 to 4294967295; else [`IdMapError::InvalidValue`] with
-    ///    the first field that is not one.
+    /// 2. Each field after the prefix is a number from 0 to 4294967295: an optional `+`, and then
+    ///    one or more decimal digits, where leading zeros are allowed; else
+    ///    [`IdMapError::InvalidValue`] with the first field that is not one.
     /// 3. The prefix, in upper or lower case, is one of the six words; else
     ///    [`IdMapError::InvalidPrefix`].
     /// 4. There are as many numbers as the word takes; else [`IdMapError::InvalidLength`].
     ///
-    /// Where a request for memory is refused, the error is [`IdMapError::OutOfMemory`].
+    /// If an allocation fails, the error is [`IdMapError::OutOfMemory`].
     pub fn from_str<A: Allocator + Copy>(alloc: A, text: &str) -> Result<IdMap, IdMapError<A>>
         ensures read { IfOk result (λ spec. Says (chars text.now) spec) }
         ensures complete { (spec : Specification) → Says (chars text.now) spec

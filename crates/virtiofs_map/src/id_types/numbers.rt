@@ -2,7 +2,7 @@
 ghost use Rattle.std.specs.Prelude.{◌≡◌, ℕ, ◌≤◌, ◌↔◌, IsTrue, Some};
 ghost use Rattle.std.specs.Ordering.{nat_cmp};
 
-/// A plain number that an id can be made of: one for each `u32`.
+/// A type of plain numbers from which ids can be made. It has exactly one value for each `u32`.
 pub trait IdNumber: Copy + Eq + Ord {
     // The number that contracts see.
     ghost number: { Self → ℕ };
@@ -19,7 +19,7 @@ pub trait IdNumber: Copy + Eq + Ord {
     fn bounded(self)
         ensures { number self ≤ 4294967295 };
 
-    /// Law: two values with one number are the same value, so that `from_u32` undoes `to_u32`.
+    /// Law: two values with the same number are equal, so that `from_u32` undoes `to_u32`.
     fn identified(self, other: Self)
         ensures { number self ≡ number other → self ≡ other };
 

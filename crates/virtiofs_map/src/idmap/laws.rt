@@ -1,19 +1,20 @@
 //! What holds of every text of a range.
 //!
-//! These functions do nothing when they run. A caller calls one to have its contract as a fact.
+//! These functions do nothing when they run. In a proof, a call of one makes its contract available
+//! to the caller.
 ghost use Rattle.std.specs.Prelude.{◌≡◌, ℕ, List, ◌<◌, ◌^◌};
 ghost use Rattle.std.specs.Str.{chars};
 ghost use Rattle.virtiofs_map.specs.NamespaceText.{SaysNamespace, NamespaceFault, HasNamespaceFault};
 ghost use Rattle.virtiofs_map.specs.Printed.{namespace_text};
 
-/// A text says at most one range.
+/// A text means at most one range.
 pub fn one_value()
     ensures { (text : List ℕ) (inside outside count a b c : ℕ)
         → SaysNamespace text inside outside count → SaysNamespace text a b c
         → (inside ≡ a) × (outside ≡ b) × (count ≡ c) }
 {}
 
-/// A text that says a range has no fault.
+/// A text that means a range has no fault.
 pub fn no_fault()
     ensures { (text : List ℕ) (inside outside count : ℕ) (fault : NamespaceFault)
         → SaysNamespace text inside outside count → ¬ HasNamespaceFault text fault }
@@ -25,7 +26,7 @@ pub fn one_fault()
         → HasNamespaceFault text fault → HasNamespaceFault text other → fault ≡ other }
 {}
 
-/// The printed form of three numbers below 2^32, as those of every range are, is a text that says
+/// The printed form of three numbers below 2^32, as those of every range are, is a text that means
 /// the range of these numbers.
 pub fn reads_back()
     ensures { (inside outside count : ℕ)

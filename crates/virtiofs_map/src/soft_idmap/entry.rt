@@ -18,7 +18,7 @@ pub enum Direction {
 /// A range of numbers, and what becomes of them.
 #[derive(Clone, Copy, Debug, PartialEq, Eq)]
 pub(crate) enum Entry {
-    /// Each number becomes the number that is as far above `to`.
+    /// The number `first + i` becomes `to + i`.
     Map { first: u32, to: u32, count: u32 },
     /// Each number becomes `to`.
     Squash { first: u32, to: u32, count: u32 },

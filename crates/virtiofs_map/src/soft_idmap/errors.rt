@@ -14,9 +14,9 @@ use std::fmt;
 /// Which range of a specification goes too far.
 #[derive(Clone, Copy, Debug, PartialEq, Eq)]
 pub enum RangeEnd {
-    /// The range of numbers that are mapped: its last number is at most 4294967294.
+    /// The range of source numbers: its last number must be at most 4294967294.
     Source,
-    /// The range of numbers that the mapped ones become: its last number is at most 4294967295.
+    /// The range of target numbers: its last number must be at most 4294967295.
     Target,
 }
 
@@ -27,9 +27,9 @@ pub enum FaultKind {
     PermissionDenied,
     /// A range of a specification goes too far.
     InvalidInput,
-    /// Anything else, such as two specifications that cover one number.
+    /// Anything else, such as two specifications that cover the same number.
     Other,
-    /// A request for memory was refused.
+    /// An allocation failed.
     OutOfMemory,
 }
 
@@ -69,11 +69,11 @@ impl<Source: Id> From<MapError<Source>> for FaultKind {
     }
 }
 
-/// Why no map is made of a list of specifications: the first fault, in the order of the list.
+/// Why no map can be made from a list of specifications: the first fault, in the order of the list.
 #[derive(Debug, Drop, PartialEq, Eq)]
 pub enum IdMapBuildError {
-    /// A range of numbers that are mapped goes past 4294967294, or what its last number becomes is
-    /// past 4294967295.
+    /// The range of source numbers goes past 4294967294, or the range of target numbers goes past
+    /// 4294967295.
     RangeOverflow {
         /// The specification at fault.
         spec: cmdline::IdMap,
@@ -95,7 +95,7 @@ pub enum IdMapBuildError {
         direction: Direction,
     },
 
-    /// A request for memory was refused.
+    /// An allocation failed.
     OutOfMemory,
 }
 
@@ -162,7 +162,7 @@ impl From<AllocError> for IdMapBuildError {
     }
 }
 
-/// Why no map is made of a list of texts.
+/// Why no map can be made from a list of texts.
 #[derive(Debug, Drop)]
 pub enum SpecsError<A: Allocator = Global> {
     /// The first text, in the order of the list, that cannot be read.
@@ -173,8 +173,8 @@ pub enum SpecsError<A: Allocator = Global> {
         cause: cmdline::IdMapError<A>,
     },
 
-    /// All texts are read, but no map is made of the specifications; or a request for memory was
-    /// refused outside the reading of a text.
+    /// All texts could be read, but no map can be made from the specifications; or an allocation
+    /// failed outside the reading of a text.
     Build(IdMapBuildError),
 }
 

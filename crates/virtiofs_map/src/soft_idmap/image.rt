@@ -1,4 +1,4 @@
-//! A map of ids as plain numbers: an image, which any number of readers may ask at once.
+//! A map of ids as plain numbers: an image, which any number of threads may read at once.
 //!
 //! [`write_image`] writes an image into the caller's memory, and [`look_up`] only reads it. What
 //! the numbers mean is private, and may change with the version of the library.
@@ -20,9 +20,9 @@ use crate::Steps;
 use crate::cmdline::IdMap;
 use std::alloc::Allocator;
 
-/// How many words the image of a map of that many specifications has at most.
+/// The most words that the image of a map of that many specifications has.
 ///
-/// A count that no list can have gives [`usize::MAX`].
+/// If the result does not fit into `usize`, it is [`usize::MAX`]. No list can be that long.
 pub fn most_words(specs: usize) -> usize
     ensures { result ≡ min (3 + 8 * specs) 18446744073709551615 }
 {
@@ -31,9 +31,9 @@ pub fn most_words(specs: usize) -> usize
 
 /// Writes the image of the map of a list of specifications, and says how many words it has.
 ///
-/// If `words` is shorter than that, nothing is written. If it is longer, the rest of it stays as it
-/// was. The faults of a list, and the order in which they are found, are those of
-/// [`super::IdMap::try_from`]. Where a request for memory is refused, the error is
+/// If `words` is shorter than that, nothing is written. If it is longer, the rest of it is
+/// unchanged. The faults of a list, and the order in which they are found, are those of
+/// [`super::IdMap::try_from`]. If an allocation fails, the error is
 /// [`IdMapBuildError::OutOfMemory`].
 pub fn write_image<A: Allocator + Copy>(
     alloc: A,
@@ -63,11 +63,11 @@ pub fn write_image<A: Allocator + Copy>(
     Ok(len)
 }
 
-/// What an image says of a number in a direction.
+/// Looks up a number in an image, in the given direction.
 ///
 /// Any words may be passed. If they do not begin with the first word of an image of this version,
-/// or are too few for the ranges that they announce, the answer is [`Answer::NoImage`]. It takes no
-/// memory.
+/// or are too few for the ranges that they announce, the result is [`Answer::NoImage`]. It does not
+/// allocate.
 pub fn look_up(words: &[u32], direction: Direction, n: u32) -> Answer
     ensures says { (specs : List Specification) → IsImage specs words.now
         → SaysIn specs direction n result }

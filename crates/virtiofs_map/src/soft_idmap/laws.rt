@@ -1,13 +1,14 @@
 //! What holds of every list of specifications, and of every list of texts.
 //!
-//! These functions do nothing when they run. A caller calls one to have its contract as a fact.
+//! These functions do nothing when they run. In a proof, a call of one makes its contract available
+//! to the caller.
 ghost use Rattle.std.specs.Prelude.{◌≡◌, ℕ, List};
 ghost use Rattle.virtiofs_map.specs.Build.{Accepted, BuildFault, HasFirstFault};
 ghost use Rattle.virtiofs_map.specs.MappingLaws.{HasOneValue};
 ghost use Rattle.virtiofs_map.specs.Specifications.{AllSay, SpecsFault, HasSpecsFault};
 ghost use Rattle.virtiofs_map.specs.declared.cmdline.IdMap.{IdMap as Specification};
 
-/// An accepted list makes only one thing of a number.
+/// An accepted list maps each number, in each direction, to only one result.
 pub fn one_value()
     ensures { (specs : List Specification) → Accepted specs → HasOneValue specs }
 {}
@@ -24,13 +25,13 @@ pub fn one_fault()
         → HasFirstFault specs fault → HasFirstFault specs other → fault ≡ other }
 {}
 
-/// A list of texts says at most one list of specifications.
+/// A list of texts means at most one list of specifications.
 pub fn texts_one_value()
     ensures { (texts : List (List ℕ)) (specs others : List Specification)
         → AllSay texts specs → AllSay texts others → specs ≡ others }
 {}
 
-/// A list of texts that says an accepted list has no fault.
+/// A list of texts that means an accepted list has no fault.
 pub fn texts_no_fault()
     ensures { (texts : List (List ℕ)) (specs : List Specification) (fault : SpecsFault)
         → AllSay texts specs → Accepted specs → ¬ HasSpecsFault texts fault }

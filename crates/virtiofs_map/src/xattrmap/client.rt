@@ -1,4 +1,4 @@
-//! What becomes of a name that the guest asks for.
+//! What becomes of a name that the guest uses.
 
 ghost use Rattle.std.specs.Prelude.{◌≡◌};
 
@@ -9,17 +9,18 @@ use crate::xattrmap::rules::RuleKind;
 use crate::xattrmap::scopes::Side;
 use std::alloc::{Allocator, Global};
 
-/// A name as it goes to the host. Two of these are equal where their bytes are, borrowed or owned.
+/// A name as it goes to the host. Two values are equal if their bytes are equal, no matter which of
+/// them is borrowed or owned.
 #[derive(Drop)]
 #[derive_where(Debug)]
 pub enum PassedName<'a, A: Allocator = Global> {
-    /// The name that was asked for, as it is.
+    /// The guest's name, unchanged.
     Borrowed(XattrName<'a>),
-    /// The name that was asked for, with something before it.
+    /// The guest's name, with a prepend before it.
     Owned(XattrNameBuf<A>),
 }
 
-/// What a rule makes of a name that the guest asks for.
+/// What a rule makes of a name that the guest uses.
 #[derive(Drop)]
 #[derive_where(PartialEq, Eq, Debug)]
 pub enum AppliedRule<'a, A: Allocator = Global> {
@@ -27,7 +28,7 @@ pub enum AppliedRule<'a, A: Allocator = Global> {
     Pass(PassedName<'a, A>),
     /// The guest may not use the name.
     Deny,
-    /// The name is refused as one that is not supported.
+    /// The name is not supported.
     Unsupported,
 }
 
@@ -79,21 +80,21 @@ impl<A: Allocator + Copy> XattrMap<A> {
     ghost use Rattle.virtiofs_map.specs.Names.{client_answer, IsUnterminated};
     ghost use Rattle.virtiofs_map.specs.Rule.{Okay, Prefix};
 
-    /// What becomes of a name that the guest asks for. The first rule that acts on the client's
-    /// side and whose key begins the name decides: the name passes as it is, passes with the rule's
-    /// prepend before it, is denied, or is refused as unsupported.
+    /// Finds out what becomes of a name that the guest uses. The first rule decides that acts on
+    /// the client's side and whose key the name starts with: the name passes unchanged, passes with
+    /// the rule's prepend before it, is denied, or is unsupported.
     ///
-    /// A name that passes as it is lives as long as the name that was handed in, and not only as
-    /// long as the map. Only a name that passes with a prepend takes memory, from `alloc`.
+    /// If the name passes unchanged, the result borrows the name that was passed in; it does not
+    /// borrow the map. Only a name that passes with a prepend takes memory, from `alloc`.
     ///
     /// # Errors
     ///
-    /// No error blames a rule. The rule is looked up before memory is asked for, so a name that no
-    /// rule decides is always answered as such.
+    /// No error blames a rule. The rule is looked up before memory is allocated, so the error for a
+    /// name that no rule decides is never `OutOfMemory`.
     ///
-    /// - `UnterminatedMapping`: no rule decides the name, and only then.
-    /// - `OutOfMemory`: a request for memory was refused. Memory is asked for only where the name
-    ///   passes with a prepend.
+    /// - `UnterminatedMapping`: returned if and only if no rule decides the name.
+    /// - `OutOfMemory`: an allocation failed. This is returned only if the name passes with a
+    ///   prepend.
     pub fn map_client_xattr<'a>(
         &self,
         alloc: A,

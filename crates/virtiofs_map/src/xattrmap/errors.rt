@@ -1,4 +1,4 @@
-//! Why a text of rules is refused, and why names are.
+//! Why a text of rules is rejected, and why a name or a list of names is.
 
 ghost use Rattle.std.specs.Prelude.{◌≡◌, ◌≢◌, Some, None};
 ghost use Rattle.virtiofs_map.specs.Printed.{pattern_text};
@@ -7,12 +7,12 @@ ghost use Rattle.virtiofs_map.specs.declared.xattrmap.errors.ErrorKind.TheVarian
 use std::alloc::{AllocError, AllocFailed, Allocator, Global};
 use std::{error, fmt};
 
-/// The field of a rule that names are compared with.
+/// The field of a rule that names must start with.
 #[derive(Clone, Copy, PartialEq, Eq, Debug)]
 pub enum PatternField {
-    /// What a name from the guest is compared with.
+    /// What a name from the guest must start with.
     Key,
-    /// What a name from the host is compared with.
+    /// What a name from the host must start with.
     Prepend,
 }
 
@@ -22,35 +22,35 @@ pub enum PatternField {
 pub enum ErrorKind<A: Allocator = Global> {
     /// There is no such scope.
     InvalidScope {
-        /// What the rule has in the place of its scope.
+        /// What stands in the rule in place of a scope.
         got: String<A>,
         /// The three scopes.
         expected: &'static str,
     },
     /// There is no such type.
     InvalidType {
-        /// What the rule has in the place of its type.
+        /// What stands in the rule in place of a type.
         got: String<A>,
-        /// The usual types.
+        /// The types that virtiofsd lists here: all except `unsupported`.
         expected: &'static str,
     },
-    /// A delimiter differs from the one that its rule began with. Never answered, since any other
+    /// A delimiter differs from the one that its rule began with. Never returned, because any other
     /// character is part of the field.
     InvalidDelimiter,
     /// A field of a rule is not closed by the rule's delimiter.
     IncompleteRule,
     /// Something follows a `map` rule.
     MapRuleViolation,
-    /// The text holds no rule.
+    /// The text has no rule.
     NoRulesProvided,
     /// No rule decides a name.
     UnterminatedMapping,
-    /// A key or a prepend holds U+0000, which no name has.
+    /// A key or a prepend contains U+0000, which no name does.
     NulInPattern {
-        /// The field that holds it.
+        /// The field that contains it.
         pattern: PatternField,
     },
-    /// A request for memory was refused.
+    /// An allocation failed.
     OutOfMemory,
 }
 
@@ -60,7 +60,7 @@ pub enum ErrorKind<A: Allocator = Global> {
 pub struct Error<A: Allocator = Global> {
     /// What is wrong.
     pub cause: ErrorKind<A>,
-    /// The number of the rule in the text, counted from 1. `None` where no rule is to blame.
+    /// The number of the rule in the text, counted from 1. `None` if no rule is to blame.
     pub rule: Option<usize>,
 }
 

@@ -26,29 +26,30 @@ use parts::Parts;
 use std::alloc::Allocator;
 use write::{places_of, write_parts};
 
-/// What an image says of a name.
+/// What an image decides for a name.
 #[derive(Clone, Copy, PartialEq, Eq, Debug)]
 pub enum Decision<'m> {
-    /// The bytes are no image of a map.
+    /// The bytes do not begin as an image of a map does. For other bytes that are no image, any
+    /// decision is possible.
     NoMap,
     /// No rule fits the name.
     Undecided,
-    /// The name passes as it is, or is listed as it is.
+    /// The name passes unchanged, or is listed unchanged.
     Okay,
     /// The name passes with this prepend before it, or is listed without it.
     Prefix(&'m [u8]),
     /// The name is denied, or hidden.
     Bad,
-    /// The name is refused as unsupported, or hidden.
+    /// The name is unsupported, or hidden.
     Unsupported,
 }
 
 /// What came of writing an image.
 #[derive(Clone, Copy, PartialEq, Eq, Debug)]
 pub enum ImageWritten {
-    /// The image has so many bytes, and stands at the beginning.
+    /// The image has this many bytes, and is at the beginning.
     Written(usize),
-    /// Nothing was written: the image needs room for so many bytes.
+    /// Nothing was written: the image needs a buffer of this many bytes.
     NoRoom(usize),
     /// Nothing was written: an image has 281474976710655 bytes at most.
     TooLong,
@@ -57,18 +58,19 @@ pub enum ImageWritten {
 /// What came of writing a list.
 #[derive(Clone, Copy, PartialEq, Eq, Debug)]
 pub enum ListWritten {
-    /// The bytes are no image of a map.
+    /// The bytes do not begin as an image of a map does. For other bytes that are no image, any
+    /// result is possible.
     NoMap,
     /// No rule decides one of the names.
     Undecided,
-    /// The list has so many bytes, and stands at the beginning.
+    /// The list has this many bytes, and is at the beginning.
     Written(usize),
-    /// The list needs room for so many bytes.
+    /// The list needs a buffer of this many bytes.
     NoRoom(usize),
 }
 
 impl<A: Allocator> XattrMap<A> {
-    /// How many bytes an image of the map has; `None` where these are more than an image may have,
+    /// How many bytes an image of the map has; `None` if these are more than an image may have,
     /// which is 281474976710655.
     pub fn image_len(&self) -> Option<usize>
         ensures { IfSome result (HasImage self.now) }
@@ -78,8 +80,8 @@ impl<A: Allocator> XattrMap<A> {
         Some(places.end)
     }
 
-    /// Writes an image of the map to the beginning of `out`, and leaves the rest as it was. It
-    /// takes no memory. Where there is no room, nothing is written.
+    /// Writes an image of the map to the beginning of `out`, and leaves the rest unchanged. It does
+    /// not allocate. If `out` is too short, nothing is written.
     pub fn write_image(&self, out: &mut [u8]) -> ImageWritten
         ensures { WritesImage self.now out.old out.new result }
     {
@@ -95,11 +97,11 @@ impl<A: Allocator> XattrMap<A> {
     }
 }
 
-/// What an image says of a name of that side: what the first rule that fits it does. It takes no
-/// memory.
+/// Looks up a name of that side in an image: what the first rule that fits it does. It does not
+/// allocate.
 ///
-/// The answer is `NoMap` where the bytes do not begin as an image does. For any other bytes that are
-/// no image the answer may be any, and what it holds is a part of them.
+/// The result is `NoMap` if the bytes do not begin as an image does. For other bytes that are no
+/// image, any result is possible; a prepend in it is then some part of these bytes.
 #[inline]
 pub fn decide<'m>(image: &'m [u8], side: Side, name: &[u8]) -> Decision<'m>
     ensures closed { IsNoImage image.now → result ≡ Decision.NoMap }
@@ -112,11 +114,11 @@ pub fn decide<'m>(image: &'m [u8], side: Side, name: &[u8]) -> Decision<'m>
     }
 }
 
-/// Whether no name is ever left without a rule; `None` where the bytes are no image. It takes no
-/// memory.
+/// Whether no name is ever left without a rule; `None` if the bytes do not begin as an image does.
+/// For other bytes that are no image, the result has no meaning. It does not allocate.
 ///
-/// A rule that fits a name fits all names that begin with it. So the empty name decides for the
-/// guest, and the names of one byte decide for the host, whose names are not empty.
+/// A rule that fits a name fits all names that start with it. So it is enough to look up the empty
+/// name for the guest, and the names of one byte for the host, whose names are not empty.
 pub fn is_terminated(image: &[u8]) -> Option<bool>
     ensures closed { IsNoImage image.now → IsNone result }
     ensures terminated { (rules : List MappingRule) → IsImage rules image.now

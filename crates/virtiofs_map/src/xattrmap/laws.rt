@@ -1,25 +1,27 @@
 //! What holds of every text of rules.
 //!
-//! These functions do nothing when they run. A caller calls one to have its contract as a fact.
+//! These functions do nothing when they run. In a proof, a call of one makes its contract available
+//! to the caller.
 
 ghost use Rattle.std.specs.Prelude.{◌≡◌, ℕ, List};
 ghost use Rattle.virtiofs_map.specs.Rule.{MappingRule};
 ghost use Rattle.virtiofs_map.specs.RuleText.{RuleAsWritten, RuleText, SaysRules};
 ghost use Rattle.virtiofs_map.specs.RulesFault.{RulesFault, HasRulesFault};
 
-/// A text can be read as at most one list of written rules.
+/// A text can be parsed into at most one list of rules as written (before a `map` rule is
+/// expanded).
 pub fn one_reading()
     ensures { (text : List ℕ) (written other : List RuleAsWritten)
         → RuleText text written → RuleText text other → written ≡ other }
 {}
 
-/// A text says at most one list of rules.
+/// A text means at most one list of rules.
 pub fn one_value()
     ensures { (text : List ℕ) (rules other : List MappingRule)
         → SaysRules text rules → SaysRules text other → rules ≡ other }
 {}
 
-/// A text that says rules has no fault.
+/// A text that means a list of rules has no fault.
 pub fn no_fault()
     ensures { (text : List ℕ) (rules : List MappingRule) (fault : RulesFault)
         → SaysRules text rules → ¬ HasRulesFault text fault }

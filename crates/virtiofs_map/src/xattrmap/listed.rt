@@ -1,4 +1,4 @@
-//! The host's names as the guest sees them, one at a time and where they stand.
+//! The host's names as the guest sees them, one at a time and without copying.
 
 ghost use Rattle.std.specs.List.{before_first, after_first};
 ghost use Rattle.std.specs.Option.{option_map};
@@ -73,21 +73,21 @@ fn listed_as<'n, A: Allocator>(
 }
 
 impl<A: Allocator> XattrMap<A> {
-    /// The names of the host's list that the guest sees, in order, each under the name that it
-    /// sees and without a zero. The list holds names with a zero after each, where the last needs
-    /// none and an empty name counts for nothing.
+    /// Iterates over the names of the host's list that the guest may see, in order. Each item is
+    /// the name as the guest sees it, without a terminating zero. In the list, a zero follows each
+    /// name; the last name needs none, and empty names are ignored.
     ///
-    /// Each name is a part of the list handed in, so nothing is copied and no memory is taken. It
-    /// lives as long as that list, and may outlive the iterator and the map.
+    /// Each item is a part of the list that was passed in, so nothing is copied or allocated. It
+    /// borrows that list, and may outlive the iterator and the map.
     ///
-    /// A name whose whole text is the prepend of its rule is listed as the empty name. With a
-    /// zero after each, the names are the list of [`XattrMap::map_server_xattrlist`], which is one
-    /// zero where there are none.
+    /// A name that is exactly the prepend of its rule is listed as the empty name. With a zero
+    /// after each, the items are the list of [`XattrMap::map_server_xattrlist`], which is one zero
+    /// if there are none.
     ///
     /// # Errors
     ///
     /// The first name that no rule decides ends the iterator: it gives one `Err` with
-    /// `UnterminatedMapping`, which blames no rule, and then nothing more. No other error is given.
+    /// `UnterminatedMapping`, which blames no rule, and then only `None`. There is no other error.
     pub fn listed_names<'m, 'a>(&'m self, list: &'a [u8]) -> ListedNames<'m, 'a, A>
         // The names kept before the first that no rule decides, and then the error, if there is one.
         ensures items { result ≡ listing self.now list.now }
@@ -101,10 +101,10 @@ impl<A: Allocator> XattrMap<A> {
     }
 }
 
-/// The names of a list that the guest sees, as [`XattrMap::listed_names`] gives them. A contract
-/// sees it as the list of the items that are left.
+/// The names of a list that the guest sees, as [`XattrMap::listed_names`] gives them. In contracts
+/// it is the list of the items that are left.
 ///
-/// It ends after its first error at the latest, and gives `None` again and again after its end.
+/// It ends after its first error at the latest. After its end each call gives `None`.
 #[derive(Drop)]
 #[derive_where(Debug)]
 pub struct ListedNames<'m, 'a, A: Allocator = Global> {

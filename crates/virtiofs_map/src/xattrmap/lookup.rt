@@ -74,15 +74,15 @@ impl<A: Allocator> XattrMap<A> {
         (self.rule((answer / 4) as usize), passed)
     }
 
-    /// The position of the first rule that decides the name on that side, counted from 0 in the
-    /// list of rules, where each `map` rule stands as the rules that it is short for; `None` where
-    /// no rule decides the name. It takes no memory.
+    /// Returns the position of the first rule that fits the name on that side, counted from 0 in
+    /// the list of rules, where each `map` rule is replaced by the rules that it is short for;
+    /// `None` if no rule fits. It does not allocate.
     ///
-    /// The steps are one for the root of the trie, and one for each byte that the beginning of the
-    /// name shares with the pattern of that side with which it shares the most. Where a rule decides
-    /// the name, these are at least one more than its pattern on that side has bytes. They are at
-    /// most one more than the name has bytes, and at most one more than the longest pattern of that
-    /// side has.
+    /// The pattern of a rule is its key on the client's side, and its prepend on the server's. The
+    /// call counts 1 step, and 1 more for each byte of the longest beginning that the name shares
+    /// with a pattern of that side. If a rule decides the name, that is at least 1 + the length of
+    /// its pattern. It is at most 1 + the length of the name, and at most 1 + the length of the
+    /// longest pattern of that side.
     pub fn first_rule(&self, side: Side, name: XattrName<'_>, steps: &mut Steps) -> Option<usize>
         ensures first { result ≡ first side self.now name.entry.bytes.now }
         ensures steps { CountsLookup side self.now name.entry.bytes.now steps.old steps.new }

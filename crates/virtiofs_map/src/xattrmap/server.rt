@@ -20,24 +20,25 @@ fn push_name<A: Allocator>(list: &mut Vec<u8, A>, name: &[u8]) -> Result<(), Err
 }
 
 impl<A: Allocator + Copy> XattrMap<A> {
-    /// The list that the guest gets for the host's list of names. In a list a zero follows each
-    /// name; the last name needs none, and empty names do not count. The first rule that acts on
-    /// the server's side and whose prepend begins a name decides it: the name is listed as it is,
-    /// listed without the prepend, or hidden.
+    /// Makes the list that the guest gets for the host's list of names. In a list a zero follows
+    /// each name; the last name needs none, and empty names are ignored. For each name the first
+    /// rule decides that acts on the server's side and whose prepend the name starts with: the name
+    /// is listed unchanged, listed without the prepend, or hidden.
     ///
-    /// Where no name is left the list is one zero. So an answered list is never empty, and it is at
-    /// most one byte longer than the one that was handed in.
+    /// If no name is left, the list is one zero. So the resulting list is never empty, and it is at
+    /// most one byte longer than the one that was passed in.
     ///
-    /// Under one `map` rule with an empty key, names that begin with another guest's prepend make
-    /// no difference to the list, where neither prepend begins the other.
+    /// If the map is a single `map` rule with an empty key, names that start with another guest's
+    /// prepend make no difference to the list, provided that neither of the two prepends is the
+    /// beginning of the other.
     ///
     /// # Errors
     ///
     /// No error blames a rule.
     ///
-    /// - `OutOfMemory`: a request for memory was refused.
-    /// - `UnterminatedMapping`: no rule decides one of the names, and only then. The whole list is
-    ///   then refused.
+    /// - `OutOfMemory`: an allocation failed.
+    /// - `UnterminatedMapping`: no rule decides one of the names. The whole list is then rejected.
+    ///   This error is not returned in any other case.
     pub fn map_server_xattrlist(&self, alloc: A, names: Vec<u8, A>) -> Result<Vec<u8, A>, Error<A>>
         ensures answer { IfOk result (λ list.
             server_answer self.now names.items ≡ Some list.items) }

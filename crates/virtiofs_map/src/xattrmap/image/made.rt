@@ -1,4 +1,4 @@
-//! A map made of an image.
+//! A map made from an image.
 
 ghost use Rattle.std.specs.Prelude.{◌≡◌, ◌≢◌, ◌↔◌, List, All, IfOk, IfSome, IsFalse, IsNone, IsOkAnd, IsSomeAnd};
 ghost use Rattle.virtiofs_map.specs.NamesImage.{AreRuleRows, IsImage, IsNoImage};
@@ -47,8 +47,8 @@ fn rules_of<A: Allocator + Copy>(
 }
 
 impl<A: Allocator + Copy> XattrMap<A> {
-    /// The map of the rules that an image has, in memory of its own; `None` where the bytes are no
-    /// image.
+    /// The map of the rules that an image has, in memory of its own; `None` if the bytes do not
+    /// begin as an image does. For other bytes that are no image, the result has no meaning.
     pub fn of_image(alloc: A, image: &[u8]) -> Result<Option<XattrMap<A>>, AllocError>
         ensures closed { IsNoImage image.now → IsOkAnd result (λ made. IsNone made) }
         ensures map { (rules : List MappingRule) → IsImage rules image.now
