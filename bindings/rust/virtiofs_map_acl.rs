@@ -1,9 +1,9 @@
 // SPDX-License-Identifier: BSD-3-Clause
 //! Ids inside the values of extended attributes: in the access control lists of a file, and in its capability.
 //!
-//! virtiofsd has no such module, and forbids `--posix-acl` beside `--translate-uid`. This file stands beside
-//! `virtiofs_map.rs`, as a module of the same parent, and asks the same archive by the same maps. A daemon that lets no
-//! guest set such values can leave it out.
+//! virtiofsd has no such module, and forbids `--posix-acl` together with `--translate-uid`. This file stands beside
+//! `virtiofs_map.rs`, as a module of the same parent, and asks the same archive by the same maps. A daemon whose guests
+//! set no such values can leave it out.
 //!
 //! Each call changes ids in place, and nothing else: a value keeps its length. The whole value is tested first, and
 //! where the answer is an error, no byte has changed. No call takes memory.
@@ -63,7 +63,7 @@ pub fn carries_ids(name: &CStr) -> Option<ValueKind> {
     }
 }
 
-/// Room for one entry of an access control list. A call writes over it, and what it leaves there says nothing.
+/// Room for one entry of an access control list. A call overwrites it, and what it leaves there means nothing.
 #[repr(C)]
 #[derive(Clone, Copy, Debug, Default)]
 pub struct EntryRoom {
@@ -96,7 +96,7 @@ pub enum AclError {
     Version { version: u32 },
     /// What follows the header is no whole number of entries of 8 bytes.
     Length,
-    /// The room that was lent is for fewer entries than the value has, which are `needed`.
+    /// The value has `needed` entries, and the room that was lent is for fewer.
     Room { needed: usize },
     /// The entry of that number, from 0, is at fault: the first one by itself, or else the first one that merges.
     Entry { entry: usize, fault: EntryFault },
@@ -187,7 +187,7 @@ type Groups = IdMap<GuestGid, HostGid>;
 
 /// Makes an access control list of the guest one of the host: each id becomes what its map makes of it, in place.
 ///
-/// `room` is lent for as many entries as the value has: a value of n bytes has (n - 4) / 8.
+/// `room` needs one element for each entry of the value: a value of n bytes has (n - 4) / 8 entries.
 pub fn acl_to_host(users: &Users, groups: &Groups, value: &mut [u8], room: &mut [EntryRoom]) -> Result<(), AclError> {
     acl_across(virtiofs_map_acl_to_host, users, groups, value, room)
 }
@@ -198,7 +198,7 @@ pub fn acl_to_guest(users: &Users, groups: &Groups, value: &mut [u8], room: &mut
 }
 
 /// Makes a capability of the guest one of the host, in place: the id of root becomes what the map makes of it. A value
-/// of revision 1 or 2 stays as it is, and where it cannot, [`capability_to_host_in_revision_3`] serves.
+/// of revision 1 or 2 stays as it is; where it cannot, [`capability_to_host_in_revision_3`] can write it.
 pub fn capability_to_host(users: &Users, value: &mut [u8]) -> Result<(), CapabilityError> {
     capability_across(virtiofs_map_capability_to_host, users, value)
 }

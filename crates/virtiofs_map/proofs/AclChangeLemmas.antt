@@ -1,5 +1,5 @@
 -- What a call answers that changes the ids in a value: where it is done, and where it is refused.
-use Rattle.std.proofs.Common.{◌≡◌, ℕ, ◌≤◌, List, Ok, Err, refl}
+use Rattle.std.proofs.Common.{ℕ, List, Ok, Err, refl}
 use Rattle.virtiofs_map.proofs.AclCapabilityLemmas.{HasRoot-no_fault, RootGoesAcross-no_fault, HasCapabilityFault-one, HasRootFault-one, RootComesBack-mapped}
 use Rattle.virtiofs_map.proofs.AclFaultLemmas.{GoesAcross-no_fault, HasAclFault-one}
 use Rattle.virtiofs_map.proofs.AclLawLemmas.{ComesBack-mapped}

@@ -7,7 +7,7 @@ use Rattle.std.specs.declared.cmp.Ordering.{Ordering}
 use Rattle.std.proofs.lemmas.Bool.{cases_order, cases_eq}
 use Rattle.std.proofs.lemmas.Cmp.{then_total, on_total, nat_cmp_total}
 use Rattle.std.proofs.lemmas.List.{get_or_default}
-use Rattle.std.proofs.lemmas.List.Elements.{All-push, All-nil, All-weaker, All-contains, Contains-push, Contains-append_left, Contains-get_or}
+use Rattle.std.proofs.lemmas.List.Elements.{All-push, All-weaker, All-contains, Contains-push, Contains-append_left, Contains-get_or}
 use Rattle.std.proofs.lemmas.List.Sorted.{sorted_far, ranks_by, All-permutation, Contains-permutation}
 use Rattle.std.proofs.lemmas.Bool.Decides.{nat_tests}
 use Rattle.virtiofs_map.proofs.MappingLawLemmas.{Becomes-one}
@@ -25,12 +25,6 @@ use Rattle.virtiofs_map.specs.declared.soft_idmap.entry.Direction.{Direction}
 pub Accepted-for : (users groups : List IdMap) (tag : ℕ) → Accepted users → Accepted groups → Accepted (specs_for users groups tag)
 Accepted-for users groups tag users_accepted groups_accepted =
     elim (eqb tag 2) as (λ b. Accepted (cond b users groups)) [ true ↦ users_accepted | false ↦ groups_accepted ]
-
-pub Places-none : (users groups : List IdMap) (direction : Direction) (value : List ℕ) → Places users groups direction value 0 []
-Places-none users groups direction value = record {
-  right = All-nil (IsPlaced users groups direction value 0);
-  each = λ k below. absurd (omega arith);
-}
 
 IsPlaced-more : (users groups : List IdMap) (direction : Direction) (value : List ℕ) (count : ℕ) (one : EntryRoom) → IsPlaced users groups direction value count one → IsPlaced users groups direction value (count + 1) one
 IsPlaced-more users groups direction value count one placed = record { is_entry = omega (arith, placed.is_entry); has_id = placed.has_id; tag = placed.tag; becomes = placed.becomes }

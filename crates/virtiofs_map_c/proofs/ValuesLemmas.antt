@@ -1,5 +1,5 @@
 -- What is told of a value is what the library answers of it.
-use Rattle.std.proofs.Common.{◌≡◌, ◌≢◌, ◌⊎◌, inl, inr, ℕ, List, Option, Some, None, Result, Ok, Err, refl, sym, ◌∙◌, subst, arith}
+use Rattle.std.proofs.Common.{◌≡◌, ◌≢◌, ◌⊎◌, inl, inr, ℕ, List, Option, Some, None, Result, Ok, Err, refl, subst, arith}
 use Rattle.std.specs.Prelude.{IsSomeAnd, IfSome, IfErr, MatchOption, OnErr}
 use Rattle.std.proofs.lemmas.Bool.{false≢true}
 use Rattle.virtiofs_map.specs.ValueChanges.{ChangesList, ChangesRoot, WritesRevision3}

@@ -1,4 +1,4 @@
-//! Ids inside values of the caller's, by maps of the caller's.
+//! Ids inside the caller's values, changed by the caller's maps.
 ghost use Rattle.std.specs.Prelude.{◌≡◌, ◌≢◌, ◌⊎◌, ◌↔◌, ◌≤◌, List, length};
 ghost use Rattle.virtiofs_map.specs.Image.{HasKind, IsImage};
 ghost use Rattle.virtiofs_map.specs.ValueKinds.{HasLists, HasCapability};

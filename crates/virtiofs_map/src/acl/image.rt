@@ -1,8 +1,8 @@
 //! Ids inside values, by images: maps of ids that are plain numbers ([`crate::soft_idmap::image`]).
 //!
 //! A value is changed just as the calls of [`crate::acl`] change it. Any words may be passed. Where
-//! those of a map begin with another word than an image of this version, or are too few for the
-//! ranges of which they speak, the answer is `None`, and nothing changes. No call takes memory.
+//! the words of a map do not begin as an image of this version does, or are too few for its ranges,
+//! the answer is `None`, and nothing changes. No call takes memory.
 ghost use Rattle.std.specs.Prelude.{◌≡◌, ◌≢◌, ◌⊎◌, List, length, None, IfSome, IfErr, IsSomeAnd, MatchOption, OnErr};
 ghost use Rattle.virtiofs_map.specs.Image.{HasKind, IsImage};
 ghost use Rattle.virtiofs_map.specs.ValueChanges.{ChangesList, ChangesRoot, WritesRevision3};

@@ -1,8 +1,7 @@
 //! What becomes of an id of either kind in one direction.
 //!
-//! The ranges of a map and those of an image are the same, so a value is changed by the one as by the
-//! other. What the contracts promise holds for each list of specifications of which they are the
-//! ranges.
+//! A map and an image give ranges of the same type, so the same functions change values by both.
+//! What the contracts promise holds for each list of specifications that has these ranges.
 ghost use Rattle.std.specs.Prelude.{List, IsSome, IsSomeAnd};
 ghost use Rattle.virtiofs_map.specs.Acl.{specs_for};
 ghost use Rattle.virtiofs_map.specs.AclParts.{AreWays, OfRanges, OfWays};
@@ -24,7 +23,7 @@ pub(crate) struct Ways<'a> {
 }
 
 impl<'a> Ways<'a> {
-    /// Those of two maps.
+    /// The ranges of two maps.
     pub(crate) fn of_maps<A: Allocator>(
         users: &'a IdMap<GuestUid, HostUid, A>,
         groups: &'a IdMap<GuestGid, HostGid, A>,
@@ -38,7 +37,7 @@ impl<'a> Ways<'a> {
         }
     }
 
-    /// Those of two images; `None` where one of them is none.
+    /// The ranges of two images; `None` where one of them is no image.
     pub(crate) fn of_images(
         users: &'a [u32],
         groups: &'a [u32],
@@ -68,7 +67,7 @@ impl<'a> Ways<'a> {
     }
 }
 
-/// What a number becomes; `None` where its use fails, or where these are no ranges.
+/// What a number becomes; `None` where its use fails, or where the words are no image.
 pub(crate) fn becomes(ranges: &Ranges<'_>, n: u32) -> Option<u32>
     ensures { OfRanges ranges.now (λ specs direction. Becomes specs direction n result) }
 {
