@@ -900,31 +900,23 @@ static int on_option(void *data, const char *word, int key, struct fuse_args *ot
 
 /* ---- making the maps ---- */
 
-static const char *sentence_of(uint32_t fault)
+/* Says why a setting is refused, by the library's own sentence. */
+static void show_fault(const char *option, const struct virtiofs_fault *fault, const uint8_t *quoted, size_t quoted_len)
 {
-    static const char *const sentences[] = {
-        [VIRTIOFS_FAULT_MEMORY] = "memory ran out",
-        [VIRTIOFS_FAULT_UTF8] = "it is not UTF-8",
-        [VIRTIOFS_FAULT_OVERFLOW] = "a range goes past the greatest id",
-        [VIRTIOFS_FAULT_INTERSECTS] = "an earlier specification covers one of its ids too",
-        [VIRTIOFS_FAULT_PREFIX] = "its word is none of the six",
-        [VIRTIOFS_FAULT_LENGTH] = "its word takes another count of numbers",
-        [VIRTIOFS_FAULT_VALUE] = "a field is no number below 4294967296",
-        [VIRTIOFS_FAULT_SCOPE] = "there is no such scope",
-        [VIRTIOFS_FAULT_TYPE] = "there is no such type",
-        [VIRTIOFS_FAULT_INCOMPLETE] = "a field is not closed by the delimiter",
-        [VIRTIOFS_FAULT_MAP_RULE] = "something follows a map rule",
-        [VIRTIOFS_FAULT_NO_RULES] = "it has no rules",
-    };
-    const char *said = fault < sizeof sentences / sizeof *sentences ? sentences[fault] : NULL;
-    return said ? said : "it is refused";
+    uint8_t text[512];
+    size_t len;
+    if (virtiofs_fault_text(fault, quoted, quoted_len, text, sizeof text, &len) != VIRTIOFS_OK)
+        len = sizeof text;
+    fprintf(stderr, "mapped_fs: %s: ", option);
+    fwrite(text, 1, len, stderr);
+    fputc('\n', stderr);
 }
 
 /* Makes a map of ids, in memory that is kept until the end. */
 static bool made_ids(const char *option, const struct texts *texts, const uint32_t **words, size_t *count)
 {
     struct virtiofs_fault fault;
-    uint8_t quoted[1];
+    uint8_t quoted[64];
     size_t room = virtiofs_uids_bound(texts->count), len = texts->count;
     uint32_t *made = calloc(room, sizeof *made);
     if (!made) {
@@ -934,14 +926,14 @@ static bool made_ids(const char *option, const struct texts *texts, const uint32
     uint32_t code = virtiofs_ids_make_texts(texts->all, len, made, room, count, &fault, quoted, sizeof quoted);
     *words = made;
     if (code != VIRTIOFS_OK)
-        fprintf(stderr, "mapped_fs: %s: specification %zu: %s\n", option, fault.place, sentence_of(fault.kind));
+        show_fault(option, &fault, quoted, sizeof quoted);
     return code == VIRTIOFS_OK;
 }
 
 static bool made_names(const char *rules, struct virtiofs_names *names)
 {
     struct virtiofs_fault fault;
-    uint8_t quoted[1];
+    uint8_t quoted[64];
     size_t len = strlen(rules), room = virtiofs_names_bound(len), wanted;
     uint8_t *made = malloc(room);
     if (!made) {
@@ -952,7 +944,7 @@ static bool made_names(const char *rules, struct virtiofs_names *names)
     uint32_t code = virtiofs_names_make(text, len, made, room, &wanted, &fault, quoted, sizeof quoted);
     *names = (struct virtiofs_names){ made, wanted };
     if (code != VIRTIOFS_OK)
-        fprintf(stderr, "mapped_fs: xattrmap: rule %zu: %s\n", fault.place, sentence_of(fault.kind));
+        show_fault("xattrmap", &fault, quoted, sizeof quoted);
     return code == VIRTIOFS_OK;
 }
 

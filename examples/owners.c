@@ -13,6 +13,17 @@
    access control list that this daemon takes. */
 enum { NAME_ROOM = 255, LIST_ROOM = 65536, ENTRIES = 64 };
 
+/* Prints the sentence of a fault, as much of it as there is room for. */
+static void show_fault(const struct virtiofs_fault *fault, const uint8_t *quoted, size_t quoted_len)
+{
+    uint8_t text[512];
+    size_t len;
+    if (virtiofs_fault_text(fault, quoted, quoted_len, text, sizeof text, &len) != VIRTIOFS_OK)
+        len = sizeof text;
+    fwrite(text, 1, len, stderr);
+    fputc('\n', stderr);
+}
+
 /* A map of user ids, in memory that the caller frees once no thread asks it any more. Zeros where there is none. */
 static struct virtiofs_uids make_users(const char *const *settings, size_t count)
 {
@@ -35,7 +46,7 @@ static struct virtiofs_uids make_users(const char *const *settings, size_t count
         const struct virtiofs_uids map = { words, wanted };
         return map;
     }
-    fprintf(stderr, "specification %zu is refused: fault %" PRIu32 "\n", fault.place, fault.kind);
+    show_fault(&fault, quoted, sizeof quoted);
     free(words);
     return none;
 }
@@ -56,7 +67,7 @@ static struct virtiofs_names make_names(const char *rules)
         const struct virtiofs_names map = { bytes, wanted };
         return map;
     }
-    fprintf(stderr, "rule %zu is refused: fault %" PRIu32 "\n", fault.place, fault.kind);
+    show_fault(&fault, quoted, sizeof quoted);
     free(bytes);
     return none;
 }

@@ -74,7 +74,8 @@
  *   VIRTIOFS_MERGES        EPERM
  *   VIRTIOFS_ROOT_MOVES    EPERM
  *
- * No function prints, and none ends the program.
+ * No function prints, and none ends the program. For a fault that a call tells,
+ * virtiofs_fault_text has the sentence to print.
  */
 #ifndef VIRTIOFS_MAP_H
 #define VIRTIOFS_MAP_H
@@ -221,17 +222,38 @@ enum virtiofs_direction { VIRTIOFS_GUEST_TO_HOST = 0, VIRTIOFS_HOST_TO_GUEST = 1
 /* Which range goes too far: that of the ids that are mapped, or of the ids that they become. */
 enum virtiofs_end { VIRTIOFS_SOURCE = 0, VIRTIOFS_TARGET = 1 };
 
+/* Which part of the input is at fault. */
+enum virtiofs_part {
+    VIRTIOFS_NO_PART = 0,       /* the whole input: one text of a specification or a range */
+    VIRTIOFS_SPECIFICATION = 1, /* a specification of a list, or its text */
+    VIRTIOFS_RULE = 2,          /* a rule of a text of rules, or that text */
+    VIRTIOFS_ACL_VALUE = 3,     /* an access control list, and none of its entries */
+    VIRTIOFS_ACL_ENTRY = 4,     /* an entry of an access control list */
+    VIRTIOFS_CAPABILITY_VALUE = 5 /* a capability */
+};
+
+/* Why a field is not a number below 2^32. */
+enum virtiofs_number {
+    VIRTIOFS_NUMBER_EMPTY = 0, /* it is empty */
+    VIRTIOFS_NUMBER_DIGIT = 1, /* one of its characters is no digit */
+    VIRTIOFS_NUMBER_LARGE = 2  /* it is too large */
+};
+
 /* The first fault, with all details. Members that do not belong to the kind are 0. If the
    code is VIRTIOFS_OK or VIRTIOFS_NO_MAP, all members are 0; so also if a `make` returns
    VIRTIOFS_NO_ROOM. */
 struct virtiofs_fault {
     /* One of enum virtiofs_fault_kind. */
     uint32_t kind;
+    /* One of enum virtiofs_part. */
+    uint32_t part;
     /* OVERFLOW and INTERSECTS: one of enum virtiofs_direction. */
     uint32_t direction;
     /* OVERFLOW: one of enum virtiofs_end. Ids that are mapped may go up to 4294967294,
        ids that they become up to 4294967295. */
     uint32_t end;
+    /* VALUE and RANGE_VALUE: one of enum virtiofs_number. */
+    uint32_t number;
     /* For a list: the index of the specification or of its text, from 0. For a text
        of rules: the number of the rule, from 1; 0 if no rule is to blame. For an
        access control list: the index of the entry, from 0. */
@@ -412,9 +434,34 @@ uint32_t virtiofs_map_capability_to_guest_in_revision_3(const uint32_t *users, s
                                                         uint8_t *written,
                                                         struct virtiofs_fault *fault);
 
+/* As virtiofs_fault_text. */
+VIRTIOFS_CHECKED((1, 2, 4, 6))
+uint32_t virtiofs_map_fault_text(const struct virtiofs_fault *fault,
+                                 const uint8_t *quoted, size_t quoted_len,
+                                 uint8_t *out, size_t room, size_t *len);
+
 /* A pointer and its length. If the length is 0, the pointer becomes an aligned address
    that is not NULL. */
 #define VIRTIOFS_SLICE(type, at, len) ((len) ? (at) : (type *)(uintptr_t)16), (len)
+
+/* ---- the sentence of a fault ---- */
+
+/* The sentence for a fault, as `specification 1: Parameter map:0:4294967290:10: Range
+   overflow` or `rule 2: the rule is incomplete`. It has the specification's place from 0, or
+   the number of the rule, and then what the library says of such a fault. `quoted` is the
+   buffer that the call quoted to, with its length; as many of its bytes are read as the
+   fault tells. Where the text at fault was not quoted, for want of room, `...` stands in its
+   place. OK: the sentence is in `out`. NO_ROOM: the first `room` bytes of it are, and *len is
+   the length of the whole; a character may be cut. Any fault has a sentence, also one that no
+   call told; VIRTIOFS_FAULT_NONE and numbers that are no kind have one that says so. */
+VIRTIOFS_CHECKED((1, 6))
+static inline uint32_t virtiofs_fault_text(const struct virtiofs_fault *fault,
+                                           const uint8_t *quoted, size_t quoted_len,
+                                           uint8_t *out, size_t room, size_t *len)
+{
+    return virtiofs_map_fault_text(fault, VIRTIOFS_SLICE(const uint8_t, quoted, quoted_len),
+                                   VIRTIOFS_SLICE(uint8_t, out, room), len);
+}
 
 /* ---- maps of ids ----
  *
@@ -494,7 +541,10 @@ static inline uint32_t virtiofs_ids_make_texts(const struct virtiofs_text *texts
     for (i = 0; i < count && code == VIRTIOFS_OK; place = i++)
         code = virtiofs_spec_read(texts[i].at, texts[i].len, &spec, fault, quoted, quoted_room);
     *wanted = 0;
-    fault->place = code == VIRTIOFS_REFUSED ? place : 0;
+    if (code == VIRTIOFS_REFUSED) {
+        fault->part = VIRTIOFS_SPECIFICATION;
+        fault->place = place;
+    }
     return code;
 }
 

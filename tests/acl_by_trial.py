@@ -33,9 +33,10 @@ NO_ID = 2**32 - 1
 GUEST, HOST, SQUASH_GUEST, SQUASH_HOST, MAP, FORBID_GUEST = range(6)
 OK, FORBIDDEN, REFUSED, NO_ROOM, MERGES, ROOT_MOVES = 0, 2, 6, 7, 11, 12
 F_SHORT, F_VERSION, F_SIZE, F_ROOM, F_TAG, F_PERMISSION, F_NO_ID, F_FORBIDDEN, F_MERGES, F_ROOT_MOVES = range(19, 29)
+ACL_VALUE, ACL_ENTRY, CAPABILITY_VALUE = 3, 4, 5
 
 Spec = namedtuple("Spec", "kind first to count")
-# What a call comes to: its code, the fault (kind, place, expected, seen), and the bytes that it leaves or writes.
+# What a call comes to: its code, the fault (kind, part, place, expected, seen), and the bytes that it leaves or writes.
 Outcome = namedtuple("Outcome", "code fault left")
 
 
@@ -65,6 +66,11 @@ def becomes(specs, to_host, n):
 # ---- what becomes of a value
 
 
+def part_of(kind):
+    """The part of a list that a fault of that kind is about."""
+    return ACL_ENTRY if kind in (F_TAG, F_PERMISSION, F_NO_ID, F_FORBIDDEN, F_MERGES) else ACL_VALUE
+
+
 class Reading:
     """How values are read. Its subclasses each make a mistake."""
 
@@ -83,7 +89,7 @@ class Reading:
 
     def acl(self, users, groups, to_host, value, room):
         refused = lambda code, kind, place=0, expected=0, seen=0, new=b"": Outcome(
-            code, (kind, place, expected, seen), self.left(value, new)
+            code, (kind, part_of(kind), place, expected, seen), self.left(value, new)
         )
         if len(value) < 4:
             return refused(REFUSED, F_SHORT)
@@ -118,7 +124,7 @@ class Reading:
         ]
         if clashes:
             return refused(MERGES, F_MERGES, min(clashes), new=made)
-        return Outcome(OK, (0, 0, 0, 0), bytes(made))
+        return Outcome(OK, (0, 0, 0, 0, 0), bytes(made))
 
     def root(self, users, to_host, value):
         """The first fault of a capability, and what the id of root becomes."""
@@ -139,15 +145,15 @@ class Reading:
         if not fault and value[3] != 3 and new != 0:
             fault = (ROOT_MOVES, F_ROOT_MOVES, 0)
         if fault:
-            return Outcome(fault[0], (fault[1], 0, 0, fault[2]), value)
-        return Outcome(OK, (0, 0, 0, 0), value[:20] + struct.pack("<I", new) if value[3] == 3 else value)
+            return Outcome(fault[0], (fault[1], CAPABILITY_VALUE, 0, 0, fault[2]), value)
+        return Outcome(OK, (0, 0, 0, 0, 0), value[:20] + struct.pack("<I", new) if value[3] == 3 else value)
 
     def in_revision_3(self, users, to_host, value, before):
         fault, new = self.root(users, to_host, value)
         if fault:
-            return Outcome(fault[0], (fault[1], 0, 0, fault[2]), before)
+            return Outcome(fault[0], (fault[1], CAPABILITY_VALUE, 0, 0, fault[2]), before)
         whole = value[:20].ljust(20, b"\0")
-        return Outcome(OK, (0, 0, 0, 0), whole[:3] + b"\3" + whole[4:] + struct.pack("<I", new))
+        return Outcome(OK, (0, 0, 0, 0, 0), whole[:3] + b"\3" + whole[4:] + struct.pack("<I", new))
 
 
 class MapsTheMask(Reading):
@@ -187,7 +193,7 @@ MISTAKES = {
 
 
 class Fault(ctypes.Structure):
-    _fields_ = [(it, ctypes.c_uint32) for it in ("kind", "direction", "end")]
+    _fields_ = [(it, ctypes.c_uint32) for it in ("kind", "part", "direction", "end", "number")]
     _fields_ += [(it, ctypes.c_size_t) for it in ("place", "expected", "seen", "quoted", "wanted")]
     _fields_ += [("spec", ctypes.c_uint32 * 4)]
 
@@ -221,8 +227,8 @@ class Library:
     def told(self):
         """The fault, where what no value has is 0; else None."""
         it = self.fault
-        others = it.direction or it.end or it.quoted or it.wanted or any(it.spec)
-        return None if others else (it.kind, it.place, it.expected, it.seen)
+        others = it.direction or it.end or it.number or it.quoted or it.wanted or any(it.spec)
+        return None if others else (it.kind, it.part, it.place, it.expected, it.seen)
 
     def outcome(self, code, count):
         """What a call came to that may write so many bytes of the arena, with None for them where it wrote beside."""

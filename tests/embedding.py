@@ -206,6 +206,7 @@ def in_c(tally, with_, linked):
         ("shared pages in C", "pages.c"),
         ("changed numbers in C", "changed.c"),
         ("ids inside values in C", "values.c"),
+        ("sentences of faults in C", "sentences.c"),
         ("refused memory in C", "refused.c", WRAPPED),
     ):
         program = made(name, f"{TESTS}/{file}", *flags)
@@ -257,6 +258,7 @@ def in_rust(tally, with_, linked):
     for name, file, *flags in (
         ("the tests in Rust", "test.rs", "--test"),
         ("ids inside values in Rust", "values.rs", "--test"),
+        ("sentences of faults in Rust", "sentences.rs", "--test"),
         ("shared pages and changed numbers in Rust", "pages.rs"),
         ("refused memory in Rust", "refused.rs", "-C", f"link-arg={WRAPPED}"),
     ):

@@ -34,7 +34,9 @@ HEADER = "include/virtiofs_map.h"
 RECORD = "share/virtiofs_map/installed"
 COMPLETION = "share/bash-completion/completions/virtiofs_mapcheck"
 PAGE = "share/man/man1/virtiofs_mapcheck.1"
-OF_KIT = ("bitflags/LICENSE-APACHE", "bitflags/LICENSE-MIT", "thiserror/LICENSE", "unicode/LICENSE-UNICODE")
+OF_KIT = (
+    "bitflags/LICENSE-APACHE", "bitflags/LICENSE-MIT", "itoa/LICENSE", "thiserror/LICENSE", "unicode/LICENSE-UNICODE",
+)
 # What is installed, and the file of the repository of which it is a copy.
 WANTED = {
     PROGRAM: "crates/virtiofs_mapcheck/out/virtiofs_mapcheck",

@@ -77,11 +77,14 @@ CONFIGURATIONS = (
     Configuration("many", MANY_IDS, MANY_IDS, f"{MANY_RULES} :map::user.virtiofs.:"),
 )
 REFUSED = (
-    (["-o", "translate_uid=map:0:1000:10", "-o", "translate_uid=guest:5:2000:1"], "specification 1"),
-    (["-o", "translate_gid=maps:0:1000:10"], "specification 0"),
-    (["-o", "translate_gid=map:0:1000"], "specification 0"),
-    (["-o", "xattrmap=:ok:all::: :ok:nobody:::"], "rule 2"),
-    (["-o", "xattrmap=:ok:all::"], "rule 1"),
+    (["-o", "translate_uid=map:0:1000:10", "-o", "translate_uid=guest:5:2000:1"],
+     "specification 1: Guest-to-host mapping 'map [5, 6) to [2000, 2001)' intersects previously added entry"),
+    (["-o", "translate_gid=maps:0:1000:10"], "translate_gid: specification 0: Invalid ID map prefix maps"),
+    (["-o", "translate_gid=map:0:1000"],
+     "specification 0: Invalid ID map length (expected 3 elements, got 2 elements)"),
+    (["-o", "xattrmap=:ok:all::: :ok:nobody:::"],
+     "xattrmap: rule 2: invalid scope 'nobody', expected one of: all, client, server"),
+    (["-o", "xattrmap=:ok:all::"], "xattrmap: rule 1: the rule is incomplete"),
 )
 
 

@@ -29,8 +29,8 @@ pub(super) mod ffi {
     #[repr(C)]
     #[derive(Default)]
     pub struct Fault {
-        pub kind: u32, pub direction: u32, pub end: u32, pub place: usize, pub expected: usize, pub seen: usize,
-        pub quoted: usize, pub wanted: usize, pub spec: Spec,
+        pub kind: u32, pub part: u32, pub direction: u32, pub end: u32, pub number: u32, pub place: usize,
+        pub expected: usize, pub seen: usize, pub quoted: usize, pub wanted: usize, pub spec: Spec,
     }
 
     pub const OK: u32 = 0; pub const AS_IT_IS: u32 = 1; pub const DENIED: u32 = 3; pub const UNSUPPORTED: u32 = 4;

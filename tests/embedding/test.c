@@ -23,8 +23,8 @@ static int are_equal(struct virtiofs_spec one, struct virtiofs_spec other)
 
 static int is_clear(struct virtiofs_fault fault)
 {
-    return !fault.kind && !fault.direction && !fault.end && !fault.place && !fault.expected && !fault.seen
-           && !fault.quoted && !fault.wanted && is_no_spec(fault.spec);
+    return !fault.kind && !fault.part && !fault.direction && !fault.end && !fault.number && !fault.place
+           && !fault.expected && !fault.seen && !fault.quoted && !fault.wanted && is_no_spec(fault.spec);
 }
 
 /* A version of the header and the archive, and lengths that no memory has. */
@@ -152,8 +152,9 @@ static int is_fault(struct virtiofs_fault fault, const struct refused_row *row)
 {
     int is_spec = row->kind == VIRTIOFS_FAULT_KIND ? is_no_spec(fault.spec)
                                                    : are_equal(fault.spec, row->specs[row->place]);
-    return fault.kind == row->kind && fault.direction == row->direction && fault.end == row->end
-           && fault.place == row->place && !fault.expected && !fault.seen && !fault.quoted && !fault.wanted && is_spec;
+    return fault.kind == row->kind && fault.part == VIRTIOFS_SPECIFICATION && fault.direction == row->direction
+           && fault.end == row->end && !fault.number && fault.place == row->place && !fault.expected && !fault.seen
+           && !fault.quoted && !fault.wanted && is_spec;
 }
 
 static void test_refused_ids(void)
@@ -182,29 +183,31 @@ static const struct text_row {
     uint32_t kind;
     size_t expected, seen;
     const char *quoted;
+    uint32_t number;
 } text_rows[] = {
-    { "foo:x", VIRTIOFS_FAULT_VALUE, 0, 0, "x" },
-    { "foo:1", VIRTIOFS_FAULT_PREFIX, 0, 0, "foo" },
-    { "FOO-Bar:1", VIRTIOFS_FAULT_PREFIX, 0, 0, "foo-bar" },
-    { "foo", VIRTIOFS_FAULT_LENGTH, 1, 0, "" },
-    { "", VIRTIOFS_FAULT_LENGTH, 1, 0, "" },
-    { ":0:1:2", VIRTIOFS_FAULT_PREFIX, 0, 0, "" },
-    { "map-0:1", VIRTIOFS_FAULT_PREFIX, 0, 0, "map-0" },
-    { "map:1:2", VIRTIOFS_FAULT_LENGTH, 3, 2, "" },
-    { "forbid-guest:1:2:3", VIRTIOFS_FAULT_LENGTH, 2, 3, "" },
-    { "map:-0:1:2", VIRTIOFS_FAULT_VALUE, 0, 0, "-0" },
-    { "map:1:2:3:", VIRTIOFS_FAULT_VALUE, 0, 0, "" },
-    { "map:4294967296:0:1", VIRTIOFS_FAULT_VALUE, 0, 0, "4294967296" },
-    { "map:\xef\xbc\x95:0:1", VIRTIOFS_FAULT_VALUE, 0, 0, "\xef\xbc\x95" },
-    { "map\xd9\xa0:0:1:2", VIRTIOFS_FAULT_PREFIX, 0, 0, "map\xd9\xa0" },
-    { "FORB\xc4\xb0" "D-GUEST:1:2", VIRTIOFS_FAULT_PREFIX, 0, 0, "forb\xc4\xb0" "d-guest" },
-    { "map:\xff:0:1", VIRTIOFS_FAULT_UTF8, 0, 0, "" },
-    { "map\xc3:0:1:1", VIRTIOFS_FAULT_UTF8, 0, 0, "" },
+    { "foo:x", VIRTIOFS_FAULT_VALUE, 0, 0, "x", VIRTIOFS_NUMBER_DIGIT },
+    { "foo:1", VIRTIOFS_FAULT_PREFIX, 0, 0, "foo", 0 },
+    { "FOO-Bar:1", VIRTIOFS_FAULT_PREFIX, 0, 0, "foo-bar", 0 },
+    { "foo", VIRTIOFS_FAULT_LENGTH, 1, 0, "", 0 },
+    { "", VIRTIOFS_FAULT_LENGTH, 1, 0, "", 0 },
+    { ":0:1:2", VIRTIOFS_FAULT_PREFIX, 0, 0, "", 0 },
+    { "map-0:1", VIRTIOFS_FAULT_PREFIX, 0, 0, "map-0", 0 },
+    { "map:1:2", VIRTIOFS_FAULT_LENGTH, 3, 2, "", 0 },
+    { "forbid-guest:1:2:3", VIRTIOFS_FAULT_LENGTH, 2, 3, "", 0 },
+    { "map:-0:1:2", VIRTIOFS_FAULT_VALUE, 0, 0, "-0", VIRTIOFS_NUMBER_DIGIT },
+    { "map:1:2:3:", VIRTIOFS_FAULT_VALUE, 0, 0, "", VIRTIOFS_NUMBER_EMPTY },
+    { "map:4294967296:0:1", VIRTIOFS_FAULT_VALUE, 0, 0, "4294967296", VIRTIOFS_NUMBER_LARGE },
+    { "map:\xef\xbc\x95:0:1", VIRTIOFS_FAULT_VALUE, 0, 0, "\xef\xbc\x95", VIRTIOFS_NUMBER_DIGIT },
+    { "map\xd9\xa0:0:1:2", VIRTIOFS_FAULT_PREFIX, 0, 0, "map\xd9\xa0", 0 },
+    { "FORB\xc4\xb0" "D-GUEST:1:2", VIRTIOFS_FAULT_PREFIX, 0, 0, "forb\xc4\xb0" "d-guest", 0 },
+    { "map:\xff:0:1", VIRTIOFS_FAULT_UTF8, 0, 0, "", 0 },
+    { "map\xc3:0:1:1", VIRTIOFS_FAULT_UTF8, 0, 0, "", 0 },
 };
 
 static int is_text_fault(struct virtiofs_fault fault, const struct text_row *row, size_t place, size_t quoted)
 {
-    return fault.kind == row->kind && !fault.direction && !fault.end && fault.place == place
+    return fault.kind == row->kind && fault.part == (place ? VIRTIOFS_SPECIFICATION : VIRTIOFS_NO_PART)
+           && !fault.direction && !fault.end && fault.number == row->number && fault.place == place
            && fault.expected == row->expected && fault.seen == row->seen && fault.wanted == strlen(row->quoted)
            && fault.quoted == quoted && is_no_spec(fault.spec);
 }
@@ -288,16 +291,18 @@ static void test_maps_of_texts(void)
     }
 }
 
-static const struct { const char *text; uint32_t kind; } range_rows[] = {
-    { ":0:100000:65536:", VIRTIOFS_FAULT_NONE },      { "+0+100000+65536+", VIRTIOFS_FAULT_NONE },
-    { "\xc2\xa7" "0\xc2\xa7" "100000\xc2\xa7" "65536\xc2\xa7", VIRTIOFS_FAULT_NONE },
-    { "", VIRTIOFS_FAULT_RANGE_INCOMPLETE },          { ":", VIRTIOFS_FAULT_RANGE_DELIMITER },
-    { "::", VIRTIOFS_FAULT_RANGE_INCOMPLETE },        { ":x:", VIRTIOFS_FAULT_RANGE_INCOMPLETE },
-    { ":0:1:2::", VIRTIOFS_FAULT_RANGE_INCOMPLETE },  { "5", VIRTIOFS_FAULT_RANGE_DELIMITER },
-    { ":1:2:3", VIRTIOFS_FAULT_RANGE_DELIMITER },     { ":0:1:2: ", VIRTIOFS_FAULT_RANGE_DELIMITER },
-    { "::::", VIRTIOFS_FAULT_RANGE_VALUE },           { ":4294967296:0:1:", VIRTIOFS_FAULT_RANGE_VALUE },
-    { "\xc3\xa9" "1\xc3\xa9" "2\xc3\xa9" "3\xc3\xa9", VIRTIOFS_FAULT_RANGE_DELIMITER },
-    { ":0:\xff:1:", VIRTIOFS_FAULT_UTF8 },
+static const struct { const char *text; uint32_t kind, number; } range_rows[] = {
+    { ":0:100000:65536:", VIRTIOFS_FAULT_NONE, 0 },     { "+0+100000+65536+", VIRTIOFS_FAULT_NONE, 0 },
+    { "\xc2\xa7" "0\xc2\xa7" "100000\xc2\xa7" "65536\xc2\xa7", VIRTIOFS_FAULT_NONE, 0 },
+    { "", VIRTIOFS_FAULT_RANGE_INCOMPLETE, 0 },         { ":", VIRTIOFS_FAULT_RANGE_DELIMITER, 0 },
+    { "::", VIRTIOFS_FAULT_RANGE_INCOMPLETE, 0 },       { ":x:", VIRTIOFS_FAULT_RANGE_INCOMPLETE, 0 },
+    { ":0:1:2::", VIRTIOFS_FAULT_RANGE_INCOMPLETE, 0 }, { "5", VIRTIOFS_FAULT_RANGE_DELIMITER, 0 },
+    { ":1:2:3", VIRTIOFS_FAULT_RANGE_DELIMITER, 0 },    { ":0:1:2: ", VIRTIOFS_FAULT_RANGE_DELIMITER, 0 },
+    { "::::", VIRTIOFS_FAULT_RANGE_VALUE, VIRTIOFS_NUMBER_EMPTY },
+    { ":0:1x::", VIRTIOFS_FAULT_RANGE_VALUE, VIRTIOFS_NUMBER_DIGIT },
+    { ":4294967296:0:1:", VIRTIOFS_FAULT_RANGE_VALUE, VIRTIOFS_NUMBER_LARGE },
+    { "\xc3\xa9" "1\xc3\xa9" "2\xc3\xa9" "3\xc3\xa9", VIRTIOFS_FAULT_RANGE_DELIMITER, 0 },
+    { ":0:\xff:1:", VIRTIOFS_FAULT_UTF8, 0 },
 };
 
 static void test_ranges(void)
@@ -308,9 +313,10 @@ static void test_ranges(void)
         struct virtiofs_fault fault;
         uint32_t code = virtiofs_range_read(text.at, text.len, &range, &fault);
         bool is_read = !range_rows[i].kind;
-        SEE_ROW(code == (is_read ? VIRTIOFS_OK : VIRTIOFS_REFUSED) && fault.kind == range_rows[i].kind,
+        SEE_ROW(code == (is_read ? VIRTIOFS_OK : VIRTIOFS_REFUSED) && fault.kind == range_rows[i].kind
+                    && fault.number == range_rows[i].number,
                 range_rows[i].text);
-        fault.kind = 0;
+        fault.kind = fault.number = 0;
         SEE_ROW(is_clear(fault), range_rows[i].text);
         SEE_ROW(range.inside == (is_read ? 0 : 9) && range.outside == (is_read ? 100000 : 9)
                     && range.count == (is_read ? 65536 : 9),
@@ -363,7 +369,8 @@ static void test_refused_rules(void)
                     row);
             SEE_ROW(!wanted && fault.kind == rules_rows[i].kind && fault.place == rules_rows[i].place, row);
             SEE_ROW(fault.wanted == len && fault.quoted == stands && is_no_spec(fault.spec), row);
-            SEE_ROW(!fault.direction && !fault.end && !fault.expected && !fault.seen, row);
+            SEE_ROW(fault.part == VIRTIOFS_RULE && !fault.direction && !fault.end && !fault.number, row);
+            SEE_ROW(!fault.expected && !fault.seen, row);
             SEE_ROW(!memcmp(quoted, rules_rows[i].quoted, stands), row);
             SEE_ROW(is_untouched(quoted + stands, sizeof quoted - stands), row);
         }

@@ -1,5 +1,8 @@
 mod ArraysLemmas
+mod FaultLengthLemmas
+mod FaultTextLemmas
 mod FirstLemmas
+mod FrontLemmas
 mod IdsLemmas
 mod MakesLemmas
 mod NamesLemmas

@@ -1,10 +1,10 @@
 -- What is told of a range of a namespace in bytes that is not read.
-use Rattle.std.proofs.Common.{◌≡◌, ℕ, List, ap, ◌∙◌, subst}
+use Rattle.std.proofs.Common.{◌≡◌, ℕ, List, subst}
+use Rattle.core.specs.declared.str.parse.IntErrorKind.{IntErrorKind}
 use Rattle.std.specs.Str.{chars, IsUtf8}
 use Rattle.virtiofs_map.proofs.ForCallers.{namespace_no_fault}
 use Rattle.virtiofs_map.specs.NamespaceText.{NamespaceFault, HasNamespaceFault}
-use Rattle.virtiofs_map_c.specs.Faults.{fault_of_kind}
-use Rattle.virtiofs_map_c.specs.Ranges.{SaysRange, RangeFault, OfRange, HasRangeFault, range_kind, range_told}
+use Rattle.virtiofs_map_c.specs.Ranges.{SaysRange, RangeFault, OfRange, HasRangeFault, range_told, IsRangeTold}
 use Rattle.virtiofs_map_c.specs.declared.fault.Fault.{Fault}
 
 module _ (bytes text : List ℕ) (fault : NamespaceFault) (is : (text ≡ bytes) × IsUtf8 bytes) (has : HasNamespaceFault (chars text) fault) where
@@ -12,8 +12,9 @@ module _ (bytes text : List ℕ) (fault : NamespaceFault) (is : (text ≡ bytes)
   of_bytes = subst (λ (it : List ℕ). HasNamespaceFault (chars it) fault) is.0 has
 
   -- its fault is told
-  pub range_refused : (told : Fault) (kind : ℕ) → kind ≡ range_kind fault → told ≡ fault_of_kind kind → (wrong : RangeFault) × HasRangeFault bytes wrong × (told ≡ range_told wrong)
-  range_refused told kind same it = (OfRange fault, (is.1, of_bytes), it ∙ ap fault_of_kind same)
+  pub range_refused : (told : Fault) (kind : IntErrorKind) → told ≡ range_told kind (OfRange fault)
+      → (wrong : RangeFault) × HasRangeFault bytes wrong × IsRangeTold told wrong
+  range_refused told kind it = (OfRange fault, (is.1, of_bytes), (kind, it))
 
   -- and it says no range
   pub range_none : (inside outside count : ℕ) → ¬ SaysRange bytes inside outside count

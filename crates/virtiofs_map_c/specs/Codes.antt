@@ -50,3 +50,23 @@ acl = 1
 
 abbrev pub capability : ℕ
 capability = 2
+
+-- ---- parts of what was handed in
+
+abbrev pub no_part : ℕ
+no_part = 0
+
+abbrev pub specification : ℕ
+specification = 1
+
+abbrev pub rule : ℕ
+rule = 2
+
+abbrev pub acl_value : ℕ
+acl_value = 3
+
+abbrev pub acl_entry : ℕ
+acl_entry = 4
+
+abbrev pub capability_value : ℕ
+capability_value = 5

@@ -1,12 +1,14 @@
 -- How a fault is told to C: its kind as the header numbers it, and what else that kind says.
 use Rattle.std.specs.Prelude.{ℕ, Option, Some, None}
+use Rattle.core.specs.declared.str.parse.IntErrorKind.{IntErrorKind}
+use Rattle.core.specs.declared.str.parse.IntErrorKind.TheVariants.{Empty, InvalidDigit, PosOverflow, NegOverflow, Zero}
 use Rattle.virtiofs_map.specs.Build.{BuildFault, RangeOverflow, Intersects}
 use Rattle.virtiofs_map.specs.declared.soft_idmap.entry.Direction.{Direction}
 use Rattle.virtiofs_map.specs.declared.soft_idmap.entry.Direction.TheVariants.{GuestToHost, HostToGuest}
 use Rattle.virtiofs_map.specs.declared.soft_idmap.errors.RangeEnd.{RangeEnd}
 use Rattle.virtiofs_map.specs.declared.soft_idmap.errors.RangeEnd.TheVariants.{Source, Target}
 use Rattle.virtiofs_map_c.specs.Arrays.{spec_as_c, ArrayFault, UnknownKind, UnbuiltArray}
-use Rattle.virtiofs_map_c.specs.Codes.{no_memory, refused}
+use Rattle.virtiofs_map_c.specs.Codes.{no_memory, refused, no_part, specification}
 use Rattle.virtiofs_map_c.specs.declared.arrays.spec.Spec.{Spec}
 use Rattle.virtiofs_map_c.specs.declared.fault.Fault.{Fault}
 
@@ -14,14 +16,14 @@ use Rattle.virtiofs_map_c.specs.declared.fault.Fault.{Fault}
 abbrev pub no_spec : Spec
 no_spec = record { kind = 0; first = 0; to = 0; count = 0 }
 
--- a fault at a place, with the bytes that are quoted of the text at fault, and how many it has
-abbrev pub told_at : ℕ → ℕ → ℕ → ℕ → Fault
-told_at kind place quoted wanted =
-    record { kind = kind; direction = 0; end = 0; place = place; expected = 0; seen = 0; quoted = quoted; wanted = wanted; spec = no_spec }
+-- a fault of a part at its place, with the bytes that are quoted of the text at fault, and how many it has
+abbrev pub told_at : ℕ → ℕ → ℕ → ℕ → ℕ → Fault
+told_at kind part place quoted wanted =
+    record { kind = kind; part = part; direction = 0; end = 0; number = 0; place = place; expected = 0; seen = 0; quoted = quoted; wanted = wanted; spec = no_spec }
 
 -- a fault that has nothing but its kind
 abbrev pub fault_of_kind : ℕ → Fault
-fault_of_kind kind = told_at kind 0 0 0
+fault_of_kind kind = told_at kind no_part 0 0 0
 
 -- nothing is wrong
 abbrev pub no_fault : Fault
@@ -41,17 +43,25 @@ abbrev pub end_number : RangeEnd → ℕ
 end_number Source = 0
 end_number Target = 1
 
+-- the number of what is wrong with a field that is no number
+abbrev pub number_kind : IntErrorKind → ℕ
+number_kind Empty = 0
+number_kind InvalidDigit = 1
+number_kind PosOverflow = 2
+number_kind NegOverflow = 2
+number_kind Zero = 2
+
 -- what is told of a list of which no map is made
 abbrev pub build_told : BuildFault → Fault
 build_told (RangeOverflow spec index direction range_end) =
-    record { kind = 4; direction = direction_number direction; end = end_number range_end; place = index; expected = 0; seen = 0; quoted = 0; wanted = 0; spec = spec_as_c spec }
+    record { kind = 4; part = specification; direction = direction_number direction; end = end_number range_end; number = 0; place = index; expected = 0; seen = 0; quoted = 0; wanted = 0; spec = spec_as_c spec }
 build_told (Intersects spec index direction) =
-    record { kind = 5; direction = direction_number direction; end = 0; place = index; expected = 0; seen = 0; quoted = 0; wanted = 0; spec = spec_as_c spec }
+    record { kind = 5; part = specification; direction = direction_number direction; end = 0; number = 0; place = index; expected = 0; seen = 0; quoted = 0; wanted = 0; spec = spec_as_c spec }
 
 -- what is told of an array; where there is no fault, that memory ran out
 abbrev pub array_told : Option ArrayFault → Fault
 array_told None = memory_fault
-array_told (Some (UnknownKind index)) = told_at 3 index 0 0
+array_told (Some (UnknownKind index)) = told_at 3 specification index 0 0
 array_told (Some (UnbuiltArray fault)) = build_told fault
 
 -- the code of a call that failed; where there is no fault, that memory ran out

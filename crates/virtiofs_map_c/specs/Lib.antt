@@ -1,6 +1,8 @@
 pub mod Arrays
 pub mod Codes
+pub mod FaultText
 pub mod Faults
+pub mod FrontParts
 pub mod Ids
 pub mod Makes
 pub mod Names

@@ -6,7 +6,8 @@ use Rattle.virtiofs_map.specs.Rule.{MappingRule}
 use Rattle.virtiofs_map.specs.RuleText.{SaysRules}
 use Rattle.virtiofs_map.specs.RulesFault.{RulesFault, NoRules, InRule, NotOfText, RuleFault, InvalidScope, InvalidType, IncompleteRule, MapRuleViolation, NulInPattern, HasRulesFault, rules_fault_of}
 use Rattle.virtiofs_map.specs.declared.xattrmap.errors.PatternField.TheVariants.{Key, Prepend}
-use Rattle.virtiofs_map_c.specs.Faults.{no_fault, memory_fault, fault_of_kind, told_at, failure_code}
+use Rattle.virtiofs_map_c.specs.Codes.{rule}
+use Rattle.virtiofs_map_c.specs.Faults.{no_fault, told_at, failure_code}
 use Rattle.virtiofs_map_c.specs.Replies.{IsQuoted, fitting}
 use Rattle.virtiofs_map_c.specs.declared.fault.Fault.{Fault}
 use Rattle.virtiofs_map_c.specs.declared.names.reading.ReadError.{ReadError}
@@ -51,11 +52,11 @@ rule_quoted (NulInPattern field) = []
 
 -- what is told of what is wrong with a text of rules, or of out of memory, where there is room for that many bytes
 abbrev pub bytes_told : ℕ → Option BytesFault → Fault
-bytes_told room None = memory_fault
-bytes_told room (Some NotUtf8) = fault_of_kind 2
-bytes_told room (Some (OfRules NoRules)) = fault_of_kind 16
+bytes_told room None = told_at 1 rule 0 0 0
+bytes_told room (Some NotUtf8) = told_at 2 rule 0 0 0
+bytes_told room (Some (OfRules NoRules)) = told_at 16 rule 0 0 0
 bytes_told room (Some (OfRules (InRule k fault))) =
-    told_at (rule_kind fault) k (fitting room (length (rule_quoted fault))) (length (rule_quoted fault))
+    told_at (rule_kind fault) rule k (fitting room (length (rule_quoted fault))) (length (rule_quoted fault))
 bytes_told room (Some (OfRules NotOfText)) = no_fault
 
 -- what is quoted of a text of rules at fault

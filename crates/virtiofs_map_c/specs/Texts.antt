@@ -1,13 +1,18 @@
 -- What texts of specifications in bytes say, what is wrong with those that say nothing, and how it is told.
-use Rattle.std.specs.Prelude.{◌≡◌, ℕ, List, [], length, take, slice_get, encode_utf8_all, Option, Some, None, IsSomeAnd}
+use Rattle.std.specs.Prelude.{◌≡◌, ⊤, ℕ, List, [], length, take, slice_get, encode_utf8_all, Option, Some, None, IsSomeAnd}
 use Rattle.std.specs.Borrow.{Bor}
 use Rattle.std.specs.List.{AllZip}
 use Rattle.std.specs.Option.{option_map, option_map_or}
 use Rattle.std.specs.Str.{chars, IsUtf8}
+use Rattle.std.specs.Str.Parse.{error_kind, without_leading_plus, IsParseIntError}
+use Rattle.core.specs.declared.str.parse.IntErrorKind.{IntErrorKind}
+use Rattle.core.specs.declared.str.parse.IntErrorKind.TheVariants.{Empty, PosOverflow}
 use Rattle.virtiofs_map.specs.Build.{Accepted, BuildFault, HasFirstFault, build_fault_of}
 use Rattle.virtiofs_map.specs.SpecificationText.{Says, SpecificationFault, InvalidPrefix, InvalidLength, InvalidValue, HasSpecificationFault, specification_fault_of}
 use Rattle.virtiofs_map.specs.declared.cmdline.IdMap.{IdMap as Specification}
-use Rattle.virtiofs_map_c.specs.Faults.{told_at, memory_fault, build_told, failure_code}
+use Rattle.virtiofs_map.specs.declared.cmdline.IdMapError.TheVariants as spec_errors
+use Rattle.virtiofs_map_c.specs.Codes.{no_part, specification}
+use Rattle.virtiofs_map_c.specs.Faults.{told_at, memory_fault, build_told, number_kind, failure_code}
 use Rattle.virtiofs_map_c.specs.Replies.{IsQuoted, fitting}
 use Rattle.virtiofs_map_c.specs.declared.fault.Fault.{Fault}
 use Rattle.virtiofs_map_c.specs.declared.texts.errors.TextError.{TextError}
@@ -36,15 +41,38 @@ abbrev pub text_fault_of : TextError → Option TextFault
 text_fault_of text_errors.NotUtf8 = Some NotUtf8
 text_fault_of (text_errors.Spec error) = option_map OfText (specification_fault_of error)
 
--- what is told of the text at that place, where there is room for so many bytes of it
-abbrev pub fault_told : ℕ → ℕ → TextFault → Fault
-fault_told place room NotUtf8 = told_at 2 place 0 0
-fault_told place room (OfText (InvalidPrefix word)) =
-    told_at 6 place (fitting room (length (encode_utf8_all word))) (length (encode_utf8_all word))
-fault_told place room (OfText (InvalidLength expected seen)) =
-    record (told_at 7 place 0 0) { expected = expected; seen = seen }
-fault_told place room (OfText (InvalidValue field)) =
-    told_at 8 place (fitting room (length (encode_utf8_all field))) (length (encode_utf8_all field))
+-- how an error about a field says that it is no number
+abbrev pub number_error_of : TextError → IntErrorKind
+number_error_of (text_errors.Spec (spec_errors.InvalidValue value error)) = error_kind error
+number_error_of other = Empty
+
+-- what a part is, and its place
+pub record Part : Type 0 where
+  pub part : ℕ
+  pub place : ℕ
+
+-- a text that is no element of a list, and the text at that index of a list
+abbrev pub whole : Part
+whole = record { part = no_part; place = 0 }
+
+abbrev pub text_at : ℕ → Part
+text_at index = record { part = specification; place = index }
+
+-- what is told of the text that is that part, where there is room for so many bytes of it, and where a field is no number in that way
+abbrev pub fault_told : IntErrorKind → Part → ℕ → TextFault → Fault
+fault_told kind at room NotUtf8 = told_at 2 at.part at.place 0 0
+fault_told kind at room (OfText (InvalidPrefix word)) =
+    told_at 6 at.part at.place (fitting room (length (encode_utf8_all word))) (length (encode_utf8_all word))
+fault_told kind at room (OfText (InvalidLength expected seen)) =
+    record (told_at 7 at.part at.place 0 0) { expected = expected; seen = seen }
+fault_told kind at room (OfText (InvalidValue field)) =
+    record (told_at 8 at.part at.place (fitting room (length (encode_utf8_all field))) (length (encode_utf8_all field))) { number = number_kind kind }
+
+-- where the fault is that of a field, this is how it is no number: what the standard library's `parse` says of it
+abbrev pub IsNumberError : Option TextFault → IntErrorKind → Type 0
+IsNumberError (Some (OfText (InvalidValue field))) kind =
+    (bytes : List ℕ) × (chars bytes ≡ field) × IsParseIntError 10 bytes (without_leading_plus bytes) PosOverflow kind
+IsNumberError other kind = ⊤
 
 -- what is quoted of one text
 abbrev pub fault_quoted : TextFault → List ℕ
@@ -53,9 +81,9 @@ fault_quoted (OfText (InvalidPrefix word)) = encode_utf8_all word
 fault_quoted (OfText (InvalidLength expected seen)) = []
 fault_quoted (OfText (InvalidValue field)) = encode_utf8_all field
 
--- what is told of the text at that place, or of out of memory
-abbrev pub text_told : ℕ → ℕ → Option TextFault → Fault
-text_told place room fault = option_map_or (fault_told place room) fault memory_fault
+-- what is told of the text that is that part, or of out of memory
+abbrev pub text_told : IntErrorKind → Part → ℕ → Option TextFault → Fault
+text_told kind at room fault = option_map_or (fault_told kind at room) fault memory_fault
 
 abbrev pub text_quoted : Option TextFault → List ℕ
 text_quoted fault = option_map_or fault_quoted fault []
@@ -63,7 +91,9 @@ text_quoted fault = option_map_or fault_quoted fault []
 -- what is wrong with one text, or out of memory, is told and quoted
 pub record IsTextTold (code : ℕ) (told : Fault) (old new : List ℕ) (fault : Option TextFault) : Type 0 where
   pub code_told : code ≡ failure_code fault
-  pub numbers : told ≡ text_told 0 (length old) fault
+  pub kind : IntErrorKind
+  pub explained : IsNumberError fault kind
+  pub numbers : told ≡ text_told kind whole (length old) fault
   pub bytes : IsQuoted (text_quoted fault) old new
 
 -- ---- an array of texts
@@ -105,11 +135,21 @@ abbrev pub texts_fault_of : TextsError → Option TextsFault
 texts_fault_of (errors.Text place cause) = option_map (UnreadText place) (text_fault_of cause)
 texts_fault_of (errors.Build error) = option_map UnbuiltTexts (build_fault_of error)
 
+-- how an error about a field of a text says that it is no number
+abbrev pub texts_number_error_of : TextsError → IntErrorKind
+texts_number_error_of (errors.Text place cause) = number_error_of cause
+texts_number_error_of (errors.Build error) = Empty
+
 -- what is told of an array of texts of which no map is made, or of out of memory
-abbrev pub texts_told : ℕ → Option TextsFault → Fault
-texts_told room None = memory_fault
-texts_told room (Some (UnreadText index fault)) = fault_told index room fault
-texts_told room (Some (UnbuiltTexts fault)) = build_told fault
+abbrev pub texts_told : IntErrorKind → ℕ → Option TextsFault → Fault
+texts_told kind room None = memory_fault
+texts_told kind room (Some (UnreadText index fault)) = fault_told kind (text_at index) room fault
+texts_told kind room (Some (UnbuiltTexts fault)) = build_told fault
+
+-- where the fault is that of a field of a text, this is how it is no number
+abbrev pub IsNumberErrorIn : Option TextsFault → IntErrorKind → Type 0
+IsNumberErrorIn (Some (UnreadText index fault)) kind = IsNumberError (Some fault) kind
+IsNumberErrorIn other kind = ⊤
 
 -- what is quoted of an array of texts
 abbrev pub texts_quoted : Option TextsFault → List ℕ
@@ -120,5 +160,7 @@ texts_quoted (Some (UnbuiltTexts fault)) = []
 -- what is wrong with an array of texts, or out of memory, is told and quoted
 pub record AreTextsTold (code : ℕ) (told : Fault) (old new : List ℕ) (fault : Option TextsFault) : Type 0 where
   pub code_told : code ≡ failure_code fault
-  pub numbers : told ≡ texts_told (length old) fault
+  pub kind : IntErrorKind
+  pub explained : IsNumberErrorIn fault kind
+  pub numbers : told ≡ texts_told kind (length old) fault
   pub bytes : IsQuoted (texts_quoted fault) old new

@@ -12,15 +12,19 @@ use Rattle.virtiofs_map.specs.declared.acl.errors.EntryFault.{EntryFault}
 use Rattle.virtiofs_map.specs.declared.acl.errors.EntryFault.TheVariants.{UnknownTag, Permission, NoId, Forbidden, Merges}
 use Rattle.virtiofs_map.specs.declared.cmdline.IdMap.{IdMap as Specification}
 use Rattle.virtiofs_map.specs.declared.soft_idmap.entry.Direction.{Direction}
-use Rattle.virtiofs_map_c.specs.Codes.{ok, forbidden, refused, no_room, no_map, merges, root_moves}
-use Rattle.virtiofs_map_c.specs.Faults.{no_fault, fault_of_kind, told_at}
+use Rattle.virtiofs_map_c.specs.Codes.{ok, forbidden, refused, no_room, no_map, merges, root_moves, acl_value, acl_entry, capability_value}
+use Rattle.virtiofs_map_c.specs.Faults.{no_fault, told_at}
 use Rattle.virtiofs_map_c.specs.declared.fault.Fault.{Fault}
 
 -- ---- how a fault is told
 
+-- a fault of a value as a whole
+abbrev pub value_told : ℕ → ℕ → Fault
+value_told kind part = told_at kind part 0 0 0
+
 -- a version, or a revision, that there is not
-abbrev pub version_told : ℕ → Fault
-version_told version = record (fault_of_kind 20) { seen = version }
+abbrev pub version_told : ℕ → ℕ → Fault
+version_told part version = record (value_told 20 part) { seen = version }
 
 -- the kind of what is wrong with an entry
 abbrev pub entry_kind : EntryFault → ℕ
@@ -32,11 +36,11 @@ entry_kind Merges = 27
 
 -- why a list does not go across, where room is lent for that many entries
 abbrev pub acl_told : ℕ → AclError → Fault
-acl_told room lists.TooShort = fault_of_kind 19
-acl_told room (lists.Version version) = version_told version
-acl_told room lists.Length = fault_of_kind 21
-acl_told room (lists.Room needed) = record (fault_of_kind 22) { expected = needed; seen = room }
-acl_told room (lists.Entry k fault) = told_at (entry_kind fault) k 0 0
+acl_told room lists.TooShort = value_told 19 acl_value
+acl_told room (lists.Version version) = version_told acl_value version
+acl_told room lists.Length = value_told 21 acl_value
+acl_told room (lists.Room needed) = record (value_told 22 acl_value) { expected = needed; seen = room }
+acl_told room (lists.Entry k fault) = told_at (entry_kind fault) acl_entry k 0 0
 
 -- its code
 abbrev pub acl_code : AclError → ℕ
@@ -47,12 +51,12 @@ acl_code error = refused
 
 -- why a capability does not
 abbrev pub capability_told : CapabilityError → Fault
-capability_told capabilities.TooShort = fault_of_kind 19
-capability_told (capabilities.Revision revision) = version_told revision
-capability_told capabilities.Length = fault_of_kind 21
-capability_told capabilities.NoId = fault_of_kind 25
-capability_told capabilities.Forbidden = fault_of_kind 26
-capability_told capabilities.RootMoves = fault_of_kind 28
+capability_told capabilities.TooShort = value_told 19 capability_value
+capability_told (capabilities.Revision revision) = version_told capability_value revision
+capability_told capabilities.Length = value_told 21 capability_value
+capability_told capabilities.NoId = value_told 25 capability_value
+capability_told capabilities.Forbidden = value_told 26 capability_value
+capability_told capabilities.RootMoves = value_told 28 capability_value
 
 -- its code
 abbrev pub capability_code : CapabilityError → ℕ

@@ -11,7 +11,7 @@ mod errors;
 mod spec;
 
 use crate::buffer::Quoted;
-use crate::codes::{NO_MEMORY, REFUSED};
+use crate::codes::{NO_MEMORY, REFUSED, SPECIFICATION};
 use crate::fault::Fault;
 pub use errors::ArrayError;
 pub use spec::Spec;
@@ -123,7 +123,7 @@ pub fn tell(error: &ArrayError, fault: &mut Fault) -> u32
 {
     match error {
         ArrayError::UnknownKind { index } => {
-            *fault = Fault::at(3, *index, Quoted::nothing());
+            *fault = Fault::at(3, SPECIFICATION, *index, Quoted::nothing());
             REFUSED
         }
         ArrayError::Build(error) => {
@@ -155,6 +155,7 @@ pub fn told_of_build(error: &IdMapBuildError) -> Fault
             direction,
             range_end,
         } => Fault {
+            part: SPECIFICATION,
             direction: number_of(*direction),
             end: match range_end {
                 RangeEnd::Source => 0,
@@ -169,6 +170,7 @@ pub fn told_of_build(error: &IdMapBuildError) -> Fault
             index,
             direction,
         } => Fault {
+            part: SPECIFICATION,
             direction: number_of(*direction),
             place: *index,
             spec: spec_of(*spec),

@@ -47,3 +47,21 @@ pub const ACL: u32 = 1;
 
 /// The values of a name are capabilities.
 pub const CAPABILITY: u32 = 2;
+
+/// No part is at fault, but the whole of what was handed in.
+pub const NO_PART: u32 = 0;
+
+/// A specification of a list is at fault, or its text.
+pub const SPECIFICATION: u32 = 1;
+
+/// A rule is at fault, or the text of rules.
+pub const RULE: u32 = 2;
+
+/// An access control list is at fault, and none of its entries.
+pub const ACL_VALUE: u32 = 3;
+
+/// An entry of an access control list is at fault.
+pub const ACL_ENTRY: u32 = 4;
+
+/// A capability is at fault.
+pub const CAPABILITY_VALUE: u32 = 5;

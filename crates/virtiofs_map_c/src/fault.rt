@@ -2,6 +2,7 @@
 
 use crate::arrays::Spec;
 use crate::buffer::Quoted;
+use crate::codes::NO_PART;
 
 /// C's `struct virtiofs_fault`: the first fault. What a kind does not use is 0.
 #[repr(C)]
@@ -9,10 +10,14 @@ use crate::buffer::Quoted;
 pub struct Fault {
     /// What is wrong.
     pub kind: u32,
+    /// Which part of what was handed in is at fault.
+    pub part: u32,
     /// The direction in which a range is at fault.
     pub direction: u32,
     /// Which range goes too far.
     pub end: u32,
+    /// What is wrong with a field that is no number.
+    pub number: u32,
     /// Which element of a list is at fault, from 0, or which rule, from 1.
     pub place: usize,
     /// How many numbers a word takes.
@@ -44,8 +49,10 @@ impl Fault {
     {
         Fault {
             kind,
+            part: NO_PART,
             direction: 0,
             end: 0,
+            number: 0,
             place: 0,
             expected: 0,
             seen: 0,
@@ -60,11 +67,12 @@ impl Fault {
         }
     }
 
-    /// A fault at a place: its kind, the place, and what is quoted of the text at fault.
-    pub fn at(kind: u32, place: usize, text: Quoted) -> Fault
-        ensures { result ≡ told_at kind place text.written text.wanted }
+    /// A fault of a part: its kind, the part and its place, and what is quoted of the text at fault.
+    pub fn at(kind: u32, part: u32, place: usize, text: Quoted) -> Fault
+        ensures { result ≡ told_at kind part place text.written text.wanted }
     {
         Fault {
+            part,
             place,
             quoted: text.written,
             wanted: text.wanted,

@@ -11,7 +11,7 @@ ghost use Rattle.virtiofs_map_c.specs.Codes.{no_map};
 ghost use Rattle.virtiofs_map_c.specs.Faults.{no_fault};
 ghost use Rattle.virtiofs_map_c.specs.Ids.{AnswersId, TellsId, LeadsBackIfMapped, IsIdCode, IsAnswerTold};
 ghost use Rattle.virtiofs_map_c.specs.Makes.{TellsFault, MakesOrTells, TellsThis, IsArrayTold, IsAnswered, TellsImage, IsAccepted};
-ghost use Rattle.virtiofs_map_c.specs.Texts.{AllSaySpecs, AreAccepted, TextsFault, HasTextsFault, texts_fault_of, AreTextsTold};
+ghost use Rattle.virtiofs_map_c.specs.Texts.{AllSaySpecs, AreAccepted, TextsFault, HasTextsFault, texts_fault_of, texts_number_error_of, IsNumberErrorIn, AreTextsTold};
 
 use crate::arrays::{ArrayError, Spec, read_all, tell};
 use crate::codes::{FORBIDDEN, NO_MAP, NO_ROOM, OK};
@@ -116,6 +116,8 @@ fn make_of_texts(
     ensures bound { IfOk result (λ _. wanted.new ≤ 3 + 8 * length texts.now) }
     ensures refused { IfErr result (λ e.
         OutOfMemoryOr (texts_fault_of e) (HasTextsFault texts.now)) }
+    ensures explained { IfErr result (λ e.
+        IsNumberErrorIn (texts_fault_of e) (texts_number_error_of e)) }
     ensures keeps { OnErr result (words.new ≡ words.old) }
 {
     let list = read_texts(alloc, texts)?;

@@ -1,26 +1,28 @@
 //! Texts of ids, as C hands them over: specifications, and ranges of a namespace.
 ghost use Rattle.std.specs.Prelude.{◌≡◌, ◌≢◌, ℕ, length, IsSomeAnd, IfOk, IfErr};
+ghost use Rattle.std.specs.Str.Parse.{error_kind};
 ghost use Rattle.virtiofs_map.specs.NamespaceText.{namespace_fault_of};
 ghost use Rattle.virtiofs_map.specs.Refusal.{OutOfMemoryOr};
 ghost use Rattle.virtiofs_map.specs.declared.cmdline.IdMap.{IdMap as Specification};
 ghost use Rattle.virtiofs_map_c.specs.Arrays.{said, HasNoTarget};
 ghost use Rattle.virtiofs_map_c.specs.Codes.{ok, refused};
-ghost use Rattle.virtiofs_map_c.specs.Faults.{no_fault, failure_code};
+ghost use Rattle.virtiofs_map_c.specs.Faults.{no_fault, number_kind, failure_code};
 ghost use Rattle.virtiofs_map_c.specs.Makes.{TellsFault, MakesOrTells, TellsThis};
-ghost use Rattle.virtiofs_map_c.specs.Ranges.{SaysRange, RangeFault, HasRangeFault, range_kind, range_told};
+ghost use Rattle.virtiofs_map_c.specs.Ranges.{SaysRange, RangeFault, OfRange, HasRangeFault, range_error_of, range_told, IsRangeTold};
 ghost use Rattle.virtiofs_map_c.specs.Replies.{IsQuoted};
-ghost use Rattle.virtiofs_map_c.specs.Texts.{SaysSpec, TextFault, HasTextFault, text_fault_of, text_told, text_quoted, IsTextTold, AllSaySpecs, HasTextsFault, texts_fault_of, AreTextsTold};
+ghost use Rattle.virtiofs_map_c.specs.Texts.{SaysSpec, TextFault, HasTextFault, text_fault_of, number_error_of, IsNumberError, IsNumberErrorIn, texts_number_error_of, text_told, text_quoted, IsTextTold, AllSaySpecs, HasTextsFault, texts_fault_of, AreTextsTold};
 
 mod errors;
 mod range;
 
 use crate::arrays::{Spec, code_of_build, spec_of, told_of_build};
 use crate::buffer::{Quoted, quote};
-use crate::codes::{NO_MEMORY, OK, REFUSED};
+use crate::codes::{NO_MEMORY, NO_PART, OK, REFUSED, SPECIFICATION};
 use crate::fault::Fault;
 pub use errors::{TextError, TextsError};
 pub use range::Range;
 use std::alloc::Global;
+use std::num::{IntErrorKind, ParseIntError};
 use virtiofs_map::{cmdline, idmap};
 
 /// The specification that a text in bytes says.
@@ -28,6 +30,7 @@ fn read(alloc: Global, text: &[u8]) -> Result<cmdline::IdMap, TextError>
     ensures read { IfOk result (SaysSpec text.now) }
     ensures refused { IfErr result (λ e.
         OutOfMemoryOr (text_fault_of e) (HasTextFault text.now)) }
+    ensures explained { IfErr result (λ e. IsNumberError (text_fault_of e) (number_error_of e)) }
 {
     let text = match str::from_utf8(text) {
         Ok(text) => text,
@@ -44,6 +47,8 @@ pub fn read_all(alloc: Global, texts: &[&[u8]]) -> Result<Vec<cmdline::IdMap>, T
     ensures read { IfOk result (λ list. AllSaySpecs texts.now list.items) }
     ensures refused { IfErr result (λ e.
         OutOfMemoryOr (texts_fault_of e) (HasTextsFault texts.now)) }
+    ensures explained { IfErr result (λ e.
+        IsNumberErrorIn (texts_fault_of e) (texts_number_error_of e)) }
 {
     let mut list = Vec::new(alloc);
     for (place, text) in texts.iter().enumerate() {
@@ -57,11 +62,12 @@ pub fn read_all(alloc: Global, texts: &[&[u8]]) -> Result<Vec<cmdline::IdMap>, T
 
 /// Tells C why no map is made of texts, and answers the code.
 pub fn tell_of_texts(error: &TextsError, fault: &mut Fault, quoted: &mut [u8]) -> u32
+    requires { IsNumberErrorIn (texts_fault_of error.now) (texts_number_error_of error.now) }
     ensures { AreTextsTold result fault.new quoted.old quoted.new (texts_fault_of error.now) }
 {
     match error {
         TextsError::Text { place, cause } => {
-            *fault = told_of_text(cause, *place, quoted);
+            *fault = told_of_text(cause, SPECIFICATION, *place, quoted);
             code_of_text(cause)
         }
         TextsError::Build(error) => {
@@ -82,23 +88,25 @@ fn code_of_text(error: &TextError) -> u32
 }
 
 /// What C is told of the text at a place.
-fn told_of_text(error: &TextError, place: usize, quoted: &mut [u8]) -> Fault
-    ensures told { result ≡ text_told place (length quoted.old) (text_fault_of error.now) }
+fn told_of_text(error: &TextError, part: u32, place: usize, quoted: &mut [u8]) -> Fault
+    ensures told { result ≡ text_told (number_error_of error.now)
+        (record { part = part; place = place }) (length quoted.old) (text_fault_of error.now) }
     ensures quoted { IsQuoted (text_quoted (text_fault_of error.now)) quoted.old quoted.new }
 {
     match error {
-        TextError::NotUtf8 => Fault::at(2, place, Quoted::nothing()),
+        TextError::NotUtf8 => Fault::at(2, part, place, Quoted::nothing()),
         TextError::Spec(cmdline::IdMapError::InvalidPrefix(word)) => {
-            Fault::at(6, place, quote(word, quoted))
+            Fault::at(6, part, place, quote(word, quoted))
         }
         TextError::Spec(cmdline::IdMapError::InvalidLength { expected, seen }) => Fault {
             expected: *expected,
             seen: *seen,
-            ..Fault::at(7, place, Quoted::nothing())
+            ..Fault::at(7, part, place, Quoted::nothing())
         },
-        TextError::Spec(cmdline::IdMapError::InvalidValue { value, .. }) => {
-            Fault::at(8, place, quote(value, quoted))
-        }
+        TextError::Spec(cmdline::IdMapError::InvalidValue { value, error }) => Fault {
+            number: number_of(error),
+            ..Fault::at(8, part, place, quote(value, quoted))
+        },
         TextError::Spec(cmdline::IdMapError::OutOfMemory) => Fault::of_kind(1),
     }
 }
@@ -131,7 +139,7 @@ pub extern "C" fn virtiofs_map_spec_read(
             OK
         }
         Err(error) => {
-            *fault = told_of_text(&error, 0, quoted);
+            *fault = told_of_text(&error, NO_PART, 0, quoted);
             code_of_text(&error)
         }
     }
@@ -145,11 +153,11 @@ pub extern "C" fn virtiofs_map_range_read(text: &[u8], range: &mut Range, fault:
     ensures no_fault { result ≡ ok → fault.new ≡ no_fault }
     ensures keeps { result ≢ ok → range.new ≡ range.old }
     ensures refused { result ≢ ok → (result ≡ refused)
-        × ((wrong : RangeFault) × HasRangeFault text.now wrong × (fault.new ≡ range_told wrong)) }
+        × ((wrong : RangeFault) × HasRangeFault text.now wrong × IsRangeTold fault.new wrong) }
     ensures complete { (inside outside count : ℕ) → SaysRange text.now inside outside count
         → result ≡ ok }
     ensures faulty { (wrong : RangeFault) → HasRangeFault text.now wrong
-        → (result ≡ refused) × (fault.new ≡ range_told wrong) }
+        → (result ≡ refused) × IsRangeTold fault.new wrong }
 {
     let text = match str::from_utf8(text) {
         Ok(text) => text,
@@ -169,19 +177,36 @@ pub extern "C" fn virtiofs_map_range_read(text: &[u8], range: &mut Range, fault:
             OK
         }
         Err(error) => {
-            *fault = Fault::of_kind(kind_of(&error));
+            *fault = told_of_range(&error);
             REFUSED
         }
     }
 }
 
-/// The number of the kind of a fault.
-fn kind_of(error: &idmap::IdMapError) -> u32
-    ensures { result ≡ range_kind (namespace_fault_of error.now) }
+/// What C is told of a text that is no range.
+fn told_of_range(error: &idmap::IdMapError) -> Fault
+    ensures { result ≡ range_told (range_error_of error.now) (OfRange (namespace_fault_of error.now)) }
 {
     match error {
-        idmap::IdMapError::InvalidDelimiter => 9,
-        idmap::IdMapError::IncompleteMap => 10,
-        idmap::IdMapError::InvalidValue(_) => 11,
+        idmap::IdMapError::InvalidDelimiter => Fault::of_kind(9),
+        idmap::IdMapError::IncompleteMap => Fault::of_kind(10),
+        idmap::IdMapError::InvalidValue(error) => Fault {
+            number: number_of(error),
+            ..Fault::of_kind(11)
+        },
+    }
+}
+
+/// The number of what is wrong with a field that is no number. Only the first three are said of
+/// numbers that have no sign and may be 0.
+fn number_of(error: &ParseIntError) -> u32
+    ensures { result ≡ number_kind (error_kind error.now) }
+{
+    match error.kind() {
+        IntErrorKind::Empty => 0,
+        IntErrorKind::InvalidDigit => 1,
+        IntErrorKind::PosOverflow => 2,
+        IntErrorKind::NegOverflow => 2,
+        IntErrorKind::Zero => 2,
     }
 }

@@ -4,14 +4,15 @@ ghost use Rattle.virtiofs_map.specs.Refusal.{OutOfMemoryOr};
 ghost use Rattle.virtiofs_map.specs.Rule.{MappingRule};
 ghost use Rattle.virtiofs_map_c.specs.Names.{TellsNames};
 ghost use Rattle.virtiofs_map_c.specs.Rules.{BytesSayRules, OfRules, HasBytesFault, bytes_fault_of, bytes_told, bytes_quoted, IsBytesTold};
-ghost use Rattle.virtiofs_map_c.specs.Faults.{failure_code};
+ghost use Rattle.virtiofs_map_c.specs.Codes.{rule};
+ghost use Rattle.virtiofs_map_c.specs.Faults.{told_at, failure_code};
 ghost use Rattle.virtiofs_map_c.specs.Replies.{IsQuoted};
 ghost use Rattle.virtiofs_map.specs.RulesFault.{fault_at};
 ghost use Rattle.std.specs.Option.{option_map};
 
 use super::reading::ReadError;
 use crate::buffer::{Quoted, quote};
-use crate::codes::{NO_MEMORY, NO_ROOM, OK, REFUSED};
+use crate::codes::{NO_MEMORY, NO_ROOM, OK, REFUSED, RULE};
 use crate::fault::Fault;
 use std::alloc::Global;
 use virtiofs_map::xattrmap::image::ImageWritten;
@@ -60,6 +61,13 @@ pub fn made(
     }
 }
 
+/// A fault of a text of rules that blames no rule.
+fn of_text(kind: u32) -> Fault
+    ensures { result ≡ told_at kind rule 0 0 0 }
+{
+    Fault::at(kind, RULE, 0, Quoted::nothing())
+}
+
 /// What C is told of an error that blames a rule.
 fn told_of_rule(number: usize, cause: &ErrorKind, quoted: &mut [u8]) -> Fault
     ensures told { result ≡ bytes_told
@@ -69,16 +77,16 @@ fn told_of_rule(number: usize, cause: &ErrorKind, quoted: &mut [u8]) -> Fault
         quoted.old quoted.new }
 {
     match cause {
-        ErrorKind::InvalidScope { got, .. } => Fault::at(12, number, quote(got, quoted)),
-        ErrorKind::InvalidType { got, .. } => Fault::at(13, number, quote(got, quoted)),
-        ErrorKind::IncompleteRule => Fault::at(14, number, Quoted::nothing()),
-        ErrorKind::MapRuleViolation => Fault::at(15, number, Quoted::nothing()),
+        ErrorKind::InvalidScope { got, .. } => Fault::at(12, RULE, number, quote(got, quoted)),
+        ErrorKind::InvalidType { got, .. } => Fault::at(13, RULE, number, quote(got, quoted)),
+        ErrorKind::IncompleteRule => Fault::at(14, RULE, number, Quoted::nothing()),
+        ErrorKind::MapRuleViolation => Fault::at(15, RULE, number, Quoted::nothing()),
         ErrorKind::NulInPattern {
             pattern: PatternField::Key,
-        } => Fault::at(17, number, Quoted::nothing()),
+        } => Fault::at(17, RULE, number, Quoted::nothing()),
         ErrorKind::NulInPattern {
             pattern: PatternField::Prepend,
-        } => Fault::at(18, number, Quoted::nothing()),
+        } => Fault::at(18, RULE, number, Quoted::nothing()),
         ErrorKind::NoRulesProvided => Fault::none(),
         ErrorKind::OutOfMemory => Fault::none(),
         ErrorKind::InvalidDelimiter => Fault::none(),
@@ -92,8 +100,8 @@ fn told_of_none(cause: &ErrorKind) -> Fault
         room (option_map OfRules (fault_at None cause.now)) }
 {
     match cause {
-        ErrorKind::NoRulesProvided => Fault::of_kind(16),
-        ErrorKind::OutOfMemory => Fault::of_kind(1),
+        ErrorKind::NoRulesProvided => of_text(16),
+        ErrorKind::OutOfMemory => of_text(1),
         ErrorKind::InvalidScope { .. } => Fault::none(),
         ErrorKind::InvalidType { .. } => Fault::none(),
         ErrorKind::IncompleteRule => Fault::none(),
@@ -110,8 +118,8 @@ fn told(error: &ReadError, quoted: &mut [u8]) -> Fault
     ensures quoted { IsQuoted (bytes_quoted (bytes_fault_of error.now)) quoted.old quoted.new }
 {
     match error {
-        ReadError::NotUtf8 => Fault::of_kind(2),
-        ReadError::OutOfMemory => Fault::of_kind(1),
+        ReadError::NotUtf8 => of_text(2),
+        ReadError::OutOfMemory => of_text(1),
         ReadError::Rules(error) => match error.rule {
             None => told_of_none(&error.cause),
             Some(number) => told_of_rule(number, &error.cause, quoted),

@@ -1,9 +1,12 @@
 //! What calls on values tell C.
 ghost use Rattle.std.specs.Prelude.{◌≡◌};
-ghost use Rattle.virtiofs_map_c.specs.Values.{version_told, acl_told, acl_code, capability_told, capability_code, entry_kind, IsAclTold, IsCapabilityTold, IsAnswerTold};
+ghost use Rattle.virtiofs_map_c.specs.Values.{value_told, version_told, acl_told, acl_code, capability_told, capability_code, entry_kind, IsAclTold, IsCapabilityTold, IsAnswerTold};
 
 use crate::buffer::Quoted;
-use crate::codes::{FORBIDDEN, MERGES, NO_MAP, NO_ROOM, OK, REFUSED, ROOT_MOVES};
+use crate::codes::{
+    ACL_ENTRY, ACL_VALUE, CAPABILITY_VALUE, FORBIDDEN, MERGES, NO_MAP, NO_ROOM, OK, REFUSED,
+    ROOT_MOVES,
+};
 use crate::fault::Fault;
 use virtiofs_map::acl::{AclError, CapabilityError, EntryFault};
 
@@ -37,13 +40,20 @@ pub fn tell_capability(answer: Option<Result<(), CapabilityError>>, fault: &mut 
     }
 }
 
+/// A fault of a value as a whole.
+fn told_of_value(kind: u32, part: u32) -> Fault
+    ensures { result ≡ value_told kind part }
+{
+    Fault::at(kind, part, 0, Quoted::nothing())
+}
+
 /// A version, or a revision, that there is not.
-fn told_of_version(version: u32) -> Fault
-    ensures { result ≡ version_told version }
+fn told_of_version(part: u32, version: u32) -> Fault
+    ensures { result ≡ version_told part version }
 {
     Fault {
         seen: version as usize,
-        ..Fault::of_kind(20)
+        ..told_of_value(20, part)
     }
 }
 
@@ -52,15 +62,17 @@ fn told_of_acl(error: AclError, lent: usize) -> Fault
     ensures { result ≡ acl_told lent error }
 {
     match error {
-        AclError::TooShort => Fault::of_kind(19),
-        AclError::Version { version } => told_of_version(version),
-        AclError::Length => Fault::of_kind(21),
+        AclError::TooShort => told_of_value(19, ACL_VALUE),
+        AclError::Version { version } => told_of_version(ACL_VALUE, version),
+        AclError::Length => told_of_value(21, ACL_VALUE),
         AclError::Room { needed } => Fault {
             expected: needed,
             seen: lent,
-            ..Fault::of_kind(22)
+            ..told_of_value(22, ACL_VALUE)
         },
-        AclError::Entry { entry, fault } => Fault::at(kind_of(fault), entry, Quoted::nothing()),
+        AclError::Entry { entry, fault } => {
+            Fault::at(kind_of(fault), ACL_ENTRY, entry, Quoted::nothing())
+        }
     }
 }
 
@@ -97,12 +109,14 @@ fn told_of_capability(error: CapabilityError) -> Fault
     ensures { result ≡ capability_told error }
 {
     match error {
-        CapabilityError::TooShort => Fault::of_kind(19),
-        CapabilityError::Revision { revision } => told_of_version(u32::from(revision)),
-        CapabilityError::Length => Fault::of_kind(21),
-        CapabilityError::NoId => Fault::of_kind(25),
-        CapabilityError::Forbidden => Fault::of_kind(26),
-        CapabilityError::RootMoves => Fault::of_kind(28),
+        CapabilityError::TooShort => told_of_value(19, CAPABILITY_VALUE),
+        CapabilityError::Revision { revision } => {
+            told_of_version(CAPABILITY_VALUE, u32::from(revision))
+        }
+        CapabilityError::Length => told_of_value(21, CAPABILITY_VALUE),
+        CapabilityError::NoId => told_of_value(25, CAPABILITY_VALUE),
+        CapabilityError::Forbidden => told_of_value(26, CAPABILITY_VALUE),
+        CapabilityError::RootMoves => told_of_value(28, CAPABILITY_VALUE),
     }
 }
 
