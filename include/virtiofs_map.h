@@ -41,7 +41,8 @@
  * No function keeps a pointer after it has returned.
  *
  * MEMORY. Only `.._make`, `.._make_texts`, `virtiofs_spec_read` and the audits
- * `.._audit`, `.._audit_listed`, `.._apart` and `.._share_none` allocate. They free all
+ * `.._audit`, `.._audit_listed`, `.._apart`, `.._share_none` and `virtiofs_ids_come_back`,
+ * `.._alone`, `.._reach`, `.._apart` allocate. They free all
  * of it before they return. They use malloc, realloc and free. These must be the C
  * library's, or replacements that belong to one allocator and return memory aligned to
  * 16 bytes. So these calls must not be made in a signal handler, or in the child of a
@@ -254,7 +255,8 @@ struct virtiofs_fault {
     uint32_t end;
     /* VALUE and RANGE_VALUE: one of enum virtiofs_number. */
     uint32_t number;
-    /* For a list: the index of the specification or of its text, from 0. For a text
+    /* For a list: the index of the specification or of its text, from 0; the indexes of
+       a second list continue those of the first. For a text
        of rules: the number of the rule, from 1; 0 if no rule is to blame. For an
        access control list: the index of the entry, from 0. */
     size_t place;
@@ -272,6 +274,15 @@ struct virtiofs_fault {
     size_t wanted;
     /* OVERFLOW and INTERSECTS: the specification at fault. */
     struct virtiofs_spec spec;
+};
+
+/* ---- decisions about ids ---- */
+
+/* The least id that shows an answer about all ids. */
+struct virtiofs_ids_found {
+    uint32_t guest; /* the id of the guest */
+    uint32_t host;  /* what it becomes on the host */
+    uint32_t other; /* the second id of a guest, where the function tells one; else 0 */
 };
 
 /* ---- values with ids ---- */
@@ -328,6 +339,32 @@ uint32_t virtiofs_map_ids_guest(const uint32_t *words, size_t count,
 VIRTIOFS_CHECKED((1, 4))
 uint32_t virtiofs_map_ids_host(const uint32_t *words, size_t count,
                                uint32_t host, uint32_t *guest);
+
+/* As virtiofs_ids_come_back. */
+VIRTIOFS_CHECKED((1, 3, 4, 5))
+uint32_t virtiofs_map_ids_come_back(const struct virtiofs_spec *specs, size_t count, bool *yes,
+                                    struct virtiofs_ids_found *found,
+                                    struct virtiofs_fault *fault);
+
+/* As virtiofs_ids_alone. */
+VIRTIOFS_CHECKED((1, 3, 4, 5))
+uint32_t virtiofs_map_ids_alone(const struct virtiofs_spec *specs, size_t count, bool *yes,
+                                struct virtiofs_ids_found *found,
+                                struct virtiofs_fault *fault);
+
+/* As virtiofs_ids_reach. */
+VIRTIOFS_CHECKED((1, 5, 6, 7))
+uint32_t virtiofs_map_ids_reach(const struct virtiofs_spec *specs, size_t count,
+                                uint32_t first, uint32_t last, bool *yes,
+                                struct virtiofs_ids_found *found,
+                                struct virtiofs_fault *fault);
+
+/* As virtiofs_ids_apart. */
+VIRTIOFS_CHECKED((1, 3, 5, 6, 7))
+uint32_t virtiofs_map_ids_apart(const struct virtiofs_spec *specs, size_t count,
+                                const struct virtiofs_spec *others, size_t other_count,
+                                bool *yes, struct virtiofs_ids_found *found,
+                                struct virtiofs_fault *fault);
 
 /* As virtiofs_spec_read. */
 VIRTIOFS_CHECKED((1, 3, 4, 5))
@@ -604,6 +641,72 @@ static inline uint32_t virtiofs_gids_host(struct virtiofs_gids map, uint32_t hos
 {
     return virtiofs_map_ids_host(VIRTIOFS_SLICE(const uint32_t, map.words, map.count),
                                  host, guest);
+}
+
+/* ---- decisions about all ids ----
+ *
+ * Each decision is about all ids of the guest from 0 to 4294967294 that the
+ * specifications do not forbid; 4294967295 is no id to Linux. It takes the array of which
+ * a map is made, of users or of groups. OK: *yes is the answer, and where an id shows it,
+ * *found has the least one. REFUSED: no map is made of the array, and *fault is its first
+ * fault, as virtiofs_uids_make tells it. NO_MEMORY. Where the code is not OK, *yes is
+ * false. Where no id is told, *found is as it was.
+ *
+ * The time grows as n log n with the number of specifications. For 100,000 of them it is
+ * of the order of a tenth of a second.
+ */
+
+/* Whether each id comes back: what it becomes on the host becomes that id again. Where
+   *yes is false, *found has the least id that does not, what it becomes on the host, and
+   in `other` what that becomes in the guest. */
+VIRTIOFS_CHECKED((3, 4, 5))
+static inline uint32_t virtiofs_ids_come_back(const struct virtiofs_spec *specs, size_t count,
+                                              bool *yes, struct virtiofs_ids_found *found,
+                                              struct virtiofs_fault *fault)
+{
+    return virtiofs_map_ids_come_back(VIRTIOFS_SLICE(const struct virtiofs_spec, specs, count),
+                                      yes, found, fault);
+}
+
+/* Whether each id has an id of the host of its own: no two ids become one. Where *yes is
+   false, *found has the least id that shares its id of the host, that id of the host, and
+   in `other` the least id with which it shares. */
+VIRTIOFS_CHECKED((3, 4, 5))
+static inline uint32_t virtiofs_ids_alone(const struct virtiofs_spec *specs, size_t count,
+                                          bool *yes, struct virtiofs_ids_found *found,
+                                          struct virtiofs_fault *fault)
+{
+    return virtiofs_map_ids_alone(VIRTIOFS_SLICE(const struct virtiofs_spec, specs, count),
+                                  yes, found, fault);
+}
+
+/* Whether some id becomes an id of the host from `first` to `last`: whether the guest can
+   act as one of these. Where *yes is true, *found has the least id that does, and what it
+   becomes on the host; `other` is 0. Where `last` is less than `first`, *yes is false. */
+VIRTIOFS_CHECKED((5, 6, 7))
+static inline uint32_t virtiofs_ids_reach(const struct virtiofs_spec *specs, size_t count,
+                                          uint32_t first, uint32_t last, bool *yes,
+                                          struct virtiofs_ids_found *found,
+                                          struct virtiofs_fault *fault)
+{
+    return virtiofs_map_ids_reach(VIRTIOFS_SLICE(const struct virtiofs_spec, specs, count),
+                                  first, last, yes, found, fault);
+}
+
+/* Whether two guests are apart on the host: no id of the host is reached by both. Where
+   *yes is false, *found has the least id of the first guest whose id of the host the second
+   reaches too, that id of the host, and in `other` the least id of the second guest that
+   becomes it. REFUSED: the place in *fault is below `count` where the first array is at
+   fault. Else the second is, at that place less `count`. Both may be the same array. */
+VIRTIOFS_CHECKED((5, 6, 7))
+static inline uint32_t virtiofs_ids_apart(const struct virtiofs_spec *specs, size_t count,
+                                          const struct virtiofs_spec *others, size_t other_count,
+                                          bool *yes, struct virtiofs_ids_found *found,
+                                          struct virtiofs_fault *fault)
+{
+    return virtiofs_map_ids_apart(VIRTIOFS_SLICE(const struct virtiofs_spec, specs, count),
+                                  VIRTIOFS_SLICE(const struct virtiofs_spec, others, other_count),
+                                  yes, found, fault);
 }
 
 /* Reads the text of one range of a namespace. OK: *range is what it says. REFUSED: *range

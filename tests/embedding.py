@@ -206,6 +206,7 @@ def in_c(tally, with_, linked):
         ("shared pages in C", "pages.c"),
         ("changed numbers in C", "changed.c"),
         ("ids inside values in C", "values.c"),
+        ("decisions about all ids in C", "ids_audits.c"),
         ("sentences of faults in C", "sentences.c"),
         ("refused memory in C", "refused.c", WRAPPED),
     ):
@@ -258,6 +259,7 @@ def in_rust(tally, with_, linked):
     for name, file, *flags in (
         ("the tests in Rust", "test.rs", "--test"),
         ("ids inside values in Rust", "values.rs", "--test"),
+        ("decisions about all ids in Rust", "ids_audits.rs", "--test"),
         ("sentences of faults in Rust", "sentences.rs", "--test"),
         ("shared pages and changed numbers in Rust", "pages.rs"),
         ("refused memory in Rust", "refused.rs", "-C", f"link-arg={WRAPPED}"),
@@ -290,6 +292,7 @@ def under_sanitizer(tally, with_, linked):
     for name, file in (
         ("the tests in C under AddressSanitizer", "test.c"),
         ("ids inside values in C under AddressSanitizer", "values.c"),
+        ("decisions about all ids in C under AddressSanitizer", "ids_audits.c"),
     ):
         program = made_program(tally, name, [*words, f"{TESTS}/{file}", *linked, "-pthread"])
         if program:
@@ -305,6 +308,7 @@ def under_sanitizer(tally, with_, linked):
     for name, file in (
         ("the tests in Rust under AddressSanitizer", "test.rs"),
         ("ids inside values in Rust under AddressSanitizer", "values.rs"),
+        ("decisions about all ids in Rust under AddressSanitizer", "ids_audits.rs"),
     ):
         program = with_.rust and made_program(tally, name, [*rust_words(with_, linked), *flags, f"{TESTS}/{file}"])
         if program:

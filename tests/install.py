@@ -29,6 +29,7 @@ from manual_page import forms_of_page
 
 PREFIX = "/opt/virtiofs"
 RUST = "share/virtiofs_map/rust"
+CRATE = ("Cargo.toml", "build.rs", "lib.rs", "virtiofs_map.rs", "virtiofs_map_acl.rs", "virtiofs_map_audits.rs")
 PROGRAM = "bin/virtiofs_mapcheck"
 HEADER = "include/virtiofs_map.h"
 RECORD = "share/virtiofs_map/installed"
@@ -48,8 +49,7 @@ WANTED = {
     **dict.fromkeys(f"share/doc/virtiofs_map/kit/{it}" for it in OF_KIT),
     PAGE: "docs/virtiofs_mapcheck.1",
     RECORD: None,
-    **{f"{RUST}/{it}": f"bindings/rust/{it}" for it in ("Cargo.toml", "build.rs", "lib.rs")},
-    **{f"{RUST}/{it}": f"bindings/rust/{it}" for it in ("virtiofs_map.rs", "virtiofs_map_acl.rs")},
+    **{f"{RUST}/{it}": f"bindings/rust/{it}" for it in CRATE},
 }
 QUESTION = ["ids", "map:0:1000:10", "ask", "guest=5", "host=1005", "guest=10", "guest=1005"]
 COMPLETED = """source "$1"; shift; COMP_WORDS=(virtiofs_mapcheck "$@"); COMP_CWORD=$#

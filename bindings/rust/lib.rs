@@ -2,7 +2,8 @@
 //! Which user ids, group ids and extended attribute names cross between a guest machine and its host.
 //!
 //! These are virtiofsd's modules with their names, types, kinds of error and texts, over a library that is proved, and
-//! a module [`acl`] for ids inside values. A daemon makes its maps once, and asks them in any number of threads:
+//! two modules beside them: [`acl`] for ids inside values, and [`id_audit`] for decisions about all ids. A daemon makes
+//! its maps once, and asks them in any number of threads:
 //!
 //! ```
 //! use virtiofs_map::soft_idmap::{cmdline, GuestUid, HostUid, IdMap};
@@ -29,6 +30,7 @@
 //! | gets, sets or removes an attribute | [`map_client_xattr`](xattrmap::XattrMap::map_client_xattr) |
 //! | lists attributes | [`map_server_xattrlist`](xattrmap::XattrMap::map_server_xattrlist) |
 //! | lets the guest set access control lists or capabilities | [`acl`] |
+//! | tells what its specifications do to all ids, before a share goes live | [`id_audit`] |
 //!
 //! Where a guest's id is forbidden, the error becomes an `io::Error` of the kind `PermissionDenied`. A name that is
 //! denied is answered by EPERM, and one that is unsupported by ENOTSUP.
@@ -40,5 +42,7 @@
 mod virtiofs_map;
 #[path = "virtiofs_map_acl.rs"]
 pub mod acl;
+#[path = "virtiofs_map_audits.rs"]
+pub mod id_audit;
 
 pub use self::virtiofs_map::*;

@@ -279,7 +279,7 @@ pub mod soft_idmap {
                 }
             }
 
-            pub(in super::super) fn spec(&self) -> ffi::Spec {
+            pub(in super::super::super) fn spec(&self) -> ffi::Spec {
                 let (kind, first, to, count) = match *self {
                     IdMap::Guest { from_guest, to_host, count } => (ffi::GUEST, from_guest, to_host, count),
                     IdMap::Host { from_host, to_guest, count } => (ffi::HOST, from_host, to_guest, count),
@@ -488,7 +488,7 @@ pub mod soft_idmap {
         }
     }
 
-    fn error_of(fault: &ffi::Fault) -> io::Error {
+    pub(in super::super) fn error_of(fault: &ffi::Fault) -> io::Error {
         let spec = cmdline::IdMap::of(fault.spec);
         let (kind, text) = match fault.kind {
             ffi::FAULT_OVERFLOW => (io::ErrorKind::InvalidInput, format!("Parameter {spec}: Range overflow")),

@@ -105,7 +105,8 @@ def differences(what, wanted, found, is_part):
 def compared(top):
     """Each comparison by its name, with what it found."""
     header = text_of(f"{top}/include/virtiofs_map.h")
-    rust = "\n".join(text_of(f"{top}/bindings/rust/{it}") for it in ("virtiofs_map.rs", "virtiofs_map_acl.rs"))
+    names = ("virtiofs_map.rs", "virtiofs_map_acl.rs", "virtiofs_map_audits.rs")
+    rust = "\n".join(text_of(f"{top}/bindings/rust/{it}") for it in names)
     files = sorted(glob.glob(f"{top}/crates/virtiofs_map_c/src/**/*.rt", recursive=True))
     # (one struct is the library's own)
     files.append(f"{top}/crates/virtiofs_map/src/acl/merges.rt")

@@ -56,6 +56,7 @@ static uint8_t bytes[BYTES], out[ROOM];
 static size_t wanted, len;
 static struct virtiofs_fault fault;
 static bool yes;
+static struct virtiofs_ids_found found;
 
 enum answer { ANSWERED, NO_MEMORY, WRONG };
 
@@ -165,6 +166,48 @@ static enum answer apart(void)
 static enum answer share_none(void)
 {
     return by_code(virtiofs_names_share_none(names, other, &yes, out, ROOM, &len), VIRTIOFS_OK);
+}
+
+/* What a decision about all ids answers: this, with these numbers, or out of memory. */
+static enum answer by_found(uint32_t code, bool of_ample, uint32_t guest_id, uint32_t host_id, uint32_t other_id)
+{
+    if (code == VIRTIOFS_NO_MEMORY)
+        return fault.kind == VIRTIOFS_FAULT_MEMORY && !yes && is_untouched(&found, sizeof found) ? NO_MEMORY : WRONG;
+    return code == VIRTIOFS_OK && !fault.kind && yes == of_ample && found.guest == guest_id && found.host == host_id
+                   && found.other == other_id
+               ? ANSWERED
+               : WRONG;
+}
+
+static enum answer ids_come_back(void)
+{
+    yes = true;
+    return by_found(virtiofs_ids_come_back(specs, 3, &yes, &found, &fault), false, 20, 7, 7);
+}
+
+static enum answer ids_alone(void)
+{
+    yes = true;
+    return by_found(virtiofs_ids_alone(specs, 3, &yes, &found, &fault), false, 0, 1000, 1000);
+}
+
+static enum answer ids_reach(void)
+{
+    yes = true;
+    return by_found(virtiofs_ids_reach(specs, 3, 7, 7, &yes, &found, &fault), true, 20, 7, 0);
+}
+
+static enum answer ids_apart(void)
+{
+    yes = true;
+    return by_found(virtiofs_ids_apart(specs, 3, specs, 2, &yes, &found, &fault), false, 0, 1000, 0);
+}
+
+static enum answer ids_apart_of_two_that_meet(void)
+{
+    yes = true;
+    return by_fault(virtiofs_ids_apart(specs, 3, met, 2, &yes, &found, &fault), VIRTIOFS_REFUSED,
+                    VIRTIOFS_FAULT_INTERSECTS);
 }
 
 /* ---- calls that take none ---- */
@@ -279,6 +322,11 @@ static const struct row {
     { "names_audit_listed", audit_listed, 1 },
     { "names_apart", apart, 1 },
     { "names_share_none", share_none, 1 },
+    { "ids_come_back", ids_come_back, 1 },
+    { "ids_alone", ids_alone, 1 },
+    { "ids_reach", ids_reach, 1 },
+    { "ids_apart", ids_apart, 1 },
+    { "ids_apart of two that meet", ids_apart_of_two_that_meet, 1 },
     { "uids_make of none", no_specs, 0 },
     { "uids_guest", guest, 0 },
     { "gids_host", host, 0 },
@@ -300,6 +348,7 @@ static unsigned refuse_in_turn(const struct row *row, unsigned *said)
     for (unsigned number = 1; number < MOST; number++) {
         memset(words, UNTOUCHED, sizeof words);
         memset(bytes, UNTOUCHED, sizeof bytes);
+        memset(&found, UNTOUCHED, sizeof found);
         wanted = len = 0;
         yes = false;
         requests = 0;

@@ -8,6 +8,8 @@
 mod virtiofs_map;
 #[path = "../../bindings/rust/virtiofs_map_acl.rs"]
 mod virtiofs_map_acl;
+#[path = "../../bindings/rust/virtiofs_map_audits.rs"]
+mod virtiofs_map_audits;
 
 use std::alloc::{GlobalAlloc, Layout};
 use std::ffi::{c_void, CStr, CString};
@@ -18,6 +20,7 @@ use virtiofs_map::idmap::UidMap;
 use virtiofs_map::soft_idmap::{cmdline, GuestUid, HostUid, IdMap};
 use virtiofs_map::xattrmap::{AppliedRule, Audit, Error, ErrorKind, XattrMap};
 use virtiofs_map_acl::{acl_to_host, capability_to_host_in_revision_3, carries_ids, EntryRoom};
+use virtiofs_map_audits::{comes_back, ids_apart, is_alone, reaches, Astray, IdAudit, Reaching, Shared};
 
 type Users = IdMap<GuestUid, HostUid>;
 
@@ -165,6 +168,19 @@ fn audits(tally: &mut Tally) {
     tally.refuse("shares_no_name", || map.shares_no_name(&map).map_or_else(is_memory, |audit| Some(audit == wanted)));
 }
 
+fn audits_of_ids(tally: &mut Tally) {
+    let list = specs();
+    let is_memory = |error: io::Error| (error.kind() != io::ErrorKind::OutOfMemory).then_some(false);
+    let wanted = IdAudit::No(Astray { guest: 20, host: 7, back: 7 });
+    tally.refuse("comes_back", || comes_back(&list).map_or_else(is_memory, |audit| Some(audit == wanted)));
+    let wanted = IdAudit::No(Shared { guest: 0, other: 1000, host: 1000 });
+    tally.refuse("is_alone", || is_alone(&list).map_or_else(is_memory, |audit| Some(audit == wanted)));
+    let wanted = Some(Reaching { guest: 20, host: 7 });
+    tally.refuse("reaches", || reaches(&list, 7, 7).map_or_else(is_memory, |answer| Some(answer == wanted)));
+    let wanted = IdAudit::No(Shared { guest: 0, other: 0, host: 1000 });
+    tally.refuse("ids_apart", || ids_apart(&list, &list).map_or_else(is_memory, |audit| Some(audit == wanted)));
+}
+
 fn lookups(tally: &mut Tally) {
     let users = Users::try_from(specs()).expect("an accepted list");
     tally.count("a guest's id", 0, || users.map_guest(GuestUid::from(5)));
@@ -199,6 +215,7 @@ fn main() {
     let mut tally = Tally::default();
     makes(&mut tally);
     audits(&mut tally);
+    audits_of_ids(&mut tally);
     lookups(&mut tally);
     println!("{} passed, {} failed", tally.passed, tally.failed);
     std::process::exit(i32::from(tally.failed > 0 || tally.passed == 0));

@@ -3,6 +3,7 @@ mod FaultLengthLemmas
 mod FaultTextLemmas
 mod FirstLemmas
 mod FrontLemmas
+mod IdsFoundLemmas
 mod IdsLemmas
 mod MakesLemmas
 mod NamesLemmas

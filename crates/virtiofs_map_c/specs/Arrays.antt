@@ -1,8 +1,8 @@
 -- What an array of specifications says, and what is wrong with one of which no map is made.
-use Rattle.std.specs.Prelude.{◌≡◌, ℕ, ◌==◌, if◌then◌else◌, List, take, slice_get, Option, Some, None, IsSomeAnd}
+use Rattle.std.specs.Prelude.{◌≡◌, ℕ, ◌+◌, ◌==◌, if◌then◌else◌, List, take, slice_get, Option, Some, None, IsSomeAnd}
 use Rattle.std.specs.List.{AllZip}
 use Rattle.std.specs.Option.{option_map}
-use Rattle.virtiofs_map.specs.Build.{BuildFault, HasFirstFault, build_fault_of}
+use Rattle.virtiofs_map.specs.Build.{BuildFault, RangeOverflow, Intersects, HasFirstFault, build_fault_of}
 use Rattle.virtiofs_map.specs.declared.cmdline.IdMap.{IdMap as Specification}
 use Rattle.virtiofs_map.specs.declared.cmdline.IdMap.TheVariants.{Guest, Host, SquashGuest, SquashHost, Bidirectional, ForbidGuest}
 use Rattle.virtiofs_map_c.specs.declared.arrays.errors.ArrayError.{ArrayError}
@@ -67,3 +67,19 @@ HasArrayFault specs (UnbuiltArray fault) = HasUnbuiltArray specs fault
 abbrev pub array_fault_of : ArrayError → Option ArrayFault
 array_fault_of (errors.UnknownKind index) = Some (UnknownKind index)
 array_fault_of (errors.Build error) = option_map UnbuiltArray (build_fault_of error)
+
+-- ---- an array behind another one
+
+-- the place that a fault tells
+abbrev pub place_of : ArrayFault → ℕ
+place_of (UnknownKind index) = index
+place_of (UnbuiltArray (RangeOverflow spec index direction range_end)) = index
+place_of (UnbuiltArray (Intersects spec index direction)) = index
+
+-- the fault as it is told where so many places stand before
+abbrev pub counted_on : ℕ → ArrayFault → ArrayFault
+counted_on count (UnknownKind index) = UnknownKind (count + index)
+counted_on count (UnbuiltArray (RangeOverflow spec index direction range_end)) =
+    UnbuiltArray (RangeOverflow spec (count + index) direction range_end)
+counted_on count (UnbuiltArray (Intersects spec index direction)) =
+    UnbuiltArray (Intersects spec (count + index) direction)

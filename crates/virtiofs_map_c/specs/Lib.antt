@@ -4,6 +4,7 @@ pub mod FaultText
 pub mod Faults
 pub mod FrontParts
 pub mod Ids
+pub mod IdsFound
 pub mod Makes
 pub mod Names
 pub mod Ranges

@@ -8,12 +8,14 @@ ghost use Rattle.virtiofs_map_c.specs.Faults.{build_told, direction_number, memo
 ghost use Rattle.virtiofs_map_c.specs.Makes.{IsArrayTold};
 
 mod errors;
+mod later;
 mod spec;
 
 use crate::buffer::Quoted;
 use crate::codes::{NO_MEMORY, REFUSED, SPECIFICATION};
 use crate::fault::Fault;
 pub use errors::ArrayError;
+pub use later::behind;
 pub use spec::Spec;
 use std::alloc::Global;
 use virtiofs_map::cmdline;

@@ -13,6 +13,10 @@ ghost use Rattle.virtiofs_map_c.specs.Ids.{AnswersId, TellsId, LeadsBackIfMapped
 ghost use Rattle.virtiofs_map_c.specs.Makes.{TellsFault, MakesOrTells, TellsThis, IsArrayTold, IsAnswered, TellsImage, IsAccepted};
 ghost use Rattle.virtiofs_map_c.specs.Texts.{AllSaySpecs, AreAccepted, TextsFault, HasTextsFault, texts_fault_of, texts_number_error_of, IsNumberErrorIn, AreTextsTold};
 
+mod audits;
+mod decided;
+mod found;
+
 use crate::arrays::{ArrayError, Spec, read_all, tell};
 use crate::codes::{FORBIDDEN, NO_MAP, NO_ROOM, OK};
 use crate::fault::Fault;

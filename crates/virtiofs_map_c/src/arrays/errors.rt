@@ -4,7 +4,7 @@ ghost use Rattle.virtiofs_map.specs.Build.{build_fault_of};
 ghost use Rattle.virtiofs_map_c.specs.declared.arrays.errors.ArrayError.TheVariants.{Build};
 ghost use Rattle.virtiofs_map.specs.declared.soft_idmap.errors.IdMapBuildError.TheVariants.{OutOfMemory};
 
-use std::alloc::AllocFailed;
+use std::alloc::{AllocError, AllocFailed};
 use virtiofs_map::soft_idmap::IdMapBuildError;
 
 /// Why no map is made of an array: the first fault, or out of memory.
@@ -31,6 +31,14 @@ impl<T: Drop> From<AllocFailed<T>> for ArrayError {
     ghost from_gives = { λ _ r. r ≡ Build OutOfMemory };
 
     fn from(_error: AllocFailed<T>) -> ArrayError {
+        ArrayError::Build(IdMapBuildError::OutOfMemory)
+    }
+}
+
+impl From<AllocError> for ArrayError {
+    ghost from_gives = { λ _ r. r ≡ Build OutOfMemory };
+
+    fn from(_error: AllocError) -> ArrayError {
         ArrayError::Build(IdMapBuildError::OutOfMemory)
     }
 }

@@ -1,0 +1,177 @@
+//! Decisions about all ids that arrays of specifications map.
+ghost use Rattle.std.specs.Prelude.{◌≡◌, ◌↔◌, List, IsTrue, false};
+ghost use Rattle.virtiofs_map.specs.IdAudit.{IsAstray, ComesBack, IsShared, IsAlone, GoesInto, Between, ReachedBy, AreIdsApart};
+ghost use Rattle.virtiofs_map.specs.declared.cmdline.IdMap.{IdMap as Specification};
+ghost use Rattle.virtiofs_map_c.specs.Arrays.{AreSaid, ArrayFault, HasArrayFault};
+ghost use Rattle.virtiofs_map_c.specs.Codes.{ok};
+ghost use Rattle.virtiofs_map_c.specs.Faults.{no_fault};
+ghost use Rattle.virtiofs_map_c.specs.IdsFound.{TellsAudit, TellsReach, IsAstrayTold, IsSharedTold, IsReachTold, IsMeetingTold, HasPairFault, IsWritten};
+ghost use Rattle.virtiofs_map_c.specs.Makes.{TellsFault, MakesOrTells, TellsThis, IsArrayTold, IsAccepted};
+
+use super::decided::{alone, apart, come_back, reach};
+use super::found::IdsFound;
+use crate::arrays::{Spec, tell};
+use crate::codes::OK;
+use crate::fault::Fault;
+use std::alloc::Global;
+
+/// Writes what was found, and tells whether anything was.
+fn write(least: Option<IdsFound>, found: &mut IdsFound) -> bool
+    ensures { IsWritten least result found.old found.new }
+{
+    match least {
+        Some(it) => {
+            *found = it;
+            true
+        }
+        None => false,
+    }
+}
+
+/// Whether each id comes back: what it becomes on the host becomes that id again.
+#[unsafe(no_mangle)]
+pub extern "C" fn virtiofs_map_ids_come_back(
+    alloc: Global,
+    specs: &[Spec],
+    yes: &mut bool,
+    found: &mut IdsFound,
+    fault: &mut Fault,
+) -> u32
+    ensures accepted { result ≡ ok → IsAccepted specs.now }
+    ensures answer { (list : List Specification) → AreSaid specs.now list → result ≡ ok
+        → TellsAudit (IsAstray list) (IsAstrayTold list) yes.new found.old found.new }
+    ensures comes_back { (list : List Specification) → AreSaid specs.now list → result ≡ ok
+        → IsTrue yes.new ↔ ComesBack list }
+    ensures no_fault { result ≡ ok → fault.new ≡ no_fault }
+    ensures keeps { (¬ result ≡ ok) → (yes.new ≡ false) × (found.new ≡ found.old) }
+    ensures refused { (¬ result ≡ ok) →
+        TellsFault (HasArrayFault specs.now) (IsArrayTold result fault.new) }
+    ensures complete { IsAccepted specs.now
+        → MakesOrTells (result ≡ ok) (IsArrayTold result fault.new) }
+    ensures faulty { (wrong : ArrayFault) → HasArrayFault specs.now wrong
+        → TellsThis (IsArrayTold result fault.new) wrong }
+{
+    match come_back(alloc, specs) {
+        Ok(least) => {
+            *fault = Fault::none();
+            *yes = !write(least, found);
+            OK
+        }
+        Err(error) => {
+            *yes = false;
+            tell(&error, fault)
+        }
+    }
+}
+
+/// Whether each id has an id of the host of its own.
+#[unsafe(no_mangle)]
+pub extern "C" fn virtiofs_map_ids_alone(
+    alloc: Global,
+    specs: &[Spec],
+    yes: &mut bool,
+    found: &mut IdsFound,
+    fault: &mut Fault,
+) -> u32
+    ensures accepted { result ≡ ok → IsAccepted specs.now }
+    ensures answer { (list : List Specification) → AreSaid specs.now list → result ≡ ok
+        → TellsAudit (IsShared list) (IsSharedTold list) yes.new found.old found.new }
+    ensures alone { (list : List Specification) → AreSaid specs.now list → result ≡ ok
+        → IsTrue yes.new ↔ IsAlone list }
+    ensures no_fault { result ≡ ok → fault.new ≡ no_fault }
+    ensures keeps { (¬ result ≡ ok) → (yes.new ≡ false) × (found.new ≡ found.old) }
+    ensures refused { (¬ result ≡ ok) →
+        TellsFault (HasArrayFault specs.now) (IsArrayTold result fault.new) }
+    ensures complete { IsAccepted specs.now
+        → MakesOrTells (result ≡ ok) (IsArrayTold result fault.new) }
+    ensures faulty { (wrong : ArrayFault) → HasArrayFault specs.now wrong
+        → TellsThis (IsArrayTold result fault.new) wrong }
+{
+    match alone(alloc, specs) {
+        Ok(least) => {
+            *fault = Fault::none();
+            *yes = !write(least, found);
+            OK
+        }
+        Err(error) => {
+            *yes = false;
+            tell(&error, fault)
+        }
+    }
+}
+
+/// Whether some id becomes an id of the host from `first` to `last`.
+#[unsafe(no_mangle)]
+pub extern "C" fn virtiofs_map_ids_reach(
+    alloc: Global,
+    specs: &[Spec],
+    first: u32,
+    last: u32,
+    yes: &mut bool,
+    found: &mut IdsFound,
+    fault: &mut Fault,
+) -> u32
+    ensures accepted { result ≡ ok → IsAccepted specs.now }
+    ensures answer { (list : List Specification) → AreSaid specs.now list → result ≡ ok
+        → TellsReach (GoesInto list (Between first last)) (IsReachTold list)
+        yes.new found.old found.new }
+    ensures no_fault { result ≡ ok → fault.new ≡ no_fault }
+    ensures keeps { (¬ result ≡ ok) → (yes.new ≡ false) × (found.new ≡ found.old) }
+    ensures refused { (¬ result ≡ ok) →
+        TellsFault (HasArrayFault specs.now) (IsArrayTold result fault.new) }
+    ensures complete { IsAccepted specs.now
+        → MakesOrTells (result ≡ ok) (IsArrayTold result fault.new) }
+    ensures faulty { (wrong : ArrayFault) → HasArrayFault specs.now wrong
+        → TellsThis (IsArrayTold result fault.new) wrong }
+{
+    match reach(alloc, specs, first, last) {
+        Ok(least) => {
+            *fault = Fault::none();
+            *yes = write(least, found);
+            OK
+        }
+        Err(error) => {
+            *yes = false;
+            tell(&error, fault)
+        }
+    }
+}
+
+/// Whether no id of the host is reached by both guests.
+#[unsafe(no_mangle)]
+pub extern "C" fn virtiofs_map_ids_apart(
+    alloc: Global,
+    specs: &[Spec],
+    others: &[Spec],
+    yes: &mut bool,
+    found: &mut IdsFound,
+    fault: &mut Fault,
+) -> u32
+    ensures accepted { result ≡ ok → IsAccepted specs.now × IsAccepted others.now }
+    ensures answer { (list other : List Specification) → AreSaid specs.now list
+        → AreSaid others.now other → result ≡ ok
+        → TellsAudit (GoesInto list (ReachedBy other)) (IsMeetingTold list other)
+        yes.new found.old found.new }
+    ensures apart { (list other : List Specification) → AreSaid specs.now list
+        → AreSaid others.now other → result ≡ ok → IsTrue yes.new ↔ AreIdsApart list other }
+    ensures no_fault { result ≡ ok → fault.new ≡ no_fault }
+    ensures keeps { (¬ result ≡ ok) → (yes.new ≡ false) × (found.new ≡ found.old) }
+    ensures refused { (¬ result ≡ ok) →
+        TellsFault (HasPairFault specs.now others.now) (IsArrayTold result fault.new) }
+    ensures complete { IsAccepted specs.now → IsAccepted others.now
+        → MakesOrTells (result ≡ ok) (IsArrayTold result fault.new) }
+    ensures faulty { (wrong : ArrayFault) → HasPairFault specs.now others.now wrong
+        → TellsThis (IsArrayTold result fault.new) wrong }
+{
+    match apart(alloc, specs, others) {
+        Ok(least) => {
+            *fault = Fault::none();
+            *yes = !write(least, found);
+            OK
+        }
+        Err(error) => {
+            *yes = false;
+            tell(&error, fault)
+        }
+    }
+}
