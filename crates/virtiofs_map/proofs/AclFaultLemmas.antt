@@ -1,5 +1,5 @@
 -- The first fault of a list: it is one, and a list that goes across has none.
-use Rattle.std.proofs.Common.{◌≡◌, ◌⊎◌, inl, inr, ℕ, ◌≤◌, List, Err, refl, sym, ap, ◌∙◌, subst, arith}
+use Rattle.std.proofs.Common.{◌≡◌, ◌⊎◌, inl, inr, ℕ, ◌≤◌, List, refl, sym, ap, ◌∙◌, subst, arith}
 use Rattle.std.proofs.lemmas.Bool.{cases_order}
 use Rattle.virtiofs_map.proofs.AclMergeLemmas.{Accepted-for}
 use Rattle.virtiofs_map.proofs.MappingLawLemmas.{Becomes-forbidden}

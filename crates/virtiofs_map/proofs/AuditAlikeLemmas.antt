@@ -142,6 +142,65 @@ stood [] x xs l u = record {
 }
 stood (t ∷ patterns) x xs l u = one_more t patterns (patterns ++ one_byte_names) (x ∷ xs) (stood patterns x xs l u)
 
+-- of names that begin with these bytes, each that is not empty has one that stands for it and begins with them too
+pub record StoodWithin (beginning : List ℕ) (patterns tried : List (List ℕ)) (name : List ℕ) : Type 0 where
+  pub by : List ℕ
+  pub stands : Stands patterns tried name by
+  pub front : begins beginning by ≡ true
+
+abbrev pub Cover : List ℕ → List (List ℕ) → List (List ℕ) → Type 0
+Cover beginning patterns tried =
+    (x : ℕ) (xs : List ℕ) → 0 < x → x < 256 → begins beginning (x ∷ xs) ≡ true
+    → StoodWithin beginning patterns tried (x ∷ xs)
+
+pub cover_all : (patterns : List (List ℕ)) → Cover [] patterns (patterns ++ one_byte_names)
+cover_all patterns x xs l u b =
+    let found = stood patterns x xs l u in
+    record { by = found.by; stands = found.stands; front = refl }
+
+-- what stands for the name and is as long as these bytes begins with them
+longer_stands : (beginning : List ℕ) (patterns tried : List (List ℕ)) (name c : List ℕ) → Stands patterns tried name c
+    → begins beginning name ≡ true → length beginning ≤ length c → StoodWithin beginning patterns
+    (beginning ∷ tried) name
+longer_stands beginning patterns tried name c stands b l = record {
+  by = c;
+  stands = record {
+    not_empty = stands.not_empty;
+    is_front = stands.is_front;
+    met = stands.met;
+    is_tried = inr stands.is_tried;
+  };
+  front = shorter_begins beginning c name b stands.is_front l;
+}
+
+-- where it is shorter, the bytes stand for the name in its place
+bytes_stand : (beginning : List ℕ) (patterns tried : List (List ℕ)) (name c : List ℕ) → Stands patterns tried name c
+    → begins beginning name ≡ true → length c < length beginning → StoodWithin beginning patterns
+    (beginning ∷ tried) name
+bytes_stand beginning patterns tried name c stands b l = record {
+  by = beginning;
+  stands = record {
+    not_empty = λ none. let e = ap length none in absurd (omega arith);
+    is_front = b;
+    met = all_weaker (Meets name c) (Meets name beginning)
+        (λ t met k. begins_trans t c beginning (met k) (shorter_begins c beginning name stands.is_front b (omega arith)))
+        patterns stands.met;
+    is_tried = inl refl;
+  };
+  front = shorter_begins beginning beginning name b b (omega arith);
+}
+
+pub cover_within : (beginning : List ℕ) (patterns : List (List ℕ))
+    → Cover beginning patterns (beginning ∷ patterns ++ one_byte_names)
+cover_within beginning patterns x xs l u b =
+    let found = stood patterns x xs l u in
+    elim (cases_lt (length found.by) (length beginning)) [
+      | inl shorter ↦ bytes_stand beginning patterns (patterns ++ one_byte_names)
+          (x ∷ xs) found.by found.stands b shorter
+      | inr longer ↦ longer_stands beginning patterns (patterns ++ one_byte_names)
+          (x ∷ xs) found.by found.stands b longer
+    ]
+
 -- ---- a rule that fits a name fits what begins with that name
 
 pub fits_more : (side : Side) (front name : List ℕ) → begins front name ≡ true → (rule : MappingRule) → fits side front rule ≡ true → fits side name rule ≡ true

@@ -1,16 +1,17 @@
 -- The least bad name of those tried is the least of all, where each bad name has a bad front that is tried.
-use Rattle.std.proofs.Common.{◌≡◌, ◌↔◌, ℕ, ◌≤◌, Bool, true, false, ◌&&◌, cond, List, [], ◌∷◌, ◌++◌, length, Option, Some, None, inl, inr, refl, sym, ap, ◌∙◌, subst, arith}
+use Rattle.std.proofs.Common.{◌≡◌, ◌↔◌, ℕ, ◌≤◌, Bool, true, false, ◌&&◌, cond, List, [], ◌∷◌, ◌++◌, length, Option, Some, None, Result, Ok, Err, inl, inr, refl, sym, ap, ◌∙◌, subst, arith}
 use Rattle.std.specs.Cmp.Lexicographic.{slice_cmp}
 use Rattle.std.specs.List.{All, AllByRecursion}
 use Rattle.std.specs.Option.{option_to_list}
 use Rattle.std.specs.Ordering.{nat_cmp, is_lt, ordering_then}
+use Rattle.std.specs.Result.{IfOk, OnOk}
 use Rattle.std.specs.declared.cmp.Ordering.{Ordering}
 use Rattle.std.specs.declared.cmp.Ordering.TheVariants.{Less, Equal, Greater}
 use Rattle.std.proofs.lemmas.Bool.{and_parts, cases_Bool, cond_both, false≢true, true≢false}
 use Rattle.std.proofs.lemmas.Cmp.{nat_list_cmp_total, tied_itself}
 use Rattle.std.proofs.lemmas.List.Elements.{All-head}
-use Rattle.virtiofs_map.specs.Audit.{IsBefore, AnswersLeast}
-use Rattle.virtiofs_map.specs.AuditParts.{TriedSoFar, none_tried, is_first, try_one, after, told}
+use Rattle.virtiofs_map.specs.Audit.{IsBefore, AnswersLeast, Within}
+use Rattle.virtiofs_map.specs.AuditParts.{TriedSoFar, none_tried, within, is_first, try_one, after, told, FindsLeast}
 use Rattle.virtiofs_map.specs.MapRule.{IsName}
 use Rattle.virtiofs_map.specs.Names.{begins}
 use Rattle.virtiofs_map.specs.Steps.{count_after}
@@ -126,6 +127,18 @@ pub record Decide (Bad : List ℕ → Type 0) (bad : List ℕ → Bool) (tried :
   pub only : (name : List ℕ) → IsName name → bad name ≡ true → Bad name
   pub fronts : (name : List ℕ) → Bad name → HasBadFront bad tried name
 
+-- the same of names that begin with these bytes
+pub decide_within : (beginning : List ℕ) (Bad : List ℕ → Type 0) (test : List ℕ → Bool) (tried : List (List ℕ))
+    → ((name : List ℕ) → IsName name → test name ≡ true → Bad name)
+    → ((name : List ℕ) → Bad name → begins beginning name ≡ true → HasBadFront (within beginning test) tried name)
+    → Decide (Within beginning Bad) (within beginning test) tried
+decide_within beginning Bad test tried only fronts = record {
+  only = λ name is e.
+      (let parts = and_parts (begins beginning name) (test name) e in
+      record { is_bad = only name is parts.1; front = parts.0 });
+  fronts = λ name bad. fronts name bad.is_bad bad.front;
+}
+
 handled_name : (bad : List ℕ → Bool) (tried : List (List ℕ)) (name : List ℕ) → HasBadFront bad tried name → (found : List ℕ) × ((after bad none_tried tried).least ≡ Some found) × (¬ IsBefore name found)
 handled_name bad tried name front =
     let least = (after bad none_tried tried).least in
@@ -149,10 +162,34 @@ pub found_least : {A : Type 0} (Bad : List ℕ → Type 0) (bad : List ℕ → B
 found_least Bad bad tried answer end decide is e named =
     answers_least Bad bad tried answer decide (e ∙ ap (λ t. t.least) is) (subst (λ o. All IsName (option_to_list o)) (sym e) named)
 
+pub finds_least : {A : Type 0} (Bad : List ℕ → Type 0) (bad : List ℕ → Bool) (tried : List (List ℕ))
+    → Decide Bad bad tried → (answer : Audit A) → FindsLeast bad tried answer → AnswersLeast Bad answer
+finds_least Bad bad tried decide answer finds = answers_least Bad bad tried answer decide finds.found finds.is_name
+
 -- Yes where no name is bad, and only there
 pub yes_where_none : {A : Type 0} (Bad : List ℕ → Type 0) (Holds : Type 0) (answer : Audit A) → AnswersLeast Bad answer → (((name : List ℕ) → ¬ Bad name) → Holds) → (Holds → (name : List ℕ) → ¬ Bad name) → (answer ≡ Yes) ↔ Holds
 yes_where_none Bad Holds Yes least to from = (λ _. to least, λ _. refl)
 yes_where_none Bad Holds (No name) least to from = (λ e. absurd (cc), λ holds. absurd (from holds name least.is_bad))
+
+-- all names begin with no bytes
+pub answers_all : {A : Type 0} (Bad : List ℕ → Type 0) (answer : Audit A) → AnswersLeast (Within [] Bad) answer
+    → AnswersLeast Bad answer
+answers_all Bad Yes none = λ name is. none name (record { is_bad = is; front = refl })
+answers_all Bad (No name) least = record {
+  is_bad = least.is_bad.is_bad;
+  none_before = λ other is before. least.none_before other (record { is_bad = is; front = refl }) before;
+}
+
+-- the same of a call that may run out of memory
+pub if_ok_weaker : {X Y : Type 0} (r : Result X Y) (P Q : X → Type 0) → ((x : X) → P x → Q x) → IfOk r P → IfOk r Q
+if_ok_weaker (Ok x) P Q f p = f x p
+if_ok_weaker (Err e) P Q f p = tt
+
+-- and with what holds where it did not
+pub if_ok_given : {X Y : Type 0} (r : Result X Y) (G : Type 0) (P Q : X → Type 0) → OnOk r G
+    → (G → (x : X) → P x → Q x) → IfOk r P → IfOk r Q
+if_ok_given (Ok x) G P Q given f p = f given x p
+if_ok_given (Err e) G P Q given f p = tt
 
 -- ---- the count
 

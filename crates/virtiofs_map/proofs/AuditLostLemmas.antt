@@ -2,18 +2,18 @@
 use Rattle.std.proofs.Common.{◌≡◌, ◌≢◌, ℕ, ◌<◌, Bool, true, false, not, List, [], ◌∷◌, ◌++◌, length, drop, Option, Some, None, inl, inr, refl, sym, ap, ◌∙◌, subst, arith}
 use Rattle.std.specs.List.{All}
 use Rattle.std.specs.Option.{option_map_or, option_and_then}
-use Rattle.std.proofs.lemmas.Bool.{and_parts, cases_Bool, false≢true, true≢false, not-true, not_from_false, eqb-true, eq-eqb, ne_eqb, false_from_ne_true}
+use Rattle.std.proofs.lemmas.Bool.{and_parts, and_from, cases_Bool, false≢true, true≢false, not-true, not_from_false, eqb-true, eq-eqb, ne_eqb, false_from_ne_true}
 use Rattle.std.proofs.lemmas.List.{length-append, length-drop, drop_at}
 use Rattle.std.proofs.lemmas.List.Elements.{All-append, All-head}
-use Rattle.virtiofs_map.specs.Audit.{Sound, IsLost}
-use Rattle.virtiofs_map.specs.AuditParts.{front_of, front, some_byte, cuts, is_lost, guest_names, one_byte_names}
+use Rattle.virtiofs_map.specs.Audit.{Within, Sound, IsLost}
+use Rattle.virtiofs_map.specs.AuditParts.{front_of, front, some_byte, cuts, is_lost, within, guest_names}
 use Rattle.virtiofs_map.specs.MapRule.{IsName}
-use Rattle.virtiofs_map.specs.Names.{HostAnswer, IsListed, IsHidden, IsUndecided, host_answer, server_answer, ListsBack}
+use Rattle.virtiofs_map.specs.Names.{begins, HostAnswer, IsListed, IsHidden, IsUndecided, host_answer, server_answer, ListsBack}
 use Rattle.virtiofs_map.specs.Rule.{MappingRule, HasNoZero}
 use Rattle.virtiofs_map.specs.declared.xattrmap.scopes.Side.TheVariants.{Client, Server}
-use Rattle.virtiofs_map.proofs.AuditAlikeLemmas.{stood, FareAlike, fare_alike, server_alike}
+use Rattle.virtiofs_map.proofs.AuditAlikeLemmas.{Cover, FareAlike, fare_alike, server_alike}
 use Rattle.virtiofs_map.proofs.AuditFrontLemmas.{passes_front, front_passes, listed_front, front_listed, answer_to_one, server_one, front_no_zero}
-use Rattle.virtiofs_map.proofs.AuditLeastLemmas.{Decide, HasBadFront}
+use Rattle.virtiofs_map.proofs.AuditLeastLemmas.{Decide, HasBadFront, decide_within}
 use Rattle.virtiofs_map.proofs.MapRuleLemmas.{not_zero_name}
 use Rattle.virtiofs_map.proofs.NoZeroLemmas.{IsNotZero}
 
@@ -123,25 +123,31 @@ lost_alike rules name c added some other alike e =
     let same = server_alike rules (added ++ name) (added ++ c) (alike.hosts added e) in
     lost_at rules c added other at ∙ ap (λ o. not (cuts added (option_and_then front_of o))) (sym same) ∙ sym (lost_at rules name added some e)
 
-lost_front_tried : (rules : List MappingRule) → All HasNoZero rules → (name : List ℕ) → IsLost rules name → HasBadFront (is_lost rules) (guest_names Server rules rules ++ one_byte_names) name
-lost_front_tried rules no_zero [] lost = absurd (lost.not_empty refl)
-lost_front_tried rules no_zero (x ∷ xs) lost =
+lost_front_tried : (rules : List MappingRule) → All HasNoZero rules → (beginning : List ℕ) (tried : List (List ℕ))
+    → Cover beginning (guest_names Server rules rules) tried
+    → (name : List ℕ) → IsLost rules name → begins beginning name ≡ true
+    → HasBadFront (within beginning (is_lost rules)) tried name
+lost_front_tried rules no_zero beginning tried cover [] lost b = absurd (lost.not_empty refl)
+lost_front_tried rules no_zero beginning tried cover (x ∷ xs) lost b =
     let bounds = All-head (λ byte. (0 < byte) × (byte < 256)) x xs lost.is_name in
-    let found = stood (guest_names Server rules rules) x xs bounds.0 bounds.1 in
+    let found = cover x xs bounds.0 bounds.1 b in
     let by = passes_front rules (x ∷ xs) lost.host lost.passes in
-    let alike = fare_alike Server rules rules (guest_names Server rules rules ++ one_byte_names) (x ∷ xs) found.by found.stands in
+    let alike = fare_alike Server rules rules tried (x ∷ xs) found.by found.stands in
     record {
       by = found.by;
       is_front = found.stands.is_front;
-      is_bad = lost_alike rules (x ∷ xs) found.by by.added lost.not_empty found.stands.not_empty alike by.is ∙ lost_test rules no_zero (x ∷ xs) lost;
+      is_bad = and_from (begins beginning found.by) (is_lost rules found.by) found.front
+          (lost_alike rules (x ∷ xs) found.by by.added lost.not_empty found.stands.not_empty alike by.is
+          ∙ lost_test rules no_zero (x ∷ xs) lost);
       is_tried = found.stands.is_tried;
     }
 
-pub lost_decide : (rules : List MappingRule) → All HasNoZero rules → Decide (IsLost rules) (is_lost rules) (guest_names Server rules rules ++ one_byte_names)
-lost_decide rules no_zero = record {
-  only = test_lost rules no_zero;
-  fronts = lost_front_tried rules no_zero;
-}
+pub lost_decide : (rules : List MappingRule) → All HasNoZero rules → (beginning : List ℕ) (tried : List (List ℕ))
+    → Cover beginning (guest_names Server rules rules) tried → Decide (Within beginning (IsLost rules))
+    (within beginning (is_lost rules)) tried
+lost_decide rules no_zero beginning tried cover =
+    decide_within beginning (IsLost rules) (is_lost rules) tried (test_lost rules no_zero)
+    (lost_front_tried rules no_zero beginning tried cover)
 
 -- ---- sound
 

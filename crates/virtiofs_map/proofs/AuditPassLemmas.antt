@@ -1,18 +1,19 @@
 -- Names that pass as a host name, not empty, of which a test holds: what the test of names says of them, and that the names tried decide.
-use Rattle.std.proofs.Common.{◌≡◌, zero, suc, ◌≢◌, ℕ, ◌<◌, Bool, true, false, ◌&&◌, ltb, List, [], ◌∷◌, ◌++◌, length, drop, Option, Some, None, inr, inl, refl, sym, ap, ◌∙◌, subst, arith}
+use Rattle.std.proofs.Common.{◌≡◌, zero, suc, ◌≢◌, ℕ, ◌<◌, Bool, true, false, ◌&&◌, ltb, List, [], ◌∷◌, ◌++◌, length, drop, Option, Some, None, inl, refl, sym, ap, ◌∙◌, subst, arith}
 use Rattle.std.specs.List.{All, AllByRecursion}
 use Rattle.std.specs.Option.{option_map_or, option_and_then}
 use Rattle.std.proofs.lemmas.Bool.{and_parts, and_from, false≢true, lt-ltb, ltb-true}
 use Rattle.std.proofs.lemmas.List.{append_assoc}
 use Rattle.std.proofs.lemmas.List.Elements.{All-head, All-tail, All-nil, All-cons}
-use Rattle.virtiofs_map.specs.AuditParts.{front_of, front, some_byte, all_bytes, passes_where, guest_names, one_byte_names}
+use Rattle.virtiofs_map.specs.Audit.{Within}
+use Rattle.virtiofs_map.specs.AuditParts.{front_of, front, some_byte, all_bytes, passes_where, within, guest_names, one_byte_names}
 use Rattle.virtiofs_map.specs.MapRule.{IsName}
 use Rattle.virtiofs_map.specs.Names.{begins}
 use Rattle.virtiofs_map.specs.Rule.{MappingRule, HasNoZero}
 use Rattle.virtiofs_map.specs.declared.xattrmap.scopes.Side.{Side}
 use Rattle.virtiofs_map.specs.declared.xattrmap.scopes.Side.TheVariants.{Client}
-use Rattle.virtiofs_map.proofs.AuditAlikeLemmas.{stood, BeginsBoth, fare_alike, begins-append_both}
-use Rattle.virtiofs_map.proofs.AuditLeastLemmas.{Decide, HasBadFront}
+use Rattle.virtiofs_map.proofs.AuditAlikeLemmas.{cover_within, BeginsBoth, fare_alike, begins-append_both}
+use Rattle.virtiofs_map.proofs.AuditLeastLemmas.{Decide, HasBadFront, decide_within}
 use Rattle.virtiofs_map.proofs.AuditLostLemmas.{some_byte_from, some_byte_is, host_no_zero, host_not_empty}
 use Rattle.virtiofs_map.proofs.BeginsLemmas.{begins_split}
 use Rattle.virtiofs_map.proofs.NoZeroLemmas.{IsNotZero}
@@ -100,30 +101,40 @@ longer_front added c name f bytes =
     let split = ap (λ n. added ++ n) (begins_split c name f) ∙ sym (append_assoc added c (drop (length c) name)) in
     all_bytes_front (added ++ c) (drop (length c) name) (subst (λ n. all_bytes n ≡ true) split bytes)
 
-pub front_tried : (test : List ℕ → Bool) (side : Side) (rules others : List MappingRule) → HoldsOfFronts test side others → (name : List ℕ) → IsName name → PassesWhere test rules name → HasBadFront (passes_where test rules) ([] ∷ guest_names side others rules ++ one_byte_names) name
-front_tried test side rules others holds [] is passes = record {
+-- only no bytes begin the empty name
+pub begins_none : (p : List ℕ) → begins p [] ≡ true → [] ≡ p
+begins_none [] b = refl
+begins_none (x ∷ p) b = absurd (false≢true b)
+
+pub front_tried : (test : List ℕ → Bool) (side : Side) (rules others : List MappingRule)
+    → HoldsOfFronts test side others → (beginning name : List ℕ) → IsName name → PassesWhere test rules name
+    → begins beginning name ≡ true
+    → HasBadFront (within beginning (passes_where test rules)) (beginning ∷ guest_names side others rules ++ one_byte_names) name
+front_tried test side rules others holds beginning [] is passes b = record {
   by = [];
   is_front = refl;
-  is_bad = where_test test rules [] passes;
-  is_tried = inl refl;
+  is_bad = and_from (begins beginning []) (passes_where test rules []) b (where_test test rules [] passes);
+  is_tried = inl (begins_none beginning b);
 }
-front_tried test side rules others holds (x ∷ xs) is passes =
+front_tried test side rules others holds beginning (x ∷ xs) is passes b =
     let bounds = All-head IsByteOfName x xs is in
-    let found = stood (guest_names side others rules) x xs bounds.0 bounds.1 in
-    let alike = fare_alike side rules others (guest_names side others rules ++ one_byte_names) (x ∷ xs) found.by found.stands in
+    let found = cover_within beginning (guest_names side others rules) x xs bounds.0 bounds.1 b in
+    let alike = fare_alike side rules others (beginning ∷ guest_names side others rules ++ one_byte_names)
+    (x ∷ xs) found.by found.stands in
     let front = found.stands.is_front in
     let hosts : begins (passes.added ++ found.by) (passes.added ++ x ∷ xs) ≡ true = begins-append_both passes.added found.by (x ∷ xs) ∙ front in
     record {
       by = found.by;
       is_front = front;
-      is_bad = where_test test rules found.by (record {
-        added = passes.added;
-        is = ap (option_and_then front_of) (sym alike.client) ∙ passes.is;
-        some = host_not_empty passes.added found.by found.stands.not_empty;
-        bytes = longer_front passes.added found.by (x ∷ xs) front passes.bytes;
-        holds = holds (passes.added ++ x ∷ xs) (passes.added ++ found.by) hosts (alike.hosts passes.added passes.is) passes.holds;
-      });
-      is_tried = inr found.stands.is_tried;
+      is_bad = and_from (begins beginning found.by) (passes_where test rules found.by) found.front
+          (where_test test rules found.by (record {
+            added = passes.added;
+            is = ap (option_and_then front_of) (sym alike.client) ∙ passes.is;
+            some = host_not_empty passes.added found.by found.stands.not_empty;
+            bytes = longer_front passes.added found.by (x ∷ xs) front passes.bytes;
+            holds = holds (passes.added ++ x ∷ xs) (passes.added ++ found.by) hosts (alike.hosts passes.added passes.is) passes.holds;
+          }));
+      is_tried = found.stands.is_tried;
     }
 
 -- bad names are those that pass so
@@ -131,8 +142,12 @@ pub record AreThose (Bad : List ℕ → Type 0) (test : List ℕ → Bool) (rule
   pub only : (name : List ℕ) → IsName name → PassesWhere test rules name → Bad name
   pub all : (name : List ℕ) → Bad name → IsName name × PassesWhere test rules name
 
-pub where_decide : (Bad : List ℕ → Type 0) (test : List ℕ → Bool) (side : Side) (rules others : List MappingRule) → AreThose Bad test rules → HoldsOfFronts test side others → Decide Bad (passes_where test rules) ([] ∷ guest_names side others rules ++ one_byte_names)
-where_decide Bad test side rules others those holds = record {
-  only = λ name is e. those.only name is (test_where test rules name e);
-  fronts = λ name bad. (let (is, passes) = those.all name bad in front_tried test side rules others holds name is passes);
-}
+pub where_decide : (Bad : List ℕ → Type 0) (test : List ℕ → Bool) (side : Side) (rules others : List MappingRule)
+    → AreThose Bad test rules → HoldsOfFronts test side others → (beginning : List ℕ) → Decide (Within beginning Bad)
+    (within beginning (passes_where test rules)) (beginning ∷ guest_names side others rules ++ one_byte_names)
+where_decide Bad test side rules others those holds beginning =
+    decide_within beginning Bad (passes_where test rules)
+    (beginning ∷ guest_names side others rules ++ one_byte_names)
+    (λ name is e. those.only name is (test_where test rules name e))
+    (λ name bad. (let (is, passes) = those.all name bad in front_tried test side rules others holds beginning name is
+    passes))

@@ -6,8 +6,8 @@ use Rattle.std.proofs.lemmas.Bool.{cases_Bool, true≢false, not-true, not_from_
 use Rattle.std.proofs.lemmas.List.{length-append}
 use Rattle.std.proofs.lemmas.List.Elements.{All-nil, All-cons, All-append, All-weaker}
 use Rattle.std.proofs.lemmas.List.Splits.{slice_split_at}
-use Rattle.virtiofs_map.specs.Audit.{Reached, Apart, IsSeen, Leaves, IsList, Isolated}
-use Rattle.virtiofs_map.specs.AuditParts.{front_of, is_hidden, is_seen, guest_names, one_byte_names}
+use Rattle.virtiofs_map.specs.Audit.{Within, Reached, Apart, IsSeen, Leaves, IsList, Isolated}
+use Rattle.virtiofs_map.specs.AuditParts.{front_of, is_hidden, is_seen, within, guest_names, one_byte_names}
 use Rattle.virtiofs_map.specs.MapRule.{IsName}
 use Rattle.virtiofs_map.specs.Names.{HostAnswer, IsListed, IsHidden, IsUndecided, host_answer, is_decided, listed_name, names, as_list, server_answer}
 use Rattle.virtiofs_map.specs.Rule.{MappingRule, HasNoZero}
@@ -55,7 +55,9 @@ shown_of_fronts : (others : List MappingRule) → HoldsOfFronts (is_shown others
 shown_of_fronts others host other front both shown =
     ap (λ o. not (option_map_or (λ rule. is_none (front_of rule)) o false)) (sym (server_alike others host other both)) ∙ shown
 
-pub seen_decide : (rules others : List MappingRule) → All HasNoZero rules → Decide (IsSeen rules others) (is_seen rules others) ([] ∷ guest_names Server others rules ++ one_byte_names)
+pub seen_decide : (rules others : List MappingRule) → All HasNoZero rules → (beginning : List ℕ)
+    → Decide (Within beginning (IsSeen rules others)) (within beginning (is_seen rules others))
+    (beginning ∷ guest_names Server others rules ++ one_byte_names)
 seen_decide rules others no_zero =
     where_decide (IsSeen rules others) (is_shown others) Server rules others (those_seen rules others no_zero) (shown_of_fronts others)
 

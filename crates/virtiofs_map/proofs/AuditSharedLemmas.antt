@@ -5,8 +5,8 @@ use Rattle.std.specs.Option.{option_map, option_map_or, option_and_then}
 use Rattle.std.proofs.lemmas.Bool.{and_parts, and_from, cases_Bool, cond_both, false≢true}
 use Rattle.std.proofs.lemmas.List.{append_assoc, drop_at}
 use Rattle.std.proofs.lemmas.List.Elements.{All-drop}
-use Rattle.virtiofs_map.specs.Audit.{Reached, SharesNoName, IsShared}
-use Rattle.virtiofs_map.specs.AuditParts.{front_of, front, adds, passes_as, is_reached, is_shared, guest_names, one_byte_names}
+use Rattle.virtiofs_map.specs.Audit.{Within, Reached, SharesNoName, IsShared}
+use Rattle.virtiofs_map.specs.AuditParts.{front_of, front, adds, passes_as, is_reached, is_shared, within, guest_names, one_byte_names}
 use Rattle.virtiofs_map.specs.MapRule.{IsName}
 use Rattle.virtiofs_map.specs.Names.{begins, fits, deciding, Passes}
 use Rattle.virtiofs_map.specs.Rule.{MappingRule, HasNoZero}
@@ -179,7 +179,9 @@ reached_of_fronts : (others : List MappingRule) → HoldsOfFronts (is_reached ot
 reached_of_fronts others host other front both holds =
     leads_test others other (leads_front others host other front both (test_leads others host holds))
 
-pub shared_decide : (rules others : List MappingRule) → All HasNoZero rules → Decide (IsShared rules others) (is_shared rules others) ([] ∷ guest_names Client others rules ++ one_byte_names)
+pub shared_decide : (rules others : List MappingRule) → All HasNoZero rules → (beginning : List ℕ)
+    → Decide (Within beginning (IsShared rules others)) (within beginning (is_shared rules others))
+    (beginning ∷ guest_names Client others rules ++ one_byte_names)
 shared_decide rules others no_zero =
     where_decide (IsShared rules others) (is_reached others) Client rules others (those_shared rules others no_zero) (reached_of_fronts others)
 

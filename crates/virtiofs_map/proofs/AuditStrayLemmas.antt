@@ -3,18 +3,18 @@ use Rattle.std.proofs.Common.{◌≡◌, ◌≢◌, ℕ, ◌<◌, ◌≤◌, Boo
 use Rattle.std.specs.Bool.{nat_eq}
 use Rattle.std.specs.Cmp.Lexicographic.{pointwise}
 use Rattle.std.specs.Option.{option_map_or, option_and_then}
-use Rattle.std.proofs.lemmas.Bool.{and_parts, cases_Bool, false≢true, true≢false, not-true, not_from_false, false_from_ne_true, eq-eqb, eqb-true}
+use Rattle.std.proofs.lemmas.Bool.{and_parts, and_from, cases_Bool, false≢true, true≢false, not-true, not_from_false, false_from_ne_true, eq-eqb, eqb-true}
 use Rattle.std.proofs.lemmas.List.{length-append}
 use Rattle.std.proofs.lemmas.List.Elements.{All-head}
-use Rattle.virtiofs_map.specs.Audit.{OpensListed, IsStray}
-use Rattle.virtiofs_map.specs.AuditParts.{front_of, front, some_byte, adds, is_stray, host_names, one_byte_names}
+use Rattle.virtiofs_map.specs.Audit.{Within, OpensListed, IsStray}
+use Rattle.virtiofs_map.specs.AuditParts.{front_of, front, some_byte, adds, is_stray, within, host_names, one_byte_names}
 use Rattle.virtiofs_map.specs.MapRule.{IsName}
-use Rattle.virtiofs_map.specs.Names.{Passes, client_answer}
+use Rattle.virtiofs_map.specs.Names.{begins, Passes, client_answer}
 use Rattle.virtiofs_map.specs.Rule.{MappingRule}
 use Rattle.virtiofs_map.specs.declared.xattrmap.scopes.Side.TheVariants.{Client, Server}
-use Rattle.virtiofs_map.proofs.AuditAlikeLemmas.{stood, ListedAlike, listed_alike}
+use Rattle.virtiofs_map.proofs.AuditAlikeLemmas.{cover_within, ListedAlike, listed_alike}
 use Rattle.virtiofs_map.proofs.AuditFrontLemmas.{passes_front, front_passes, listed_front, front_listed, front_begins}
-use Rattle.virtiofs_map.proofs.AuditLeastLemmas.{Decide, HasBadFront}
+use Rattle.virtiofs_map.proofs.AuditLeastLemmas.{Decide, HasBadFront, decide_within}
 use Rattle.virtiofs_map.proofs.AuditLostLemmas.{some_byte_from, some_byte_is}
 use Rattle.virtiofs_map.proofs.BeginsLemmas.{begins_split, begins_length}
 
@@ -118,25 +118,31 @@ stray_alike rules host c cut some other alike e =
     let same = alike.client cut (drop (length cut) host) (drop (length cut) c) e split parted in
     stray_at rules c cut other at ∙ ap (λ o. not (adds cut (option_and_then front_of o))) (sym same) ∙ sym (stray_at rules host cut some e)
 
-stray_front_tried : (rules : List MappingRule) (host : List ℕ) → IsStray rules host → HasBadFront (is_stray rules) (host_names rules rules ++ one_byte_names) host
-stray_front_tried rules [] stray = absurd (stray.not_empty refl)
-stray_front_tried rules (x ∷ xs) stray =
+stray_front_tried : (rules : List MappingRule) (beginning host : List ℕ) → IsStray rules host
+    → begins beginning host ≡ true → HasBadFront (within beginning (is_stray rules))
+    (beginning ∷ host_names rules rules ++ one_byte_names) host
+stray_front_tried rules beginning [] stray b = absurd (stray.not_empty refl)
+stray_front_tried rules beginning (x ∷ xs) stray b =
     let bounds = All-head (λ byte. (0 < byte) × (byte < 256)) x xs stray.is_name in
-    let found = stood (host_names rules rules) x xs bounds.0 bounds.1 in
+    let found = cover_within beginning (host_names rules rules) x xs bounds.0 bounds.1 b in
     let by = listed_front rules (x ∷ xs) stray.name stray.listed in
-    let alike = listed_alike rules rules (host_names rules rules ++ one_byte_names) (x ∷ xs) found.by found.stands in
+    let alike = listed_alike rules rules (beginning ∷ host_names rules rules ++ one_byte_names)
+    (x ∷ xs) found.by found.stands in
     record {
       by = found.by;
       is_front = found.stands.is_front;
-      is_bad = stray_alike rules (x ∷ xs) found.by by.cut stray.not_empty found.stands.not_empty alike by.is ∙ stray_test rules (x ∷ xs) stray;
+      is_bad = and_from (begins beginning found.by) (is_stray rules found.by) found.front
+          (stray_alike rules (x ∷ xs) found.by by.cut stray.not_empty found.stands.not_empty alike by.is
+          ∙ stray_test rules (x ∷ xs) stray);
       is_tried = found.stands.is_tried;
     }
 
-pub stray_decide : (rules : List MappingRule) → Decide (IsStray rules) (is_stray rules) (host_names rules rules ++ one_byte_names)
-stray_decide rules = record {
-  only = test_stray rules;
-  fronts = stray_front_tried rules;
-}
+pub stray_decide : (rules : List MappingRule) (beginning : List ℕ)
+    → Decide (Within beginning (IsStray rules)) (within beginning (is_stray rules))
+    (beginning ∷ host_names rules rules ++ one_byte_names)
+stray_decide rules beginning =
+    decide_within beginning (IsStray rules) (is_stray rules) (beginning ∷ host_names rules rules ++ one_byte_names)
+    (test_stray rules) (stray_front_tried rules beginning)
 
 -- ---- opens
 

@@ -1,10 +1,10 @@
 -- What an audit decides of a map, for all names.
-use Rattle.std.specs.Prelude.{◌≡◌, ◌≢◌, ◌⊎◌, ℕ, ◌+◌, ◌*◌, ◌<◌, List, [], ◌∷◌, All, count_by, None}
+use Rattle.std.specs.Prelude.{◌≡◌, ◌≢◌, ◌⊎◌, ℕ, ◌+◌, ◌*◌, ◌<◌, true, List, [], ◌∷◌, All, count_by, None}
 use Rattle.std.specs.Ordering.{nat_cmp}
 use Rattle.std.specs.declared.cmp.Ordering.TheVariants.{Less}
 use Rattle.std.specs.Cmp.Lexicographic.{slice_cmp}
 use Rattle.virtiofs_map.specs.MapRule.{IsName}
-use Rattle.virtiofs_map.specs.Names.{Passes, IsUnterminated, client_answer, IsListed, IsHidden, host_answer, names, server_answer, ListsBack}
+use Rattle.virtiofs_map.specs.Names.{begins, Passes, IsUnterminated, client_answer, IsListed, IsHidden, host_answer, names, server_answer, ListsBack}
 use Rattle.virtiofs_map.specs.Rule.{MappingRule}
 use Rattle.virtiofs_map.specs.declared.audit.answer.Audit.{Audit}
 use Rattle.virtiofs_map.specs.declared.audit.answer.Audit.TheVariants.{Yes, No}
@@ -24,6 +24,11 @@ pub record IsLeast (bad : List ℕ → Type 0) (name : List ℕ) : Type 0 where
 abbrev pub AnswersLeast : {A : Type 0} → (List ℕ → Type 0) → Audit A → Type 0
 AnswersLeast bad Yes = (name : List ℕ) → ¬ bad name
 AnswersLeast bad (No name) = IsLeast bad name
+
+-- the name is bad, and begins with these bytes
+pub record Within (beginning : List ℕ) (bad : List ℕ → Type 0) (name : List ℕ) : Type 0 where
+  pub is_bad : bad name
+  pub front : begins beginning name ≡ true
 
 -- ---- does every name list back
 

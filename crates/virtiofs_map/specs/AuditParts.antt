@@ -1,18 +1,20 @@
 -- What the private functions of an audit say: what is asked about a name, which names are tried, and what was found.
 -- Only they cite these definitions.
-use Rattle.std.specs.Prelude.{ℕ, Bool, true, false, ◌&&◌, not, ◌==◌, nat_eq, nat_lt, if◌then◌else◌, List, [], ◌∷◌, ◌++◌, map, length, drop, Option, Some, None, is_none, option_map, option_and_then}
+use Rattle.std.specs.Prelude.{◌≡◌, All, option_to_list, ℕ, Bool, true, false, ◌&&◌, not, ◌==◌, nat_eq, nat_lt, if◌then◌else◌, List, [], ◌∷◌, ◌++◌, map, length, drop, Option, Some, None, is_none, option_map, option_and_then}
 use Rattle.std.specs.Cmp.Lexicographic.{pointwise, slice_cmp}
 use Rattle.std.specs.List.{list_all, list_any, filter_map, flat_map, range_with_len}
 use Rattle.std.specs.Option.{option_map_or}
 use Rattle.std.specs.Ordering.{nat_cmp, is_lt}
 use Rattle.virtiofs_map.specs.FirstRule.{acts}
+use Rattle.virtiofs_map.specs.MapRule.{IsName}
 use Rattle.virtiofs_map.specs.Names.{begins, deciding}
 use Rattle.virtiofs_map.specs.Rule.{RuleType, Prefix, Okay, Bad, Unsupported, MappingRule}
 use Rattle.virtiofs_map.specs.Steps.{count_after}
 use Rattle.virtiofs_map.specs.declared.audit.answer.Audit.{Audit}
 use Rattle.virtiofs_map.specs.declared.audit.answer.Audit.TheVariants.{Yes, No}
+use Rattle.virtiofs_map.specs.declared.audit.questions.Asked.{Asked}
+use Rattle.virtiofs_map.specs.declared.audit.questions.Asked.TheVariants.{Lost, Seen, Shared, Stray}
 use Rattle.virtiofs_map.specs.declared.audit.questions.Question.{Question}
-use Rattle.virtiofs_map.specs.declared.audit.questions.Question.TheVariants.{Lost, Seen, Shared, Stray}
 use Rattle.virtiofs_map.specs.declared.xattrmap.scopes.Side.{Side}
 use Rattle.virtiofs_map.specs.declared.xattrmap.scopes.Side.TheVariants.{Client, Server}
 
@@ -86,12 +88,20 @@ is_reached rules host = list_any (passes_as rules host) rules
 abbrev pub is_shared : List MappingRule → List MappingRule → List ℕ → Bool
 is_shared rules others = passes_where (is_reached others) rules
 
+-- what is asked holds of this name
+abbrev pub holds_of : {A : Type 0} → Asked A → List ℕ → Bool
+holds_of (Lost rules) = is_lost rules.now
+holds_of (Seen rules others) = is_seen rules.now others.now
+holds_of (Shared rules others) = is_shared rules.now others.now
+holds_of (Stray rules) = is_stray rules.now
+
+-- the name begins with these bytes, and the test holds of it
+abbrev pub within : List ℕ → (List ℕ → Bool) → List ℕ → Bool
+within beginning test name = begins beginning name && test name
+
 -- the name is bad for this audit
 abbrev pub bad : {A : Type 0} → Question A → List ℕ → Bool
-bad (Lost rules) = is_lost rules.now
-bad (Seen rules others) = is_seen rules.now others.now
-bad (Shared rules others) = is_shared rules.now others.now
-bad (Stray rules) = is_stray rules.now
+bad question = within question.beginning.bytes.now (holds_of question.asked)
 
 -- ---- what was found
 
@@ -124,6 +134,11 @@ after bad tried (name ∷ names) = after bad (try_one bad tried name) names
 abbrev pub told : {A : Type 0} → Audit A → Option (List ℕ)
 told Yes = None
 told (No name) = Some name
+
+-- the answer tells the least bad name of these, and that is a name
+pub record FindsLeast {A : Type 0} (bad : List ℕ → Bool) (tried : List (List ℕ)) (answer : Audit A) : Type 0 where
+  pub found : told answer ≡ (after bad none_tried tried).least
+  pub is_name : All IsName (option_to_list (told answer))
 
 -- ---- which names are tried
 

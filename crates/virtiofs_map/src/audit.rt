@@ -20,13 +20,17 @@
 //!   guest's map? If so, and only then, these names make no difference to the lists of the other.
 //! - [`shares_no_name`]: is no name of the host reached by both guests? Two guests with
 //!   `:ok:client::: :bad:server:::` are kept apart, since no list shows a name, and share every name.
+//! - [`audit_within`], [`audit_listed_within`], [`keeps_apart_within`] and
+//!   [`shares_no_name_within`] ask the same about the names that begin with given bytes. The least
+//!   name of all is often of no use to a person: under `:ok:client:::` it is the byte 1. The least
+//!   that begins with `user.` is `user.`.
 //! - [`XattrMap::is_terminated`]: does each name of either side have a rule?
 //!
 //! There is no end of names, but few need to be tried: two names that start with the same patterns
 //! are treated alike. The names to try are found from the patterns, and are tried one after the
 //! other.
 ghost use Rattle.std.specs.Prelude.{◌≡◌, ◌↔◌, IfOk, OnOk, OnErr};
-ghost use Rattle.virtiofs_map.specs.Audit.{AnswersLeast, Sound, IsLost, most_tried, OpensListed, IsStray, Apart, Isolated, IsSeen, SharesNoName, IsShared};
+ghost use Rattle.virtiofs_map.specs.Audit.{AnswersLeast, Within, Sound, IsLost, most_tried, OpensListed, IsStray, Apart, Isolated, IsSeen, SharesNoName, IsShared};
 ghost use Rattle.virtiofs_map.specs.Steps.{CountsBetween};
 ghost use Rattle.virtiofs_map.specs.declared.audit.answer.Audit.TheVariants.{Yes};
 
@@ -39,9 +43,9 @@ mod terminated;
 use crate::steps::Steps;
 use crate::xattrmap::{Side, XattrMap, XattrName};
 pub use answer::Audit;
-use candidates::{try_guest_names, try_host_names};
+use candidates::{least_guest_name, least_host_name, try_guest_names};
 use least::Tried;
-use questions::Question;
+use questions::{Asked, Question};
 use std::alloc::{AllocError, Allocator};
 
 /// Whether each non-empty name that passes is listed back: if the host's list has only the host
@@ -78,7 +82,10 @@ pub fn audit_counted<A: Allocator + Copy>(
     ensures counted { OnOk result (CountsBetween 1 (most_tried map.now) steps.old steps.new) }
     ensures uncounted { OnErr result (steps.new ≡ steps.old) }
 {
-    let question = Question::Lost(map);
+    let question = Question {
+        asked: Asked::Lost(map),
+        beginning: XattrName { bytes: &[] },
+    };
     let mut tried = Tried::new(alloc);
     try_guest_names(alloc, &question, map, map, Side::Server, &mut tried)?;
     steps.add(tried.steps());
@@ -112,11 +119,7 @@ pub fn keeps_apart<A: Allocator + Copy>(
     // The answer is Yes if and only if the guests are isolated.
     ensures isolated { IfOk result (λ audit. (audit ≡ Yes) ↔ Isolated r.now q.now) }
 {
-    let question = Question::Seen(r, q);
-    let mut tried = Tried::new(alloc);
-    tried.try_name(alloc, &question, XattrName { bytes: &[] })?;
-    try_guest_names(alloc, &question, r, q, Side::Server, &mut tried)?;
-    Ok(tried.into_answer())
+    keeps_apart_within(alloc, r, q, XattrName { bytes: &[] })
 }
 
 /// `Yes` if there is no non-empty host name that both guests reach, the one with the first map
@@ -144,11 +147,7 @@ pub fn shares_no_name<A: Allocator + Copy>(
     // The other way round it is the same.
     ensures both_ways { IfOk result (λ audit. (audit ≡ Yes) ↔ SharesNoName q.now r.now) }
 {
-    let question = Question::Shared(r, q);
-    let mut tried = Tried::new(alloc);
-    tried.try_name(alloc, &question, XattrName { bytes: &[] })?;
-    try_guest_names(alloc, &question, r, q, Side::Client, &mut tried)?;
-    Ok(tried.into_answer())
+    shares_no_name_within(alloc, r, q, XattrName { bytes: &[] })
 }
 
 /// For each non-empty host name H that is listed to the guest under a name N: does N pass as H?
@@ -167,7 +166,92 @@ pub fn audit_listed<A: Allocator + Copy>(
     ensures answer { IfOk result (AnswersLeast (IsStray map.now)) }
     ensures opens { IfOk result (λ audit. (audit ≡ Yes) ↔ OpensListed map.now) }
 {
-    let mut tried = Tried::new(alloc);
-    try_host_names(alloc, &Question::Stray(map), map, &mut tried)?;
-    Ok(tried.into_answer())
+    audit_listed_within(alloc, map, XattrName { bytes: &[] })
+}
+
+/// The question of [`audit`] about the names alone that begin with these bytes: whether each of them
+/// that passes is listed back. `No` has the least name that begins so, passes and is not listed
+/// back. So `user.` as the beginning gives a name that a person can use, where the least name of all
+/// is one byte that nobody writes.
+///
+/// # Errors
+///
+/// `AllocError`: a request for memory was refused.
+pub fn audit_within<A: Allocator + Copy>(
+    alloc: A,
+    map: &XattrMap<A>,
+    beginning: XattrName<'_>,
+) -> Result<Audit<A>, AllocError>
+    ensures { IfOk result (AnswersLeast (Within beginning.entry.bytes.now (IsLost map.now))) }
+{
+    let question = Question {
+        asked: Asked::Lost(map),
+        beginning,
+    };
+    least_guest_name(alloc, &question, map, map, Side::Server)
+}
+
+/// The question of [`keeps_apart`] about the names of the first map alone that begin with these
+/// bytes. `No` has the least name that begins so and passes as a non-empty host name which the second
+/// map does not hide.
+///
+/// # Errors
+///
+/// `AllocError`: a request for memory was refused.
+pub fn keeps_apart_within<A: Allocator + Copy>(
+    alloc: A,
+    r: &XattrMap<A>,
+    q: &XattrMap<A>,
+    beginning: XattrName<'_>,
+) -> Result<Audit<A>, AllocError>
+    ensures { IfOk result (AnswersLeast (Within beginning.entry.bytes.now (IsSeen r.now q.now))) }
+{
+    let question = Question {
+        asked: Asked::Seen(r, q),
+        beginning,
+    };
+    least_guest_name(alloc, &question, r, q, Side::Server)
+}
+
+/// The question of [`shares_no_name`] about the names of the first map alone that begin with these
+/// bytes. `No` has the least name that begins so and passes as a non-empty host name which the second
+/// map reaches too.
+///
+/// # Errors
+///
+/// `AllocError`: a request for memory was refused.
+pub fn shares_no_name_within<A: Allocator + Copy>(
+    alloc: A,
+    r: &XattrMap<A>,
+    q: &XattrMap<A>,
+    beginning: XattrName<'_>,
+) -> Result<Audit<A>, AllocError>
+    ensures { IfOk result (AnswersLeast (Within beginning.entry.bytes.now (IsShared r.now q.now))) }
+{
+    let question = Question {
+        asked: Asked::Shared(r, q),
+        beginning,
+    };
+    least_guest_name(alloc, &question, r, q, Side::Client)
+}
+
+/// The question of [`audit_listed`] about the names of the host alone that begin with these bytes.
+/// `No` has the least name of the host that begins so, is listed, and is not opened by the name under
+/// which it is listed.
+///
+/// # Errors
+///
+/// `AllocError`: a request for memory was refused.
+pub fn audit_listed_within<A: Allocator + Copy>(
+    alloc: A,
+    map: &XattrMap<A>,
+    beginning: XattrName<'_>,
+) -> Result<Audit<A>, AllocError>
+    ensures { IfOk result (AnswersLeast (Within beginning.entry.bytes.now (IsStray map.now))) }
+{
+    let question = Question {
+        asked: Asked::Stray(map),
+        beginning,
+    };
+    least_host_name(alloc, &question, map)
 }

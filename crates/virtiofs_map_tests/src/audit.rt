@@ -3,8 +3,11 @@
 use std::alloc::Global;
 use std::test::Fail;
 use virtiofs_map::Steps;
-use virtiofs_map::audit::{Audit, audit, audit_counted, audit_listed, keeps_apart, shares_no_name};
-use virtiofs_map::xattrmap::XattrMap;
+use virtiofs_map::audit::{
+    Audit, audit, audit_counted, audit_listed, audit_listed_within, audit_within, keeps_apart,
+    keeps_apart_within, shares_no_name, shares_no_name_within,
+};
+use virtiofs_map::xattrmap::{XattrMap, XattrName};
 
 /// The name of a `No`.
 fn told(answer: &Audit) -> Option<&[u8]> {
@@ -136,6 +139,117 @@ const SHARED: [(&str, &str, Option<&[u8]>); 17] = [
     (":ok:client:é::", ":ok:all:::", Some(b"\xc3\xa9")),
 ];
 
+/// A text of rules, the bytes with which names begin, and the least of these that passes and does
+/// not come back.
+const LOST_WITHIN: [(&str, &[u8], Option<&[u8]>); 19] = [
+    (":ok:client:::", b"", Some(b"\x01")),
+    (":ok:client:::", b"user.", Some(b"user.")),
+    (":map:trusted.:user.virtiofs.:", b"trusted.", None),
+    (":bad:client:user.:: :ok:client:::", b"us", Some(b"us")),
+    (":bad:client:user.:: :ok:client:::", b"user.", None),
+    (":bad:client:user.:: :ok:client:::", b"user.x", None),
+    // A pattern goes on with more than one byte.
+    (
+        ":prefix:client:trusted.:user.: :ok:all:::",
+        b"t",
+        Some(b"trusted."),
+    ),
+    (
+        ":prefix:client:trusted.:user.: :ok:all:::",
+        b"trusted.x",
+        Some(b"trusted.x"),
+    ),
+    (":prefix:client:trusted.:user.: :ok:all:::", b"user.", None),
+    // The least bad name of all begins otherwise.
+    (
+        ":bad:server::b: :bad:server::ab: :ok:all:::",
+        b"a",
+        Some(b"ab"),
+    ),
+    (
+        ":bad:server::b: :bad:server::ab: :ok:all:::",
+        b"abc",
+        Some(b"abc"),
+    ),
+    (":bad:server::b: :bad:server::ab: :ok:all:::", b"ac", None),
+    (
+        ":bad:server::b: :bad:server::ab: :ok:all:::",
+        b"b",
+        Some(b"b"),
+    ),
+    // What is left of a pattern after what a rule puts before a name.
+    (":bad:server::u.xy: :prefix:all::u.:", b"x", Some(b"xy")),
+    (":bad:server::u.xy: :prefix:all::u.:", b"xz", None),
+    (":bad:server::u.xy: :prefix:all::u.:", b"xyz", Some(b"xyz")),
+    // The beginning need not be UTF-8.
+    (
+        ":ok:client::: :bad:server::é: :ok:server:::",
+        b"\xc3",
+        Some(b"\xc3\xa9"),
+    ),
+    (":ok:client::: :bad:server::é: :ok:server:::", b"\xc4", None),
+    (":bad:all:::", b"", None),
+];
+
+/// A text of rules, the bytes with which names of the host begin, and the least of these that is
+/// listed and is not opened.
+const STRAY_WITHIN: [(&str, &[u8], Option<&[u8]>); 7] = [
+    (
+        ":map:trusted.:user.virtiofs.:",
+        b"",
+        Some(b"user.virtiofs."),
+    ),
+    (
+        ":map:trusted.:user.virtiofs.:",
+        b"user.virtiofs.t",
+        Some(b"user.virtiofs.t"),
+    ),
+    (
+        ":map:trusted.:user.virtiofs.:",
+        b"user.virtiofs.trusted.",
+        None,
+    ),
+    (":map:trusted.:user.virtiofs.:", b"v", None),
+    (":bad:client:xy:: :prefix:all::u.:", b"u", Some(b"u.xy")),
+    (":bad:client:xy:: :prefix:all::u.:", b"u.y", None),
+    (":ok:server:::", b"security.", Some(b"security.")),
+];
+
+/// The rules of a guest, those of another, the bytes with which names of the first begin, and the
+/// least of these that the other sees.
+const SEEN_WITHIN: [(&str, &str, &[u8], Option<&[u8]>); 7] = [
+    (":map::a.b.:", ":map::a.:", b"", Some(b"")),
+    (":map::a.b.:", ":map::a.:", b"x", Some(b"x")),
+    (":map::a.:", ":map::a.b.:", b"b", Some(b"b.")),
+    (":map::a.:", ":map::a.b.:", b"c", None),
+    (":map:trusted.:a.:", ":map::b.:", b"trusted.", None),
+    (":map:trusted.:a.:", ":map::b.:", b"b.x", Some(b"b.x")),
+    (":ok:all:::", ":ok:all:::", b"user.", Some(b"user.")),
+];
+
+/// The rules of a guest, those of another, the bytes with which names of the first begin, and the
+/// least of these whose host name the other reaches too.
+const SHARED_WITHIN: [(&str, &str, &[u8], Option<&[u8]>); 8] = [
+    (":ok:client:::", ":map::a.:", b"", Some(b"a.")),
+    (":ok:client:::", ":map::a.:", b"a", Some(b"a.")),
+    (":ok:client:::", ":map::a.:", b"a.x", Some(b"a.x")),
+    (":ok:client:::", ":map::a.:", b"b", None),
+    (":map::a.b.:", ":map::a.:", b"", Some(b"")),
+    (
+        ":prefix:client:k:p.:",
+        ":prefix:client:k:p.k:",
+        b"k",
+        Some(b"kk"),
+    ),
+    (
+        ":prefix:client:k:p.:",
+        ":prefix:client:k:p.k:",
+        b"kkz",
+        Some(b"kkz"),
+    ),
+    (":prefix:client:k:p.:", ":prefix:client:k:p.k:", b"kl", None),
+];
+
 fn lost(alloc: Global, text: &str) -> Result<Audit, Fail> {
     let map = XattrMap::try_from(alloc, text)?;
     Ok(audit(alloc, &map)?)
@@ -164,6 +278,32 @@ fn shared(alloc: Global, text: &str, other: &str) -> Result<Audit, Fail> {
     let map = XattrMap::try_from(alloc, text)?;
     let others = XattrMap::try_from(alloc, other)?;
     Ok(shares_no_name(alloc, &map, &others)?)
+}
+
+fn lost_within(alloc: Global, text: &str, beginning: &[u8]) -> Result<Audit, Fail> {
+    let beginning = XattrName::new(beginning).ok_or("a name holds a zero")?;
+    let map = XattrMap::try_from(alloc, text)?;
+    Ok(audit_within(alloc, &map, beginning)?)
+}
+
+fn stray_within(alloc: Global, text: &str, beginning: &[u8]) -> Result<Audit, Fail> {
+    let beginning = XattrName::new(beginning).ok_or("a name holds a zero")?;
+    let map = XattrMap::try_from(alloc, text)?;
+    Ok(audit_listed_within(alloc, &map, beginning)?)
+}
+
+fn seen_within(alloc: Global, text: &str, other: &str, beginning: &[u8]) -> Result<Audit, Fail> {
+    let beginning = XattrName::new(beginning).ok_or("a name holds a zero")?;
+    let map = XattrMap::try_from(alloc, text)?;
+    let others = XattrMap::try_from(alloc, other)?;
+    Ok(keeps_apart_within(alloc, &map, &others, beginning)?)
+}
+
+fn shared_within(alloc: Global, text: &str, other: &str, beginning: &[u8]) -> Result<Audit, Fail> {
+    let beginning = XattrName::new(beginning).ok_or("a name holds a zero")?;
+    let map = XattrMap::try_from(alloc, text)?;
+    let others = XattrMap::try_from(alloc, other)?;
+    Ok(shares_no_name_within(alloc, &map, &others, beginning)?)
 }
 
 #[test]
@@ -208,6 +348,50 @@ fn finds_the_least_name_that_another_guest_reaches(rt: HostRuntime) -> Result<()
     for (text, other, wanted) in SHARED {
         let answer = shared(rt.alloc(), text, other)?;
         assert_eq!(rt; told(&answer), wanted, "of {text:?} and {other:?}");
+    }
+    Ok(())
+}
+
+#[test]
+fn finds_the_least_lost_name_that_begins_with_bytes(rt: HostRuntime) -> Result<(), Fail> {
+    for (text, beginning, wanted) in LOST_WITHIN {
+        let answer = lost_within(rt.alloc(), text, beginning)?;
+        assert_eq!(rt; told(&answer), wanted, "of {text:?} within {beginning:?}");
+    }
+    Ok(())
+}
+
+#[test]
+fn finds_the_least_stray_name_that_begins_with_bytes(rt: HostRuntime) -> Result<(), Fail> {
+    for (text, beginning, wanted) in STRAY_WITHIN {
+        let answer = stray_within(rt.alloc(), text, beginning)?;
+        assert_eq!(rt; told(&answer), wanted, "of {text:?} within {beginning:?}");
+    }
+    Ok(())
+}
+
+#[test]
+fn finds_the_least_seen_name_that_begins_with_bytes(rt: HostRuntime) -> Result<(), Fail> {
+    for (text, other, beginning, wanted) in SEEN_WITHIN {
+        let answer = seen_within(rt.alloc(), text, other, beginning)?;
+        assert_eq!(rt;
+            told(&answer),
+            wanted,
+            "of {text:?} and {other:?} within {beginning:?}"
+        );
+    }
+    Ok(())
+}
+
+#[test]
+fn finds_the_least_shared_name_that_begins_with_bytes(rt: HostRuntime) -> Result<(), Fail> {
+    for (text, other, beginning, wanted) in SHARED_WITHIN {
+        let answer = shared_within(rt.alloc(), text, other, beginning)?;
+        assert_eq!(rt;
+            told(&answer),
+            wanted,
+            "of {text:?} and {other:?} within {beginning:?}"
+        );
     }
     Ok(())
 }

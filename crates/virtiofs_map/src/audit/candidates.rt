@@ -9,16 +9,38 @@
 //! prepend. What passes by it begins with what it puts before a name, and then its key.
 
 ghost use Rattle.std.specs.List.{cons_option};
-ghost use Rattle.std.specs.Prelude.{◌≡◌, ◌≢◌, ◌++◌, [], All, OnOk};
-ghost use Rattle.virtiofs_map.specs.AuditParts.{bad, after, rest_after, rest_of, guest_names_of, guest_names, host_names_of, host_names, one_byte_names};
+ghost use Rattle.std.specs.Prelude.{◌≡◌, ◌≢◌, ◌++◌, [], ◌∷◌, All, IfOk, OnOk};
+ghost use Rattle.virtiofs_map.specs.AuditParts.{bad, after, FindsLeast, rest_after, rest_of, guest_names_of, guest_names, host_names_of, host_names, one_byte_names};
 ghost use Rattle.virtiofs_map.specs.Rule.{HasNoZero};
 ghost use Rattle.virtiofs_map.specs.RuleParts.{rule_meant};
 
+use crate::audit::answer::Audit;
 use crate::audit::least::Tried;
 use crate::audit::questions::{Question, put_together};
 use crate::xattrmap::rules::RuleRef;
 use crate::xattrmap::{Side, XattrMap, XattrName};
 use std::alloc::{AllocError, Allocator};
+
+/// The least bad name of the guest, among those that the question is about: `map` passes
+/// names, and on that side the patterns of `other` for names of the host say what becomes of these.
+///
+/// The bytes with which all names begin are a name that may be the least, so they are tried too.
+pub(crate) fn least_guest_name<A: Allocator + Copy>(
+    alloc: A,
+    question: &Question<'_, A>,
+    map: &XattrMap<A>,
+    other: &XattrMap<A>,
+    side: Side,
+) -> Result<Audit<A>, AllocError>
+    ensures least { IfOk result (FindsLeast (bad question.now) (question.now.beginning.bytes.now
+        ∷ guest_names side other.now map.now ++ one_byte_names)) }
+    ensures no_zero { OnOk result (All HasNoZero map.now) }
+{
+    let mut tried = Tried::new(alloc);
+    tried.try_name(alloc, question, question.beginning)?;
+    try_guest_names(alloc, question, map, other, side, &mut tried)?;
+    Ok(tried.into_answer())
+}
 
 /// Tries the names of the guest that decide: `map` passes names, and on that side the patterns of
 /// `other` for names of the host say what becomes of these.
@@ -123,8 +145,23 @@ fn try_rest<A: Allocator + Copy>(
     tried.try_name(alloc, question, XattrName { bytes })
 }
 
+/// The least bad name of the host, among those that the question is about.
+pub(crate) fn least_host_name<A: Allocator + Copy>(
+    alloc: A,
+    question: &Question<'_, A>,
+    map: &XattrMap<A>,
+) -> Result<Audit<A>, AllocError>
+    ensures { IfOk result (FindsLeast (bad question.now) (question.now.beginning.bytes.now
+        ∷ host_names map.now map.now ++ one_byte_names)) }
+{
+    let mut tried = Tried::new(alloc);
+    tried.try_name(alloc, question, question.beginning)?;
+    try_host_names(alloc, question, map, &mut tried)?;
+    Ok(tried.into_answer())
+}
+
 /// Tries the names of the host that decide.
-pub(crate) fn try_host_names<A: Allocator + Copy>(
+fn try_host_names<A: Allocator + Copy>(
     alloc: A,
     question: &Question<'_, A>,
     map: &XattrMap<A>,

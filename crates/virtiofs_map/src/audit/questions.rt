@@ -5,13 +5,13 @@ ghost use Rattle.virtiofs_map.specs.AuditParts.{front_of, front, is_lost, is_hid
 ghost use Rattle.virtiofs_map.specs.RuleParts.{rule_meant};
 
 use crate::xattrmap::rules::{RuleKind, RuleRef};
-use crate::xattrmap::{Side, XattrMap};
+use crate::xattrmap::{Side, XattrMap, XattrName};
 use std::alloc::{AllocError, Allocator};
 
 /// What an audit asks about one name. If the answer is yes, the name is bad, and the audit as a
 /// whole answers `No`.
 #[derive(Drop)]
-pub(crate) enum Question<'m, A: Allocator> {
+pub(crate) enum Asked<'m, A: Allocator> {
     /// Does the name pass without being listed back?
     Lost(&'m XattrMap<A>),
     /// Does the name pass by the first map as a name that the second does not hide?
@@ -22,6 +22,30 @@ pub(crate) enum Question<'m, A: Allocator> {
     Stray(&'m XattrMap<A>),
 }
 
+impl<A: Allocator> Asked<'_, A> {
+    ghost use Rattle.virtiofs_map.specs.AuditParts.{holds_of};
+
+    /// Whether the answer is yes for the name. `room` is where a name of the host is put together.
+    fn holds_of(&self, room: &mut Vec<u8, A>, name: &[u8]) -> Result<bool, AllocError>
+        ensures { IfOk result (λ answer. answer ≡ holds_of self.now name.now) }
+    {
+        match self {
+            Asked::Lost(map) => is_lost(map, room, name),
+            Asked::Seen(map, other) => is_seen(map, other, room, name),
+            Asked::Shared(map, other) => is_shared(map, other, room, name),
+            Asked::Stray(map) => Ok(is_stray(map, name)),
+        }
+    }
+}
+
+/// What an audit asks of the names that begin with these bytes. A name is bad where it does and the
+/// answer is yes.
+#[derive(Drop)]
+pub(crate) struct Question<'m, A: Allocator> {
+    pub(crate) asked: Asked<'m, A>,
+    pub(crate) beginning: XattrName<'m>,
+}
+
 impl<A: Allocator> Question<'_, A> {
     ghost use Rattle.virtiofs_map.specs.AuditParts.{bad};
 
@@ -29,12 +53,10 @@ impl<A: Allocator> Question<'_, A> {
     pub(crate) fn is_bad(&self, room: &mut Vec<u8, A>, name: &[u8]) -> Result<bool, AllocError>
         ensures { IfOk result (λ answer. answer ≡ bad self.now name.now) }
     {
-        match self {
-            Question::Lost(map) => is_lost(map, room, name),
-            Question::Seen(map, other) => is_seen(map, other, room, name),
-            Question::Shared(map, other) => is_shared(map, other, room, name),
-            Question::Stray(map) => Ok(is_stray(map, name)),
+        if !name.starts_with(self.beginning.bytes) {
+            return Ok(false);
         }
+        self.asked.holds_of(room, name)
     }
 }
 

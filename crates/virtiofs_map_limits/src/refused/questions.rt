@@ -4,7 +4,7 @@ use crate::refused::maps::{Rules, listed, passed, seen};
 use crate::told::{Heap, Told};
 use std::alloc::AllocError;
 use virtiofs_map::audit::Audit;
-use virtiofs_map::xattrmap::XattrMap;
+use virtiofs_map::xattrmap::{XattrMap, XattrName};
 use virtiofs_map::{Steps, audit};
 
 /// What is asked of a map.
@@ -26,6 +26,14 @@ pub(super) enum Question {
     Apart(&'static str),
     /// `shares_no_name` with the map of these rules.
     Shares(&'static str),
+    /// `audit_within` these bytes.
+    Within(&'static str),
+    /// `audit_listed_within` these bytes.
+    ListedWithin(&'static str),
+    /// `keeps_apart_within` these bytes, from the map of these rules.
+    ApartWithin(&'static str, &'static str),
+    /// `shares_no_name_within` these bytes, with the map of these rules.
+    SharesWithin(&'static str, &'static str),
 }
 
 /// Copies a map.
@@ -61,6 +69,62 @@ fn shares<'h>(ample: Heap<'h>, alloc: Heap<'h>, map: &Rules<'h>, others: &str) -
     told(ample, &audit::shares_no_name(alloc, map, &others))
 }
 
+/// Audits names that begin with these bytes.
+fn within<'h>(ample: Heap<'h>, alloc: Heap<'h>, map: &Rules<'h>, bytes: &str) -> Told<'h> {
+    match XattrName::new(bytes.as_bytes()) {
+        Some(beginning) => told(ample, &audit::audit_within(alloc, map, beginning)),
+        None => Told::Trouble,
+    }
+}
+
+/// Audits names of the host that begin with these bytes.
+fn listed_within<'h>(ample: Heap<'h>, alloc: Heap<'h>, map: &Rules<'h>, bytes: &str) -> Told<'h> {
+    match XattrName::new(bytes.as_bytes()) {
+        Some(beginning) => told(ample, &audit::audit_listed_within(alloc, map, beginning)),
+        None => Told::Trouble,
+    }
+}
+
+/// Asks whether the map keeps another one apart, of names that begin with these bytes.
+fn apart_within<'h>(
+    ample: Heap<'h>,
+    alloc: Heap<'h>,
+    map: &Rules<'h>,
+    bytes: &str,
+    others: &str,
+) -> Told<'h> {
+    let Some(beginning) = XattrName::new(bytes.as_bytes()) else {
+        return Told::Trouble;
+    };
+    let Ok(others) = XattrMap::try_from(ample, others) else {
+        return Told::Trouble;
+    };
+    told(
+        ample,
+        &audit::keeps_apart_within(alloc, map, &others, beginning),
+    )
+}
+
+/// Asks whether the map shares no name with another one, of names that begin with these bytes.
+fn shares_within<'h>(
+    ample: Heap<'h>,
+    alloc: Heap<'h>,
+    map: &Rules<'h>,
+    bytes: &str,
+    others: &str,
+) -> Told<'h> {
+    let Some(beginning) = XattrName::new(bytes.as_bytes()) else {
+        return Told::Trouble;
+    };
+    let Ok(others) = XattrMap::try_from(ample, others) else {
+        return Told::Trouble;
+    };
+    told(
+        ample,
+        &audit::shares_no_name_within(alloc, map, &others, beginning),
+    )
+}
+
 /// Asks a question.
 fn ask<'h>(ample: Heap<'h>, alloc: Heap<'h>, map: &Rules<'h>, question: Question) -> Told<'h> {
     match question {
@@ -74,6 +138,10 @@ fn ask<'h>(ample: Heap<'h>, alloc: Heap<'h>, map: &Rules<'h>, question: Question
         Question::AuditListed => told(ample, &audit::audit_listed(alloc, map)),
         Question::Apart(others) => apart(ample, alloc, map, others),
         Question::Shares(others) => shares(ample, alloc, map, others),
+        Question::Within(bytes) => within(ample, alloc, map, bytes),
+        Question::ListedWithin(bytes) => listed_within(ample, alloc, map, bytes),
+        Question::ApartWithin(bytes, others) => apart_within(ample, alloc, map, bytes, others),
+        Question::SharesWithin(bytes, others) => shares_within(ample, alloc, map, bytes, others),
     }
 }
 

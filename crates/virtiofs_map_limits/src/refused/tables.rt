@@ -3,10 +3,13 @@
 use crate::refused::asked::Asked;
 use crate::refused::questions::Question;
 use Asked::{Alone, Build, IdsApart, Image, Of, Rules, Specification, Texts};
-use Question::{Apart, Audit, AuditCounted, AuditListed, Client, Clone, Server, Shares};
+use Question::{
+    Apart, ApartWithin, Audit, AuditCounted, AuditListed, Client, Clone, ListedWithin, Server,
+    Shares, SharesWithin, Within,
+};
 
 /// Calls that cannot do without memory.
-pub(super) const TAKE: [Asked; 60] = [
+pub(super) const TAKE: [Asked; 67] = [
     Specification("foo:x"),
     Specification("foo:1"),
     Specification("foo"),
@@ -79,6 +82,13 @@ pub(super) const TAKE: [Asked; 60] = [
     Of(":map::a.:", Shares(":map::b.:")),
     Of(":map::a.:", Shares(":map::a.b.:")),
     Of(":ok:client:::", Shares(":prefix:client:k:p.: :bad:all:::")),
+    Of(":map:trusted.:user.virtiofs.:", Within("trusted.")),
+    Of(":ok:client:::", Within("user.")),
+    Of(":map:trusted.:user.virtiofs.:", ListedWithin("user.")),
+    Of(":map::a.:", ApartWithin("b", ":map::a.b.:")),
+    Of(":map:trusted.:a.:", ApartWithin("trusted.", ":map::b.:")),
+    Of(":map::a.:", SharesWithin("b", ":map::a.b.:")),
+    Of(":map::a.:", SharesWithin("c", ":map::b.:")),
 ];
 
 /// Calls that may take memory or do without.

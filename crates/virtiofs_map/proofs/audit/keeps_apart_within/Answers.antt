@@ -1,0 +1,17 @@
+use Rattle.std.proofs.Common.{◌∷◌, ◌++◌}
+use Rattle.virtiofs_map.specs.Audit.{Within, IsSeen}
+use Rattle.virtiofs_map.specs.AuditParts.{is_seen, within, guest_names, one_byte_names}
+use Rattle.virtiofs_map.specs.declared.xattrmap.scopes.Side.TheVariants.{Server}
+use Rattle.virtiofs_map.proofs.AuditLeastLemmas.{finds_least, if_ok_given}
+use Rattle.virtiofs_map.proofs.AuditSeenLemmas.{seen_decide}
+use Rattle.virtiofs_map.proofs.audit.keeps_apart_within.Goals as goal
+
+pub returns : goal.returns
+returns g c =
+    let r = c.args.r.now in
+    let q = c.args.q.now in
+    let beginning = c.args.beginning.bytes.now in
+    let names = beginning ∷ guest_names Server q r ++ one_byte_names in
+    if_ok_given c.least_guest_name.result _ _ _ c.least_guest_name.ensures.no_zero
+    (λ no_zero. finds_least (Within beginning (IsSeen r q)) (within beginning (is_seen r q)) names
+    (seen_decide r q no_zero beginning)) c.least_guest_name.ensures.least
