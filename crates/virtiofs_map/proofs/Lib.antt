@@ -24,6 +24,7 @@ mod BuildLemmas
 mod ByteWordLemmas
 mod ChildrenLemmas
 mod CutLemmas
+mod DecidingLemmas
 mod FirstNameLemmas
 mod FirstRuleLemmas
 mod FittingLemmas

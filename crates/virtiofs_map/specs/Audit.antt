@@ -1,13 +1,15 @@
 -- What an audit decides of a map, for all names.
-use Rattle.std.specs.Prelude.{◌≡◌, ◌≢◌, ◌⊎◌, ℕ, ◌+◌, ◌*◌, ◌<◌, true, List, [], ◌∷◌, All, count_by, None}
+use Rattle.std.specs.Prelude.{◌≡◌, ◌≢◌, ◌⊎◌, ℕ, ◌+◌, ◌*◌, ◌<◌, true, List, [], ◌∷◌, All, count_by, slice_get, Some, None}
 use Rattle.std.specs.Ordering.{nat_cmp}
 use Rattle.std.specs.declared.cmp.Ordering.TheVariants.{Less}
 use Rattle.std.specs.Cmp.Lexicographic.{slice_cmp}
+use Rattle.virtiofs_map.specs.FirstRule.{acts, pattern}
 use Rattle.virtiofs_map.specs.MapRule.{IsName}
-use Rattle.virtiofs_map.specs.Names.{begins, Passes, IsUnterminated, client_answer, IsListed, IsHidden, host_answer, names, server_answer, ListsBack}
+use Rattle.virtiofs_map.specs.Names.{begins, first, Passes, IsUnterminated, client_answer, IsListed, IsHidden, host_answer, names, server_answer, ListsBack}
 use Rattle.virtiofs_map.specs.Rule.{MappingRule}
 use Rattle.virtiofs_map.specs.declared.audit.answer.Audit.{Audit}
 use Rattle.virtiofs_map.specs.declared.audit.answer.Audit.TheVariants.{Yes, No}
+use Rattle.virtiofs_map.specs.declared.xattrmap.scopes.Side.{Side}
 
 -- ---- the least name that is bad
 
@@ -123,3 +125,34 @@ pub record IsShared (rules others : List MappingRule) (name : List ℕ) : Type 0
 pub record Terminated (rules : List MappingRule) : Type 0 where
   pub client : (name : List ℕ) → IsName name → client_answer rules name ≢ IsUnterminated
   pub server : (list : List ℕ) → IsList list → server_answer rules list ≢ None
+
+-- ---- does a rule decide any name
+
+-- the rule at that place, counted from 0, decides a name of that side: it is the first that fits the name
+pub record DecidesOn (side : Side) (rules : List MappingRule) (place : ℕ) : Type 0 where
+  pub name : List ℕ
+  pub is_name : IsName name
+  pub is_first : first side rules name ≡ Some place
+
+-- it decides a name of the guest or a name of the host
+abbrev pub Decides : List MappingRule → ℕ → Type 0
+Decides rules place = (side : Side) × DecidesOn side rules place
+
+-- before that place stands a rule for that side whose pattern begins this one, so that it takes each name that begins with this one
+pub record IsTaken (side : Side) (rules : List MappingRule) (place : ℕ) (taken : List ℕ) : Type 0 where
+  pub earlier : ℕ
+  pub before : earlier < place
+  pub rule : MappingRule
+  pub here : slice_get rules earlier ≡ Some rule
+  pub acting : acts side rule ≡ true
+  pub front : begins (pattern side rule) taken ≡ true
+
+-- if the rule at that place acts on that side, its pattern is taken there
+abbrev pub IsShadowedOn : Side → List MappingRule → ℕ → Type 0
+IsShadowedOn side rules place =
+    (rule : MappingRule) → slice_get rules place ≡ Some rule → acts side rule ≡ true
+    → IsTaken side rules place (pattern side rule)
+
+-- that holds of both sides
+abbrev pub IsShadowed : List MappingRule → ℕ → Type 0
+IsShadowed rules place = (side : Side) → IsShadowedOn side rules place

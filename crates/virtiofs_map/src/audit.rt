@@ -25,6 +25,8 @@
 //!   name of all is often of no use to a person: under `:ok:client:::` it is the byte 1. The least
 //!   that begins with `user.` is `user.`.
 //! - [`XattrMap::is_terminated`]: does each name of either side have a rule?
+//! - [`XattrMap::decides`]: does a rule decide any name? In `:ok:all::: :bad:client:a::` the second
+//!   rule decides none, since the first takes all names.
 //!
 //! There is no end of names, but few need to be tried: two names that start with the same patterns
 //! are treated alike. The names to try are found from the patterns, and are tried one after the
@@ -36,6 +38,7 @@ ghost use Rattle.virtiofs_map.specs.declared.audit.answer.Audit.TheVariants.{Yes
 
 mod answer;
 mod candidates;
+mod deciding;
 mod least;
 mod questions;
 mod terminated;

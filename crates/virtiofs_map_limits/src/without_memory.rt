@@ -173,6 +173,8 @@ fn assert_names(rt: &impl Abort, map: &XattrMap<Heap<'_>>, wanted: &[Name]) {
         assert_first(rt, map, name);
     }
     assert!(rt; map.is_terminated());
+    assert!(rt; map.rule_count() == 3);
+    assert!(rt; map.decides(0) && map.decides(2) && !map.decides(3));
     assert!(rt; XattrName::new(b"a\0").is_none());
 }
 

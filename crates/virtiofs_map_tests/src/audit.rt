@@ -1,6 +1,7 @@
 //! Audits of maps, with what they are to answer.
 
 use std::alloc::Global;
+use std::process::Abort;
 use std::test::Fail;
 use virtiofs_map::Steps;
 use virtiofs_map::audit::{
@@ -250,6 +251,32 @@ const SHARED_WITHIN: [(&str, &str, &[u8], Option<&[u8]>); 8] = [
     (":prefix:client:k:p.:", ":prefix:client:k:p.k:", b"kl", None),
 ];
 
+/// A text of rules, and for each of its rules whether it decides any name.
+const DECIDING: [(&str, &[bool]); 16] = [
+    (":ok:all::: :bad:client:a::", &[true, false]),
+    (":bad:client:a:: :ok:all:::", &[true, true]),
+    // The earlier pattern begins the later one, on the same side.
+    (":bad:client:a:: :ok:client:ab::", &[true, false]),
+    (":bad:client:ab:: :ok:client:a::", &[true, true]),
+    (":bad:client:a:: :ok:client:a::", &[true, false]),
+    (":bad:server::b: :ok:server::bc:", &[true, false]),
+    (":bad:server::bc: :ok:server::b:", &[true, true]),
+    (":bad:all:é:b: :ok:all:é.:b.:", &[true, false]),
+    // A rule for both sides needs only one of them.
+    (":ok:client::: :bad:all:a:b:", &[true, true]),
+    (":ok:server::: :bad:all:a:b:", &[true, true]),
+    (
+        ":ok:client::: :ok:server::: :bad:all:a:b:",
+        &[true, true, false],
+    ),
+    (":bad:client:a:b: :ok:server:a:b:", &[true, true]),
+    // A map rule stands as the rules that it is short for.
+    (":map::a.:", &[true, true]),
+    (":map:::", &[true, false]),
+    (":map:a:a:", &[true, false, true]),
+    (":ok:all::: :map:a:b:", &[true, false, false, false]),
+];
+
 fn lost(alloc: Global, text: &str) -> Result<Audit, Fail> {
     let map = XattrMap::try_from(alloc, text)?;
     Ok(audit(alloc, &map)?)
@@ -410,6 +437,24 @@ fn tells_whether_a_map_is_terminated(rt: HostRuntime) -> Result<(), Fail> {
     for (text, wanted) in cases {
         let map = XattrMap::try_from(rt.alloc(), text)?;
         assert_eq!(rt; map.is_terminated(), wanted, "of {text:?}");
+    }
+    Ok(())
+}
+
+fn assert_deciding(rt: &impl Abort, map: &XattrMap, wanted: &[bool]) {
+    assert!(rt; map.rule_count() == wanted.len());
+    for place in 0..wanted.len() {
+        assert!(rt; map.decides(place) == wanted[place], "{place}");
+    }
+    assert!(rt; !map.decides(wanted.len()));
+    assert!(rt; !map.decides(usize::MAX));
+}
+
+#[test]
+fn tells_which_rules_decide_a_name(rt: HostRuntime) -> Result<(), Fail> {
+    for (text, wanted) in DECIDING {
+        let map = XattrMap::try_from(rt.alloc(), text)?;
+        assert_deciding(&rt, &map, wanted);
     }
     Ok(())
 }

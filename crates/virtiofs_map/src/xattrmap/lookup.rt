@@ -19,6 +19,14 @@ use crate::xattrmap::walk::{first_place, look_up};
 use std::alloc::Allocator;
 
 impl<A: Allocator> XattrMap<A> {
+    /// How many rules there are, where each `map` rule counts as the two or three rules that it is
+    /// short for.
+    pub fn rule_count(&self) -> usize
+        ensures { result ≡ length self.now }
+    {
+        self.len()
+    }
+
     /// How many rules there are.
     pub(crate) fn len(&self) -> usize
         ensures count { result ≡ length self.now }

@@ -73,6 +73,8 @@ fn assert_rules(rt: &impl Abort, alloc: Global, count: u32, names: &[Name]) {
         assert_first(rt, &map, name, *side, *wanted);
     }
     assert!(rt; !map.is_terminated());
+    assert!(rt; map.rule_count() == count as usize);
+    assert!(rt; map.decides(0) && map.decides(map.rule_count() - 1));
 }
 
 #[test]
@@ -108,6 +110,7 @@ fn many_rules_alike_are_read(rt: HostRuntime) {
     };
     assert_first(&rt, &map, "a", Side::Client, Some(0));
     assert!(rt; map.is_terminated());
+    assert!(rt; map.decides(0) && !map.decides(1) && !map.decides(ALIKE as usize - 1));
 }
 
 /// How many specifications there are.
