@@ -1,5 +1,5 @@
 -- What is told of an id is what the image of its map says of it.
-use Rattle.std.proofs.Common.{◌≡◌, inl, inr, ℕ, List, Option, refl}
+use Rattle.std.proofs.Common.{◌≡◌, inl, inr, ℕ, List, Option}
 use Rattle.virtiofs_map.specs.ImageAnswer.{SaysValue, SaysIn, SaysLeadsBack}
 use Rattle.virtiofs_map.specs.MappingLaws.{LeadsBack}
 use Rattle.virtiofs_map.specs.declared.cmdline.IdMap.{IdMap as Specification}

@@ -1,5 +1,5 @@
 -- What is decided of a name is what becomes of it.
-use Rattle.std.proofs.Common.{◌≡◌, ◌≢◌, ◌⊎◌, inl, inr, ℕ, ◌<◌, ◌≤◌, Bool, List, ◌++◌, length, Option, Some, None, IsSomeAnd, IfOk, MatchResult, Result, Ok, Err, refl, sym, subst, ◌∙◌, arith}
+use Rattle.std.proofs.Common.{◌≡◌, ◌≢◌, inl, inr, ℕ, Bool, List, ◌++◌, length, Option, Some, None, IsSomeAnd, IfOk, MatchResult, Result, Ok, Err, refl, sym, subst, arith}
 use Rattle.std.proofs.lemmas.Bool.{cases_lt}
 use Rattle.std.specs.Global.{Global}
 use Rattle.std.specs.Option.{option_map, option_map_or}
@@ -14,7 +14,7 @@ use Rattle.virtiofs_map.specs.declared.xattrmap.image.Decision.TheVariants as de
 use Rattle.virtiofs_map.specs.declared.xattrmap.scopes.Side.TheVariants.{Client}
 use Rattle.virtiofs_map_c.specs.Codes.{ok, as_it_is, no_map, no_memory}
 use Rattle.virtiofs_map_c.specs.Names.{IsClientCode, TellsClient, TellsDecision, TellsFound, TellsLeast, TellsNo}
-use Rattle.virtiofs_map_c.specs.Replies.{TellsBytes, TellsCode}
+use Rattle.virtiofs_map_c.specs.Replies.{TellsBytes}
 
 -- what the rule that is there, or none, makes of the name
 abbrev made : Option MappingRule → List ℕ → ClientAnswer

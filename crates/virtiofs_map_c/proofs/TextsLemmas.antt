@@ -6,7 +6,7 @@ use Rattle.std.proofs.lemmas.Slice.Zip.{AllZip-long}
 use Rattle.std.specs.Option.{option_map}
 use Rattle.std.specs.Str.{chars}
 use Rattle.virtiofs_map.proofs.ForCallers.{AllZip-push, AllZip-one, specification_one_value, specification_no_fault, specification_one_fault, build_no_fault, build_one_fault}
-use Rattle.virtiofs_map.specs.Build.{Accepted, BuildFault, HasFirstFault}
+use Rattle.virtiofs_map.specs.Build.{BuildFault, HasFirstFault}
 use Rattle.virtiofs_map.specs.Refusal.{OutOfMemoryOr}
 use Rattle.virtiofs_map.specs.declared.cmdline.IdMap.{IdMap as Specification}
 use Rattle.virtiofs_map_c.specs.Makes.{TellsFault, MakesOrTells, TellsThis}

@@ -1,4 +1,4 @@
-use Rattle.std.proofs.Common.{◌≡◌, ◌+◌, ◌++◌, ◌∙◌, ℕ, List, drop, length, refl, sym, ap, arith}
+use Rattle.std.proofs.Common.{◌≡◌, ◌++◌, ◌∙◌, ℕ, List, drop, length, refl, sym, ap, arith}
 use Rattle.std.proofs.lemmas.List.{append_assoc, drop-drop, length-append}
 use Rattle.virtiofs_map_c.proofs.buffer.write_joined.Goals as goal
 

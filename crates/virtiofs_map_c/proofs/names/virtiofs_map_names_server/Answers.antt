@@ -1,4 +1,4 @@
-use Rattle.std.proofs.Common.{◌≡◌, inl, inr, ℕ, List, ◌<◌, ◌++◌, drop, length, Option, refl, sym, ap, subst, ◌∙◌}
+use Rattle.std.proofs.Common.{inl, inr, ℕ, List, ◌<◌, ◌++◌, drop, length, Option, refl, sym, ap, subst, ◌∙◌}
 use Rattle.virtiofs_map_c.specs.Names.{TellsServer}
 use Rattle.virtiofs_map_c.proofs.names.virtiofs_map_names_server.Goals as goal
 
