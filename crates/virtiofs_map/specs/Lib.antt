@@ -19,6 +19,7 @@ pub mod Image
 pub mod ImageAnswer
 pub mod Listing
 pub mod LittleEndian
+pub mod Lookup
 pub mod LookupAnswers
 pub mod LookupSteps
 pub mod MapRule

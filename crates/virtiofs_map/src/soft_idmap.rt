@@ -3,8 +3,9 @@
 //! An [`IdMap`] is made from specifications ([`crate::cmdline`]). In each direction, from guest to
 //! host and from host to guest, at most one of them covers a number, and says what it becomes. A
 //! number that none covers stays itself.
-ghost use Rattle.std.specs.Prelude.{◌≡◌, ℕ, List, [], Some, None, IsOk, IfOk, IfErr, IsOkAnd, IsErrAnd, OnOk, OnErr, MatchResult};
+ghost use Rattle.std.specs.Prelude.{◌≡◌, List, [], IsOk, IfOk, IfErr, OnOk, MatchResult};
 ghost use Rattle.virtiofs_map.specs.Build.{Accepted, BuildFault, HasFirstFault, build_fault_of};
+ghost use Rattle.virtiofs_map.specs.Lookup.{LooksUp};
 ghost use Rattle.virtiofs_map.specs.Mapping.{Becomes};
 ghost use Rattle.virtiofs_map.specs.MappingLaws.{IsOrderFree, KeepsGreatest, IsMappedBothWays, LeadsBack};
 ghost use Rattle.virtiofs_map.specs.LookupSteps.{acting, least_steps, most_steps};
@@ -176,14 +177,8 @@ impl<Guest: GuestId<HostType = Host>, Host: HostId<GuestType = Guest>, A: Alloca
     /// the error is [`MapError::ExplicitFailMapping`] with the id.
     pub fn map_guest(&self, id: Guest) -> Result<Host, MapError<Guest>>
         ensures accepted { Accepted self.now }
-        ensures value { IfOk result (λ host.
-            Becomes self.now GuestToHost (Guest.number id) (Some (Host.number host))) }
-        ensures complete { (n : ℕ) → Becomes self.now GuestToHost (Guest.number id) (Some n)
-            → IsOkAnd result (λ host. Host.number host ≡ n) }
-        ensures fails { OnErr result (Becomes self.now GuestToHost (Guest.number id) None) }
-        ensures forbidden { Becomes self.now GuestToHost (Guest.number id) None
-            → IsErrAnd result (λ e. e ≡ MapError.ExplicitFailMapping id) }
-        ensures names { IfErr result (λ e. e ≡ MapError.ExplicitFailMapping id) }
+        ensures looks_up { LooksUp self.now GuestToHost (Guest.number id) Host.number
+            (MapError.ExplicitFailMapping id) result }
         ensures mapped { IsMappedBothWays self.now GuestToHost (Guest.number id)
             → IsOk result }
         ensures leads_back { IsMappedBothWays self.now GuestToHost (Guest.number id)
@@ -200,14 +195,8 @@ impl<Guest: GuestId<HostType = Host>, Host: HostId<GuestType = Guest>, A: Alloca
     /// Else it takes at least one, and at most as many as n has binary digits.
     pub fn map_guest_counted(&self, id: Guest, steps: &mut Steps) -> Result<Host, MapError<Guest>>
         ensures accepted { Accepted self.now }
-        ensures value { IfOk result (λ host.
-            Becomes self.now GuestToHost (Guest.number id) (Some (Host.number host))) }
-        ensures complete { (n : ℕ) → Becomes self.now GuestToHost (Guest.number id) (Some n)
-            → IsOkAnd result (λ host. Host.number host ≡ n) }
-        ensures fails { OnErr result (Becomes self.now GuestToHost (Guest.number id) None) }
-        ensures forbidden { Becomes self.now GuestToHost (Guest.number id) None
-            → IsErrAnd result (λ e. e ≡ MapError.ExplicitFailMapping id) }
-        ensures names { IfErr result (λ e. e ≡ MapError.ExplicitFailMapping id) }
+        ensures looks_up { LooksUp self.now GuestToHost (Guest.number id) Host.number
+            (MapError.ExplicitFailMapping id) result }
         ensures mapped { IsMappedBothWays self.now GuestToHost (Guest.number id)
             → IsOk result }
         ensures leads_back { IsMappedBothWays self.now GuestToHost (Guest.number id)
@@ -228,14 +217,8 @@ impl<Guest: GuestId<HostType = Host>, Host: HostId<GuestType = Guest>, A: Alloca
     /// forbid a host id.
     pub fn map_host(&self, id: Host) -> Result<Guest, MapError<Host>>
         ensures accepted { Accepted self.now }
-        ensures value { IfOk result (λ guest.
-            Becomes self.now HostToGuest (Host.number id) (Some (Guest.number guest))) }
-        ensures complete { (n : ℕ) → Becomes self.now HostToGuest (Host.number id) (Some n)
-            → IsOkAnd result (λ guest. Guest.number guest ≡ n) }
-        ensures fails { OnErr result (Becomes self.now HostToGuest (Host.number id) None) }
-        ensures forbidden { Becomes self.now HostToGuest (Host.number id) None
-            → IsErrAnd result (λ e. e ≡ MapError.ExplicitFailMapping id) }
-        ensures names { IfErr result (λ e. e ≡ MapError.ExplicitFailMapping id) }
+        ensures looks_up { LooksUp self.now HostToGuest (Host.number id) Guest.number
+            (MapError.ExplicitFailMapping id) result }
         ensures mapped { IsMappedBothWays self.now HostToGuest (Host.number id)
             → IsOk result }
         ensures leads_back { IsMappedBothWays self.now HostToGuest (Host.number id)
@@ -252,14 +235,8 @@ impl<Guest: GuestId<HostType = Host>, Host: HostId<GuestType = Guest>, A: Alloca
     /// Else it takes at least one, and at most as many as n has binary digits.
     pub fn map_host_counted(&self, id: Host, steps: &mut Steps) -> Result<Guest, MapError<Host>>
         ensures accepted { Accepted self.now }
-        ensures value { IfOk result (λ guest.
-            Becomes self.now HostToGuest (Host.number id) (Some (Guest.number guest))) }
-        ensures complete { (n : ℕ) → Becomes self.now HostToGuest (Host.number id) (Some n)
-            → IsOkAnd result (λ guest. Guest.number guest ≡ n) }
-        ensures fails { OnErr result (Becomes self.now HostToGuest (Host.number id) None) }
-        ensures forbidden { Becomes self.now HostToGuest (Host.number id) None
-            → IsErrAnd result (λ e. e ≡ MapError.ExplicitFailMapping id) }
-        ensures names { IfErr result (λ e. e ≡ MapError.ExplicitFailMapping id) }
+        ensures looks_up { LooksUp self.now HostToGuest (Host.number id) Guest.number
+            (MapError.ExplicitFailMapping id) result }
         ensures mapped { IsMappedBothWays self.now HostToGuest (Host.number id)
             → IsOk result }
         ensures leads_back { IsMappedBothWays self.now HostToGuest (Host.number id)
@@ -304,14 +281,8 @@ impl<Guest: GuestId<HostType = Host>, Host: HostId<GuestType = Guest>, A: Alloca
         steps: &mut Steps,
     ) -> Result<Target, MapError<Source>>
         ensures accepted { Accepted self.now }
-        ensures value { IfOk result (λ target.
-            Becomes self.now direction (Source.number id) (Some (Target.number target))) }
-        ensures complete { (n : ℕ) → Becomes self.now direction (Source.number id) (Some n)
-            → IsOkAnd result (λ target. Target.number target ≡ n) }
-        ensures fails { OnErr result (Becomes self.now direction (Source.number id) None) }
-        ensures forbidden { Becomes self.now direction (Source.number id) None
-            → IsErrAnd result (λ e. e ≡ MapError.ExplicitFailMapping id) }
-        ensures names { IfErr result (λ e. e ≡ MapError.ExplicitFailMapping id) }
+        ensures looks_up { LooksUp self.now direction (Source.number id) Target.number
+            (MapError.ExplicitFailMapping id) result }
         ensures mapped { IsMappedBothWays self.now direction (Source.number id)
             → IsOk result }
         ensures leads_back { IsMappedBothWays self.now direction (Source.number id)
