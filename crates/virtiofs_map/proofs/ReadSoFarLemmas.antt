@@ -6,7 +6,7 @@ use Rattle.std.specs.List.{AllByRecursion}
 use Rattle.std.specs.Option.{option_map_or}
 use Rattle.std.specs.Str.{drop_trailing_whitespace}
 use Rattle.virtiofs_map.specs.Rule.{MappingRule}
-use Rattle.virtiofs_map.specs.RuleText.{RuleHead, Typed, Map, RuleAsWritten, Fields, RuleThen, RulesThen, RuleText, IsBlank, trimmed, rule_fields, rules_of, expanded, SaysRules}
+use Rattle.virtiofs_map.specs.RuleText.{RuleHead, Typed, Map, RuleAsWritten, Fields, RuleThen, RulesThen, RuleText, IsBlank, trimmed, rule_fields, rules_of, expanded, SaysRules, CountsRules}
 use Rattle.virtiofs_map.specs.Refusal.{OutOfMemoryOr}
 use Rattle.virtiofs_map.specs.RulesFault.{RuleFault, InRule, NotOfText, HasRulesFault, rule_fault_of, rules_fault_of}
 use Rattle.virtiofs_map.specs.RuleParts.{IsOpened, BeginsWithFault}
@@ -72,15 +72,18 @@ pub record Going (text rest : List ℕ) (written : List RuleAsWritten) (items : 
   pub opened : (rest ≡ []) ⊎ IsOpened rest
   pub count : length items ≡ length written
 
-pub record ReadSoFar (text rest : List ℕ) (items : List MappingRule) : Type 0 where
+-- that many rules were read, which stand for these
+pub record ReadSoFar (text rest : List ℕ) (items : List MappingRule) (count : ℕ) : Type 0 where
   pub written : List RuleAsWritten
   pub are : items ≡ expanded written
+  pub counted : count ≡ length written
   pub state : Going text rest written items ⊎ ((rest ≡ []) × RuleText text written)
 
-pub start : (text rest : List ℕ) (items : List MappingRule) → rest ≡ trimmed text → items ≡ [] → ReadSoFar text rest items
+pub start : (text rest : List ℕ) (items : List MappingRule) → rest ≡ trimmed text → items ≡ [] → ReadSoFar text rest items 0
 start text rest items e none = record {
   written = [];
   are = none;
+  counted = refl;
   state = inl record {
     before = sym e;
     opened = subst (λ r. (r ≡ []) ⊎ IsOpened r) (sym e) (trimmed_opened text);
@@ -88,16 +91,16 @@ start text rest items e none = record {
   };
 }
 
-going : (text rest : List ℕ) (items : List MappingRule) (so_far : ReadSoFar text rest items) → rest ≢ [] → Going text rest so_far.written items
-going text rest items so_far more = elim so_far.state [ inl state ↦ state | inr over ↦ absurd (more over.0) ]
+going : (text rest : List ℕ) (items : List MappingRule) (count : ℕ) (so_far : ReadSoFar text rest items count) → rest ≢ [] → Going text rest so_far.written items
+going text rest items count so_far more = elim so_far.state [ inl state ↦ state | inr over ↦ absurd (more over.0) ]
 
-pub opened : (text rest : List ℕ) (items : List MappingRule) → ReadSoFar text rest items → rest ≢ [] → IsOpened rest
-opened text rest items so_far more = elim (going text rest items so_far more).opened [ inl none ↦ absurd (more none) | inr opens ↦ opens ]
+pub opened : (text rest : List ℕ) (items : List MappingRule) (count : ℕ) → ReadSoFar text rest items count → rest ≢ [] → IsOpened rest
+opened text rest items count so_far more = elim (going text rest items count so_far more).opened [ inl none ↦ absurd (more none) | inr opens ↦ opens ]
 
-pub fault : (text rest : List ℕ) (items : List MappingRule) (cause : RuleFault) (k : ℕ)
-    → ReadSoFar text rest items → rest ≢ [] → BeginsWithFault rest cause → k ≡ length items + 1 → HasRulesFault text (InRule k cause)
-fault text rest items cause k so_far more (d, body, opens, wrong) number =
-    let state = going text rest items so_far more in
+pub fault : (text rest : List ℕ) (items : List MappingRule) (count : ℕ) (cause : RuleFault) (k : ℕ)
+    → ReadSoFar text rest items count → rest ≢ [] → BeginsWithFault rest cause → k ≡ length items + 1 → HasRulesFault text (InRule k cause)
+fault text rest items count cause k so_far more (d, body, opens, wrong) number =
+    let state = going text rest items count so_far more in
     record {
       front = so_far.written;
       rest = rest;
@@ -110,15 +113,15 @@ fault text rest items cause k so_far more (d, body, opens, wrong) number =
     }
 
 -- an error that tells a fault of the rule that is read, told with the number of that rule, tells a fault of the text
-told_at : (text rest : List ℕ) (items : List MappingRule) (k : ℕ) (told : Option RuleFault)
-    → ReadSoFar text rest items → rest ≢ [] → k ≡ length items + 1 → IsSomeAnd told (BeginsWithFault rest) → HasRulesFault text (option_map_or (InRule k) told NotOfText)
-told_at text rest items k None so_far more number none = absurd none
-told_at text rest items k (Some cause) so_far more number wrong = fault text rest items cause k so_far more wrong number
+told_at : (text rest : List ℕ) (items : List MappingRule) (count k : ℕ) (told : Option RuleFault)
+    → ReadSoFar text rest items count → rest ≢ [] → k ≡ length items + 1 → IsSomeAnd told (BeginsWithFault rest) → HasRulesFault text (option_map_or (InRule k) told NotOfText)
+told_at text rest items count k None so_far more number none = absurd none
+told_at text rest items count k (Some cause) so_far more number wrong = fault text rest items count cause k so_far more wrong number
 
-pub refused_at : {A : Type 0} (text rest : List ℕ) (items : List MappingRule) (k : ℕ) (cause : ErrorKind A)
-    → ReadSoFar text rest items → rest ≢ [] → k ≡ length items + 1 → IsSomeAnd (rule_fault_of cause) (BeginsWithFault rest)
+pub refused_at : {A : Type 0} (text rest : List ℕ) (items : List MappingRule) (count k : ℕ) (cause : ErrorKind A)
+    → ReadSoFar text rest items count → rest ≢ [] → k ≡ length items + 1 → IsSomeAnd (rule_fault_of cause) (BeginsWithFault rest)
     → OutOfMemoryOr (rules_fault_of (record { cause = cause; rule = Some k })) (HasRulesFault text)
-refused_at text rest items k cause so_far more number wrong = told_at text rest items k (rule_fault_of cause) so_far more number wrong
+refused_at text rest items count k cause so_far more number wrong = told_at text rest items count k (rule_fault_of cause) so_far more number wrong
 
 -- it does not tell out of memory
 pub not_out_of_memory : {A : Type 0} (cause : ErrorKind A) (P : RuleFault → Type 0) → IsSomeAnd (rule_fault_of cause) P → cause ≢ OutOfMemory
@@ -128,30 +131,37 @@ pub nothing_after : {A : Type 0} (xs ys : List A) → xs ++ ys ≡ [] → ys ≡
 nothing_after [] ys e = e
 nothing_after (x ∷ xs) ys e = absurd (cc)
 
-step_by : (head : RuleHead) (text rest : List ℕ) (items more_items : List MappingRule) (rule : RuleAsWritten) (after blanks next : List ℕ)
-    → rule.head ≡ head → ReadSoFar text rest items → rest ≢ [] → RuleThen rest rule after → (rule.head ≡ Map → after ≡ [])
+-- the number of a rule is how many rules there are then
+one_more : (number : ℕ) (items : List MappingRule) (written : List RuleAsWritten) (rule : RuleAsWritten)
+    → number ≡ length items + 1 → length items ≡ length written → number ≡ length (written ++ rule ∷ [])
+one_more number items written rule is same = omega (arith, is, same, length-append written (rule ∷ []))
+
+step_by : (head : RuleHead) (text rest : List ℕ) (items more_items : List MappingRule) (count number : ℕ) (rule : RuleAsWritten) (after blanks next : List ℕ)
+    → rule.head ≡ head → ReadSoFar text rest items count → number ≡ length items + 1 → rest ≢ [] → RuleThen rest rule after → (rule.head ≡ Map → after ≡ [])
     → after ≡ blanks ++ next → AllByRecursion IsBlank blanks → (next ≡ []) ⊎ IsOpened next
-    → more_items ≡ items ++ rules_of rule.head rule.key rule.prepend → ReadSoFar text next more_items
-step_by (Typed kind scope) text rest items more_items rule after blanks next is_head so_far more whole last spells blank open_next pushed =
-    let state = going text rest items so_far more in
+    → more_items ≡ items ++ rules_of rule.head rule.key rule.prepend → ReadSoFar text next more_items number
+step_by (Typed kind scope) text rest items more_items count number rule after blanks next is_head so_far is_number more whole last spells blank open_next pushed =
+    let state = going text rest items count so_far more in
     let w = so_far.written in
     let one : length (rules_of rule.head rule.key rule.prepend) ≡ 1 = rw is_head refl in
     let plain : rule.head ≢ Map = λ e. (let f : Typed kind scope ≡ Map = sym is_head ∙ e in (cc)) in
     record {
       written = w ++ rule ∷ [];
       are = pushed ∙ ap (λ x. x ++ rules_of rule.head rule.key rule.prepend) so_far.are ∙ sym (expanded_snoc w rule);
+      counted = one_more number items w rule is_number state.count;
       state = inl record {
         before = rules_snoc (trimmed text) w rest rule blanks next state.before (subst (RuleThen rest rule) spells whole) plain blank;
         opened = open_next;
         count = omega (arith, ap length pushed, length-append items (rules_of rule.head rule.key rule.prepend), one, state.count, length-append w (rule ∷ []));
       };
     }
-step_by Map text rest items more_items rule after blanks next is_head so_far more whole last spells blank open_next pushed =
-    let state = going text rest items so_far more in
+step_by Map text rest items more_items count number rule after blanks next is_head so_far is_number more whole last spells blank open_next pushed =
+    let state = going text rest items count so_far more in
     let w = so_far.written in
     record {
       written = w ++ rule ∷ [];
       are = pushed ∙ ap (λ x. x ++ rules_of rule.head rule.key rule.prepend) so_far.are ∙ sym (expanded_snoc w rule);
+      counted = one_more number items w rule is_number state.count;
       state = inr (
         nothing_after blanks next (sym spells ∙ last is_head),
         record {
@@ -166,11 +176,11 @@ step_by Map text rest items more_items rule after blanks next is_head so_far mor
     }
 
 -- one more rule was read
-pub step : (text rest : List ℕ) (items more_items : List MappingRule) (rule : RuleAsWritten) (after next : List ℕ)
-    → ReadSoFar text rest items → rest ≢ [] → RuleThen rest rule after → (rule.head ≡ Map → after ≡ []) → Skips after next
-    → more_items ≡ items ++ rules_of rule.head rule.key rule.prepend → ReadSoFar text next more_items
-step text rest items more_items rule after next so_far more whole last skipped pushed =
-    step_by rule.head text rest items more_items rule after skipped.blanks next refl so_far more whole last skipped.spells skipped.are_blank skipped.opened pushed
+pub step : (text rest : List ℕ) (items more_items : List MappingRule) (count number : ℕ) (rule : RuleAsWritten) (after next : List ℕ)
+    → ReadSoFar text rest items count → number ≡ length items + 1 → rest ≢ [] → RuleThen rest rule after → (rule.head ≡ Map → after ≡ []) → Skips after next
+    → more_items ≡ items ++ rules_of rule.head rule.key rule.prepend → ReadSoFar text next more_items number
+step text rest items more_items count number rule after next so_far is_number more whole last skipped pushed =
+    step_by rule.head text rest items more_items count number rule after skipped.blanks next refl so_far is_number more whole last skipped.spells skipped.are_blank skipped.opened pushed
 
 -- ---- the end
 
@@ -184,9 +194,9 @@ expanded_none [] e = refl
 expanded_none (rule ∷ rules) e = absurd (some_rules rule.head rule.key rule.prepend (expanded rules) e)
 
 -- the rest is empty, and some rules were read
-pub finish : (text rest : List ℕ) (items : List MappingRule) → ReadSoFar text rest items → rest ≡ [] → items ≢ []
-    → SaysRules text items
-finish text rest items so_far over some =
+pub finish : (text rest : List ℕ) (items : List MappingRule) (count : ℕ) → ReadSoFar text rest items count → rest ≡ [] → items ≢ []
+    → SaysRules text items × CountsRules text count
+finish text rest items count so_far over some =
     let w = so_far.written in
     let whole : Going text rest w items → RuleText text w = λ state.
     (let all : RulesThen (trimmed text) w [] = subst (RulesThen (trimmed text) w) over state.before in
@@ -194,11 +204,12 @@ finish text rest items so_far over some =
       | inl none ↦ absurd (some (so_far.are ∙ ap expanded none))
       | inr (front, last, last_rest, are, before, ends) ↦ record { front = front; last = last; rest = last_rest; are = are; before = before; ends = ends }
     ]) in
-    (w, elim so_far.state [ inl state ↦ whole state | inr done ↦ done.1 ], so_far.are)
+    let is : RuleText text w = elim so_far.state [ inl state ↦ whole state | inr done ↦ done.1 ] in
+    ((w, is, so_far.are), (w, is, so_far.counted))
 
 -- the rest is empty, and no rule was read
-pub nothing : (text rest : List ℕ) (items : List MappingRule) → ReadSoFar text rest items → rest ≡ [] → items ≡ [] → trimmed text ≡ []
-nothing text rest items so_far over none =
+pub nothing : (text rest : List ℕ) (items : List MappingRule) (count : ℕ) → ReadSoFar text rest items count → rest ≡ [] → items ≡ [] → trimmed text ≡ []
+nothing text rest items count so_far over none =
     let no_rules : so_far.written ≡ [] = expanded_none so_far.written (sym so_far.are ∙ none) in
     elim so_far.state [
       | inl state ↦ subst (λ w. RulesThen (trimmed text) w rest) no_rules state.before ∙ over

@@ -4,7 +4,7 @@ use Rattle.std.proofs.lemmas.Bool.{false≢true}
 use Rattle.std.specs.Char.{is_ascii_whitespace}
 use Rattle.std.specs.List.{AllByRecursion}
 use Rattle.virtiofs_map.specs.Rule.{MappingRule}
-use Rattle.virtiofs_map.specs.RuleText.{Map, RuleAsWritten, RuleThen, RulesThen, RuleText, IsBlank, trimmed, expanded, SaysRules}
+use Rattle.virtiofs_map.specs.RuleText.{Map, RuleAsWritten, RuleThen, RulesThen, RuleText, IsBlank, trimmed, expanded, SaysRules, CountsRules}
 use Rattle.virtiofs_map.specs.RulesFault.{RuleFault, RulesFault, NoRules, InRule, NotOfText, IsFirstAtFault, HasRulesFault}
 use Rattle.virtiofs_map.specs.RuleParts.{BeginsWithFault, IsOpened}
 use Rattle.virtiofs_map.proofs.RuleFieldLemmas.{empty_is_not_opened}
@@ -69,6 +69,10 @@ one_reading text a b one two =
 pub one_value : (text : List ℕ) (a b : List MappingRule) → SaysRules text a → SaysRules text b → a ≡ b
 one_value text a b (written, one, are) (other, two, same) = are ∙ ap expanded (one_reading text written other one two) ∙ sym same
 
+-- and are that many rules
+pub one_count : (text : List ℕ) (a b : ℕ) → CountsRules text a → CountsRules text b → a ≡ b
+one_count text a b (written, read, are) (other, read_too, are_too) = are ∙ ap length (one_reading text written other read read_too) ∙ sym are_too
+
 not_blank : (text : List ℕ) (written : List RuleAsWritten) → RuleText text written → trimmed text ≡ [] → ⊥
 not_blank text written one nothing =
     empty_is_not_opened (subst IsOpened nothing (rules_opened (trimmed text) one.front one.rest one.before (rule_opened one.rest one.last [] one.ends)))
@@ -83,6 +87,9 @@ pub no_fault : (text : List ℕ) (rules : List MappingRule) (fault : RulesFault)
 no_fault text rules NoRules (written, one, are) nothing = not_blank text written one nothing
 no_fault text rules (InRule k cause) (written, one, are) wrong = not_at_fault text written k cause one wrong
 no_fault text rules NotOfText says wrong = wrong
+
+pub no_fault_counted : (text : List ℕ) (count : ℕ) (fault : RulesFault) → CountsRules text count → HasRulesFault text fault → ⊥
+no_fault_counted text count fault (written, read, are) wrong = no_fault text (expanded written) fault (written, read, refl) wrong
 
 not_empty : (text : List ℕ) (k : ℕ) (cause : RuleFault) → IsFirstAtFault text k cause → trimmed text ≡ [] → ⊥
 not_empty text k cause one nothing =

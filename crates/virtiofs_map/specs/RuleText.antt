@@ -1,5 +1,5 @@
 -- What a text of rules is, and which rules it stands for. A text is a list of characters.
-use Rattle.std.specs.Prelude.{◌≡◌, ◌≢◌, ℕ, Bool, true, false, List, [], ◌∷◌, ◌++◌, codes, encode_utf8_all}
+use Rattle.std.specs.Prelude.{◌≡◌, ◌≢◌, ℕ, Bool, true, false, List, [], ◌∷◌, ◌++◌, length, codes, encode_utf8_all}
 use Rattle.std.specs.Char.{is_ascii_whitespace}
 use Rattle.std.specs.List.{AllByRecursion, flat_map}
 use Rattle.std.specs.Str.{skip_leading_whitespace, drop_trailing_whitespace}
@@ -117,3 +117,7 @@ expanded rules = flat_map (λ rule. rules_of rule.head rule.key rule.prepend) ru
 -- the text is written rules that stand for these
 abbrev pub SaysRules : List ℕ → List MappingRule → Type 0
 SaysRules text rules = (written : List RuleAsWritten) × RuleText text written × (rules ≡ expanded written)
+
+-- the text is that many written rules; a map rule is one
+abbrev pub CountsRules : List ℕ → ℕ → Type 0
+CountsRules text count = (written : List RuleAsWritten) × RuleText text written × (count ≡ length written)

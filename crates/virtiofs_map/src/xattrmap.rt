@@ -30,12 +30,12 @@
 //! The scope says on which side a rule acts: `client` for names from the guest, `server` for names
 //! from the host, `all` for both.
 
-ghost use Rattle.std.specs.Prelude.{◌≡◌, List, IfOk, IfErr, MatchResult};
+ghost use Rattle.std.specs.Prelude.{◌≡◌, ℕ, List, IfOk, IfErr, MatchResult};
 ghost use Rattle.std.specs.Str.{chars};
 ghost use Rattle.virtiofs_map.specs.MapRule.{ReadsMapRule};
 ghost use Rattle.virtiofs_map.specs.Refusal.{IsOutOfMemory, OutOfMemoryOr};
 ghost use Rattle.virtiofs_map.specs.Rule.{MappingRule};
-ghost use Rattle.virtiofs_map.specs.RuleText.{SaysRules};
+ghost use Rattle.virtiofs_map.specs.RuleText.{SaysRules, CountsRules};
 ghost use Rattle.virtiofs_map.specs.RulesFault.{RulesFault, HasRulesFault, rules_fault_of};
 
 mod branches;
@@ -155,7 +155,7 @@ impl<A: Allocator + Copy> XattrMap<A> {
         // Where the text is one map rule, the map means what that rule means.
         ensures map_rule { IfOk result (ReadsMapRule (chars text.now)) }
     {
-        let rules = read_rules(alloc, text)?;
+        let (rules, _) = read_rules(alloc, text)?;
         let client = trie_rows(alloc, &rules, Side::Client)?;
         let server = trie_rows(alloc, &rules, Side::Server)?;
         Ok(XattrMap {
@@ -163,6 +163,27 @@ impl<A: Allocator + Copy> XattrMap<A> {
             client,
             server,
         })
+    }
+
+    /// How many rules are written in a text. A `map` rule is one of them, though it is short for two
+    /// or three rules of the map.
+    ///
+    /// # Errors
+    ///
+    /// Those of [`XattrMap::try_from`].
+    pub fn written_rules(alloc: A, text: &str) -> Result<usize, Error<A>>
+        ensures counted { IfOk result (CountsRules (chars text.now)) }
+        ensures complete { (count : ℕ) → CountsRules (chars text.now) count
+            → MatchResult result (λ told. told ≡ count) (λ e. IsOutOfMemory (rules_fault_of e)) }
+        ensures refused { IfErr result (λ e.
+            OutOfMemoryOr (rules_fault_of e) (HasRulesFault (chars text.now))) }
+        ensures faulty { (fault : RulesFault) → HasRulesFault (chars text.now) fault
+            → MatchResult result
+            (λ _. ⊥)
+            (λ e. OutOfMemoryOr (rules_fault_of e) (λ told. told ≡ fault)) }
+    {
+        let (_, written) = read_rules(alloc, text)?;
+        Ok(written)
     }
 
     /// The same map, in memory of its own.

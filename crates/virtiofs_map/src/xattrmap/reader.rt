@@ -5,7 +5,7 @@ ghost use Rattle.std.specs.Str.{chars, IsUtf8};
 ghost use Rattle.virtiofs_map.specs.Refusal.{OutOfMemoryOr};
 ghost use Rattle.virtiofs_map.specs.Rule.{RuleType};
 ghost use Rattle.virtiofs_map.specs.RuleParts.{type_of, scope_of, head_of, as_written, IsOpened, BeginsWithFault, HasPatternFault, TellsFault};
-ghost use Rattle.virtiofs_map.specs.RuleText.{ScopeName, type_word, scope_word, head_fields, rule_fields, Fields, HasNoNul, RuleThen, SaysRules};
+ghost use Rattle.virtiofs_map.specs.RuleText.{ScopeName, type_word, scope_word, head_fields, rule_fields, Fields, HasNoNul, RuleThen, SaysRules, CountsRules};
 ghost use Rattle.virtiofs_map.specs.RulesFault.{HasRuleFault, HasRulesFault, rule_fault_of, rules_fault_of};
 ghost use Rattle.virtiofs_map.specs.Separator.{Lacks};
 
@@ -151,16 +151,22 @@ fn next_rule<A: Allocator + Copy>(
     Ok((rule, after))
 }
 
-/// The rules that the text stands for.
-pub(crate) fn read_rules<A: Allocator + Copy>(alloc: A, text: &str) -> Result<Rules<A>, Error<A>>
-    ensures read { IfOk result (λ rules. SaysRules (chars text.now) rules.list) }
+/// The rules that the text stands for, and how many rules are written in it. A written `map` rule is
+/// one.
+pub(crate) fn read_rules<A: Allocator + Copy>(
+    alloc: A,
+    text: &str,
+) -> Result<(Rules<A>, usize), Error<A>>
+    ensures read { IfOk result (λ found. SaysRules (chars text.now) found.0.list) }
+    ensures counted { IfOk result (λ found. CountsRules (chars text.now) found.1) }
     ensures refused { IfErr result (λ e.
         OutOfMemoryOr (rules_fault_of e) (HasRulesFault (chars text.now))) }
 {
     let mut rules = Rules::new(alloc);
     let mut rest = text.trim();
+    let mut number = 0;
     while !rest.is_empty() {
-        let number = rules.len() + 1;
+        number = rules.len() + 1;
         let (rule, after) = match next_rule(alloc, rest) {
             Ok(found) => found,
             Err(cause) => return Err(cause.in_rule(number)),
@@ -172,5 +178,5 @@ pub(crate) fn read_rules<A: Allocator + Copy>(alloc: A, text: &str) -> Result<Ru
         return Err(Error::from(ErrorKind::NoRulesProvided));
     }
     rules.trim();
-    Ok(rules)
+    Ok((rules, number))
 }

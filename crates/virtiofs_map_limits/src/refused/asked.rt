@@ -23,6 +23,8 @@ pub(super) enum Asked {
     IdsApart(&'static str, &'static str),
     /// `XattrMap::try_from` of this text.
     Rules(&'static str),
+    /// `XattrMap::written_rules` of this text.
+    Written(&'static str),
     /// A question to the map of these rules.
     Of(&'static str, Question),
 }
@@ -39,6 +41,7 @@ impl Asked {
             Asked::Alone(texts) => ids::alone(ample, alloc, texts),
             Asked::IdsApart(texts, others) => ids::apart(ample, alloc, texts, others),
             Asked::Rules(rules) => maps::rules(ample, alloc, rules),
+            Asked::Written(rules) => maps::written(ample, alloc, rules),
             Asked::Of(rules, question) => questions::of(ample, alloc, rules, question),
         }
     }

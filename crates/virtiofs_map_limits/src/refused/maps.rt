@@ -22,6 +22,17 @@ pub(super) fn rules<'h>(ample: Heap<'h>, alloc: Heap<'h>, text: &str) -> Told<'h
     Told::of(ample, &answer)
 }
 
+/// Counts the rules of a text.
+pub(super) fn written<'h>(ample: Heap<'h>, alloc: Heap<'h>, text: &str) -> Told<'h> {
+    let answer = XattrMap::written_rules(alloc, text);
+    if let Err(error) = &answer
+        && is_want(error)
+    {
+        return Told::OutOfMemory;
+    }
+    Told::of(ample, &answer)
+}
+
 /// What a map makes of this name, asked for by the guest.
 pub(super) fn passed<'h>(
     ample: Heap<'h>,

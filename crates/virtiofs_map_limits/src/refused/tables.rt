@@ -2,14 +2,14 @@
 
 use crate::refused::asked::Asked;
 use crate::refused::questions::Question;
-use Asked::{Alone, Build, IdsApart, Image, Of, Rules, Specification, Texts};
+use Asked::{Alone, Build, IdsApart, Image, Of, Rules, Specification, Texts, Written};
 use Question::{
     Apart, ApartWithin, Audit, AuditCounted, AuditListed, Client, Clone, ListedWithin, Server,
     Shares, SharesWithin, Within,
 };
 
 /// Calls that cannot do without memory.
-pub(super) const TAKE: [Asked; 67] = [
+pub(super) const TAKE: [Asked; 69] = [
     Specification("foo:x"),
     Specification("foo:1"),
     Specification("foo"),
@@ -48,6 +48,8 @@ pub(super) const TAKE: [Asked; 67] = [
     Rules(":map:trusted.:user.virtiofs.:"),
     Rules(":map::user.virtiofs.:"),
     Rules(":TOMATOPIRATE:trusted.:virtiofs.user.:"),
+    Written(":bad:all:x:y: :map::P: :ok:all:::"),
+    Written(":map:trusted.:user.virtiofs.:"),
     Of("xokxallxxx", Clone),
     Of(
         ":ok:all:::\u{a0}ok\u{a0}all\u{a0}\u{a0}\u{a0}:ok:all:::",

@@ -190,6 +190,56 @@ fn tells_the_first_fault(rt: HostRuntime) -> Result<(), Fail> {
     Ok(())
 }
 
+/// A text of rules, and how many rules are written in it.
+const WRITTEN: [(&str, usize); 11] = [
+    (":ok:all:::", 1),
+    (":bad:all:::", 1),
+    (":prefix:client:a:b:", 1),
+    (":unsupported:server::b:", 1),
+    (":map::a.:", 1),
+    (":map:a:b:", 1),
+    (":ok:all::: :map::a.:", 2),
+    (":ok:all::: :map:a:b:", 2),
+    (":ok:all::::ok:all:::", 2),
+    ("/bad/all/// :ok:all:::\u{a0}", 2),
+    (
+        ":bad:client:a:: :ok:server::b: :prefix:all:c:d: :map:e:f:",
+        4,
+    ),
+];
+
+#[test]
+fn counts_the_rules_as_they_are_written(rt: HostRuntime) -> Result<(), Fail> {
+    for (text, wanted) in WRITTEN {
+        let written = XattrMap::written_rules(rt.alloc(), text)?;
+        assert_eq!(rt; written, wanted, "of {text:?}");
+    }
+    Ok(())
+}
+
+/// Asserts that a count of the rules of a text fails as a reading of it does.
+fn assert_uncounted(
+    rt: &impl Abort,
+    alloc: Global,
+    text: &str,
+    wrong: Wrong,
+    rule: Option<usize>,
+) -> Result<(), Fail> {
+    let cause = cause_of(alloc, wrong)?;
+    let error = XattrMap::written_rules(alloc, text).err();
+    assert_eq!(rt; error, Some(Error { cause, rule }), "of {text:?}");
+    Ok(())
+}
+
+#[test]
+fn counts_no_rules_of_a_text_at_fault(rt: HostRuntime) -> Result<(), Fail> {
+    assert_uncounted(&rt, rt.alloc(), "", Wrong::Nothing, None)?;
+    for (text, wrong, rule) in FAULTS {
+        assert_uncounted(&rt, rt.alloc(), text, wrong, rule)?;
+    }
+    Ok(())
+}
+
 /// The text of what is wrong with a text.
 fn message_of(alloc: Global, text: &str) -> Result<String, Fail> {
     let error = XattrMap::try_from(alloc, text).err().ok_or("read")?;

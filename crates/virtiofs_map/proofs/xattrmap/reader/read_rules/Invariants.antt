@@ -5,8 +5,8 @@ use Rattle.std.specs.Str.{chars}
 use Rattle.virtiofs_map.proofs.ReadSoFarLemmas.{ReadSoFar}
 use Rattle.virtiofs_map.proofs.xattrmap.reader.read_rules.Given as goal
 
-abbrev pub invariant-loop-rest : goal.invariant-loop-rest
-invariant-loop-rest g l = shadow (Utf8 l.rest) × ReadSoFar (chars l.text) (chars l.rest) l.rules.list
+abbrev pub invariant-loop-number : goal.invariant-loop-number
+invariant-loop-number g l = shadow (Utf8 l.rest) × ReadSoFar (chars l.text) (chars l.rest) l.rules.list l.number
 
-abbrev pub decreases-loop-rest : goal.decreases-loop-rest
-decreases-loop-rest g l = length (chars l.rest)
+abbrev pub decreases-loop-number : goal.decreases-loop-number
+decreases-loop-number g l = length (chars l.rest)
