@@ -43,6 +43,28 @@ def wanted_output(row):
     return output if isinstance(output, str) else "".join(texts_of(output))
 
 
+def is_wanted(row, output):
+    """Whether standard output is what the row says: these bytes, this value of JSON, or a text that has these parts."""
+    if "json" in row:
+        try:
+            return json.loads(output) == row["json"] and output.endswith(b"\n")
+        except ValueError:
+            return False
+    if "output_has" in row:
+        return all(part.encode("utf-8") in output for part in row["output_has"])
+    return output == wanted_output(row).encode("utf-8")
+
+
+def is_wanted_error(row, errors):
+    """Whether standard error is what the row says: this text, a text that begins so, something where the words are wrong,
+    and else nothing."""
+    if "errors_begin" in row:
+        return errors.startswith(row["errors_begin"].encode("utf-8"))
+    if "errors" in row:
+        return errors == row["errors"].encode("utf-8")
+    return bool(errors) == (row["status"] == WRONG_WORDS)
+
+
 def limits_memory():
     """Whether this platform limits the address space of a process."""
     return hasattr(resource, "RLIMIT_AS")
@@ -65,24 +87,34 @@ def start(program, words, stdout, memory):
     return subprocess.run([program, *words], stdout=subprocess.PIPE, **how)
 
 
+def processor_time():
+    """The seconds of processor time of all programs that have ended."""
+    return sum(os.times()[2:4])
+
+
 def differences(program, row):
     """What the program did in another way than the row says."""
+    before = processor_time()
     try:
         words = texts_of(row["words"])
         ended = start(program, words, row.get("stdout", "kept"), row.get("memory"))
     except subprocess.TimeoutExpired:
         return [f"had not ended after {SECONDS} seconds"]
     found = []
-    wanted = wanted_output(row).encode("utf-8")
+    took = processor_time() - before
+    if "seconds" in row:
+        print(f"{row['note']}: {took:.2f} s of processor time, by {os.path.basename(program)}")
+        if took > row["seconds"]:
+            found.append(f"{took:.2f} s, and not at most {row['seconds']}")
     output = ended.stdout or b""
     if ended.returncode != row["status"]:
         found.append(f"status {ended.returncode}, and not {row['status']}")
-    if output != wanted:
+    if not is_wanted(row, output):
+        wanted = row.get("json", row.get("output_has")) or wanted_output(row)
         found.append(f"output {shortened(output)}, and not {shortened(wanted)}")
-    if row["status"] == WRONG_WORDS and not ended.stderr:
-        found.append("no usage on standard error")
-    if row["status"] != WRONG_WORDS and ended.stderr:
-        found.append(f"{shortened(ended.stderr)} on standard error")
+    if not is_wanted_error(row, ended.stderr):
+        wanted = row.get("errors", row.get("errors_begin", "a usage" if row["status"] == WRONG_WORDS else ""))
+        found.append(f"{shortened(ended.stderr)} on standard error, and not {shortened(wanted)}")
     return found
 
 

@@ -25,35 +25,54 @@ TOP = os.path.dirname(HERE)
 sys.dont_write_bytecode = True
 sys.path.insert(0, HERE)
 from embedding import C_FLAGS, PROBE_C, Tally, compiler, left_out, run, run_example, written
-from manual_page import forms_of_page
+from manual_page import forms_of_page, options_of_page
 
 PREFIX = "/opt/virtiofs"
 RUST = "share/virtiofs_map/rust"
 CRATE = ("Cargo.toml", "build.rs", "lib.rs", "virtiofs_map.rs", "virtiofs_map_acl.rs", "virtiofs_map_audits.rs")
+PROGRAMS = ("virtiofs_mapcheck", "virtiofs_mapaudit")
 PROGRAM = "bin/virtiofs_mapcheck"
 HEADER = "include/virtiofs_map.h"
 RECORD = "share/virtiofs_map/installed"
-COMPLETION = "share/bash-completion/completions/virtiofs_mapcheck"
-PAGE = "share/man/man1/virtiofs_mapcheck.1"
+COMPLETION = "share/bash-completion/completions"
+PAGE = "share/man/man1"
 OF_KIT = (
-    "bitflags/LICENSE-APACHE", "bitflags/LICENSE-MIT", "itoa/LICENSE", "thiserror/LICENSE", "unicode/LICENSE-UNICODE",
+    "bitflags/LICENSE-APACHE", "bitflags/LICENSE-MIT", "clap/LICENSE-APACHE", "clap/LICENSE-MIT", "fast_float/LICENSE",
+    "itoa/LICENSE", "ryu/LICENSE", "ryu/LICENSE-ZMIJ", "serde/LICENSE-APACHE", "serde/LICENSE-MIT",
+    "serde_json/LICENSE-APACHE", "serde_json/LICENSE-MIT", "strsim/LICENSE", "thiserror/LICENSE",
+    "unicode/LICENSE-UNICODE",
 )
 # What is installed, and the file of the repository of which it is a copy.
 WANTED = {
-    PROGRAM: "crates/virtiofs_mapcheck/out/virtiofs_mapcheck",
+    **{f"bin/{it}": f"crates/{it}/out/{it}" for it in PROGRAMS},
     HEADER: HEADER,
     "lib/libvirtiofs_map.a": None,
     "lib/pkgconfig/virtiofs_map.pc": None,
-    COMPLETION: "completions/virtiofs_mapcheck.bash",
+    **{f"{COMPLETION}/{it}": f"completions/{it}.bash" for it in PROGRAMS},
     "share/doc/virtiofs_map/LICENSE": "LICENSE",
     **dict.fromkeys(f"share/doc/virtiofs_map/kit/{it}" for it in OF_KIT),
-    PAGE: "docs/virtiofs_mapcheck.1",
+    **{f"{PAGE}/{it}.1": f"docs/{it}.1" for it in PROGRAMS},
     RECORD: None,
     **{f"{RUST}/{it}": f"bindings/rust/{it}" for it in CRATE},
 }
-QUESTION = ["ids", "map:0:1000:10", "ask", "guest=5", "host=1005", "guest=10", "guest=1005"]
-COMPLETED = """source "$1"; shift; COMP_WORDS=(virtiofs_mapcheck "$@"); COMP_CWORD=$#
-_virtiofs_mapcheck 2>/dev/null; echo "${COMPREPLY[@]}" """
+# What each program is asked, and what it answers.
+ASKED = {
+    "virtiofs_mapcheck": ("ids map:0:1000:10 ask guest=5 host=1005 guest=10 guest=1005", "1005\n5\n10\n1005\n"),
+    "virtiofs_mapaudit": ("--version", "virtiofs_mapaudit 1.0\n"),
+}
+COMPLETED = """source "$1"; name=${1##*/}; shift; COMP_WORDS=("$name" "$@"); COMP_CWORD=$#
+"_$name" 2>/dev/null; echo "${COMPREPLY[@]}" """
+# What is completed at the last of some words: these words, or those of the manual page where that says None.
+COMPLETIONS = (
+    ("virtiofs_mapcheck", [""], None),
+    ("virtiofs_mapcheck", ["ids", "a"], ["ask"]),
+    ("virtiofs_mapcheck", ["ids", "ask", ""], ["guest=", "host="]),
+    ("virtiofs_mapaudit", [""], None),
+    ("virtiofs_mapaudit", ["--", "virtiofsd", "--u"], ["--uid-map"]),
+    ("virtiofs_mapaudit", ["--", "virtiofsd", "--s"], []),
+    ("virtiofs_mapaudit", ["--json", "--show", ""], ["ids", "names"]),
+    ("virtiofs_mapaudit", ["--translate-uid", "=", "forb"], ["forbid-guest:"]),
+)
 MANIFEST = """[package]
 name = "daemon"
 version = "1.0.0"
@@ -100,7 +119,7 @@ def differences(below):
     yield from (f"there is no {it}" for it in set(WANTED) - files)
     for it in sorted(files & set(WANTED)):
         mode = stat.S_IMODE(os.stat(f"{below}/{it}").st_mode)
-        if mode != (0o755 if it == PROGRAM else 0o644):
+        if mode != (0o755 if it.startswith("bin/") else 0o644):
             yield f"{it} has the mode {mode:o}"
         if WANTED[it] and read(f"{below}/{it}") != read(f"{TOP}/{WANTED[it]}"):
             yield f"{it} is not {WANTED[it]}"
@@ -195,7 +214,8 @@ def says_what_is_missing(tally):
     bare, at = made(tally.room, "bare"), made(tally.room, "nothing")
     shutil.copy(f"{TOP}/install", bare)
     status, said = install(at, by=f"{bare}/install")
-    wanted = ("(cd crates/virtiofs_map_c && rt lib)", "(cd crates/virtiofs_mapcheck && rt run -- ids ", "./check")
+    runs = [f"(cd crates/{it} && rt run -- {words})" for it, (words, _) in ASKED.items()]
+    wanted = ("(cd crates/virtiofs_map_c && rt lib)", *runs, "./check")
     found = "" if status == 1 and all(it in said for it in wanted) else f"status {status}"
     tally.see("what is not built is said", found or os.listdir(at) and f"there is {os.listdir(at)}", said)
 
@@ -203,19 +223,24 @@ def says_what_is_missing(tally):
 # ---- what programs make of it ----
 
 
-def completed(below, *words):
-    status, said = run(["bash", "-c", COMPLETED, "bash", f"{below}/{COMPLETION}", *words])
-    return said.split() if not status else f"status {status}: {said}"
+def completed(below, name, words):
+    status, said = run(["bash", "-c", COMPLETED, "bash", f"{below}/{COMPLETION}/{name}", *words])
+    return sorted(said.split()) if not status else f"status {status}: {said}"
+
+
+def words_of_page(below, name):
+    """The forms, or the options, that a page has."""
+    page = read(f"{below}/{PAGE}/{name}.1").decode()
+    return sorted(forms_of_page(page)) or options_of_page(page)
 
 
 def is_used(tally, below):
-    status, said = run([f"{below}/{PROGRAM}", *QUESTION])
-    tally.see("the program answers", (status or said != "1005\n5\n10\n1005\n") and f"status {status}", said)
-    forms = forms_of_page(read(f"{below}/{PAGE}").decode())
-    rows = (((), [""], forms), ("ids", ["ids", "a"], ["ask"]), ("queries", ["ids", "ask", ""], ["guest=", "host="]))
-    for name, words, wanted in rows:
-        found = completed(below, *words)
-        tally.see(f"completions of {name or 'forms'}", found != wanted and f"{found}, and not {wanted}")
+    for name, (words, wanted) in ASKED.items():
+        status, said = run([f"{below}/bin/{name}", *words.split()])
+        tally.see(f"{name} answers", (status or said != wanted) and f"status {status}", said)
+    for name, words, wanted in COMPLETIONS:
+        found, wanted = completed(below, name, words), wanted if wanted is not None else words_of_page(below, name)
+        tally.see(f"completions of {name} {' '.join(words)}", found != wanted and f"{found}, and not {wanted}")
 
 
 class Told:

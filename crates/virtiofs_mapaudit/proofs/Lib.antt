@@ -1,0 +1,9 @@
+mod IdLemmas
+mod ListLemmas
+mod ReportLemmas
+mod NameLemmas
+mod NameTableLemmas
+mod NamespaceLemmas
+mod RangeLemmas
+mod IdTableLemmas
+mod SetUpLemmas

@@ -1,0 +1,85 @@
+-- What is wrong with ranges of a namespace.
+use Rattle.std.proofs.Common.{◌≡◌, ◌≢◌, ℕ, ◌+◌, ◌<◌, ◌≤◌, List, length, take, get_or, Option, Some, None, MatchOption, slice_get, inl, inr, sym, ◌∙◌, ap, subst, arith}
+use Rattle.std.proofs.lemmas.Bool.{cases_lt}
+use Rattle.std.proofs.lemmas.Option.{slice_get_past, slice_get-get_or, none-some, same_Some}
+use Rattle.virtiofs_map.specs.declared.idmap.UidMap.{UidMap}
+use Rattle.virtiofs_mapaudit.specs.Ranges.{MeetInside, MeetOutside, MeetsOneAt, IsBeyond, IsAtFault, HasFaultAt}
+use Rattle.virtiofs_mapaudit.specs.RangeParts.{MeetsNone}
+use Rattle.virtiofs_mapaudit.specs.declared.ids.ranges.RangeFault.{RangeFault}
+use Rattle.virtiofs_mapaudit.specs.declared.ids.ranges.RangeFault.TheVariants.{Empty, Beyond, MeetsInside, MeetsOutside}
+
+-- ---- ranges that meet
+
+-- the range meets none of the first `place` before it
+abbrev pub MeetsNoneBelow : List UidMap → UidMap → ℕ → Type 0
+MeetsNoneBelow before range place =
+    (k : ℕ) → k < place → (¬ MeetsOneAt before k (MeetInside range)) × (¬ MeetsOneAt before k (MeetOutside range))
+
+-- no other range stands at that place
+not_met : (before : List UidMap) (d : UidMap) (Meets : UidMap → Type 0) (place k : ℕ)
+    → place < length before → ¬ Meets (get_or before place d) → k ≡ place → ¬ MeetsOneAt before k Meets
+not_met before d Meets place k below apart same (other, is, meets) =
+    let here = slice_get-get_or before place d below in
+    apart (subst Meets (same_Some _ _ (sym is ∙ ap (λ i. slice_get before i) same ∙ here)) meets)
+
+-- one more that it does not meet
+pub none_met : (before : List UidMap) (range d : UidMap) (place : ℕ) → MeetsNoneBelow before range place
+    → place < length before → ¬ MeetInside range (get_or before place d) → ¬ MeetOutside range (get_or before place d)
+    → MeetsNoneBelow before range (place + 1)
+none_met before range d place so_far here inside outside k below = elim (cases_lt k place) [
+  | inl earlier ↦ so_far k earlier
+  | inr last ↦ (
+    not_met before d (MeetInside range) place k here inside (omega (arith, below, last)),
+    not_met before d (MeetOutside range) place k here outside (omega (arith, below, last)),
+  )
+]
+
+-- no range stands past the end
+not_past : (before : List UidMap) (Meets : UidMap → Type 0) (k : ℕ) → length before ≤ k → ¬ MeetsOneAt before k Meets
+not_past before Meets k past (other, is, meets) = none-some _ (sym (slice_get_past before k past) ∙ is)
+
+-- it meets none of all
+pub all_unmet : (before : List UidMap) (range : UidMap) (place : ℕ) → length before ≤ place → MeetsNoneBelow before range place → MeetsNone before range
+all_unmet before range place past so_far k = elim (cases_lt k place) [
+  | inl earlier ↦ so_far k earlier
+  | inr late ↦ (not_past before (MeetInside range) k (omega (arith, past, late)), not_past before (MeetOutside range) k (omega (arith, past, late)))
+]
+
+-- ---- ranges at fault
+
+-- a range with ids, none of them too great, that meets no other
+pub none_wrong : (r : Option RangeFault) (before : List UidMap) (range : UidMap) → range.count ≢ 0 → ¬ IsBeyond range
+    → MatchOption r (MeetsNone before range) (IsAtFault before range)
+    → MatchOption r ((fault : RangeFault) → ¬ IsAtFault before range fault) (IsAtFault before range)
+none_wrong None before range some within meets = not where
+  not : (fault : RangeFault) → ¬ IsAtFault before range fault
+  not Empty at = some at
+  not Beyond at = within at
+  not (MeetsInside place) at = (meets place).0 at
+  not (MeetsOutside place) at = (meets place).1 at
+none_wrong (Some fault) before range some within at = at
+
+-- none of the first `place` ranges is at fault
+abbrev pub NoneWrongBelow : List UidMap → ℕ → Type 0
+NoneWrongBelow ranges place = (k : ℕ) (fault : RangeFault) → k < place → ¬ HasFaultAt ranges k fault
+
+-- one more that is not at fault
+pub none_wrong_more : (ranges : List UidMap) (d : UidMap) (place : ℕ) → NoneWrongBelow ranges place → place < length ranges
+    → ((fault : RangeFault) → ¬ IsAtFault (take place ranges) (get_or ranges place d) fault) → NoneWrongBelow ranges (place + 1)
+none_wrong_more ranges d place so_far here sound k fault below at = elim (cases_lt k place) [
+  | inl earlier ↦ so_far k fault earlier at
+  | inr last ↦ is (omega (arith, below, last))
+] where
+  is : k ≡ place → ⊥
+  is same =
+      let at_place = subst (λ i. IsAtFault (take i ranges) at.range fault) same at.is_at_fault in
+      let one = same_Some _ _ (sym at.here ∙ ap (λ i. slice_get ranges i) same ∙ slice_get-get_or ranges place d here) in
+      sound fault (subst (λ r. IsAtFault (take place ranges) r fault) one at_place)
+
+-- none of all is at fault
+pub none_wrong_all : (ranges : List UidMap) (place : ℕ) → length ranges ≤ place → NoneWrongBelow ranges place
+    → (k : ℕ) (fault : RangeFault) → ¬ HasFaultAt ranges k fault
+none_wrong_all ranges place past so_far k fault at = elim (cases_lt k place) [
+  | inl earlier ↦ so_far k fault earlier at
+  | inr late ↦ none-some _ (sym (slice_get_past ranges k (omega (arith, past, late))) ∙ at.here)
+]

@@ -1,0 +1,7 @@
+use Rattle.virtiofs_mapaudit.proofs.NameLemmas.{decides_not}
+use Rattle.virtiofs_mapaudit.proofs.RangeLemmas.{none_wrong}
+use Rattle.virtiofs_mapaudit.proofs.ids.ranges.fault_of.Goals as goal
+
+pub returns : goal.returns
+returns c =
+    none_wrong _ c.args.before.now c.args.range.now c.if-range-eq0.false (decides_not _ c.is_beyond.ensures c.if-is_beyond.false) c.meeting.ensures

@@ -1,0 +1,14 @@
+use Rattle.virtiofs_mapaudit.proofs.SetUpLemmas.{tells_three}
+use Rattle.virtiofs_mapaudit.proofs.setup.set_up.Goals as goal
+
+pub returns-clause-sets_up : goal.returns-clause-sets_up
+returns-clause-sets_up g c = record {
+  users = rw (c.as_slice.ensures.value, c.as_slice-2.ensures.value) at c.in_ok-users.ensures.read;
+  groups = rw (c.as_slice-3.ensures.value, c.as_slice-4.ensures.value) at c.in_ok-groups.ensures.read;
+  names = c.in_ok-names.ensures.read;
+  lists = c.translates_lists.ensures;
+}
+
+pub returns-clause-told : goal.returns-clause-told
+returns-clause-told g c =
+    tells_three _ _ _ _ _ _ _ c.in_ok-users.ensures.told c.in_ok-groups.ensures.told c.in_ok-names.ensures.told

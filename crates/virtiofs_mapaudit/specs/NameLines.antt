@@ -1,0 +1,59 @@
+-- The lines that tell what was found of names.
+use Rattle.std.specs.Prelude.{ℕ, ◌+◌, Bool, true, false, ◌||◌, if◌then◌else◌, List, [], ◌++◌, codes, flat_map}
+use Rattle.std.specs.Fmt.{decimal}
+use Rattle.virtiofs_map.specs.Names.{begins}
+use Rattle.virtiofs_map.specs.declared.audit.answer.Audit.{Audit}
+use Rattle.virtiofs_map.specs.declared.audit.answer.Audit.TheVariants.{Yes, No}
+use Rattle.virtiofs_mapaudit.specs.Written.{quoted}
+use Rattle.virtiofs_mapaudit.specs.declared.names.found.LeastName.{LeastName}
+use Rattle.virtiofs_mapaudit.specs.declared.names.found.NameFindings.{NameFindings}
+
+-- the name begins as names of attributes do
+abbrev pub is_usual : List ℕ → Bool
+is_usual name = begins (codes "user.") name || begins (codes "trusted.") name || begins (codes "security.") name || begins (codes "system.") name
+
+-- a further name, or what is said where there is none
+abbrev pub or_name : {A : Type 0} → Audit A → List ℕ → List ℕ
+or_name Yes otherwise = otherwise
+or_name (No name) otherwise = codes ", or " ++ quoted name
+
+-- the first of the least names that begin as names of attributes do
+abbrev pub also : {A : Type 0} → LeastName A → List ℕ
+also found = or_name found.user (or_name found.trusted (or_name found.security (or_name found.system [])))
+
+-- the least name; where it is not of the usual names, the least of those follows
+abbrev pub said : {A : Type 0} → LeastName A → List ℕ → List ℕ
+said found name = quoted name ++ (if is_usual name then [] else also found)
+
+-- nothing, or lines round the names that were found
+abbrev pub lines_round : {A : Type 0} → List ℕ → LeastName A → Audit A → List ℕ → List ℕ
+lines_round before found Yes after = []
+lines_round before found (No name) after = before ++ said found name ++ after
+
+-- names without a rule
+abbrev pub unruled_lines : Bool → List ℕ
+unruled_lines true = []
+unruled_lines false = codes "some names have no rule: calls with them fail\n  mend: end the rules with one that takes all names, as :bad:all:::\n"
+
+-- a name that the guest sets, and that is not listed back
+abbrev pub lost_lines : {A : Type 0} → LeastName A → List ℕ
+lost_lines found =
+    lines_round (codes "the guest sets ") found found.all
+    (codes ", and lists do not show it\n  mend: let the rule that takes it act on both sides, by the scope all, or deny it\n")
+
+-- a name of the host that is listed under a name which leads elsewhere
+abbrev pub stray_lines : {A : Type 0} → LeastName A → List ℕ
+stray_lines found =
+    lines_round (codes "lists show ") found found.all
+    (codes " of the host under a name that leads elsewhere\n  mend: hide what begins so by a rule before the others, as :bad:server::NAME:\n")
+
+-- a rule that decides no name; rules are counted from 1
+abbrev pub idle_lines : ℕ → List ℕ
+idle_lines place =
+    codes "rule " ++ decimal (place + 1) ++ codes " decides no name: earlier rules take all that it fits\n  mend: take it out, or put it before them\n"
+
+-- what was found of the names of a guest
+abbrev pub name_lines : {A : Type 0} → NameFindings A → List ℕ
+name_lines found =
+    unruled_lines found.is_terminated ++ lost_lines found.lost ++ stray_lines found.stray
+    ++ flat_map idle_lines found.idle.items

@@ -1,0 +1,109 @@
+-- What the program says of guests.
+use Rattle.std.specs.Prelude.{◌≡◌, ◌≢◌, ◌↔◌, ℕ, ◌+◌, Bool, true, false, IsTrue, IsFalse, List, [], ◌∷◌, ◌++◌, length, codes, flat_map, Option, Some, None, string_bytes}
+use Rattle.std.specs.Fmt.{decimal}
+use Rattle.std.specs.List.{AllZip}
+use Rattle.virtiofs_mapaudit.specs.GuestLines.{guest_lines}
+use Rattle.virtiofs_mapaudit.specs.Guests.{SetsUp}
+use Rattle.virtiofs_mapaudit.specs.IdTable.{ShowsIds}
+use Rattle.virtiofs_mapaudit.specs.NameTable.{table_lines}
+use Rattle.virtiofs_mapaudit.specs.PairLines.{pair_lines}
+use Rattle.virtiofs_mapaudit.specs.Refusals.{IsSomeRefused}
+use Rattle.virtiofs_mapaudit.specs.Report.{FindsReport, IsFound}
+use Rattle.virtiofs_mapaudit.specs.declared.audit.Pair.{Pair}
+use Rattle.virtiofs_mapaudit.specs.declared.audit.Report.{Report}
+use Rattle.virtiofs_mapaudit.specs.declared.audit.Said.{Said}
+use Rattle.virtiofs_mapaudit.specs.declared.front.Asked.{Asked}
+use Rattle.virtiofs_mapaudit.specs.declared.guest.Guest.{Guest}
+use Rattle.virtiofs_mapaudit.specs.declared.ids.kind.IdKind.{IdKind}
+use Rattle.virtiofs_mapaudit.specs.declared.ids.kind.IdKind.TheVariants.{Users, Groups}
+use Rattle.virtiofs_mapaudit.specs.declared.report.GuestFindings.{GuestFindings}
+use Rattle.virtiofs_mapaudit.specs.declared.setup.IdSetUp.{IdSetUp}
+use Rattle.virtiofs_mapaudit.specs.declared.setup.SetUp.{SetUp}
+
+-- the text shows it where it was asked for, and is empty otherwise
+abbrev pub ShownIf : Bool → (List ℕ → Type 0) → List ℕ → Type 0
+ShownIf true Shows text = Shows text
+ShownIf false Shows text = text ≡ []
+
+-- the text shows what is set up, and is empty where it is refused
+abbrev pub ShowsSet : {S : Type 0} → (S → List ℕ → Type 0) → Option S → List ℕ → Type 0
+ShowsSet Shows (Some set) text = Shows set text
+ShowsSet Shows None text = text ≡ []
+
+-- what becomes of all ids of one kind
+abbrev pub ShowsKind : {A : Type 0} → IdKind → IdSetUp A → List ℕ → Type 0
+ShowsKind kind set text = ShowsIds kind set.map set.ranges.items text
+
+-- what becomes of all users and of all groups
+pub record ShowsBothKinds {A : Type 0} (set : SetUp A) (text : List ℕ) : Type 0 where
+  pub of_users : List ℕ
+  pub of_groups : List ℕ
+  pub users : ShowsSet (ShowsKind Users) set.users of_users
+  pub groups : ShowsSet (ShowsKind Groups) set.groups of_groups
+  pub whole : text ≡ of_users ++ of_groups
+
+-- what becomes of some names
+abbrev pub ShowsSomeNames : {A : Type 0} → SetUp A → List ℕ → Type 0
+ShowsSomeNames set = ShowsSet (λ names text. text ≡ table_lines names.map) set.names
+
+-- the tables of a guest that were asked for
+pub record AreTables {A : Type 0} (asked : Asked) (set : SetUp A) (text : List ℕ) : Type 0 where
+  pub of_ids : List ℕ
+  pub of_names : List ℕ
+  pub ids : ShownIf asked.ids (ShowsBothKinds set) of_ids
+  pub names : ShownIf asked.names (ShowsSomeNames set) of_names
+  pub whole : text ≡ of_ids ++ of_names
+
+-- whether there are rules
+abbrev pub rules_given : {T : Type 0} → Option T → List ℕ
+rules_given (Some rules) = codes "--xattrmap\n"
+rules_given None = codes "no --xattrmap\n"
+
+-- the guest of that number, and how many specifications of users and of groups there are
+abbrev pub specs_given : ℕ → ℕ → ℕ → List ℕ
+specs_given number users groups =
+    codes "guest " ++ decimal number ++ codes ": " ++ decimal users ++ codes " --translate-uid, " ++ decimal groups
+    ++ codes " --translate-gid, "
+
+-- how many ranges of users and of groups there are
+abbrev pub ranges_given : ℕ → ℕ → List ℕ
+ranges_given users groups = decimal users ++ codes " --uid-map, " ++ decimal groups ++ codes " --gid-map, "
+
+-- the guest of that number, and how many options of each kind its daemon has
+abbrev pub set_up_line : {A : Type 0} → ℕ → Guest A → List ℕ
+set_up_line number guest =
+    specs_given number (length guest.translate_uid.items) (length guest.translate_gid.items)
+    ++ ranges_given (length guest.uid_map.items) (length guest.gid_map.items) ++ rules_given guest.xattrmap
+
+-- for each guest, from that number on: what its options are, the tables that were asked for, and what was found
+abbrev pub guests_text : {A : Type 0} → ℕ → List (Guest A) → List (List ℕ) → List (GuestFindings A) → List ℕ
+guests_text number (guest ∷ guests) (table ∷ tables) (found ∷ others) =
+    (set_up_line number guest ++ table ++ guest_lines found) ++ guests_text (number + 1) guests tables others
+guests_text number guests tables found = []
+
+-- what was found between each two guests
+abbrev pub pairs_text : {A : Type 0} → List (Pair A) → List ℕ
+pairs_text pairs = flat_map (λ pair. pair_lines pair.first pair.second pair.found) pairs
+
+-- what is said where nothing was found
+abbrev pub closing : Bool → List ℕ
+closing true = []
+closing false = codes "nothing found\n"
+
+-- the whole text
+abbrev pub report_text : {A : Type 0} → List (Guest A) → List (List ℕ) → Report A → Bool → List ℕ
+report_text guests tables report is_found =
+    guests_text 1 guests tables report.guests.items ++ pairs_text report.pairs.items ++ closing is_found
+
+-- what is written of the guests: `quiet` writes nothing, and `json` writes the same facts in another form
+pub record Says {A : Type 0} (asked : Asked) (guests : List (Guest A)) (said : Said) : Type 0 where
+  pub sets : List (SetUp A)
+  pub report : Report A
+  pub tables : List (List ℕ)
+  pub sets_up : AllZip SetsUp guests sets
+  pub finds : FindsReport sets report
+  pub are_tables : AllZip (AreTables asked) sets tables
+  pub found : IsTrue said.is_found ↔ IsFound report
+  pub refused : (string_bytes said.refusals ≢ []) ↔ IsSomeRefused guests sets
+  pub quiet : IsTrue asked.quiet → string_bytes said.text ≡ []
+  pub plain : IsFalse asked.quiet → IsFalse asked.json → string_bytes said.text ≡ report_text guests tables report said.is_found

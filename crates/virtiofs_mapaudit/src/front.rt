@@ -1,0 +1,155 @@
+//! The words before the first `--`, read by `clap`.
+
+use crate::command::{Word, read_word};
+use crate::daemon::WordFault;
+use crate::guest::Guest;
+use crate::options::OWN;
+use clap::{Arg, ArgAction, ArgMatches, Command, Error};
+use std::alloc::{AllocError, Global};
+
+/// What is to be shown, and how.
+#[derive(Clone, Copy, Debug, PartialEq, Eq)]
+pub(crate) struct Asked {
+    /// As JSON.
+    pub(crate) json: bool,
+    /// Not at all: the status alone tells.
+    pub(crate) quiet: bool,
+    /// What becomes of all ids.
+    pub(crate) ids: bool,
+    /// What becomes of some names.
+    pub(crate) names: bool,
+}
+
+/// What is wrong with the first word before the first `--` that is not known.
+pub(crate) fn front_fault<'a>(words: &[&'a str]) -> Option<WordFault<'a>> {
+    let mut at = 0;
+    while at < words.len() {
+        let word = words[at];
+        match read_word(&OWN, word, words.get(at + 1).copied()) {
+            Word::Plain => return Some(WordFault::Unknown(word)),
+            Word::Unknown(name) => return Some(WordFault::Unknown(name)),
+            Word::Valued(_, _, both) => at += if both { 2 } else { 1 },
+            Word::Flag(_) | Word::Missing(_) | Word::Unwanted(_) => at += 1,
+        }
+    }
+    None
+}
+
+/// An option of the daemon that has a value.
+fn valued<'a>(alloc: Global, name: &'a str, value: &'a str, help: &'a str) -> Arg<'a> {
+    Arg::new(alloc, name)
+        .long(name)
+        .action(ArgAction::Append)
+        .value_name(value)
+        .help(help)
+}
+
+/// An option that has no value.
+fn flag<'a>(alloc: Global, name: &'a str, help: &'a str) -> Arg<'a> {
+    Arg::new(alloc, name)
+        .long(name)
+        .action(ArgAction::SetTrue)
+        .help(help)
+}
+
+/// The options of the daemon, which may stand before the first `--`.
+fn of_daemon<'a>(alloc: Global, command: Command<'a>) -> Result<Command<'a>, AllocError> {
+    command
+        .arg(valued(
+            alloc,
+            "translate-uid",
+            "SPEC",
+            "Translate users, as the daemon does",
+        ))?
+        .arg(valued(
+            alloc,
+            "translate-gid",
+            "SPEC",
+            "Translate groups, as the daemon does",
+        ))?
+        .arg(valued(
+            alloc,
+            "uid-map",
+            "RANGE",
+            "A range of users of the daemon's namespace",
+        ))?
+        .arg(valued(
+            alloc,
+            "gid-map",
+            "RANGE",
+            "A range of groups of the daemon's namespace",
+        ))?
+        .arg(valued(alloc, "xattrmap", "RULES", "Map names of attributes"))?
+        .arg(flag(alloc, "posix-acl", "Access control lists are on"))
+}
+
+/// The program's words before the first `--`.
+fn command<'a>(alloc: Global) -> Result<Command<'a>, AllocError> {
+    let command = Command::new(alloc, "virtiofs_mapaudit")
+        .version("1.0")
+        .about(
+            "Says what the options of a virtiofsd do to ids and names, and what is wrong with them.",
+        )
+        .after_help(
+            "After -- comes a command line of the daemon, and after a further -- that of a further guest of the same directory. virtiofs_mapaudit(1) says more.",
+        )
+        .override_usage("virtiofs_mapaudit [OPTIONS] [-- COMMAND LINE OF THE DAEMON].. ")
+        .no_binary_name(true)
+        .args_override_self(true);
+    let show = Arg::new(alloc, "show")
+        .long("show")
+        .action(ArgAction::Append)
+        .value_name("WHAT")
+        .value_parser(["ids", "names"].as_slice())
+        .help("Show also what becomes of all ids, or of some names");
+    of_daemon(alloc, command)?
+        .arg(show)?
+        .arg(flag(alloc, "json", "Write JSON"))?
+        .arg(flag(alloc, "quiet", "Write nothing: the status tells"))
+}
+
+/// Takes in the values of an option.
+fn take_all<'a>(
+    guest: &mut Guest<'a, Global>,
+    matches: &ArgMatches<'a>,
+    id: &str,
+    option: &str,
+) -> Result<(), AllocError> {
+    let Some(values) = matches.get_strs(id) else {
+        return Ok(());
+    };
+    for value in values {
+        guest.take(option, value)?;
+    }
+    Ok(())
+}
+
+/// What was asked for, and the guest that the words before the first `--` set up.
+pub(crate) fn read_front<'a>(
+    alloc: Global,
+    words: &'a [&'a str],
+) -> Result<(Asked, Guest<'a, Global>), Error> {
+    let matches = command(alloc)?.try_get_matches_from(words)?;
+    let mut guest = Guest::new(alloc);
+    take_all(&mut guest, &matches, "translate-uid", "--translate-uid")?;
+    take_all(&mut guest, &matches, "translate-gid", "--translate-gid")?;
+    take_all(&mut guest, &matches, "uid-map", "--uid-map")?;
+    take_all(&mut guest, &matches, "gid-map", "--gid-map")?;
+    take_all(&mut guest, &matches, "xattrmap", "--xattrmap")?;
+    guest.posix_acl = matches.get_flag("posix-acl");
+    let mut asked = Asked {
+        json: matches.get_flag("json"),
+        quiet: matches.get_flag("quiet"),
+        ids: false,
+        names: false,
+    };
+    if let Some(shown) = matches.get_strs("show") {
+        for word in shown {
+            match *word {
+                "ids" => asked.ids = true,
+                _ => asked.names = true,
+            }
+        }
+    }
+    Ok((asked, guest))
+}

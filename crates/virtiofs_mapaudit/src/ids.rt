@@ -1,0 +1,9 @@
+//! What is wrong with the ids of users, or of groups, of a guest.
+
+pub(crate) mod audits;
+pub(crate) mod found;
+pub(crate) mod kind;
+pub(crate) mod lines;
+pub(crate) mod namespace;
+pub(crate) mod ranges;
+pub(crate) mod table;

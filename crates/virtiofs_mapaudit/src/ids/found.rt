@@ -1,0 +1,41 @@
+//! What is told of ids that are reported.
+
+/// An id of a guest that is reported, and what is told of it.
+#[derive(Clone, Copy, Debug, PartialEq, Eq)]
+pub(crate) struct IdFound {
+    /// The id of the guest.
+    pub(crate) guest: u32,
+    /// What it becomes on the host.
+    pub(crate) host: u32,
+    /// A second id: what the id of the host becomes in the guest, or another id that becomes it. It
+    /// is 0 where none is told.
+    pub(crate) other: u32,
+}
+
+/// What is wrong with the ids of a guest: the least id of each kind.
+#[derive(Clone, Copy, Debug, PartialEq, Eq)]
+pub(crate) struct IdFindings {
+    /// An id that does not come back.
+    pub(crate) astray: Option<IdFound>,
+    /// An id that shares its id of the host with another one.
+    pub(crate) shared: Option<IdFound>,
+    /// An id that acts as root of the host.
+    pub(crate) root: Option<IdFound>,
+    /// An id that becomes one which the namespace of the daemon lacks.
+    pub(crate) lacking: Option<IdFound>,
+}
+
+impl IdFindings {
+    ghost use Rattle.std.specs.Prelude.{◌≡◌, ◌↔◌, IsFalse, None};
+
+    /// Whether anything is wrong.
+    pub(crate) fn is_any(&self) -> bool
+        ensures { IsFalse result ↔ ((self.now.astray ≡ None) × (self.now.shared ≡ None)
+            × (self.now.root ≡ None) × (self.now.lacking ≡ None)) }
+    {
+        self.astray.is_some()
+            || self.shared.is_some()
+            || self.root.is_some()
+            || self.lacking.is_some()
+    }
+}

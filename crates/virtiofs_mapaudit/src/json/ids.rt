@@ -1,0 +1,165 @@
+//! Ids in JSON.
+
+use crate::ids::audits::Ids;
+use crate::ids::found::{IdFindings, IdFound};
+use crate::ids::kind::IdKind;
+use crate::ids::ranges::{RangeFault, RangeFound};
+use serde_json::{Value, json};
+use std::alloc::{AllocError, Global};
+use virtiofs_map::idmap::UidMap;
+use virtiofs_map::soft_idmap::{Direction, Outcome, Piece};
+
+/// The word for a kind of ids.
+fn word(kind: IdKind) -> &'static str {
+    match kind {
+        IdKind::Users => "users",
+        IdKind::Groups => "groups",
+    }
+}
+
+/// Adds what is found of ids of a guest.
+pub(crate) fn push_ids(
+    alloc: Global,
+    list: &mut Vec<Value>,
+    guest: usize,
+    kind: IdKind,
+    found: &IdFindings,
+) -> Result<(), AllocError> {
+    let ids = word(kind);
+    if let Some(
+        IdFound {
+            guest: id,
+            host,
+            other,
+        },
+    ) = found.astray
+    {
+        list.push(
+            json!(in alloc; {"guest": guest, "kind": "not_back", "ids": ids, "id": id, "host": host, "back": other})?,
+        )?;
+    }
+    if let Some(
+        IdFound {
+            guest: id,
+            host,
+            other,
+        },
+    ) = found.shared
+    {
+        list.push(
+            json!(in alloc; {"guest": guest, "kind": "one_on_host", "ids": ids, "id": id, "other": other, "host": host})?,
+        )?;
+    }
+    if let Some(
+        IdFound {
+            guest: id,
+            host,
+            ..
+        },
+    ) = found.root
+    {
+        list.push(
+            json!(in alloc; {"guest": guest, "kind": "root", "ids": ids, "id": id, "host": host})?,
+        )?;
+    }
+    if let Some(
+        IdFound {
+            guest: id,
+            host,
+            ..
+        },
+    ) = found.lacking
+    {
+        list.push(
+            json!(in alloc; {"guest": guest, "kind": "lacking", "ids": ids, "id": id, "host": host})?,
+        )?;
+    }
+    Ok(())
+}
+
+/// Adds a range that is at fault. Places are counted from 1.
+pub(crate) fn push_range(
+    alloc: Global,
+    list: &mut Vec<Value>,
+    guest: usize,
+    kind: IdKind,
+    found: RangeFound,
+) -> Result<(), AllocError> {
+    let ids = word(kind);
+    let (fault, other) = match found.fault {
+        RangeFault::Empty => ("empty", None),
+        RangeFault::Beyond => ("beyond", None),
+        RangeFault::MeetsInside(other) => ("overlaps_inside", Some(other.saturating_add(1))),
+        RangeFault::MeetsOutside(other) => ("overlaps_outside", Some(other.saturating_add(1))),
+    };
+    let place = found.place.saturating_add(1);
+    list.push(
+        json!(in alloc; {"guest": guest, "kind": "range", "ids": ids, "range": place, "fault": fault, "other": other})?,
+    )?;
+    Ok(())
+}
+
+/// Adds an id of the host that two guests reach.
+pub(crate) fn push_meeting(
+    alloc: Global,
+    list: &mut Vec<Value>,
+    (first, second): (usize, usize),
+    kind: IdKind,
+    found: Option<IdFound>,
+) -> Result<(), AllocError> {
+    let ids = word(kind);
+    if let Some(
+        IdFound {
+            guest: id,
+            host,
+            other,
+        },
+    ) = found
+    {
+        list.push(
+            json!(in alloc; {"guests": [first, second], "kind": "one_on_host", "ids": ids, "id": id, "other": other, "host": host})?,
+        )?;
+    }
+    Ok(())
+}
+
+/// A piece: its first and last id, and what becomes of them.
+fn piece_value(alloc: Global, piece: Piece) -> Result<Value, AllocError> {
+    let (becomes, to) = match piece.becomes {
+        Outcome::Kept => ("itself", Some(piece.first)),
+        Outcome::OneToOne { to } => ("one_to_one", Some(to)),
+        Outcome::AllToOne { to } => ("all_to_one", Some(to)),
+        Outcome::Forbidden => ("forbidden", None),
+    };
+    let first = piece.first;
+    let last = piece.last;
+    json!(in alloc; {"first": first, "last": last, "becomes": becomes, "to": to})
+}
+
+/// The pieces of a direction.
+fn pieces(alloc: Global, map: &Ids<Global>, direction: Direction) -> Result<Value, AllocError> {
+    let mut list = Vec::new(alloc);
+    for piece in map.pieces(direction) {
+        list.push(piece_value(alloc, piece)?)?;
+    }
+    Ok(Value::Array(list))
+}
+
+/// What becomes of all ids, and the ranges of the daemon's namespace.
+pub(crate) fn id_table(
+    alloc: Global,
+    map: &Ids<Global>,
+    ranges: &[UidMap],
+) -> Result<Value, AllocError> {
+    let mut list = Vec::new(alloc);
+    for range in ranges {
+        let inside = range.inside_uid;
+        let outside = range.outside_uid;
+        let count = range.count;
+        list.push(json!(in alloc; {"inside": inside, "outside": outside, "count": count})?)?;
+    }
+    let ranges = Value::Array(list);
+    let guest = pieces(alloc, map, Direction::GuestToHost)?;
+    let host = pieces(alloc, map, Direction::HostToGuest)?;
+    json!(in alloc; {"from_guest": guest, "from_host": host, "namespace": ranges})
+}

@@ -1,0 +1,132 @@
+//! Says what the options of a virtiofsd do to ids and names, and what is wrong with them.
+#![tactic(auto)]
+
+ghost use Rattle.std.specs.Prelude.{◌≡◌, ◌≢◌, ◌↔◌, [], IsTrue, IsErrOf, string_bytes};
+
+mod audit;
+mod command;
+mod daemon;
+mod emit;
+mod front;
+mod guest;
+mod ids;
+mod json;
+mod lines;
+mod names;
+mod nearest;
+mod options;
+mod ordinal;
+mod outcome;
+mod pairs;
+mod report;
+mod setup;
+mod tally;
+#[cfg(test)]
+mod testing;
+mod words;
+mod written;
+
+use crate::audit::{Said, say};
+use crate::emit::emit;
+use crate::outcome::{AuditFault, Audited};
+use crate::tally::{Tally, WriteFailed};
+use crate::words::{Words, read_words};
+use std::process::ExitCode;
+use std::{env, io};
+
+const USAGE: &str = "usage: virtiofs_mapaudit [OPTIONS] [-- COMMAND LINE OF THE DAEMON]..
+virtiofs_mapaudit(1) says more: man -l docs/virtiofs_mapaudit.1
+";
+
+/// Audits what the program's arguments set up, and writes what it finds to standard output. Texts
+/// that are refused, and wrong words, are told on standard error.
+///
+/// The program ends with status 0 where nothing was found, 1 where a text was refused, 2 where the
+/// words are wrong, 3 where memory ran out, 4 where a write or a flush failed, and 5 where something
+/// was found and no text was refused.
+fn main(rt: HostRuntime) -> ExitCode {
+    ExitCode::from(status(run(&rt)))
+}
+
+/// The arguments after the program's name; `None` where one is not UTF-8.
+fn arguments(rt: &HostRuntime) -> Result<Option<Vec<String>>, AuditFault> {
+    match env::args(rt) {
+        Ok(all) => Ok(Some(all.skip(1).collect(rt.alloc())?)),
+        Err(error) if error.kind() == io::ErrorKind::OutOfMemory => Err(AuditFault::OutOfMemory),
+        Err(_) => Ok(None),
+    }
+}
+
+fn run(rt: &HostRuntime) -> Result<Audited, AuditFault> {
+    let Some(arguments) = arguments(rt)? else {
+        let _ = eprint!(rt; "virtiofs_mapaudit: a word is not UTF-8\n{USAGE}");
+        return Ok(Audited::WrongWords);
+    };
+    let words: Vec<&str> = arguments
+        .iter()
+        .map(|word| word.as_str())
+        .collect(rt.alloc())?;
+    match read_words(rt.alloc(), words.as_slice())? {
+        Words::Shown(text) => {
+            write_whole(rt, text.as_str())?;
+            Ok(Audited::Clean)
+        }
+        Words::Wrong(text) => {
+            let _ = eprint!(rt; "virtiofs_mapaudit: {text}{USAGE}");
+            Ok(Audited::WrongWords)
+        }
+        Words::Audit { asked, guests } => {
+            let said = say(rt.alloc(), asked, guests.as_slice())?;
+            write_whole(rt, said.text.as_str())?;
+            if !asked.quiet {
+                let refusals = said.refusals.as_str();
+                let _ = eprint!(rt; "{refusals}");
+            }
+            Ok(ended(&said))
+        }
+    }
+}
+
+/// Writes a text to standard output, and flushes.
+fn write_whole(rt: &HostRuntime, text: &str) -> Result<(), WriteFailed> {
+    let mut out = Tally::new(rt.stdout());
+    emit(text.as_bytes(), &mut out)?;
+    match out.flush() {
+        Ok(()) => Ok(()),
+        Err(_) => Err(WriteFailed),
+    }
+}
+
+/// How the program ends where everything was written.
+fn ended(said: &Said) -> Audited
+    ensures refused { (result ≡ Audited.Refused) ↔ (string_bytes said.now.refusals ≢ []) }
+    ensures found { (result ≡ Audited.Found)
+        ↔ (string_bytes said.now.refusals ≡ []) × IsTrue said.now.is_found }
+{
+    if !said.refusals.is_empty() {
+        return Audited::Refused;
+    }
+    if said.is_found {
+        Audited::Found
+    } else {
+        Audited::Clean
+    }
+}
+
+fn status(ended: Result<Audited, AuditFault>) -> u8
+    ensures clean { (result ≡ 0) ↔ (ended ≡ Ok Audited.Clean) }
+    ensures refused { (result ≡ 1) ↔ (ended ≡ Ok Audited.Refused) }
+    ensures wrong_words { (result ≡ 2) ↔ (ended ≡ Ok Audited.WrongWords) }
+    ensures out_of_memory { (result ≡ 3) ↔ IsErrOf ended AuditFault.OutOfMemory }
+    ensures write { (result ≡ 4) ↔ IsErrOf ended AuditFault.Write }
+    ensures found { (result ≡ 5) ↔ (ended ≡ Ok Audited.Found) }
+{
+    match ended {
+        Ok(Audited::Clean) => 0,
+        Ok(Audited::Refused) => 1,
+        Ok(Audited::WrongWords) => 2,
+        Ok(Audited::Found) => 5,
+        Err(AuditFault::OutOfMemory) => 3,
+        Err(AuditFault::Write) => 4,
+    }
+}

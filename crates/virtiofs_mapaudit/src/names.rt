@@ -1,0 +1,6 @@
+//! What is wrong with the names of extended attributes of a guest.
+
+pub(crate) mod audits;
+pub(crate) mod found;
+pub(crate) mod lines;
+pub(crate) mod table;

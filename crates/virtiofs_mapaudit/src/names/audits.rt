@@ -1,0 +1,215 @@
+//! What is decided of all names of a guest.
+ghost use Rattle.std.specs.Prelude.{◌≡◌, ◌<◌, ◌↔◌, codes, IfOk, IsTrue};
+ghost use Rattle.virtiofs_map.specs.Audit.{IsLost, IsStray, IsSeen, IsShared};
+ghost use Rattle.virtiofs_mapaudit.specs.NameFindings.{FindsName, DecidesWritten, AreIdle, FindsNames};
+ghost use Rattle.virtiofs_mapaudit.specs.NameParts.{DecidesFrom};
+
+use super::found::{LeastName, NameFindings};
+use std::alloc::{AllocError, Allocator};
+use virtiofs_map::audit::{
+    Audit, audit, audit_listed, audit_listed_within, audit_within, keeps_apart, keeps_apart_within,
+    shares_no_name, shares_no_name_within,
+};
+use virtiofs_map::xattrmap::{XattrMap, XattrName};
+
+/// No name is reported.
+fn none<A: Allocator>() -> LeastName<A>
+    ensures { result ≡ record {
+      all = Audit.Yes;
+      user = Audit.Yes;
+      trusted = Audit.Yes;
+      security = Audit.Yes;
+      system = Audit.Yes;
+    } }
+{
+    LeastName {
+        all: Audit::Yes,
+        user: Audit::Yes,
+        trusted: Audit::Yes,
+        security: Audit::Yes,
+        system: Audit::Yes,
+    }
+}
+
+/// The beginning of names that users set.
+fn user() -> XattrName<'static>
+    ensures { result.bytes.now ≡ codes "user." }
+{
+    XattrName { bytes: b"user." }
+}
+
+/// The beginning of names that only a trusted process sees.
+fn trusted() -> XattrName<'static>
+    ensures { result.bytes.now ≡ codes "trusted." }
+{
+    XattrName { bytes: b"trusted." }
+}
+
+/// The beginning of names that security modules set.
+fn security() -> XattrName<'static>
+    ensures { result.bytes.now ≡ codes "security." }
+{
+    XattrName {
+        bytes: b"security.",
+    }
+}
+
+/// The beginning of names that the kernel sets, as those of access control lists.
+fn system() -> XattrName<'static>
+    ensures { result.bytes.now ≡ codes "system." }
+{
+    XattrName { bytes: b"system." }
+}
+
+/// The least name that the guest sets, and that is not listed back.
+fn lost_of<A: Allocator + Copy>(alloc: A, map: &XattrMap<A>) -> Result<LeastName<A>, AllocError>
+    ensures { IfOk result (FindsName (IsLost map.now)) }
+{
+    let all = audit(alloc, map)?;
+    if let Audit::Yes = all {
+        return Ok(none());
+    }
+    let user = audit_within(alloc, map, user())?;
+    let trusted = audit_within(alloc, map, trusted())?;
+    let security = audit_within(alloc, map, security())?;
+    let system = audit_within(alloc, map, system())?;
+    Ok(LeastName {
+        all,
+        user,
+        trusted,
+        security,
+        system,
+    })
+}
+
+/// The least name of the host that is listed under a name which leads elsewhere.
+fn stray_of<A: Allocator + Copy>(alloc: A, map: &XattrMap<A>) -> Result<LeastName<A>, AllocError>
+    ensures { IfOk result (FindsName (IsStray map.now)) }
+{
+    let all = audit_listed(alloc, map)?;
+    if let Audit::Yes = all {
+        return Ok(none());
+    }
+    let user = audit_listed_within(alloc, map, user())?;
+    let trusted = audit_listed_within(alloc, map, trusted())?;
+    let security = audit_listed_within(alloc, map, security())?;
+    let system = audit_listed_within(alloc, map, system())?;
+    Ok(LeastName {
+        all,
+        user,
+        trusted,
+        security,
+        system,
+    })
+}
+
+/// The least name that the first guest sets, and that lists of the second show.
+pub(crate) fn seen_of<A: Allocator + Copy>(
+    alloc: A,
+    map: &XattrMap<A>,
+    other: &XattrMap<A>,
+) -> Result<LeastName<A>, AllocError>
+    ensures { IfOk result (FindsName (IsSeen map.now other.now)) }
+{
+    let all = keeps_apart(alloc, map, other)?;
+    if let Audit::Yes = all {
+        return Ok(none());
+    }
+    let user = keeps_apart_within(alloc, map, other, user())?;
+    let trusted = keeps_apart_within(alloc, map, other, trusted())?;
+    let security = keeps_apart_within(alloc, map, other, security())?;
+    let system = keeps_apart_within(alloc, map, other, system())?;
+    Ok(LeastName {
+        all,
+        user,
+        trusted,
+        security,
+        system,
+    })
+}
+
+/// The least name of the first guest that leads where some name of the second leads.
+pub(crate) fn shared_of<A: Allocator + Copy>(
+    alloc: A,
+    map: &XattrMap<A>,
+    other: &XattrMap<A>,
+) -> Result<LeastName<A>, AllocError>
+    ensures { IfOk result (FindsName (IsShared map.now other.now)) }
+{
+    let all = shares_no_name(alloc, map, other)?;
+    if let Audit::Yes = all {
+        return Ok(none());
+    }
+    let user = shares_no_name_within(alloc, map, other, user())?;
+    let trusted = shares_no_name_within(alloc, map, other, trusted())?;
+    let security = shares_no_name_within(alloc, map, other, security())?;
+    let system = shares_no_name_within(alloc, map, other, system())?;
+    Ok(LeastName {
+        all,
+        user,
+        trusted,
+        security,
+        system,
+    })
+}
+
+/// Whether some rule from that place on decides a name.
+fn decides_from<A: Allocator>(map: &XattrMap<A>, place: usize) -> bool
+    ensures { IsTrue result ↔ DecidesFrom map.now place }
+{
+    for part in place..map.rule_count() {
+        if map.decides(part) {
+            return true;
+        }
+    }
+    false
+}
+
+/// Whether some rule that the written rule at a place stands for decides a name. The last one stands
+/// for all rules of the map from its place on.
+fn decides_written<A: Allocator>(map: &XattrMap<A>, written: usize, place: usize) -> bool
+    requires { place < written }
+    ensures { IsTrue result ↔ DecidesWritten map.now written place }
+{
+    if place + 1 == written {
+        return decides_from(map, place);
+    }
+    map.decides(place)
+}
+
+/// The places of the written rules that decide no name.
+fn idle_of<A: Allocator + Copy>(
+    alloc: A,
+    map: &XattrMap<A>,
+    written: usize,
+) -> Result<Vec<usize, A>, AllocError>
+    ensures { IfOk result (λ idle. AreIdle map.now written idle.items) }
+{
+    let mut idle = Vec::new(alloc);
+    for place in 0..written {
+        if decides_written(map, written, place) {
+            continue;
+        }
+        idle.push(place)?;
+    }
+    Ok(idle)
+}
+
+/// What is wrong with the names of a guest under these rules, of which that many are written.
+pub(crate) fn audit_names<A: Allocator + Copy>(
+    alloc: A,
+    map: &XattrMap<A>,
+    written: usize,
+) -> Result<NameFindings<A>, AllocError>
+    ensures { IfOk result (FindsNames map.now written) }
+{
+    let lost = lost_of(alloc, map)?;
+    let stray = stray_of(alloc, map)?;
+    let idle = idle_of(alloc, map, written)?;
+    Ok(NameFindings {
+        is_terminated: map.is_terminated(),
+        lost,
+        stray,
+        idle,
+    })
+}

@@ -1,0 +1,34 @@
+//! What is told of names that are reported.
+
+use std::alloc::Allocator;
+use virtiofs_map::audit::Audit;
+
+/// The least name that is reported, of all names, and of those that begin as names of attributes
+/// do. `Yes` stands where there is none.
+#[derive(Drop)]
+pub(crate) struct LeastName<A: Allocator> {
+    /// Of all names.
+    pub(crate) all: Audit<A>,
+    /// Of those that begin with `user.`.
+    pub(crate) user: Audit<A>,
+    /// Of those that begin with `trusted.`.
+    pub(crate) trusted: Audit<A>,
+    /// Of those that begin with `security.`.
+    pub(crate) security: Audit<A>,
+    /// Of those that begin with `system.`.
+    pub(crate) system: Audit<A>,
+}
+
+/// What is wrong with the names of a guest.
+#[derive(Drop)]
+pub(crate) struct NameFindings<A: Allocator> {
+    /// Whether some rule decides every name, of the guest and of the host.
+    pub(crate) is_terminated: bool,
+    /// A name that the guest sets, and that is not listed back.
+    pub(crate) lost: LeastName<A>,
+    /// A name of the host that is listed under a name which leads elsewhere.
+    pub(crate) stray: LeastName<A>,
+    /// The places of the written rules that decide no name, counted from 0. A `map` rule is one of
+    /// them.
+    pub(crate) idle: Vec<usize, A>,
+}

@@ -1,0 +1,24 @@
+//! The known word that is nearest to one that is not known.
+
+use crate::options::Takes;
+use std::alloc::{AllocError, Allocator};
+use strsim::levenshtein;
+
+/// The first of the options with the fewest edits between it and the word: characters put in, taken
+/// out or changed.
+pub(crate) fn nearest<A: Allocator + Copy>(
+    alloc: A,
+    word: &str,
+    options: &'static [(&'static str, Takes)],
+) -> Result<&'static str, AllocError> {
+    let mut best = "--help";
+    let mut fewest = usize::MAX;
+    for (name, _) in options {
+        let edits = levenshtein(alloc, word, name)?;
+        if edits < fewest {
+            best = name;
+            fewest = edits;
+        }
+    }
+    Ok(best)
+}

@@ -1,0 +1,119 @@
+//! A writer that remembers whether a write to it failed, and whether it was flushed since.
+ghost use Rattle.std.specs.Prelude.{◌≡◌, ◌<◌, ◌≤◌, length, take, IfOk, IsTrue, IsFalse, OnOk, OnErr};
+ghost use Rattle.std.specs.Io.KnownBytes.{Appends, Keeps};
+
+use std::io;
+use std::io::Write;
+use std::marker::Model;
+
+/// A writer, whether a write to it failed, and whether it was flushed since the last write.
+///
+/// A write fails where the writer answers a fault, an interruption included, or takes no byte of
+/// a piece that has some. Nothing else makes a tally failed, and a failed one stays failed. A
+/// contract sees the bytes that the writer tells it holds, whether it failed, and whether it was
+/// flushed.
+#[derive(Drop)]
+pub struct Tally<W: Write> {
+    writer: W,
+    has_failed: bool,
+    is_flushed: bool,
+}
+
+impl<W: Write> Model for Tally<W> {
+    ghost use Rattle.virtiofs_mapaudit.specs.Output.{Output};
+
+    ghost Value = { Output };
+
+    ghost view = { λ t. record {
+      bytes = W.contents t.writer;
+      failed = t.has_failed;
+      flushed = t.is_flushed;
+    } };
+}
+
+/// A write failed: the writer answered a fault, or took no byte of a piece that has some.
+#[derive(Clone, Copy, Debug, PartialEq, Eq)]
+pub(crate) struct WriteFailed;
+
+impl<W: Write> Tally<W> {
+    /// A tally of what is written to `out` from here on. It has not failed, and takes no memory.
+    pub fn new(out: W) -> Self
+        ensures bytes { result.bytes ≡ W.contents out }
+        ensures sound { IsFalse result.failed }
+    {
+        Tally {
+            writer: out,
+            has_failed: false,
+            is_flushed: false,
+        }
+    }
+
+    /// Whether a write failed. It takes no memory.
+    pub fn failed(&self) -> bool
+        ensures { result ≡ self.now.failed }
+    {
+        self.has_failed
+    }
+
+    /// The writer, with all that was written to it. It takes no memory, and writes and flushes
+    /// nothing.
+    pub fn into_inner(self) -> W
+        ensures { W.contents result ≡ self.bytes }
+    {
+        let Tally {
+            writer,
+            has_failed: _,
+            is_flushed: _,
+        } = self;
+        writer
+    }
+
+    /// Hands `piece` to the writer once, and answers how many of its first bytes were taken: at
+    /// least one of a piece that has some. Where the write fails, nothing was taken, and the tally
+    /// has failed from here on. Nothing may be written after that.
+    pub(crate) fn write(&mut self, piece: &[u8]) -> Result<usize, WriteFailed>
+        requires { IsFalse self.old.failed }
+        ensures bound { IfOk result (λ n. n ≤ length piece.now) }
+        ensures progress { IfOk result (λ n. 0 < length piece.now → 0 < n) }
+        ensures taken { IfOk result (λ n.
+            Appends self.old.bytes self.new.bytes (take n piece.now)) }
+        ensures sound { OnOk result (IsFalse self.new.failed) }
+        ensures kept { OnErr result (Keeps self.old.bytes self.new.bytes) }
+        ensures fails { OnErr result (IsTrue self.new.failed) }
+        ensures unflushed { IsFalse self.new.flushed }
+    {
+        self.is_flushed = false;
+        match self.writer.write(piece) {
+            Ok(taken) if taken > 0 || piece.is_empty() => Ok(taken),
+            _ => {
+                self.has_failed = true;
+                Err(WriteFailed)
+            }
+        }
+    }
+
+    /// Flushes the writer: what it held back is written. A flush that fails makes no tally failed.
+    pub(crate) fn flush(&mut self) -> io::Result<()>
+        ensures kept { Keeps self.old.bytes self.new.bytes }
+        ensures same { self.new.failed ≡ self.old.failed }
+        ensures flushed { OnOk result (IsTrue self.new.flushed) }
+    {
+        self.writer.flush()?;
+        self.is_flushed = true;
+        Ok(())
+    }
+}
+
+#[cfg(test)]
+mod tests {
+    use crate::tally::Tally;
+    use crate::testing::Grudging;
+
+    #[test]
+    fn an_empty_piece_is_no_failed_write(rt: HostRuntime) {
+        let mut tally = Tally::new(Grudging::new(3, None));
+        assert_eq!(rt; tally.write(b""), Ok(0));
+        assert!(rt; !tally.failed());
+        assert_eq!(rt; tally.into_inner().calls(), 1);
+    }
+}
