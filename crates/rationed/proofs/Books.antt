@@ -9,7 +9,8 @@ use prog.Memory.{Memory}
 use prog.Routine.{Routine}
 use types.Logic.{Logic, sem}
 use contract.Monad.{Fun}
-use types.Kit.{‵, ◌⊛◌, some, later, ◌$◌, ◌∵◌, !, qed, move, keep, use1, split, join, pick, fjoin, feq_i, feq_l, check, show, await, updating, now as at_once, done}
+use types.Kit.{‵, ◌⊛◌, some, later, ◌$◌, ◌∵◌, !, qed, move, keep, use1, split, join, pick, fjoin, feq_i, feq_l, check}
+use types.Kit.{show, await, updating, now as at_once, done}
 use denote.RattleType.{RattleType}
 use denote.Memory.{hidden_shr}
 use denote.Builtin.{bool, unit}
@@ -29,36 +30,54 @@ module _ {M : Type 1} {𝓤 : Ura M} (𝓛 : Logic 𝓤) (at_mem : Memory → SP
   Grants = triple_of 𝓛 GR.signature (GR.spec 𝓛 at_mem run)
 
   abbrev pub at_grants : Lft → Share → ℕ × ℕ → Grants.Ghost
-  at_grants κ q c = (((κ, tt), (q, tt), tt, (record { ref_ptr = c; now = record { value = tt } }, tt), (vptr c.0 c.1 ∷ [], tt)), tt)
+  at_grants κ q c =
+      (((κ, tt), (q, tt), tt, (record { ref_ptr = c; now = record { value = tt } }, tt), (vptr c.0 c.1 ∷ [], tt)), tt)
 
   abbrev pub TakesBack : Contract 𝓤
   TakesBack = triple_of 𝓛 TB.signature (TB.spec 𝓛 at_mem run)
 
   abbrev pub at_takes_back : Lft → Share → ℕ × ℕ → TakesBack.Ghost
-  at_takes_back κ q c = (((κ, tt), (q, tt), tt, (record { ref_ptr = c; now = record { value = tt } }, tt), (vptr c.0 c.1 ∷ [], tt)), tt)
+  at_takes_back κ q c =
+      (((κ, tt), (q, tt), tt, (record { ref_ptr = c; now = record { value = tt } }, tt), (vptr c.0 c.1 ∷ [], tt)), tt)
 
-module _ {M : Type 1} {𝓤 : Ura M} (𝓛 : Logic 𝓤) (at_mem : Memory → SProp 𝓤) (run : Routine → Fun 𝓤) (κ : Lft) (q : Share) (c : ℕ × ℕ) where
+module _ {M : Type 1} {𝓤 : Ura M} (𝓛 : Logic 𝓤) (at_mem : Memory → SProp 𝓤) (run : Routine → Fun 𝓤) (κ : Lft)
+    (q : Share) (c : ℕ × ℕ) where
   open 𝓛 use {H, A}
 
-  pub Grants-goes : ent 𝓤 (sep 𝓤 (sem 𝓛 (hidden_shr Books κ (record { value = tt }) c.0 c.1)) (A.lft κ q)) ((Grants 𝓛 at_mem run).pre (at_grants 𝓛 at_mem run κ q c))
+  pub Grants-goes : ent 𝓤 (sep 𝓤 (sem 𝓛 (hidden_shr Books κ (record { value = tt }) c.0 c.1)) (A.lft κ q))
+      ((Grants 𝓛 at_mem run).pre (at_grants 𝓛 at_mem run κ q c))
   Grants-goes =
-      qed 𝓛 (‵ (hidden_shr Books κ (record { value = tt }) c.0 c.1) ∷ ‵ (flft κ q) ∷ []) ∵ feq_i ! (List Val) (vptr c.0 c.1 ∷ []) (vptr c.0 c.1 ∷ []) refl $ fjoin ! $
-      nothing ! $ move ! (1 ∷ []) $ fjoin ! $ nothing ! $ move ! (2 ∷ []) $ join ! $ join ! $ nothing ! $ move ! (1 ∷ []) $ done !
+      qed 𝓛 (‵ (hidden_shr Books κ (record { value = tt }) c.0 c.1) ∷ ‵ (flft κ q) ∷ []) ∵
+      feq_i ! (List Val) (vptr c.0 c.1 ∷ []) (vptr c.0 c.1 ∷ []) refl $ fjoin ! $
+      nothing ! $ move ! (1 ∷ []) $ fjoin ! $ nothing ! $ move ! (2 ∷ []) $ join ! $ join ! $ nothing ! $
+      move ! (1 ∷ []) $ done !
 
-  pub Grants-gives : (v : Val) → ent 𝓤 ((Grants 𝓛 at_mem run).post (at_grants 𝓛 at_mem run κ q c) v) (H.⇛ (ex 𝓤 (λ (t : Bool). guard 𝓤 (v ≡ vbool t) (A.lft κ q))))
+  pub Grants-gives : (v : Val)
+      → ent 𝓤 ((Grants 𝓛 at_mem run).post (at_grants 𝓛 at_mem run κ q c) v)
+      (H.⇛ (ex 𝓤 (λ (t : Bool). guard 𝓤 (v ≡ vbool t) (A.lft κ q))))
   Grants-gives v =
       qed 𝓛 (types.Kit.raw ((Grants 𝓛 at_mem run).post (at_grants 𝓛 at_mem run κ q c) v) ∷ []) ∵ updating ! $
-      use1 𝓛 (later (some (λ (r : Bool). ((‵ (flft κ q) ⊛ ‵ ftrue) ⊛ ‵ (bool.own_val r (v ∷ []))) ⊛ some (λ (ws : Unit {0} × Unit {0}). ‵ (fsep ftrue ftrue) ⊛ ‵ ftrue)))) (id⊢ 𝓤 _) $ await ! tt $ pick ! (λ r.
+      use1 𝓛 (later
+      (some (λ (r : Bool). ((‵ (flft κ q) ⊛ ‵ ftrue) ⊛ ‵ (bool.own_val r (v ∷ []))) ⊛ some
+      (λ (ws : Unit {0} × Unit {0}). ‵ (fsep ftrue ftrue) ⊛ ‵ ftrue)))) (id⊢ 𝓤 _) $ await ! tt $ pick ! (λ r.
       split ! $ split ! $ move ! (1 ∷ []) $ feq_l ! (λ e. split ! $ at_once ! $
       show ! (λ (t : Bool). guard 𝓤 (v ≡ vbool t) (A.lft κ q)) r $ check ! (ap only e) $ keep ! (0 ∷ []) $ done !))
 
-  pub TakesBack-goes : ent 𝓤 (sep 𝓤 (sem 𝓛 (hidden_shr Books κ (record { value = tt }) c.0 c.1)) (A.lft κ q)) ((TakesBack 𝓛 at_mem run).pre (at_takes_back 𝓛 at_mem run κ q c))
+  pub TakesBack-goes : ent 𝓤 (sep 𝓤 (sem 𝓛 (hidden_shr Books κ (record { value = tt }) c.0 c.1)) (A.lft κ q))
+      ((TakesBack 𝓛 at_mem run).pre (at_takes_back 𝓛 at_mem run κ q c))
   TakesBack-goes =
-      qed 𝓛 (‵ (hidden_shr Books κ (record { value = tt }) c.0 c.1) ∷ ‵ (flft κ q) ∷ []) ∵ feq_i ! (List Val) (vptr c.0 c.1 ∷ []) (vptr c.0 c.1 ∷ []) refl $ fjoin ! $
-      nothing ! $ move ! (1 ∷ []) $ fjoin ! $ nothing ! $ move ! (2 ∷ []) $ join ! $ join ! $ nothing ! $ move ! (1 ∷ []) $ done !
+      qed 𝓛 (‵ (hidden_shr Books κ (record { value = tt }) c.0 c.1) ∷ ‵ (flft κ q) ∷ []) ∵
+      feq_i ! (List Val) (vptr c.0 c.1 ∷ []) (vptr c.0 c.1 ∷ []) refl $ fjoin ! $
+      nothing ! $ move ! (1 ∷ []) $ fjoin ! $ nothing ! $ move ! (2 ∷ []) $ join ! $ join ! $ nothing ! $
+      move ! (1 ∷ []) $ done !
 
-  pub TakesBack-gives : (v : Val) → ent 𝓤 ((TakesBack 𝓛 at_mem run).post (at_takes_back 𝓛 at_mem run κ q c) v) (H.⇛ (guard 𝓤 (v ≡ vunit) (A.lft κ q)))
+  pub TakesBack-gives : (v : Val)
+      → ent 𝓤 ((TakesBack 𝓛 at_mem run).post (at_takes_back 𝓛 at_mem run κ q c) v)
+      (H.⇛ (guard 𝓤 (v ≡ vunit) (A.lft κ q)))
   TakesBack-gives v =
       qed 𝓛 (types.Kit.raw ((TakesBack 𝓛 at_mem run).post (at_takes_back 𝓛 at_mem run κ q c) v) ∷ []) ∵ updating ! $
-      use1 𝓛 (later (some (λ (r : Unit {0}). ((‵ (flft κ q) ⊛ ‵ ftrue) ⊛ ‵ (unit.own_val r (v ∷ []))) ⊛ some (λ (ws : Unit {0} × Unit {0}). ‵ (fsep ftrue ftrue) ⊛ ‵ ftrue)))) (id⊢ 𝓤 _) $ await ! tt $ pick ! (λ r.
-      split ! $ split ! $ move ! (1 ∷ []) $ feq_l ! (λ e. split ! $ at_once ! $ check ! (ap only e) $ keep ! (0 ∷ []) $ done !))
+      use1 𝓛 (later
+      (some (λ (r : Unit {0}). ((‵ (flft κ q) ⊛ ‵ ftrue) ⊛ ‵ (unit.own_val r (v ∷ []))) ⊛ some
+      (λ (ws : Unit {0} × Unit {0}). ‵ (fsep ftrue ftrue) ⊛ ‵ ftrue)))) (id⊢ 𝓤 _) $ await ! tt $ pick ! (λ r.
+      split ! $ split ! $ move ! (1 ∷ []) $
+      feq_l ! (λ e. split ! $ at_once ! $ check ! (ap only e) $ keep ! (0 ∷ []) $ done !))

@@ -5,7 +5,9 @@ use Rattle.virtiofs_map.specs.GrowthParts.{number, IsLeast, IsLeastOf}
 use Rattle.virtiofs_map.specs.declared.xattrmap.patterns.Pattern.{Pattern}
 
 -- one pattern more
-pub IsLeastOf-more : (patterns : List Pattern) (base low at value next : ℕ) → low ≤ at → IsLeastOf patterns base low at value → next ≡ min value (number patterns at) → IsLeastOf patterns base low (at + 1) next
+pub IsLeastOf-more : (patterns : List Pattern) (base low at value next : ℕ) → low ≤ at
+    → IsLeastOf patterns base low at value → next ≡ min value (number patterns at)
+    → IsLeastOf patterns base low (at + 1) next
 IsLeastOf-more patterns base low at value next l least e = record {
   least = let h = least.least in omega (arith, h, e);
   below = λ i from upto. elim (cases_lt i at) [
@@ -26,7 +28,8 @@ IsLeastOf-more patterns base low at value next l least e = record {
 -- the least of those that are chosen, and of some between two places
 pub IsLeast-with : (patterns : List Pattern) (chosen more : ℕ → Type 0) (base low high value : ℕ)
     → IsLeast patterns chosen base → IsLeastOf patterns base low high value
-    → ((i : ℕ) → chosen i → more i) → ((i : ℕ) → low ≤ i → i < high → more i) → ((i : ℕ) → more i → chosen i ⊎ ((low ≤ i) × (i < high)))
+    → ((i : ℕ) → chosen i → more i) → ((i : ℕ) → low ≤ i → i < high → more i)
+    → ((i : ℕ) → more i → chosen i ⊎ ((low ≤ i) × (i < high)))
     → IsLeast patterns more value
 IsLeast-with patterns chosen more base low high value first then old new either = record {
   top = let a = first.top in let b = then.least in omega (arith, a, b);

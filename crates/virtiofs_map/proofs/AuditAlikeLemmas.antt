@@ -1,10 +1,15 @@
 -- Names that fare alike: the longest of some patterns that begins a name is begun by the same patterns as the name.
-use Rattle.std.proofs.Common.{◌≡◌, zero, suc, ◌≢◌, ℕ, ◌+◌, ◌<◌, ◌≤◌, Bool, true, false, ◌&&◌, cond, eqb, List, [], ◌∷◌, ◌++◌, map, length, drop, Option, Some, None, ◌⊎◌, inl, inr, refl, sym, ap, ◌∙◌, subst, arith}
+use Rattle.std.proofs.Common.{◌≡◌, zero, suc, ◌≢◌, ℕ, ◌+◌, ◌<◌, ◌≤◌, Bool, true, false, ◌&&◌, cond, eqb, List, [], ◌∷◌}
+use Rattle.std.proofs.Common.{◌++◌, map, length, drop, Option, Some, None, ◌⊎◌, inl, inr, refl, sym, ap, ◌∙◌, subst}
+use Rattle.std.proofs.Common.{arith}
 use Rattle.std.specs.List.{AllByRecursion, cons_option, flat_map, find, range_with_len}
 use Rattle.std.specs.Option.{option_map_or, option_and_then}
-use Rattle.std.proofs.lemmas.Bool.{and_parts, and_from, cond_both, cases_Bool, cases_lt, false≢true, true≢false, eqb-true, eq-eqb}
+use Rattle.std.proofs.lemmas.Bool.{and_parts, and_from, cond_both, cases_Bool, cases_lt, false≢true, true≢false}
+use Rattle.std.proofs.lemmas.Bool.{eqb-true, eq-eqb}
 use Rattle.std.proofs.lemmas.List.{append_assoc}
-use Rattle.virtiofs_map.specs.AuditParts.{front_of, front, host_pattern, rest_after, rest_of, rests, guest_names_of, guest_names, whole_of, wholes, host_names_of, host_names, one_byte, one_byte_names}
+use Rattle.virtiofs_map.specs.AuditParts.{front_of, front, host_pattern, rest_after, rest_of, rests, guest_names_of}
+use Rattle.virtiofs_map.specs.AuditParts.{guest_names, whole_of, wholes, host_names_of, host_names, one_byte}
+use Rattle.virtiofs_map.specs.AuditParts.{one_byte_names}
 use Rattle.virtiofs_map.specs.FirstRule.{acts}
 use Rattle.virtiofs_map.specs.Names.{begins, fits, deciding}
 use Rattle.virtiofs_map.specs.Rule.{MappingRule}
@@ -17,7 +22,9 @@ use Rattle.virtiofs_map.proofs.FirstRuleLemmas.{deciding-find}
 
 pub begins_trans : (p q n : List ℕ) → begins p q ≡ true → begins q n ≡ true → begins p n ≡ true
 begins_trans p q n b d =
-    begins_from p n (drop (length p) q ++ drop (length q) n) (begins_split q n d ∙ ap (λ front. front ++ drop (length q) n) (begins_split p q b) ∙ append_assoc p (drop (length p) q) (drop (length q) n))
+    begins_from p n (drop (length p) q ++ drop (length q) n)
+    (begins_split q n d ∙ ap (λ front. front ++ drop (length q) n) (begins_split p q b)
+    ∙ append_assoc p (drop (length p) q) (drop (length q) n))
 
 -- of two fronts of a name the shorter begins the longer
 pub shorter_begins : (p q n : List ℕ) → begins p n ≡ true → begins q n ≡ true → length p ≤ length q → begins p q ≡ true
@@ -59,7 +66,8 @@ all_member P x [] all m = absurd m
 all_member P x (y ∷ ys) all (inl e) = subst P (sym e) all.0
 all_member P x (y ∷ ys) all (inr m) = all_member P x ys all.1 m
 
-all_weaker : {X : Type 0} (P Q : X → Type 0) → ((x : X) → P x → Q x) → (xs : List X) → AllByRecursion P xs → AllByRecursion Q xs
+all_weaker : {X : Type 0} (P Q : X → Type 0) → ((x : X) → P x → Q x) → (xs : List X) → AllByRecursion P xs
+    → AllByRecursion Q xs
 all_weaker P Q f [] all = tt
 all_weaker P Q f (x ∷ xs) all = (f x all.0, all_weaker P Q f xs all.1)
 
@@ -77,7 +85,8 @@ all_second P (x ∷ xs) ys all = all_second P xs ys all.1
 abbrev pub Meets : List ℕ → List ℕ → List ℕ → Type 0
 Meets name c t = begins t name ≡ true → begins t c ≡ true
 
--- c stands for the name: it is among those that are tried, begins the name, and is begun by each pattern that begins the name
+-- c stands for the name: it is among those that are tried, begins the name, and is begun by each pattern that begins
+-- the name
 pub record Stands (patterns tried : List (List ℕ)) (name c : List ℕ) : Type 0 where
   pub not_empty : c ≢ []
   pub is_front : begins c name ≡ true
@@ -88,7 +97,8 @@ pub record Stood (patterns tried : List (List ℕ)) (name : List ℕ) : Type 0 w
   pub by : List ℕ
   pub stands : Stands patterns tried name by
 
-one_more : (t : List ℕ) (patterns tried : List (List ℕ)) (name : List ℕ) → Stood patterns tried name → Stood (t ∷ patterns) (t ∷ tried) name
+one_more : (t : List ℕ) (patterns tried : List (List ℕ)) (name : List ℕ) → Stood patterns tried name
+    → Stood (t ∷ patterns) (t ∷ tried) name
 one_more t patterns tried name stood =
     elim (cases_Bool (begins t name)) [
       | inr fails ↦ keep (λ b. absurd (false≢true (sym fails ∙ b)))
@@ -115,7 +125,12 @@ one_more t patterns tried name stood =
         stands = record {
           not_empty = λ none. let e = ap length none in absurd (omega arith);
           is_front = holds;
-          met = (λ b. shorter_begins t t name holds holds (omega arith), all_weaker (Meets name stood.by) (Meets name t) (λ s met b. begins_trans s stood.by t (met b) (shorter_begins stood.by t name stood.stands.is_front holds (omega arith))) patterns stood.stands.met);
+          met = (
+            λ b. shorter_begins t t name holds holds (omega arith),
+            all_weaker (Meets name stood.by) (Meets name t)
+                (λ s met b. begins_trans s stood.by t (met b)
+                (shorter_begins stood.by t name stood.stands.is_front holds (omega arith))) patterns stood.stands.met,
+          );
           is_tried = inl refl;
         };
       }
@@ -123,14 +138,18 @@ one_more t patterns tried name stood =
 in_range : (a n x : ℕ) → a ≤ x → x < a + n → Member (one_byte x) (map one_byte (range_with_len a n))
 in_range a zero x l u = absurd (omega arith)
 in_range a (suc n) x l u =
-    elim (cases_lt a x) [ inl more ↦ inr (in_range (a + 1) n x (omega arith) (omega arith)) | inr same ↦ inl (let e : x ≡ a = omega arith in ap one_byte e) ]
+    elim (cases_lt a x) [
+      | inl more ↦ inr (in_range (a + 1) n x (omega arith) (omega arith))
+      | inr same ↦ inl (let e : x ≡ a = omega arith in ap one_byte e)
+    ]
 
 one_byte_tried : (x : ℕ) → 0 < x → x < 256 → Member (one_byte x) one_byte_names
 unfolding one_byte_names
 one_byte_tried x l u = in_range 1 255 x (omega arith) (omega arith)
 
 -- a name that is not empty has one that stands for it
-pub stood : (patterns : List (List ℕ)) (x : ℕ) (xs : List ℕ) → 0 < x → x < 256 → Stood patterns (patterns ++ one_byte_names) (x ∷ xs)
+pub stood : (patterns : List (List ℕ)) (x : ℕ) (xs : List ℕ) → 0 < x → x < 256
+    → Stood patterns (patterns ++ one_byte_names) (x ∷ xs)
 stood [] x xs l u = record {
   by = one_byte x;
   stands = record {
@@ -183,7 +202,8 @@ bytes_stand beginning patterns tried name c stands b l = record {
     not_empty = λ none. let e = ap length none in absurd (omega arith);
     is_front = b;
     met = all_weaker (Meets name c) (Meets name beginning)
-        (λ t met k. begins_trans t c beginning (met k) (shorter_begins c beginning name stands.is_front b (omega arith)))
+        (λ t met k. begins_trans t c beginning (met k)
+        (shorter_begins c beginning name stands.is_front b (omega arith)))
         patterns stands.met;
     is_tried = inl refl;
   };
@@ -203,7 +223,8 @@ cover_within beginning patterns x xs l u b =
 
 -- ---- a rule that fits a name fits what begins with that name
 
-pub fits_more : (side : Side) (front name : List ℕ) → begins front name ≡ true → (rule : MappingRule) → fits side front rule ≡ true → fits side name rule ≡ true
+pub fits_more : (side : Side) (front name : List ℕ) → begins front name ≡ true → (rule : MappingRule)
+    → fits side front rule ≡ true → fits side name rule ≡ true
 fits_more Client front name b rule e =
     let parts = and_parts rule.client (begins rule.key front) e in
     and_from rule.client (begins rule.key name) parts.0 (begins_trans rule.key front name parts.1 b)
@@ -212,7 +233,8 @@ fits_more Server front name b rule e =
     and_from rule.server (begins rule.prepend name) parts.0 (begins_trans rule.prepend front name parts.1 b)
 
 -- of fewer elements that pass, the first stays the first
-find_fewer : {X : Type 0} (p q : X → Bool) (xs : List X) (x : X) → ((y : X) → q y ≡ true → p y ≡ true) → find p xs ≡ Some x → q x ≡ true → find q xs ≡ Some x
+find_fewer : {X : Type 0} (p q : X → Bool) (xs : List X) (x : X) → ((y : X) → q y ≡ true → p y ≡ true)
+    → find p xs ≡ Some x → q x ≡ true → find q xs ≡ Some x
 find_fewer p q [] x more e holds = absurd (cc)
 find_fewer p q (y ∷ ys) x more e holds =
     elim (cases_Bool (p y)) [
@@ -229,9 +251,13 @@ find_fewer p q (y ∷ ys) x more e holds =
     ]
 
 -- the rule that decides a name decides each front of it that it fits
-pub decides_front : (side : Side) (rules : List MappingRule) (front name : List ℕ) (rule : MappingRule) → begins front name ≡ true → deciding side rules name ≡ Some rule → fits side front rule ≡ true → deciding side rules front ≡ Some rule
+pub decides_front : (side : Side) (rules : List MappingRule) (front name : List ℕ) (rule : MappingRule)
+    → begins front name ≡ true → deciding side rules name ≡ Some rule → fits side front rule ≡ true
+    → deciding side rules front ≡ Some rule
 decides_front side rules front name rule b e fit =
-    deciding-find side rules front ∙ find_fewer (fits side name) (fits side front) rules rule (fits_more side front name b) (sym (deciding-find side rules name) ∙ e) fit
+    deciding-find side rules front
+    ∙ find_fewer (fits side name) (fits side front) rules rule (fits_more side front name b)
+    (sym (deciding-find side rules name) ∙ e) fit
 
 -- ---- the same rule decides
 
@@ -244,69 +270,109 @@ met_same : (name c t : List ℕ) → begins c name ≡ true → Meets name c t �
 met_same name c t f met = same_tests (begins t name) (begins t c) met (λ b. begins_trans t c name b f)
 
 -- by the keys of the guest's rules
-keys_same : (side : Side) (others rules : List MappingRule) (name c : List ℕ) → begins c name ≡ true → AllByRecursion (Meets name c) (guest_names side others rules) → AllByRecursion (λ rule. fits Client name rule ≡ fits Client c rule) rules
+keys_same : (side : Side) (others rules : List MappingRule) (name c : List ℕ) → begins c name ≡ true
+    → AllByRecursion (Meets name c) (guest_names side others rules)
+    → AllByRecursion (λ rule. fits Client name rule ≡ fits Client c rule) rules
 keys_same side others [] name c f all = tt
-keys_same side others (rule ∷ rules) name c f all =
-    (key rule.client (all_first (Meets name c) (guest_names_of side others rule) (guest_names side others rules) all), keys_same side others rules name c f (all_second (Meets name c) (guest_names_of side others rule) (guest_names side others rules) all)) where
-      key : (b : Bool) → AllByRecursion (Meets name c) (cond b (rule.key ∷ option_map_or (rests side others) (front_of rule) []) []) → (b && begins rule.key name) ≡ (b && begins rule.key c)
-      key true met = met_same name c rule.key f met.0
-      key false met = refl
+keys_same side others (rule ∷ rules) name c f all = (
+  key rule.client (all_first (Meets name c) (guest_names_of side others rule) (guest_names side others rules) all),
+  keys_same side others rules name c f
+      (all_second (Meets name c) (guest_names_of side others rule) (guest_names side others rules) all),
+) where
+  key : (b : Bool)
+      → AllByRecursion (Meets name c) (cond b (rule.key ∷ option_map_or (rests side others) (front_of rule) []) [])
+      → (b && begins rule.key name) ≡ (b && begins rule.key c)
+  key true met = met_same name c rule.key f met.0
+  key false met = refl
 
 -- by the rests of a front
-rest_same : (added pattern name c : List ℕ) → begins c name ≡ true → (b : Bool) → begins added pattern ≡ b → AllByRecursion (Meets name c) (cons_option (cond b (Some (drop (length added) pattern)) None) []) → begins pattern (added ++ name) ≡ begins pattern (added ++ c)
+rest_same : (added pattern name c : List ℕ) → begins c name ≡ true → (b : Bool) → begins added pattern ≡ b
+    → AllByRecursion (Meets name c) (cons_option (cond b (Some (drop (length added) pattern)) None) [])
+    → begins pattern (added ++ name) ≡ begins pattern (added ++ c)
 rest_same added pattern name c f true b met =
     let rest = drop (length added) pattern in
     let split = begins_split added pattern b in
-    ap (λ p. begins p (added ++ name)) split ∙ begins-append_both added rest name ∙ met_same name c rest f met.0 ∙ sym (ap (λ p. begins p (added ++ c)) split ∙ begins-append_both added rest c)
+    ap (λ p. begins p (added ++ name)) split ∙ begins-append_both added rest name ∙ met_same name c rest f met.0
+    ∙ sym (ap (λ p. begins p (added ++ c)) split ∙ begins-append_both added rest c)
 rest_same added pattern name c f false fails met =
-    same_tests (begins pattern (added ++ name)) (begins pattern (added ++ c)) (λ b. begins_trans pattern added (added ++ c) (begins_within added pattern name fails b) (begins-append added c)) (λ b. begins_trans pattern added (added ++ name) (begins_within added pattern c fails b) (begins-append added name))
+    same_tests (begins pattern (added ++ name)) (begins pattern (added ++ c))
+    (λ b. begins_trans pattern added (added ++ c) (begins_within added pattern name fails b)
+    (begins-append added c))
+    (λ b. begins_trans pattern added (added ++ name) (begins_within added pattern c fails b)
+    (begins-append added name))
 
-first_option : {X : Type 0} (P : X → Type 0) (o : Option X) (xs : List X) → AllByRecursion P (cons_option o xs) → AllByRecursion P (cons_option o []) × AllByRecursion P xs
+first_option : {X : Type 0} (P : X → Type 0) (o : Option X) (xs : List X) → AllByRecursion P (cons_option o xs)
+    → AllByRecursion P (cons_option o []) × AllByRecursion P xs
 first_option P None xs all = (tt, all)
 first_option P (Some x) xs all = ((all.0, tt), all.1)
 
 -- the rule's pattern for host names begins both of them or neither, if the rule acts on that side
 abbrev pub BeginsBoth : Side → List ℕ → List ℕ → MappingRule → Type 0
 BeginsBoth side host other rule =
-    acts side rule ≡ true → (pattern : List ℕ) → host_pattern side rule ≡ Some pattern → begins pattern host ≡ begins pattern other
+    acts side rule ≡ true → (pattern : List ℕ) → host_pattern side rule ≡ Some pattern
+    → begins pattern host ≡ begins pattern other
 
-rests_same : (side : Side) (others : List MappingRule) (added name c : List ℕ) → begins c name ≡ true → AllByRecursion (Meets name c) (rests side others added) → AllByRecursion (BeginsBoth side (added ++ name) (added ++ c)) others
+rests_same : (side : Side) (others : List MappingRule) (added name c : List ℕ) → begins c name ≡ true
+    → AllByRecursion (Meets name c) (rests side others added)
+    → AllByRecursion (BeginsBoth side (added ++ name) (added ++ c)) others
 rests_same side [] added name c f all = tt
 rests_same side (rule ∷ others) added name c f all =
     let parts = first_option (Meets name c) (rest_of side added rule) (rests side others added) all in
     (here parts.0, rests_same side others added name c f parts.1) where
-      rest_is : (pattern : List ℕ) → acts side rule ≡ true → host_pattern side rule ≡ Some pattern → rest_of side added rule ≡ rest_after added pattern
+      rest_is : (pattern : List ℕ) → acts side rule ≡ true → host_pattern side rule ≡ Some pattern
+          → rest_of side added rule ≡ rest_after added pattern
       rest_is pattern on is =
-          ap (λ b. cond b (option_and_then (rest_after added) (host_pattern side rule)) None) on ∙ ap (option_and_then (rest_after added)) is
+          ap (λ b. cond b (option_and_then (rest_after added) (host_pattern side rule)) None) on
+          ∙ ap (option_and_then (rest_after added)) is
 
-      here : AllByRecursion (Meets name c) (cons_option (rest_of side added rule) []) → BeginsBoth side (added ++ name) (added ++ c) rule
+      here : AllByRecursion (Meets name c) (cons_option (rest_of side added rule) [])
+          → BeginsBoth side (added ++ name) (added ++ c) rule
       here met on pattern is =
-          rest_same added pattern name c f (begins added pattern) refl (subst (λ o. AllByRecursion (Meets name c) (cons_option o [])) (rest_is pattern on is) met)
+          rest_same added pattern name c f (begins added pattern) refl
+          (subst (λ o. AllByRecursion (Meets name c) (cons_option o [])) (rest_is pattern on is) met)
 
 -- the patterns of the rule that decides are among those of all rules
-of_found : (P : List ℕ → Type 0) (fit acts : MappingRule → Bool) (pattern : MappingRule → List ℕ) (more : List ℕ → List (List ℕ)) → ((rule : MappingRule) → fit rule ≡ true → acts rule ≡ true) → (rules : List MappingRule) (cut : List ℕ) → AllByRecursion P (flat_map (λ rule. cond (acts rule) (pattern rule ∷ option_map_or more (front_of rule) []) []) rules) → option_and_then front_of (find fit rules) ≡ Some cut → AllByRecursion P (more cut)
+of_found : (P : List ℕ → Type 0) (fit acts : MappingRule → Bool) (pattern : MappingRule → List ℕ)
+    (more : List ℕ → List (List ℕ)) → ((rule : MappingRule) → fit rule ≡ true → acts rule ≡ true)
+    → (rules : List MappingRule) (cut : List ℕ)
+    → AllByRecursion P
+    (flat_map (λ rule. cond (acts rule) (pattern rule ∷ option_map_or more (front_of rule) []) []) rules)
+    → option_and_then front_of (find fit rules) ≡ Some cut → AllByRecursion P (more cut)
 of_found P fit acts pattern more on [] cut all e = cc
 of_found P fit acts pattern more on (rule ∷ rules) cut all e =
-    let names : MappingRule → List (List ℕ) = λ rule. cond (acts rule) (pattern rule ∷ option_map_or more (front_of rule) []) [] in
+    let names : MappingRule → List (List ℕ) =
+    λ rule. cond (acts rule) (pattern rule ∷ option_map_or more (front_of rule) []) [] in
     let mine = all_first P (names rule) (flat_map names rules) all in
     let others = all_second P (names rule) (flat_map names rules) all in
-    cond_both (fit rule) (Some rule) (find fit rules) (λ o. option_and_then front_of o ≡ Some cut → AllByRecursion P (more cut)) (λ b k. here (on rule b) mine k) (λ _ k. of_found P fit acts pattern more on rules cut others k) e where
-      here : acts rule ≡ true → AllByRecursion P (cond (acts rule) (pattern rule ∷ option_map_or more (front_of rule) []) []) → front_of rule ≡ Some cut → AllByRecursion P (more cut)
+    cond_both (fit rule) (Some rule) (find fit rules)
+    (λ o. option_and_then front_of o ≡ Some cut → AllByRecursion P (more cut)) (λ b k. here (on rule b) mine k)
+    (λ _ k. of_found P fit acts pattern more on rules cut others k) e where
+      here : acts rule ≡ true
+          → AllByRecursion P (cond (acts rule) (pattern rule ∷ option_map_or more (front_of rule) []) [])
+          → front_of rule ≡ Some cut → AllByRecursion P (more cut)
       here holds mine k =
-          let met = subst (λ b. AllByRecursion P (cond b (pattern rule ∷ option_map_or more (front_of rule) []) [])) holds mine in
+          let met =
+          subst (λ b. AllByRecursion P (cond b (pattern rule ∷ option_map_or more (front_of rule) []) [])) holds
+          mine in
           subst (λ o. AllByRecursion P (option_map_or more o [])) k met.1
 
 -- the two names meet the same rules, and the same patterns for host names begin what they become
 pub record FareAlike (side : Side) (rules others : List MappingRule) (name c : List ℕ) : Type 0 where
   pub client : deciding Client rules name ≡ deciding Client rules c
-  pub hosts : (added : List ℕ) → front Client rules name ≡ Some added → AllByRecursion (BeginsBoth side (added ++ name) (added ++ c)) others
+  pub hosts : (added : List ℕ) → front Client rules name ≡ Some added
+      → AllByRecursion (BeginsBoth side (added ++ name) (added ++ c)) others
 
-pub fare_alike : (side : Side) (rules others : List MappingRule) (tried : List (List ℕ)) (name c : List ℕ) → Stands (guest_names side others rules) tried name c → FareAlike side rules others name c
+pub fare_alike : (side : Side) (rules others : List MappingRule) (tried : List (List ℕ)) (name c : List ℕ)
+    → Stands (guest_names side others rules) tried name c → FareAlike side rules others name c
 fare_alike side rules others tried name c stands = record {
-  client = deciding-find Client rules name ∙ find_same (fits Client name) (fits Client c) rules (keys_same side others rules name c stands.is_front stands.met) ∙ sym (deciding-find Client rules c);
+  client = deciding-find Client rules name
+      ∙ find_same (fits Client name) (fits Client c) rules
+      (keys_same side others rules name c stands.is_front stands.met) ∙ sym (deciding-find Client rules c);
   hosts = λ added e.
       (let decides = ap (option_and_then front_of) (sym (deciding-find Client rules name)) ∙ e in
-      let met = of_found (Meets name c) (fits Client name) (λ rule. rule.client) (λ rule. rule.key) (rests side others) (λ rule b. (and_parts rule.client (begins rule.key name) b).0) rules added stands.met decides in
+      let met =
+      of_found (Meets name c) (fits Client name) (λ rule. rule.client) (λ rule. rule.key) (rests side others)
+      (λ rule b. (and_parts rule.client (begins rule.key name) b).0) rules added stands.met decides in
       rests_same side others added name c stands.is_front met);
 }
 
@@ -315,44 +381,73 @@ fits_alike : (on one other : Bool) → (on ≡ true → one ≡ other) → (on &
 fits_alike true one other same = same refl
 fits_alike false one other same = refl
 
-pub server_alike : (others : List MappingRule) (host other : List ℕ) → AllByRecursion (BeginsBoth Server host other) others → deciding Server others host ≡ deciding Server others other
+pub server_alike : (others : List MappingRule) (host other : List ℕ)
+    → AllByRecursion (BeginsBoth Server host other) others → deciding Server others host ≡ deciding Server others other
 server_alike others host other all =
-    deciding-find Server others host ∙ find_same (fits Server host) (fits Server other) others (all_weaker (BeginsBoth Server host other) (λ rule. fits Server host rule ≡ fits Server other rule) (λ rule both. fits_alike rule.server (begins rule.prepend host) (begins rule.prepend other) (λ on. both on rule.prepend refl)) others all) ∙ sym (deciding-find Server others other)
+    deciding-find Server others host
+    ∙ find_same (fits Server host) (fits Server other) others
+    (all_weaker (BeginsBoth Server host other) (λ rule. fits Server host rule ≡ fits Server other rule)
+    (λ rule both. fits_alike rule.server (begins rule.prepend host) (begins rule.prepend other)
+    (λ on. both on rule.prepend refl)) others all) ∙ sym (deciding-find Server others other)
 
 -- ---- the same for names of the host
 
-prepends_same : (others rules : List MappingRule) (host c : List ℕ) → begins c host ≡ true → AllByRecursion (Meets host c) (host_names others rules) → AllByRecursion (λ rule. fits Server host rule ≡ fits Server c rule) rules
+prepends_same : (others rules : List MappingRule) (host c : List ℕ) → begins c host ≡ true
+    → AllByRecursion (Meets host c) (host_names others rules)
+    → AllByRecursion (λ rule. fits Server host rule ≡ fits Server c rule) rules
 prepends_same others [] host c f all = tt
-prepends_same others (rule ∷ rules) host c f all =
-    (prepend rule.server (all_first (Meets host c) (host_names_of others rule) (host_names others rules) all), prepends_same others rules host c f (all_second (Meets host c) (host_names_of others rule) (host_names others rules) all)) where
-      prepend : (b : Bool) → AllByRecursion (Meets host c) (cond b (rule.prepend ∷ option_map_or (wholes others) (front_of rule) []) []) → (b && begins rule.prepend host) ≡ (b && begins rule.prepend c)
-      prepend true met = met_same host c rule.prepend f met.0
-      prepend false met = refl
+prepends_same others (rule ∷ rules) host c f all = (
+  prepend rule.server (all_first (Meets host c) (host_names_of others rule) (host_names others rules) all),
+  prepends_same others rules host c f
+      (all_second (Meets host c) (host_names_of others rule) (host_names others rules) all),
+) where
+  prepend : (b : Bool)
+      → AllByRecursion (Meets host c) (cond b (rule.prepend ∷ option_map_or (wholes others) (front_of rule) []) [])
+      → (b && begins rule.prepend host) ≡ (b && begins rule.prepend c)
+  prepend true met = met_same host c rule.prepend f met.0
+  prepend false met = refl
 
-whole_same : (cut key name rest : List ℕ) → begins (cut ++ rest) (cut ++ name) ≡ true → Meets (cut ++ name) (cut ++ rest) (cut ++ key) → begins key name ≡ begins key rest
+whole_same : (cut key name rest : List ℕ) → begins (cut ++ rest) (cut ++ name) ≡ true
+    → Meets (cut ++ name) (cut ++ rest) (cut ++ key) → begins key name ≡ begins key rest
 whole_same cut key name rest f met =
-    sym (begins-append_both cut key name) ∙ met_same (cut ++ name) (cut ++ rest) (cut ++ key) f met ∙ begins-append_both cut key rest
+    sym (begins-append_both cut key name) ∙ met_same (cut ++ name) (cut ++ rest) (cut ++ key) f met
+    ∙ begins-append_both cut key rest
 
-wholes_same : (others : List MappingRule) (cut name rest : List ℕ) → begins (cut ++ rest) (cut ++ name) ≡ true → AllByRecursion (Meets (cut ++ name) (cut ++ rest)) (wholes others cut) → AllByRecursion (λ rule. fits Client name rule ≡ fits Client rest rule) others
+wholes_same : (others : List MappingRule) (cut name rest : List ℕ) → begins (cut ++ rest) (cut ++ name) ≡ true
+    → AllByRecursion (Meets (cut ++ name) (cut ++ rest)) (wholes others cut)
+    → AllByRecursion (λ rule. fits Client name rule ≡ fits Client rest rule) others
 wholes_same [] cut name rest f all = tt
 wholes_same (rule ∷ others) cut name rest f all =
     let parts = first_option (Meets (cut ++ name) (cut ++ rest)) (whole_of cut rule) (wholes others cut) all in
     (here rule.client parts.0, wholes_same others cut name rest f parts.1) where
-      here : (b : Bool) → AllByRecursion (Meets (cut ++ name) (cut ++ rest)) (cons_option (cond b (Some (cut ++ rule.key)) None) []) → (b && begins rule.key name) ≡ (b && begins rule.key rest)
+      here : (b : Bool)
+          → AllByRecursion (Meets (cut ++ name) (cut ++ rest)) (cons_option (cond b (Some (cut ++ rule.key)) None) [])
+          → (b && begins rule.key name) ≡ (b && begins rule.key rest)
       here true met = whole_same cut rule.key name rest f met.0
       here false met = refl
 
 pub record ListedAlike (rules others : List MappingRule) (host c : List ℕ) : Type 0 where
   pub server : deciding Server rules host ≡ deciding Server rules c
-  pub client : (cut name rest : List ℕ) → front Server rules host ≡ Some cut → host ≡ cut ++ name → c ≡ cut ++ rest → deciding Client others name ≡ deciding Client others rest
+  pub client : (cut name rest : List ℕ) → front Server rules host ≡ Some cut → host ≡ cut ++ name → c ≡ cut ++ rest
+      → deciding Client others name ≡ deciding Client others rest
 
-pub listed_alike : (rules others : List MappingRule) (tried : List (List ℕ)) (host c : List ℕ) → Stands (host_names others rules) tried host c → ListedAlike rules others host c
+pub listed_alike : (rules others : List MappingRule) (tried : List (List ℕ)) (host c : List ℕ)
+    → Stands (host_names others rules) tried host c → ListedAlike rules others host c
 listed_alike rules others tried host c stands = record {
-  server = deciding-find Server rules host ∙ find_same (fits Server host) (fits Server c) rules (prepends_same others rules host c stands.is_front stands.met) ∙ sym (deciding-find Server rules c);
+  server = deciding-find Server rules host
+      ∙ find_same (fits Server host) (fits Server c) rules
+      (prepends_same others rules host c stands.is_front stands.met) ∙ sym (deciding-find Server rules c);
   client = λ cut name rest e split other.
       (let decides = ap (option_and_then front_of) (sym (deciding-find Server rules host)) ∙ e in
-      let met = of_found (Meets host c) (fits Server host) (λ rule. rule.server) (λ rule. rule.prepend) (wholes others) (λ rule b. (and_parts rule.server (begins rule.prepend host) b).0) rules cut stands.met decides in
-      let front : begins (cut ++ rest) (cut ++ name) ≡ true = subst (λ n. begins (cut ++ rest) n ≡ true) split (subst (λ p. begins p host ≡ true) other stands.is_front) in
-      let over = subst (λ n. AllByRecursion (Meets n (cut ++ rest)) (wholes others cut)) split (subst (λ p. AllByRecursion (Meets host p) (wholes others cut)) other met) in
-      deciding-find Client others name ∙ find_same (fits Client name) (fits Client rest) others (wholes_same others cut name rest front over) ∙ sym (deciding-find Client others rest));
+      let met =
+      of_found (Meets host c) (fits Server host) (λ rule. rule.server) (λ rule. rule.prepend) (wholes others)
+      (λ rule b. (and_parts rule.server (begins rule.prepend host) b).0) rules cut stands.met decides in
+      let front : begins (cut ++ rest) (cut ++ name) ≡ true =
+      subst (λ n. begins (cut ++ rest) n ≡ true) split (subst (λ p. begins p host ≡ true) other stands.is_front) in
+      let over =
+      subst (λ n. AllByRecursion (Meets n (cut ++ rest)) (wholes others cut)) split
+      (subst (λ p. AllByRecursion (Meets host p) (wholes others cut)) other met) in
+      deciding-find Client others name
+      ∙ find_same (fits Client name) (fits Client rest) others (wholes_same others cut name rest front over)
+      ∙ sym (deciding-find Client others rest));
 }

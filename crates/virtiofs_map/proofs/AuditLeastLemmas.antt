@@ -1,5 +1,6 @@
 -- The least bad name of those tried is the least of all, where each bad name has a bad front that is tried.
-use Rattle.std.proofs.Common.{◌≡◌, ◌↔◌, ℕ, ◌≤◌, Bool, true, false, ◌&&◌, cond, List, [], ◌∷◌, ◌++◌, length, Option, Some, None, Result, Ok, Err, inl, inr, refl, sym, ap, ◌∙◌, subst, arith}
+use Rattle.std.proofs.Common.{◌≡◌, ◌↔◌, ℕ, ◌≤◌, Bool, true, false, ◌&&◌, cond, List, [], ◌∷◌, ◌++◌, length, Option}
+use Rattle.std.proofs.Common.{Some, None, Result, Ok, Err, inl, inr, refl, sym, ap, ◌∙◌, subst, arith}
 use Rattle.std.specs.Cmp.Lexicographic.{slice_cmp}
 use Rattle.std.specs.List.{All, AllByRecursion}
 use Rattle.std.specs.Option.{option_to_list}
@@ -22,7 +23,8 @@ use Rattle.virtiofs_map.proofs.BeginsLemmas.{begins_split}
 
 -- ---- byte order
 
-then_less : (o : Ordering) (p q : Ordering) → (p ≡ Less → q ≡ Less) → ordering_then o p ≡ Less → ordering_then o q ≡ Less
+then_less : (o : Ordering) (p q : Ordering) → (p ≡ Less → q ≡ Less) → ordering_then o p ≡ Less
+    → ordering_then o q ≡ Less
 then_less Less p q f e = refl
 then_less Equal p q f e = f e
 then_less Greater p q f e = absurd (cc)
@@ -67,48 +69,69 @@ Handled bad least name =
 abbrev pub FoundBad : (List ℕ → Bool) → Option (List ℕ) → Type 0
 FoundBad bad least = (found : List ℕ) → least ≡ Some found → bad found ≡ true
 
-not_first : (least : Option (List ℕ)) (name : List ℕ) → is_first least name ≡ false → (found : List ℕ) × (least ≡ Some found) × (¬ IsBefore name found)
+not_first : (least : Option (List ℕ)) (name : List ℕ) → is_first least name ≡ false
+    → (found : List ℕ) × (least ≡ Some found) × (¬ IsBefore name found)
 not_first None name e = absurd (true≢false e)
 not_first (Some found) name e =
     (found, refl, is_lt-false (slice_cmp nat_cmp name found) e)
 
-first_lower : (found name other : List ℕ) → is_first (Some found) name ≡ true → ¬ IsBefore other found → ¬ IsBefore other name
+first_lower : (found name other : List ℕ) → is_first (Some found) name ≡ true → ¬ IsBefore other found
+    → ¬ IsBefore other name
 first_lower found name other e fails before =
     fails (before_trans other name found before (is_lt-true (slice_cmp nat_cmp name found) e))
 
-handled_one : (bad : List ℕ → Bool) (least : Option (List ℕ)) (name : List ℕ) → Handled bad (cond (bad name && is_first least name) (Some name) least) name
+handled_one : (bad : List ℕ → Bool) (least : Option (List ℕ)) (name : List ℕ)
+    → Handled bad (cond (bad name && is_first least name) (Some name) least) name
 handled_one bad least name is =
     elim (cases_Bool (is_first least name)) [
       | inl first ↦ rw (is, first) (name, refl, not_before_itself name)
       | inr fails ↦ rw (is, fails) (not_first least name fails)
     ]
 
-handled_still : (bad : List ℕ → Bool) (least : Option (List ℕ)) (name other : List ℕ) → Handled bad least other → Handled bad (cond (bad name && is_first least name) (Some name) least) other
+handled_still : (bad : List ℕ → Bool) (least : Option (List ℕ)) (name other : List ℕ) → Handled bad least other
+    → Handled bad (cond (bad name && is_first least name) (Some name) least) other
 handled_still bad least name other handled is =
     let (found, e, fails) = handled is in
-    cond_both (bad name && is_first least name) (Some name) least (λ o. (f : List ℕ) × (o ≡ Some f) × (¬ IsBefore other f)) (λ b. (name, refl, first_lower found name other (subst (λ o. is_first o name ≡ true) e (and_parts (bad name) (is_first least name) b).1) fails)) (λ _. (found, e, fails))
+    cond_both (bad name && is_first least name) (Some name) least
+    (λ o. (f : List ℕ) × (o ≡ Some f) × (¬ IsBefore other f))
+    (λ b. (
+      name,
+      refl,
+      first_lower found name other
+          (subst (λ o. is_first o name ≡ true) e (and_parts (bad name) (is_first least name) b).1) fails,
+    ))
+    (λ _. (found, e, fails))
 
-found_bad_one : (bad : List ℕ → Bool) (least : Option (List ℕ)) (name : List ℕ) → FoundBad bad least → FoundBad bad (cond (bad name && is_first least name) (Some name) least)
+found_bad_one : (bad : List ℕ → Bool) (least : Option (List ℕ)) (name : List ℕ) → FoundBad bad least
+    → FoundBad bad (cond (bad name && is_first least name) (Some name) least)
 found_bad_one bad least name before =
-    cond_both (bad name && is_first least name) (Some name) least (FoundBad bad) (λ b found e. let same : name ≡ found = cc in subst (λ n. bad n ≡ true) same (and_parts (bad name) (is_first least name) b).0) (λ _. before)
+    cond_both (bad name && is_first least name) (Some name) least (FoundBad bad)
+    (λ b found e. let same : name ≡ found = cc in
+    subst (λ n. bad n ≡ true) same (and_parts (bad name) (is_first least name) b).0) (λ _. before)
 
 -- ---- after many names
 
-pub after-append : (bad : List ℕ → Bool) (tried : TriedSoFar) (names more : List (List ℕ)) → after bad tried (names ++ more) ≡ after bad (after bad tried names) more
+pub after-append : (bad : List ℕ → Bool) (tried : TriedSoFar) (names more : List (List ℕ))
+    → after bad tried (names ++ more) ≡ after bad (after bad tried names) more
 after-append bad tried [] more = refl
 after-append bad tried (name ∷ names) more = after-append bad (try_one bad tried name) names more
 
-still_handled : (bad : List ℕ → Bool) (tried : TriedSoFar) (names : List (List ℕ)) (other : List ℕ) → Handled bad tried.least other → Handled bad (after bad tried names).least other
+still_handled : (bad : List ℕ → Bool) (tried : TriedSoFar) (names : List (List ℕ)) (other : List ℕ)
+    → Handled bad tried.least other → Handled bad (after bad tried names).least other
 still_handled bad tried [] other handled = handled
 still_handled bad tried (name ∷ names) other handled =
     still_handled bad (try_one bad tried name) names other (handled_still bad tried.least name other handled)
 
-all_handled : (bad : List ℕ → Bool) (tried : TriedSoFar) (names : List (List ℕ)) → AllByRecursion (Handled bad (after bad tried names).least) names
+all_handled : (bad : List ℕ → Bool) (tried : TriedSoFar) (names : List (List ℕ))
+    → AllByRecursion (Handled bad (after bad tried names).least) names
 all_handled bad tried [] = tt
-all_handled bad tried (name ∷ names) =
-    (still_handled bad (try_one bad tried name) names name (handled_one bad tried.least name), all_handled bad (try_one bad tried name) names)
+all_handled bad tried (name ∷ names) = (
+  still_handled bad (try_one bad tried name) names name (handled_one bad tried.least name),
+  all_handled bad (try_one bad tried name) names,
+)
 
-found_bad : (bad : List ℕ → Bool) (tried : TriedSoFar) (names : List (List ℕ)) → FoundBad bad tried.least → FoundBad bad (after bad tried names).least
+found_bad : (bad : List ℕ → Bool) (tried : TriedSoFar) (names : List (List ℕ)) → FoundBad bad tried.least
+    → FoundBad bad (after bad tried names).least
 found_bad bad tried [] before = before
 found_bad bad tried (name ∷ names) before =
     found_bad bad (try_one bad tried name) names (found_bad_one bad tried.least name before)
@@ -139,18 +162,24 @@ decide_within beginning Bad test tried only fronts = record {
   fronts = λ name bad. fronts name bad.is_bad bad.front;
 }
 
-handled_name : (bad : List ℕ → Bool) (tried : List (List ℕ)) (name : List ℕ) → HasBadFront bad tried name → (found : List ℕ) × ((after bad none_tried tried).least ≡ Some found) × (¬ IsBefore name found)
+handled_name : (bad : List ℕ → Bool) (tried : List (List ℕ)) (name : List ℕ) → HasBadFront bad tried name
+    → (found : List ℕ) × ((after bad none_tried tried).least ≡ Some found) × (¬ IsBefore name found)
 handled_name bad tried name front =
     let least = (after bad none_tried tried).least in
-    let (found, e, fails) = all_member (Handled bad least) front.by tried (all_handled bad none_tried tried) front.is_tried front.is_bad in
+    let (found, e, fails) =
+    all_member (Handled bad least) front.by tried (all_handled bad none_tried tried) front.is_tried front.is_bad in
     (found, e, λ before. fails (front_before front.by name found front.is_front before))
 
-pub answers_least : {A : Type 0} (Bad : List ℕ → Type 0) (bad : List ℕ → Bool) (tried : List (List ℕ)) (answer : Audit A) → Decide Bad bad tried → told answer ≡ (after bad none_tried tried).least → All IsName (option_to_list (told answer)) → AnswersLeast Bad answer
+pub answers_least : {A : Type 0} (Bad : List ℕ → Type 0) (bad : List ℕ → Bool) (tried : List (List ℕ))
+    (answer : Audit A) → Decide Bad bad tried → told answer ≡ (after bad none_tried tried).least
+    → All IsName (option_to_list (told answer)) → AnswersLeast Bad answer
 answers_least Bad bad tried Yes decide e named = λ name is.
     (let (found, k, fails) = handled_name bad tried name (decide.fronts name is) in
     absurd (let both = e ∙ k in cc))
 answers_least Bad bad tried (No name) decide e named = record {
-  is_bad = decide.only name (All-head IsName name [] named) (found_bad bad none_tried tried (λ found k. absurd (cc)) name (sym e));
+  is_bad =
+      decide.only name (All-head IsName name [] named)
+      (found_bad bad none_tried tried (λ found k. absurd (cc)) name (sym e));
   none_before = λ other is before.
       (let (found, k, fails) = handled_name bad tried other (decide.fronts other is) in
       let same : name ≡ found = (let both = e ∙ k in cc) in
@@ -158,16 +187,20 @@ answers_least Bad bad tried (No name) decide e named = record {
 }
 
 -- the same of what was found after these names
-pub found_least : {A : Type 0} (Bad : List ℕ → Type 0) (bad : List ℕ → Bool) (tried : List (List ℕ)) (answer : Audit A) (end : TriedSoFar) → Decide Bad bad tried → end ≡ after bad none_tried tried → told answer ≡ end.least → All IsName (option_to_list end.least) → AnswersLeast Bad answer
+pub found_least : {A : Type 0} (Bad : List ℕ → Type 0) (bad : List ℕ → Bool) (tried : List (List ℕ)) (answer : Audit A)
+    (end : TriedSoFar) → Decide Bad bad tried → end ≡ after bad none_tried tried → told answer ≡ end.least
+    → All IsName (option_to_list end.least) → AnswersLeast Bad answer
 found_least Bad bad tried answer end decide is e named =
-    answers_least Bad bad tried answer decide (e ∙ ap (λ t. t.least) is) (subst (λ o. All IsName (option_to_list o)) (sym e) named)
+    answers_least Bad bad tried answer decide (e ∙ ap (λ t. t.least) is)
+    (subst (λ o. All IsName (option_to_list o)) (sym e) named)
 
 pub finds_least : {A : Type 0} (Bad : List ℕ → Type 0) (bad : List ℕ → Bool) (tried : List (List ℕ))
     → Decide Bad bad tried → (answer : Audit A) → FindsLeast bad tried answer → AnswersLeast Bad answer
 finds_least Bad bad tried decide answer finds = answers_least Bad bad tried answer decide finds.found finds.is_name
 
 -- Yes where no name is bad, and only there
-pub yes_where_none : {A : Type 0} (Bad : List ℕ → Type 0) (Holds : Type 0) (answer : Audit A) → AnswersLeast Bad answer → (((name : List ℕ) → ¬ Bad name) → Holds) → (Holds → (name : List ℕ) → ¬ Bad name) → (answer ≡ Yes) ↔ Holds
+pub yes_where_none : {A : Type 0} (Bad : List ℕ → Type 0) (Holds : Type 0) (answer : Audit A) → AnswersLeast Bad answer
+    → (((name : List ℕ) → ¬ Bad name) → Holds) → (Holds → (name : List ℕ) → ¬ Bad name) → (answer ≡ Yes) ↔ Holds
 yes_where_none Bad Holds Yes least to from = (λ _. to least, λ _. refl)
 yes_where_none Bad Holds (No name) least to from = (λ e. absurd (cc), λ holds. absurd (from holds name least.is_bad))
 
@@ -193,7 +226,8 @@ if_ok_given (Err e) G P Q given f p = tt
 
 -- ---- the count
 
-pub count_of : (bad : List ℕ → Bool) (tried : TriedSoFar) (names : List (List ℕ)) → tried.count ≤ 18446744073709551615 → (after bad tried names).count ≡ count_after tried.count (length names)
+pub count_of : (bad : List ℕ → Bool) (tried : TriedSoFar) (names : List (List ℕ)) → tried.count ≤ 18446744073709551615
+    → (after bad tried names).count ≡ count_after tried.count (length names)
 count_of bad tried [] l = omega arith
 count_of bad tried (name ∷ names) l =
     count_of bad (try_one bad tried name) names (omega arith) ∙ omega arith

@@ -1,12 +1,15 @@
--- Names that pass as a host name, not empty, of which a test holds: what the test of names says of them, and that the names tried decide.
-use Rattle.std.proofs.Common.{◌≡◌, zero, suc, ◌≢◌, ℕ, ◌<◌, Bool, true, false, ◌&&◌, ltb, List, [], ◌∷◌, ◌++◌, length, drop, Option, Some, None, inl, refl, sym, ap, ◌∙◌, subst, arith}
+-- Names that pass as a host name, not empty, of which a test holds: what the test of names says of them, and that the
+-- names tried decide.
+use Rattle.std.proofs.Common.{◌≡◌, zero, suc, ◌≢◌, ℕ, ◌<◌, Bool, true, false, ◌&&◌, ltb, List, [], ◌∷◌, ◌++◌, length}
+use Rattle.std.proofs.Common.{drop, Option, Some, None, inl, refl, sym, ap, ◌∙◌, subst, arith}
 use Rattle.std.specs.List.{All, AllByRecursion}
 use Rattle.std.specs.Option.{option_map_or, option_and_then}
 use Rattle.std.proofs.lemmas.Bool.{and_parts, and_from, false≢true, lt-ltb, ltb-true}
 use Rattle.std.proofs.lemmas.List.{append_assoc}
 use Rattle.std.proofs.lemmas.List.Elements.{All-head, All-tail, All-nil, All-cons}
 use Rattle.virtiofs_map.specs.Audit.{Within}
-use Rattle.virtiofs_map.specs.AuditParts.{front_of, front, some_byte, all_bytes, passes_where, within, guest_names, one_byte_names}
+use Rattle.virtiofs_map.specs.AuditParts.{front_of, front, some_byte, all_bytes, passes_where, within, guest_names}
+use Rattle.virtiofs_map.specs.AuditParts.{one_byte_names}
 use Rattle.virtiofs_map.specs.MapRule.{IsName}
 use Rattle.virtiofs_map.specs.Names.{begins}
 use Rattle.virtiofs_map.specs.Rule.{MappingRule, HasNoZero}
@@ -26,7 +29,8 @@ IsByteOfName byte = (0 < byte) × (byte < 256)
 pub all_bytes_from : (name : List ℕ) → IsName name → all_bytes name ≡ true
 all_bytes_from [] is = refl
 all_bytes_from (x ∷ xs) is =
-    and_from (ltb x 256) (all_bytes xs) (lt-ltb x 256 (All-head IsByteOfName x xs is).1) (all_bytes_from xs (All-tail IsByteOfName x xs is))
+    and_from (ltb x 256) (all_bytes xs) (lt-ltb x 256 (All-head IsByteOfName x xs is).1)
+    (all_bytes_from xs (All-tail IsByteOfName x xs is))
 
 positive : (x : ℕ) → x ≢ 0 → 0 < x
 positive zero some = absurd (some refl)
@@ -36,7 +40,8 @@ name_from : (name : List ℕ) → All IsNotZero name → all_bytes name ≡ true
 name_from [] no_zero e = All-nil IsByteOfName
 name_from (x ∷ xs) no_zero e =
     let parts = and_parts (ltb x 256) (all_bytes xs) e in
-    All-cons IsByteOfName x xs (positive x (All-head IsNotZero x xs no_zero), ltb-true x 256 parts.0) (name_from xs (All-tail IsNotZero x xs no_zero) parts.1)
+    All-cons IsByteOfName x xs (positive x (All-head IsNotZero x xs no_zero), ltb-true x 256 parts.0)
+    (name_from xs (All-tail IsNotZero x xs no_zero) parts.1)
 
 all_bytes_front : (xs ys : List ℕ) → all_bytes (xs ++ ys) ≡ true → all_bytes xs ≡ true
 all_bytes_front [] ys e = refl
@@ -47,7 +52,8 @@ all_bytes_front (x ∷ xs) ys e =
 pub all_bytes_below : (name : List ℕ) → All (λ byte. byte < 256) name → all_bytes name ≡ true
 all_bytes_below [] below = refl
 all_bytes_below (x ∷ xs) below =
-    and_from (ltb x 256) (all_bytes xs) (lt-ltb x 256 (All-head (λ byte. byte < 256) x xs below)) (all_bytes_below xs (All-tail (λ byte. byte < 256) x xs below))
+    and_from (ltb x 256) (all_bytes xs) (lt-ltb x 256 (All-head (λ byte. byte < 256) x xs below))
+    (all_bytes_below xs (All-tail (λ byte. byte < 256) x xs below))
 
 -- ---- the test of names
 
@@ -59,44 +65,61 @@ pub record PassesWhere (test : List ℕ → Bool) (rules : List MappingRule) (na
   pub bytes : all_bytes (added ++ name) ≡ true
   pub holds : test (added ++ name) ≡ true
 
-where_at : (test : List ℕ → Bool) (rules : List MappingRule) (name added : List ℕ) → front Client rules name ≡ Some added → passes_where test rules name ≡ (some_byte (added ++ name) && (all_bytes (added ++ name) && test (added ++ name)))
+where_at : (test : List ℕ → Bool) (rules : List MappingRule) (name added : List ℕ)
+    → front Client rules name ≡ Some added
+    → passes_where test rules name ≡ (some_byte (added ++ name) && (all_bytes (added ++ name) && test (added ++ name)))
 where_at test rules name added e = rw e refl
 
-pub where_test : (test : List ℕ → Bool) (rules : List MappingRule) (name : List ℕ) → PassesWhere test rules name → passes_where test rules name ≡ true
+pub where_test : (test : List ℕ → Bool) (rules : List MappingRule) (name : List ℕ) → PassesWhere test rules name
+    → passes_where test rules name ≡ true
 where_test test rules name passes =
     let host = passes.added ++ name in
-    where_at test rules name passes.added passes.is ∙ and_from (some_byte host) (all_bytes host && test host) (some_byte_from host passes.some) (and_from (all_bytes host) (test host) passes.bytes passes.holds)
+    where_at test rules name passes.added passes.is
+    ∙ and_from (some_byte host) (all_bytes host && test host) (some_byte_from host passes.some)
+    (and_from (all_bytes host) (test host) passes.bytes passes.holds)
 
-where_front : (test : List ℕ → Bool) (name : List ℕ) (o : Option (List ℕ)) → option_map_or (λ added. some_byte (added ++ name) && (all_bytes (added ++ name) && test (added ++ name))) o false ≡ true → (added : List ℕ) × (o ≡ Some added)
+where_front : (test : List ℕ → Bool) (name : List ℕ) (o : Option (List ℕ))
+    → option_map_or (λ added. some_byte (added ++ name) && (all_bytes (added ++ name) && test (added ++ name))) o
+    false ≡ true → (added : List ℕ) × (o ≡ Some added)
 where_front test name None e = absurd (false≢true e)
 where_front test name (Some added) e = (added, refl)
 
-pub test_where : (test : List ℕ → Bool) (rules : List MappingRule) (name : List ℕ) → passes_where test rules name ≡ true → PassesWhere test rules name
+pub test_where : (test : List ℕ → Bool) (rules : List MappingRule) (name : List ℕ) → passes_where test rules name ≡ true
+    → PassesWhere test rules name
 test_where test rules name e =
     let (added, at) = where_front test name (front Client rules name) e in
     let host = added ++ name in
-    let parts = and_parts (some_byte host) (all_bytes host && test host) (sym (where_at test rules name added at) ∙ e) in
+    let parts =
+    and_parts (some_byte host) (all_bytes host && test host) (sym (where_at test rules name added at) ∙ e) in
     let more = and_parts (all_bytes host) (test host) parts.1 in
     record { added = added; is = at; some = some_byte_is host parts.0; bytes = more.0; holds = more.1 }
 
 -- the host name is a name
-pub where_is_name : (test : List ℕ → Bool) (rules : List MappingRule) → All HasNoZero rules → (name : List ℕ) → IsName name → (passes : PassesWhere test rules name) → IsName (passes.added ++ name)
+pub where_is_name : (test : List ℕ → Bool) (rules : List MappingRule) → All HasNoZero rules → (name : List ℕ)
+    → IsName name → (passes : PassesWhere test rules name) → IsName (passes.added ++ name)
 where_is_name test rules no_zero name is passes =
     name_from (passes.added ++ name) (host_no_zero rules name passes.added no_zero is passes.is) passes.bytes
 
 -- the answer of the code
-pub where_result : (test : List ℕ → Bool) (rules : List MappingRule) (name added host : List ℕ) (holds : Bool) → front Client rules name ≡ Some added → host ≡ added ++ name → some_byte host ≡ true → all_bytes host ≡ true → holds ≡ test host → holds ≡ passes_where test rules name
+pub where_result : (test : List ℕ → Bool) (rules : List MappingRule) (name added host : List ℕ) (holds : Bool)
+    → front Client rules name ≡ Some added → host ≡ added ++ name → some_byte host ≡ true → all_bytes host ≡ true
+    → holds ≡ test host → holds ≡ passes_where test rules name
 where_result test rules name added host holds e is some bytes answer =
-    answer ∙ sym (where_at test rules name added e ∙ ap (λ h. some_byte h && (all_bytes h && test h)) (sym is) ∙ ap (λ b. b && (all_bytes host && test host)) some ∙ ap (λ b. b && test host) bytes)
+    answer ∙ sym
+    (where_at test rules name added e ∙ ap (λ h. some_byte h && (all_bytes h && test h)) (sym is)
+    ∙ ap (λ b. b && (all_bytes host && test host)) some ∙ ap (λ b. b && test host) bytes)
 
 -- ---- the names tried decide
 
--- where the test holds of a host name, it holds of a front of it that the others' patterns of that side begin as they begin the whole
+-- where the test holds of a host name, it holds of a front of it that the others' patterns of that side begin as they
+-- begin the whole
 abbrev pub HoldsOfFronts : (List ℕ → Bool) → Side → List MappingRule → Type 0
 HoldsOfFronts test side others =
-    (host other : List ℕ) → begins other host ≡ true → AllByRecursion (BeginsBoth side host other) others → test host ≡ true → test other ≡ true
+    (host other : List ℕ) → begins other host ≡ true → AllByRecursion (BeginsBoth side host other) others
+    → test host ≡ true → test other ≡ true
 
-longer_front : (added c name : List ℕ) → begins c name ≡ true → all_bytes (added ++ name) ≡ true → all_bytes (added ++ c) ≡ true
+longer_front : (added c name : List ℕ) → begins c name ≡ true → all_bytes (added ++ name) ≡ true
+    → all_bytes (added ++ c) ≡ true
 longer_front added c name f bytes =
     let split = ap (λ n. added ++ n) (begins_split c name f) ∙ sym (append_assoc added c (drop (length c) name)) in
     all_bytes_front (added ++ c) (drop (length c) name) (subst (λ n. all_bytes n ≡ true) split bytes)
@@ -109,7 +132,8 @@ begins_none (x ∷ p) b = absurd (false≢true b)
 pub front_tried : (test : List ℕ → Bool) (side : Side) (rules others : List MappingRule)
     → HoldsOfFronts test side others → (beginning name : List ℕ) → IsName name → PassesWhere test rules name
     → begins beginning name ≡ true
-    → HasBadFront (within beginning (passes_where test rules)) (beginning ∷ guest_names side others rules ++ one_byte_names) name
+    → HasBadFront (within beginning (passes_where test rules))
+    (beginning ∷ guest_names side others rules ++ one_byte_names) name
 front_tried test side rules others holds beginning [] is passes b = record {
   by = [];
   is_front = refl;
@@ -122,7 +146,8 @@ front_tried test side rules others holds beginning (x ∷ xs) is passes b =
     let alike = fare_alike side rules others (beginning ∷ guest_names side others rules ++ one_byte_names)
     (x ∷ xs) found.by found.stands in
     let front = found.stands.is_front in
-    let hosts : begins (passes.added ++ found.by) (passes.added ++ x ∷ xs) ≡ true = begins-append_both passes.added found.by (x ∷ xs) ∙ front in
+    let hosts : begins (passes.added ++ found.by) (passes.added ++ x ∷ xs) ≡ true =
+    begins-append_both passes.added found.by (x ∷ xs) ∙ front in
     record {
       by = found.by;
       is_front = front;
@@ -132,7 +157,8 @@ front_tried test side rules others holds beginning (x ∷ xs) is passes b =
             is = ap (option_and_then front_of) (sym alike.client) ∙ passes.is;
             some = host_not_empty passes.added found.by found.stands.not_empty;
             bytes = longer_front passes.added found.by (x ∷ xs) front passes.bytes;
-            holds = holds (passes.added ++ x ∷ xs) (passes.added ++ found.by) hosts (alike.hosts passes.added passes.is) passes.holds;
+            holds = holds (passes.added ++ x ∷ xs) (passes.added ++ found.by) hosts (alike.hosts passes.added passes.is)
+                passes.holds;
           }));
       is_tried = found.stands.is_tried;
     }

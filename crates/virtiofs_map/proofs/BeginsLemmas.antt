@@ -31,9 +31,14 @@ found_passes p (y ∷ ys) x e =
     cond_both (p y) (Some y) (find p ys) (λ o. o ≡ Some x → p x ≡ true) (λ b k. cc) (λ _ k. found_passes p ys x k) e
 
 -- the rule that decides a name fits it
-pub deciding_fits : (side : Side) (rules : List MappingRule) (name : List ℕ) (rule : MappingRule) → Some rule ≡ deciding side rules name → fits side name rule ≡ true
-deciding_fits side rules name rule e = found_passes (fits side name) rules rule (sym (e ∙ deciding-find side rules name))
+pub deciding_fits : (side : Side) (rules : List MappingRule) (name : List ℕ) (rule : MappingRule)
+    → Some rule ≡ deciding side rules name → fits side name rule ≡ true
+deciding_fits side rules name rule e =
+    found_passes (fits side name) rules rule (sym (e ∙ deciding-find side rules name))
 
 -- the prepend of the rule that decides a host's name is no longer than the name
-pub deciding_length : (rules : List MappingRule) (name : List ℕ) (rule : MappingRule) → Some rule ≡ deciding Server rules name → length rule.prepend ≤ length name
-deciding_length rules name rule e = begins_length rule.prepend name (and_parts rule.server (begins rule.prepend name) (deciding_fits Server rules name rule e)).1
+pub deciding_length : (rules : List MappingRule) (name : List ℕ) (rule : MappingRule)
+    → Some rule ≡ deciding Server rules name → length rule.prepend ≤ length name
+deciding_length rules name rule e =
+    begins_length rule.prepend name
+    (and_parts rule.server (begins rule.prepend name) (deciding_fits Server rules name rule e)).1

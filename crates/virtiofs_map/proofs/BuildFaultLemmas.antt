@@ -1,12 +1,14 @@
 -- An accepted list has no fault, and a list has at most one first fault.
-use Rattle.std.proofs.Common.{◌≡◌, inl, inr, ℕ, ◌<◌, List, length, take, get_or, Option, Some, None, IsSomeAnd, IfSome, slice_get, refl, sym, ◌∙◌, subst, arith}
+use Rattle.std.proofs.Common.{◌≡◌, inl, inr, ℕ, ◌<◌, List, length, take, get_or, Option, Some, None, IsSomeAnd, IfSome}
+use Rattle.std.proofs.Common.{slice_get, refl, sym, ◌∙◌, subst, arith}
 use Rattle.std.proofs.Math.Seq.{take-length}
 use Rattle.std.proofs.lemmas.Bool.{cases_order}
 use Rattle.std.proofs.lemmas.List.{get_or-take, get_or_default, length-take}
 use Rattle.std.proofs.lemmas.List.Elements.{All-get_or}
 use Rattle.std.proofs.lemmas.Option.{get_or_from_slice_get, slice_get_within, same_Some}
 use Rattle.virtiofs_map.specs.Mapping.{entry_of}
-use Rattle.virtiofs_map.specs.Build.{Accepted, HasSource, HasTarget, MeetsEarlier, Fits, IsReached, BuildFault, RangeOverflow, Intersects, HasFirstFault}
+use Rattle.virtiofs_map.specs.Build.{Accepted, HasSource, HasTarget, MeetsEarlier, Fits, IsReached, BuildFault}
+use Rattle.virtiofs_map.specs.Build.{RangeOverflow, Intersects, HasFirstFault}
 use Rattle.virtiofs_map.specs.declared.cmdline.IdMap.{IdMap}
 use Rattle.virtiofs_map.specs.declared.soft_idmap.entry.Direction.{Direction}
 use Rattle.virtiofs_map.specs.declared.soft_idmap.entry.Direction.TheVariants.{GuestToHost, HostToGuest}
@@ -14,21 +16,32 @@ use Rattle.virtiofs_map.specs.declared.soft_idmap.entry.Entry.{Entry}
 use Rattle.virtiofs_map.specs.declared.soft_idmap.errors.RangeEnd.TheVariants.{Source, Target}
 
 -- a specification of an accepted front fits after those before it
-Fits-accepted : (specs : List IdMap) (i j : ℕ) (spec : IdMap) (direction : Direction) → Accepted (take j specs) → slice_get specs i ≡ Some spec → i < j → Fits (take i specs) spec direction
+Fits-accepted : (specs : List IdMap) (i j : ℕ) (spec : IdMap) (direction : Direction) → Accepted (take j specs)
+    → slice_get specs i ≡ Some spec → i < j → Fits (take i specs) spec direction
 Fits-accepted specs i j spec direction accepted here before =
     let within : i < length specs = slice_get_within specs i spec here in
     let below : i < length (take j specs) = omega (arith, length-take j specs) in
-    let is : get_or (take j specs) i spec ≡ spec = get_or-take j specs i spec before ∙ get_or_from_slice_get specs i spec spec here in
+    let is : get_or (take j specs) i spec ≡ spec = get_or-take j specs i spec before
+    ∙ get_or_from_slice_get specs i spec spec here in
     record {
-      source = subst (λ (s : IdMap). IfSome (entry_of s direction) HasSource) is (All-get_or (λ (s : IdMap). IfSome (entry_of s direction) HasSource) (take j specs) i spec below (accepted.source direction));
+      source =
+          subst (λ (s : IdMap). IfSome (entry_of s direction) HasSource) is
+          (All-get_or (λ (s : IdMap). IfSome (entry_of s direction) HasSource) (take j specs) i spec below
+          (accepted.source direction));
       apart = meets_none below is;
-      target = subst (λ (s : IdMap). IfSome (entry_of s direction) HasTarget) is (All-get_or (λ (s : IdMap). IfSome (entry_of s direction) HasTarget) (take j specs) i spec below (accepted.target direction));
+      target =
+          subst (λ (s : IdMap). IfSome (entry_of s direction) HasTarget) is
+          (All-get_or (λ (s : IdMap). IfSome (entry_of s direction) HasTarget) (take j specs) i spec below
+          (accepted.target direction));
     } where
-      meets_none : i < length (take j specs) → get_or (take j specs) i spec ≡ spec → ¬ MeetsEarlier (take i specs) spec direction
+      meets_none : i < length (take j specs) → get_or (take j specs) i spec ≡ spec
+          → ¬ MeetsEarlier (take i specs) spec direction
       meets_none below is (other, (k, earlier, there), (n, first, second)) =
           let under : k < i = omega (arith, length-take i specs) in
-          let other_is : get_or (take j specs) k other ≡ other = get_or-take j specs k other (omega arith) ∙ sym (get_or-take i specs k other under) ∙ there in
-          accepted.apart direction k i other under below (n, rw other_is second, rw (get_or_default (take j specs) i other spec below, is) first)
+          let other_is : get_or (take j specs) k other ≡ other = get_or-take j specs k other (omega arith)
+          ∙ sym (get_or-take i specs k other under) ∙ there in
+          accepted.apart direction k i other under below
+          (n, rw other_is second, rw (get_or_default (take j specs) i other spec below, is) first)
 
 -- the place of a fault: the specification there does not fit
 record FaultAt (specs : List IdMap) (spec : IdMap) (index : ℕ) (direction : Direction) : Type 0 where
@@ -43,40 +56,51 @@ broken_target : (o : Option Entry) → IfSome o HasTarget → ¬ IsSomeAnd o (λ
 broken_target None holds broken = broken
 broken_target (Some entry) holds broken = broken holds
 
-at_source : (specs : List IdMap) (spec : IdMap) (index : ℕ) (direction : Direction) → HasFirstFault specs (RangeOverflow spec index direction Source) → FaultAt specs spec index direction
+at_source : (specs : List IdMap) (spec : IdMap) (index : ℕ) (direction : Direction)
+    → HasFirstFault specs (RangeOverflow spec index direction Source) → FaultAt specs spec index direction
 at_source specs spec index direction (reached, broken) = record {
   reached = reached;
   unfit = λ fits. broken_source (entry_of spec direction) fits.source broken;
 }
 
-at_meeting : (specs : List IdMap) (spec : IdMap) (index : ℕ) (direction : Direction) → HasFirstFault specs (Intersects spec index direction) → FaultAt specs spec index direction
+at_meeting : (specs : List IdMap) (spec : IdMap) (index : ℕ) (direction : Direction)
+    → HasFirstFault specs (Intersects spec index direction) → FaultAt specs spec index direction
 at_meeting specs spec index direction (reached, source, meets) = record {
   reached = reached;
   unfit = λ fits. fits.apart meets;
 }
 
-at_target : (specs : List IdMap) (spec : IdMap) (index : ℕ) (direction : Direction) → HasFirstFault specs (RangeOverflow spec index direction Target) → FaultAt specs spec index direction
+at_target : (specs : List IdMap) (spec : IdMap) (index : ℕ) (direction : Direction)
+    → HasFirstFault specs (RangeOverflow spec index direction Target) → FaultAt specs spec index direction
 at_target specs spec index direction (reached, source, apart, broken) = record {
   reached = reached;
   unfit = λ fits. broken_target (entry_of spec direction) fits.target broken;
 }
 
-accepted_faultless : (specs : List IdMap) (spec : IdMap) (index : ℕ) (direction : Direction) → Accepted specs → ¬ FaultAt specs spec index direction
+accepted_faultless : (specs : List IdMap) (spec : IdMap) (index : ℕ) (direction : Direction) → Accepted specs
+    → ¬ FaultAt specs spec index direction
 accepted_faultless specs spec index direction accepted fault =
     let whole : Accepted (take (length specs) specs) = rw (take-length specs) accepted in
-    fault.unfit (Fits-accepted specs index (length specs) spec direction whole fault.reached.here (slice_get_within specs index spec fault.reached.here))
+    fault.unfit
+    (Fits-accepted specs index (length specs) spec direction whole fault.reached.here
+    (slice_get_within specs index spec fault.reached.here))
 
 pub Accepted-no_fault : (specs : List IdMap) (e : BuildFault) → Accepted specs → ¬ HasFirstFault specs e
-Accepted-no_fault specs (RangeOverflow spec index direction Source) accepted fault = accepted_faultless specs spec index direction accepted (at_source specs spec index direction fault)
-Accepted-no_fault specs (RangeOverflow spec index direction Target) accepted fault = accepted_faultless specs spec index direction accepted (at_target specs spec index direction fault)
-Accepted-no_fault specs (Intersects spec index direction) accepted fault = accepted_faultless specs spec index direction accepted (at_meeting specs spec index direction fault)
+Accepted-no_fault specs (RangeOverflow spec index direction Source) accepted fault =
+    accepted_faultless specs spec index direction accepted (at_source specs spec index direction fault)
+Accepted-no_fault specs (RangeOverflow spec index direction Target) accepted fault =
+    accepted_faultless specs spec index direction accepted (at_target specs spec index direction fault)
+Accepted-no_fault specs (Intersects spec index direction) accepted fault =
+    accepted_faultless specs spec index direction accepted (at_meeting specs spec index direction fault)
 
 -- no fault stands before another one
-not_before : (specs : List IdMap) (spec other : IdMap) (i j : ℕ) (direction way : Direction) → FaultAt specs spec i direction → FaultAt specs other j way → ¬ (i < j)
+not_before : (specs : List IdMap) (spec other : IdMap) (i j : ℕ) (direction way : Direction)
+    → FaultAt specs spec i direction → FaultAt specs other j way → ¬ (i < j)
 not_before specs spec other i j direction way first second before =
     first.unfit (Fits-accepted specs i j spec direction second.reached.before first.reached.here before)
 
-one_index : (specs : List IdMap) (spec other : IdMap) (i j : ℕ) (direction way : Direction) → FaultAt specs spec i direction → FaultAt specs other j way → i ≡ j
+one_index : (specs : List IdMap) (spec other : IdMap) (i j : ℕ) (direction way : Direction)
+    → FaultAt specs spec i direction → FaultAt specs other j way → i ≡ j
 one_index specs spec other i j direction way first second =
     elim (cases_order i j) [
       | inl same ↦ same
@@ -84,10 +108,13 @@ one_index specs spec other i j direction way first second =
       | inr (inr after) ↦ absurd (not_before specs other spec j i way direction second first after)
     ]
 
-one_spec : (specs : List IdMap) (spec other : IdMap) (i : ℕ) (direction way : Direction) → FaultAt specs spec i direction → FaultAt specs other i way → spec ≡ other
-one_spec specs spec other i direction way first second = same_Some spec other (sym first.reached.here ∙ second.reached.here)
+one_spec : (specs : List IdMap) (spec other : IdMap) (i : ℕ) (direction way : Direction)
+    → FaultAt specs spec i direction → FaultAt specs other i way → spec ≡ other
+one_spec specs spec other i direction way first second =
+    same_Some spec other (sym first.reached.here ∙ second.reached.here)
 
-one_direction : (specs : List IdMap) (spec : IdMap) (i : ℕ) (direction way : Direction) → FaultAt specs spec i direction → FaultAt specs spec i way → direction ≡ way
+one_direction : (specs : List IdMap) (spec : IdMap) (i : ℕ) (direction way : Direction) → FaultAt specs spec i direction
+    → FaultAt specs spec i way → direction ≡ way
 one_direction specs spec i GuestToHost GuestToHost first second = refl
 one_direction specs spec i GuestToHost HostToGuest first second = absurd (first.unfit (second.reached.guest_first refl))
 one_direction specs spec i HostToGuest GuestToHost first second = absurd (second.unfit (first.reached.guest_first refl))
@@ -99,43 +126,65 @@ record SamePlace (spec other : IdMap) (i j : ℕ) (direction way : Direction) : 
   same_index : i ≡ j
   same_direction : direction ≡ way
 
-same_place : (specs : List IdMap) (spec other : IdMap) (i j : ℕ) (direction way : Direction) → FaultAt specs spec i direction → FaultAt specs other j way → SamePlace spec other i j direction way
+same_place : (specs : List IdMap) (spec other : IdMap) (i j : ℕ) (direction way : Direction)
+    → FaultAt specs spec i direction → FaultAt specs other j way → SamePlace spec other i j direction way
 same_place specs spec other i j direction way first second =
     let index : i ≡ j = one_index specs spec other i j direction way first second in
     let second' : FaultAt specs other i way = subst (λ (k : ℕ). FaultAt specs other k way) (sym index) second in
     let is : spec ≡ other = one_spec specs spec other i direction way first second' in
     let second'' : FaultAt specs spec i way = subst (λ (s : IdMap). FaultAt specs s i way) (sym is) second' in
-    record { same_spec = is; same_index = index; same_direction = one_direction specs spec i direction way first second'' }
+    record {
+      same_spec = is;
+      same_index = index;
+      same_direction =
+          one_direction specs spec i direction way first second'';
+    }
 
 -- the tests come in one order, and only the first one that is broken is told
-source_then_meeting : (specs : List IdMap) (spec other : IdMap) (i j : ℕ) (direction way : Direction) → HasFirstFault specs (RangeOverflow spec i direction Source) → HasFirstFault specs (Intersects other j way) → ⊥
+source_then_meeting : (specs : List IdMap) (spec other : IdMap) (i j : ℕ) (direction way : Direction)
+    → HasFirstFault specs (RangeOverflow spec i direction Source) → HasFirstFault specs (Intersects other j way) → ⊥
 source_then_meeting specs spec other i j direction way first second =
-    let p = same_place specs spec other i j direction way (at_source specs spec i direction first) (at_meeting specs other j way second) in
+    let p = same_place specs spec other i j direction way (at_source specs spec i direction first)
+    (at_meeting specs other j way second) in
     broken_source (entry_of other way) second.1 (rw (p.same_spec, p.same_direction) at first.1)
 
-source_then_target : (specs : List IdMap) (spec other : IdMap) (i j : ℕ) (direction way : Direction) → HasFirstFault specs (RangeOverflow spec i direction Source) → HasFirstFault specs (RangeOverflow other j way Target) → ⊥
+source_then_target : (specs : List IdMap) (spec other : IdMap) (i j : ℕ) (direction way : Direction)
+    → HasFirstFault specs (RangeOverflow spec i direction Source)
+    → HasFirstFault specs (RangeOverflow other j way Target) → ⊥
 source_then_target specs spec other i j direction way first second =
-    let p = same_place specs spec other i j direction way (at_source specs spec i direction first) (at_target specs other j way second) in
+    let p = same_place specs spec other i j direction way (at_source specs spec i direction first)
+    (at_target specs other j way second) in
     broken_source (entry_of other way) second.1 (rw (p.same_spec, p.same_direction) at first.1)
 
-meeting_then_target : (specs : List IdMap) (spec other : IdMap) (i j : ℕ) (direction way : Direction) → HasFirstFault specs (Intersects spec i direction) → HasFirstFault specs (RangeOverflow other j way Target) → ⊥
+meeting_then_target : (specs : List IdMap) (spec other : IdMap) (i j : ℕ) (direction way : Direction)
+    → HasFirstFault specs (Intersects spec i direction) → HasFirstFault specs (RangeOverflow other j way Target) → ⊥
 meeting_then_target specs spec other i j direction way first second =
-    let p = same_place specs spec other i j direction way (at_meeting specs spec i direction first) (at_target specs other j way second) in
+    let p = same_place specs spec other i j direction way (at_meeting specs spec i direction first)
+    (at_target specs other j way second) in
     second.2 (rw (p.same_spec, p.same_index, p.same_direction) at first.2)
 
 pub HasFirstFault-one : (specs : List IdMap) (e f : BuildFault) → HasFirstFault specs e → HasFirstFault specs f → e ≡ f
 HasFirstFault-one specs (RangeOverflow spec i direction Source) (RangeOverflow other j way Source) first second =
-    let p = same_place specs spec other i j direction way (at_source specs spec i direction first) (at_source specs other j way second) in
+    let p = same_place specs spec other i j direction way (at_source specs spec i direction first)
+    (at_source specs other j way second) in
     rw (p.same_spec, p.same_index, p.same_direction) refl
-HasFirstFault-one specs (RangeOverflow spec i direction Source) (RangeOverflow other j way Target) first second = absurd (source_then_target specs spec other i j direction way first second)
-HasFirstFault-one specs (RangeOverflow spec i direction Source) (Intersects other j way) first second = absurd (source_then_meeting specs spec other i j direction way first second)
-HasFirstFault-one specs (RangeOverflow spec i direction Target) (RangeOverflow other j way Source) first second = absurd (source_then_target specs other spec j i way direction second first)
+HasFirstFault-one specs (RangeOverflow spec i direction Source) (RangeOverflow other j way Target) first second =
+    absurd (source_then_target specs spec other i j direction way first second)
+HasFirstFault-one specs (RangeOverflow spec i direction Source) (Intersects other j way) first second =
+    absurd (source_then_meeting specs spec other i j direction way first second)
+HasFirstFault-one specs (RangeOverflow spec i direction Target) (RangeOverflow other j way Source) first second =
+    absurd (source_then_target specs other spec j i way direction second first)
 HasFirstFault-one specs (RangeOverflow spec i direction Target) (RangeOverflow other j way Target) first second =
-    let p = same_place specs spec other i j direction way (at_target specs spec i direction first) (at_target specs other j way second) in
+    let p = same_place specs spec other i j direction way (at_target specs spec i direction first)
+    (at_target specs other j way second) in
     rw (p.same_spec, p.same_index, p.same_direction) refl
-HasFirstFault-one specs (RangeOverflow spec i direction Target) (Intersects other j way) first second = absurd (meeting_then_target specs other spec j i way direction second first)
-HasFirstFault-one specs (Intersects spec i direction) (RangeOverflow other j way Source) first second = absurd (source_then_meeting specs other spec j i way direction second first)
-HasFirstFault-one specs (Intersects spec i direction) (RangeOverflow other j way Target) first second = absurd (meeting_then_target specs spec other i j direction way first second)
+HasFirstFault-one specs (RangeOverflow spec i direction Target) (Intersects other j way) first second =
+    absurd (meeting_then_target specs other spec j i way direction second first)
+HasFirstFault-one specs (Intersects spec i direction) (RangeOverflow other j way Source) first second =
+    absurd (source_then_meeting specs other spec j i way direction second first)
+HasFirstFault-one specs (Intersects spec i direction) (RangeOverflow other j way Target) first second =
+    absurd (meeting_then_target specs spec other i j direction way first second)
 HasFirstFault-one specs (Intersects spec i direction) (Intersects other j way) first second =
-    let p = same_place specs spec other i j direction way (at_meeting specs spec i direction first) (at_meeting specs other j way second) in
+    let p = same_place specs spec other i j direction way (at_meeting specs spec i direction first)
+    (at_meeting specs other j way second) in
     rw (p.same_spec, p.same_index, p.same_direction) refl

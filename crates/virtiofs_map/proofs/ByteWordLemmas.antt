@@ -1,5 +1,7 @@
--- A number of eight bytes is read back from its bytes, wherever they stand, and a row of three from its place among rows.
-use Rattle.std.proofs.Common.{◌≡◌, ℕ, ◌+◌, ◌*◌, ◌/◌, ◌%◌, ◌^◌, ◌<◌, zero, suc, List, [], ◌∷◌, ◌++◌, All, length, get_or, take, drop, refl, ap, subst, ◌∙◌, arith, append_assoc, append-nil, length-append}
+-- A number of eight bytes is read back from its bytes, wherever they stand, and a row of three from its place among
+-- rows.
+use Rattle.std.proofs.Common.{◌≡◌, ℕ, ◌+◌, ◌*◌, ◌/◌, ◌%◌, ◌^◌, ◌<◌, zero, suc, List, [], ◌∷◌, ◌++◌, All, length, get_or}
+use Rattle.std.proofs.Common.{take, drop, refl, ap, subst, ◌∙◌, arith, append_assoc, append-nil, length-append}
 use Rattle.std.proofs.Math.Seq.{drop-append-add, take-append_seam}
 use Rattle.std.proofs.lemmas.Nat.{from_le_bytes-to_le_bytes_8}
 use Rattle.std.proofs.lemmas.List.Elements.{All-head, All-tail}
@@ -24,11 +26,13 @@ word_at-past front rest k = ap (λ l. from_le_bytes w64 (take 8 l)) (drop-append
 -- behind another number
 pub word_at-next : (a : ℕ) (rest : List ℕ) (k : ℕ) → word_at (word_bytes a ++ rest) (8 + k) ≡ word_at rest k
 word_at-next a rest k =
-    subst (λ (n : ℕ). word_at (word_bytes a ++ rest) (n + k) ≡ word_at rest k) (length-word_bytes a) (word_at-past (word_bytes a) rest k)
+    subst (λ (n : ℕ). word_at (word_bytes a ++ rest) (n + k) ≡ word_at rest k) (length-word_bytes a)
+    (word_at-past (word_bytes a) rest k)
 
 -- ---- three numbers in a row
 
-three_apart : (a b c : ℕ) → word_bytes a ++ word_bytes b ++ word_bytes c ≡ word_bytes a ++ (word_bytes b ++ (word_bytes c ++ []))
+three_apart : (a b c : ℕ)
+    → word_bytes a ++ word_bytes b ++ word_bytes c ≡ word_bytes a ++ (word_bytes b ++ (word_bytes c ++ []))
 three_apart a b c = simp (append_assoc, append-nil)
 
 pub length-three : (a b c : ℕ) → length (word_bytes a ++ word_bytes b ++ word_bytes c) ≡ 24
@@ -39,11 +43,14 @@ first_of_three a b c fits = rw (three_apart a b c) (word_at-front a (word_bytes 
 
 pub second_of_three : (a b c : ℕ) → b < 2 ^ 64 → word_at (word_bytes a ++ word_bytes b ++ word_bytes c) 8 ≡ b
 second_of_three a b c fits =
-    rw (three_apart a b c) (word_at-next a (word_bytes b ++ (word_bytes c ++ [])) 0 ∙ word_at-front b (word_bytes c ++ []) fits)
+    rw (three_apart a b c)
+    (word_at-next a (word_bytes b ++ (word_bytes c ++ [])) 0 ∙ word_at-front b (word_bytes c ++ []) fits)
 
 pub third_of_three : (a b c : ℕ) → c < 2 ^ 64 → word_at (word_bytes a ++ word_bytes b ++ word_bytes c) 16 ≡ c
 third_of_three a b c fits =
-    rw (three_apart a b c) (word_at-next a (word_bytes b ++ (word_bytes c ++ [])) 8 ∙ word_at-next b (word_bytes c ++ []) 0 ∙ word_at-front c [] fits)
+    rw (three_apart a b c)
+    (word_at-next a (word_bytes b ++ (word_bytes c ++ [])) 8 ∙ word_at-next b (word_bytes c ++ []) 0
+    ∙ word_at-front c [] fits)
 
 -- ---- two numbers that share eight bytes
 
@@ -75,7 +82,8 @@ module _ {X : Type 0} (row : X → List ℕ) (size : (x : X) → length (row x) 
       ap (λ (n : ℕ). drop n (row x ++ rows)) places ∙ drop-append-add (row x) rows (at * 24)
 
   -- the row at a place is that of the element there
-  pub row_at : (xs : List X) (at : ℕ) (d : X) → at < length xs → take 24 (drop (at * 24) (flat_map row xs)) ≡ row (get_or xs at d)
+  pub row_at : (xs : List X) (at : ℕ) (d : X) → at < length xs
+      → take 24 (drop (at * 24) (flat_map row xs)) ≡ row (get_or xs at d)
   row_at [] at d below = absurd (omega arith)
   row_at (x ∷ xs) zero d below =
       subst (λ (n : ℕ). take n (row x ++ flat_map row xs) ≡ row x) (size x) (take-append_seam (row x) (flat_map row xs))
@@ -91,7 +99,8 @@ length-words (w ∷ ws) =
     let more = length-words ws in
     omega arith
 
-pub word_of_words : (ws rest : List ℕ) (k : ℕ) → k < length ws → All (λ w. w < 2 ^ 64) ws → word_at (flat_map word_bytes ws ++ rest) (8 * k) ≡ get_or ws k 0
+pub word_of_words : (ws rest : List ℕ) (k : ℕ) → k < length ws → All (λ w. w < 2 ^ 64) ws
+    → word_at (flat_map word_bytes ws ++ rest) (8 * k) ≡ get_or ws k 0
 word_of_words [] rest k below fit = absurd (omega arith)
 word_of_words (w ∷ ws) rest zero below fit =
     ap (λ (l : List ℕ). word_at l 0) (append_assoc (word_bytes w) (flat_map word_bytes ws) rest)

@@ -1,9 +1,12 @@
 -- Where a text is cut at a character, in characters.
-use Rattle.std.proofs.Common.{◌≡◌, ℕ, ◌≤◌, eqb, List, [], ◌∷◌, ◌++◌, length, take, drop, Option, Some, None, MatchOption, Contains, IfSome, IfNone, refl, sym, ap, subst, ◌∙◌, arith, length-append, length-take, Bor}
+use Rattle.std.proofs.Common.{◌≡◌, ℕ, ◌≤◌, eqb, List, [], ◌∷◌, ◌++◌, length, take, drop, Option, Some, None}
+use Rattle.std.proofs.Common.{MatchOption, Contains, IfSome, IfNone, refl, sym, ap, subst, ◌∙◌, arith, length-append}
+use Rattle.std.proofs.Common.{length-take, Bor}
 use Rattle.std.proofs.Math.Seq.{get_or-append_seam}
 use Rattle.std.proofs.lemmas.List.{take-append-drop}
 use Rattle.std.proofs.lemmas.Bool.Decides.{nat_tests}
-use Rattle.std.proofs.lemmas.Str.{IsUtf8-append, IsUtf8-encode, IsUtf8-take, IsUtf8-drop, IsCharBoundary-from_drop, chars-append, chars_past_char, chars_from_encodes}
+use Rattle.std.proofs.lemmas.Str.{IsUtf8-append, IsUtf8-encode, IsUtf8-take, IsUtf8-drop, IsCharBoundary-from_drop}
+use Rattle.std.proofs.lemmas.Str.{chars-append, chars_past_char, chars_from_encodes}
 use Rattle.std.specs.Char.{IsScalar}
 use Rattle.std.specs.Str.{chars, IsUtf8, NonePass, NoCharPasses}
 use Rattle.std.specs.Str.Pattern.{FindsChar, HasCharAt, HasMatch, SplitsAroundMatch}
@@ -16,7 +19,8 @@ lacks_from_none d [] none = tt
 lacks_from_none d (c ∷ cs) none = (grind (arith, nat_tests, none.0), lacks_from_none d cs none.1)
 
 pub lacks_text : (d : ℕ) (s : List ℕ) → IsUtf8 s → NoCharPasses (λ c. eqb c d) s → Lacks d (chars s)
-lacks_text d s utf8 (cs, spells, none) = subst (Lacks d) (chars_from_encodes cs s utf8 spells) (lacks_from_none d cs none)
+lacks_text d s utf8 (cs, spells, none) =
+    subst (Lacks d) (chars_from_encodes cs s utf8 spells) (lacks_from_none d cs none)
 
 -- a text at a place where d stands
 record CutAt (d : ℕ) (s before after : List ℕ) : Type 0 where
@@ -24,13 +28,15 @@ record CutAt (d : ℕ) (s before after : List ℕ) : Type 0 where
   before_is : IsUtf8 before
   after_is : IsUtf8 after
 
-cut_at : (d : ℕ) (s : List ℕ) (i j : ℕ) → IsScalar d → IsUtf8 s → HasCharAt d s i j → i ≤ length s → CutAt d s (take i s) (drop j s)
+cut_at : (d : ℕ) (s : List ℕ) (i j : ℕ) → IsScalar d → IsUtf8 s → HasCharAt d s i j → i ≤ length s
+    → CutAt d s (take i s) (drop j s)
 cut_at d s i j scalar utf8 at fits =
     let after : IsUtf8 (drop j s) = rw (at.ends) (IsUtf8-drop s _ utf8 at.after) in
     let from : IsUtf8 (drop i s) = rw (at.split) (IsUtf8-append _ _ (IsUtf8-encode d scalar) after) in
     let before : IsUtf8 (take i s) = IsUtf8-take s i utf8 (IsCharBoundary-from_drop s i fits from) in
     record {
-      spells = sym (ap chars (take-append-drop i s)) ∙ chars-append (take i s) (drop i s) before ∙ ap (λ x. chars (take i s) ++ x) (chars_past_char (drop i s) (drop j s) d from at.split);
+      spells = sym (ap chars (take-append-drop i s)) ∙ chars-append (take i s) (drop i s) before
+          ∙ ap (λ x. chars (take i s) ++ x) (chars_past_char (drop i s) (drop j s) d from at.split);
       before_is = before;
       after_is = after;
     }
@@ -40,7 +46,8 @@ record FirstCut (d : ℕ) (s before after : List ℕ) : Type 0 where
   here : CutAt d s before after
   first : Lacks d (chars before)
 
-first_cut : (d : ℕ) (s before after : List ℕ) → IsScalar d → IsUtf8 s → SplitsAroundMatch (FindsChar d) s before after → FirstCut d s before after
+first_cut : (d : ℕ) (s before after : List ℕ) → IsScalar d → IsUtf8 s → SplitsAroundMatch (FindsChar d) s before after
+    → FirstCut d s before after
 first_cut d s before after scalar utf8 (i, j, (none, at), front, back, order, front_len, back_len) =
     let here = cut_at d s i j scalar utf8 at (omega (arith, ap length front, length-take i s)) in
     record { here = rw (front, back) here; first = rw front (lacks_text d (take i s) here.before_is none) }
@@ -49,26 +56,31 @@ first_cut d s before after scalar utf8 (i, j, (none, at), front, back, order, fr
 abbrev pub SplitsOnce : ℕ → List ℕ → Option (Bor (List ℕ) × Bor (List ℕ)) → Type 0
 SplitsOnce d s r = MatchOption r (FindsChar d s None) (λ p. SplitsAroundMatch (FindsChar d) s p.0.now p.1.now)
 
-pub split_nowhere : (d : ℕ) (s : List ℕ) (r : Option (Bor (List ℕ) × Bor (List ℕ))) → IsUtf8 s → SplitsOnce d s r → IfNone r (Lacks d (chars s))
+pub split_nowhere : (d : ℕ) (s : List ℕ) (r : Option (Bor (List ℕ) × Bor (List ℕ))) → IsUtf8 s → SplitsOnce d s r
+    → IfNone r (Lacks d (chars s))
 split_nowhere d s None utf8 none = lacks_text d s utf8 none
 split_nowhere d s (Some p) utf8 splits = tt
 
-pub split_whole : (d : ℕ) (s : List ℕ) (r : Option (Bor (List ℕ) × Bor (List ℕ))) → IsScalar d → IsUtf8 s → SplitsOnce d s r → IfSome r (λ p. chars s ≡ chars p.0.now ++ d ∷ chars p.1.now)
+pub split_whole : (d : ℕ) (s : List ℕ) (r : Option (Bor (List ℕ) × Bor (List ℕ))) → IsScalar d → IsUtf8 s
+    → SplitsOnce d s r → IfSome r (λ p. chars s ≡ chars p.0.now ++ d ∷ chars p.1.now)
 split_whole d s None scalar utf8 none = tt
 split_whole d s (Some p) scalar utf8 splits = (first_cut d s p.0.now p.1.now scalar utf8 splits).here.spells
 
-pub split_first : (d : ℕ) (s : List ℕ) (r : Option (Bor (List ℕ) × Bor (List ℕ))) → IsScalar d → IsUtf8 s → SplitsOnce d s r → IfSome r (λ p. Lacks d (chars p.0.now))
+pub split_first : (d : ℕ) (s : List ℕ) (r : Option (Bor (List ℕ) × Bor (List ℕ))) → IsScalar d → IsUtf8 s
+    → SplitsOnce d s r → IfSome r (λ p. Lacks d (chars p.0.now))
 split_first d s None scalar utf8 none = tt
 split_first d s (Some p) scalar utf8 splits = (first_cut d s p.0.now p.1.now scalar utf8 splits).first
 
-pub split_texts : (d : ℕ) (s : List ℕ) (r : Option (Bor (List ℕ) × Bor (List ℕ))) → IsScalar d → IsUtf8 s → SplitsOnce d s r → IfSome r (λ p. IsUtf8 p.0.now × IsUtf8 p.1.now)
+pub split_texts : (d : ℕ) (s : List ℕ) (r : Option (Bor (List ℕ) × Bor (List ℕ))) → IsScalar d → IsUtf8 s
+    → SplitsOnce d s r → IfSome r (λ p. IsUtf8 p.0.now × IsUtf8 p.1.now)
 split_texts d s None scalar utf8 none = tt
 split_texts d s (Some p) scalar utf8 splits =
     let cut = first_cut d s p.0.now p.1.now scalar utf8 splits in
     (cut.here.before_is, cut.here.after_is)
 
 -- what stands before the first d is a field
-pub field_here : (d : ℕ) (text field rest : List ℕ) → text ≡ field ++ d ∷ rest → Lacks d field → Fields d text (field ∷ []) rest
+pub field_here : (d : ℕ) (text field rest : List ℕ) → text ≡ field ++ d ∷ rest → Lacks d field
+    → Fields d text (field ∷ []) rest
 field_here d text field rest whole lacks = (rest, whole, lacks, refl)
 
 -- a text with a match of d holds d

@@ -1,5 +1,6 @@
 -- Rules that decide no name: earlier ones take their patterns.
-use Rattle.std.proofs.Common.{◌≡◌, ℕ, ◌<◌, ◌≤◌, ◌⊎◌, true, false, cond, List, [], length, get_or, Some, None, inl, inr, sym, ap, ◌∙◌, subst, arith}
+use Rattle.std.proofs.Common.{◌≡◌, ℕ, ◌<◌, ◌≤◌, ◌⊎◌, true, false, cond, List, [], length, get_or, Some, None, inl, inr}
+use Rattle.std.proofs.Common.{sym, ap, ◌∙◌, subst, arith}
 use Rattle.std.specs.List.{position_or_len, slice_get}
 use Rattle.std.proofs.lemmas.Bool.{and_parts, and_from, cases_lt, lt-ltb, true≢false}
 use Rattle.std.proofs.lemmas.List.{append-nil}

@@ -10,13 +10,16 @@ use Rattle.virtiofs_map.specs.declared.xattrmap.scopes.Side.{Side}
 use Rattle.virtiofs_map.specs.Names.{fits, deciding}
 
 -- the element at a place, where past the end is no place
-within : {X : Type 0} (xs : List X) (i : ℕ) → option_and_then (slice_get xs) (cond (ltb i (length xs)) (Some i) None) ≡ slice_get xs i
+within : {X : Type 0} (xs : List X) (i : ℕ)
+    → option_and_then (slice_get xs) (cond (ltb i (length xs)) (Some i) None) ≡ slice_get xs i
 within xs i =
-    cond_both (ltb i (length xs)) (Some i) None (λ o. option_and_then (slice_get xs) o ≡ slice_get xs i) (λ _. refl) (λ e. sym (slice_get_past xs i (ltb-false i (length xs) e)))
+    cond_both (ltb i (length xs)) (Some i) None (λ o. option_and_then (slice_get xs) o ≡ slice_get xs i) (λ _. refl)
+    (λ e. sym (slice_get_past xs i (ltb-false i (length xs) e)))
 
 -- the element at the first place that passes is the first element that passes
 pub at_position : {X : Type 0} (p : X → Bool) (xs : List X) → option_and_then (slice_get xs) (position p xs) ≡ find p xs
 at_position p xs = within xs (position_or_len p xs) ∙ sym (find_at p xs)
 
-pub deciding-find : (side : Side) (rules : List MappingRule) (name : List ℕ) → deciding side rules name ≡ find (fits side name) rules
+pub deciding-find : (side : Side) (rules : List MappingRule) (name : List ℕ)
+    → deciding side rules name ≡ find (fits side name) rules
 deciding-find side rules name = at_position (fits side name) rules

@@ -1,5 +1,6 @@
 -- Which patterns begin a name and a front of it, and the first rule where rules fit two names alike.
-use Rattle.std.proofs.Common.{◌≡◌, ℕ, zero, suc, ◌+◌, ◌≤◌, Bool, true, ◌&&◌, not, cond, eqb, ltb, List, [], ◌∷◌, ◌++◌, length, take, drop, Contains, Option, Some, None, refl, sym, ap, ◌∙◌, add-one, arith}
+use Rattle.std.proofs.Common.{◌≡◌, ℕ, zero, suc, ◌+◌, ◌≤◌, Bool, true, ◌&&◌, not, cond, eqb, ltb, List, [], ◌∷◌, ◌++◌}
+use Rattle.std.proofs.Common.{length, take, drop, Contains, Option, Some, None, refl, sym, ap, ◌∙◌, add-one, arith}
 use Rattle.std.specs.List.{position_or_len, slice_get}
 use Rattle.std.specs.Option.{option_and_then, option_map_or}
 use Rattle.std.proofs.lemmas.Bool.{and_parts}
@@ -13,7 +14,8 @@ use Rattle.virtiofs_map.specs.declared.xattrmap.scopes.Side.{Side}
 use Rattle.virtiofs_map.specs.declared.xattrmap.scopes.Side.TheVariants.{Client, Server}
 use Rattle.virtiofs_map.proofs.BeginsLemmas.{begins_split, begins_from, begins_length, deciding_fits}
 
-pub fits_is : (side : Side) (name : List ℕ) (rule : MappingRule) → fits side name rule ≡ (acts side rule && begins (pattern side rule) name)
+pub fits_is : (side : Side) (name : List ℕ) (rule : MappingRule)
+    → fits side name rule ≡ (acts side rule && begins (pattern side rule) name)
 fits_is Client name rule = refl
 fits_is Server name rule = refl
 
@@ -26,42 +28,57 @@ begins_front (x ∷ p) (y ∷ name) zero l = absurd (omega (arith, l))
 begins_front (x ∷ p) (y ∷ name) (suc k) l = ap (λ b. eqb x y && b) (begins_front p name k (omega (arith, l)))
 
 -- a way, and the byte after it
-pub front_more : (way left name : List ℕ) (byte : ℕ) → name ≡ way ++ byte ∷ left → take (suc (length way)) name ≡ way ++ byte ∷ []
+pub front_more : (way left name : List ℕ) (byte : ℕ) → name ≡ way ++ byte ∷ left
+    → take (suc (length way)) name ≡ way ++ byte ∷ []
 front_more way left name byte e =
-    ap (λ n. take n name) (sym (add-one (length way))) ∙ ap (take (length way + 1)) e ∙ take-append-add way (byte ∷ left) 1
+    ap (λ n. take n name) (sym (add-one (length way))) ∙ ap (take (length way + 1)) e
+    ∙ take-append-add way (byte ∷ left) 1
 
 -- where a pattern goes on with a label and begins the name, the label begins what is left of the name
-pub label_begins : (way label left name p : List ℕ) (byte : ℕ) → name ≡ way ++ byte ∷ left → begins (way ++ byte ∷ label) p ≡ true → begins p name ≡ true → begins label left ≡ true
+pub label_begins : (way label left name p : List ℕ) (byte : ℕ) → name ≡ way ++ byte ∷ left
+    → begins (way ++ byte ∷ label) p ≡ true → begins p name ≡ true → begins label left ≡ true
 label_begins way label left name p byte split goes_on fit =
     let more = drop (length (way ++ byte ∷ label)) p ++ drop (length p) name in
     let whole : name ≡ way ++ (byte ∷ (label ++ more)) =
     begins_split p name fit ∙ ap (λ row. row ++ drop (length p) name) (begins_split (way ++ byte ∷ label) p goes_on)
     ∙ append_assoc (way ++ byte ∷ label) (drop (length (way ++ byte ∷ label)) p) (drop (length p) name)
     ∙ append_assoc way (byte ∷ label) more in
-    let both : byte ∷ left ≡ byte ∷ (label ++ more) = sym (drop_at way (byte ∷ left) (length way) refl) ∙ ap (drop (length way)) (sym split ∙ whole) ∙ drop_at way (byte ∷ (label ++ more)) (length way) refl in
+    let both : byte ∷ left ≡ byte ∷ (label ++ more) = sym (drop_at way (byte ∷ left) (length way) refl)
+    ∙ ap (drop (length way)) (sym split ∙ whole) ∙ drop_at way (byte ∷ (label ++ more)) (length way) refl in
     let tails : left ≡ label ++ more = cc in
     begins_from label left more tails
 
 -- two tests that agree on the elements of a list pass first at one place
-pub first_among : {X : Type 0} (p q : X → Bool) (xs : List X) → ((x : X) → Contains xs x → p x ≡ q x) → position_or_len p xs ≡ position_or_len q xs
+pub first_among : {X : Type 0} (p q : X → Bool) (xs : List X) → ((x : X) → Contains xs x → p x ≡ q x)
+    → position_or_len p xs ≡ position_or_len q xs
 first_among p q [] same = refl
 first_among p q (x ∷ xs) same =
     ap (λ b. cond (not b) (1 + position_or_len p xs) 0) (same x (0, omega arith, refl))
-    ∙ ap (λ n. cond (not (q x)) (1 + n) 0) (first_among p q xs (λ y inside. same y (Contains-append_right (x ∷ []) xs y inside)))
+    ∙ ap (λ n. cond (not (q x)) (1 + n) 0)
+    (first_among p q xs (λ y inside. same y (Contains-append_right (x ∷ []) xs y inside)))
 
 -- where the rules fit two names alike, the first of them is one
-pub same_first : (side : Side) (rules : List MappingRule) (name other : List ℕ) → ((rule : MappingRule) → Contains rules rule → fits side name rule ≡ fits side other rule) → first side rules name ≡ first side rules other
+pub same_first : (side : Side) (rules : List MappingRule) (name other : List ℕ)
+    → ((rule : MappingRule) → Contains rules rule → fits side name rule ≡ fits side other rule)
+    → first side rules name ≡ first side rules other
 same_first side rules name other same =
     ap (λ n. cond (ltb n (length rules)) (Some n) None) (first_among (fits side name) (fits side other) rules same)
 
 -- the pattern that decides a name is no longer than the name
-pub deciding_within : (side : Side) (rules : List MappingRule) (name : List ℕ) → deciding_length side rules name ≤ length name
+pub deciding_within : (side : Side) (rules : List MappingRule) (name : List ℕ)
+    → deciding_length side rules name ≤ length name
 deciding_within side rules name = by_case (deciding side rules name) refl where
-  by_case : (o : Option MappingRule) → deciding side rules name ≡ o → option_map_or (λ rule. length (pattern side rule)) o 0 ≤ length name
+  by_case : (o : Option MappingRule) → deciding side rules name ≡ o
+      → option_map_or (λ rule. length (pattern side rule)) o 0 ≤ length name
   by_case None e = omega arith
   by_case (Some rule) e =
-      begins_length (pattern side rule) name (and_parts (acts side rule) (begins (pattern side rule) name) (sym (fits_is side name rule) ∙ deciding_fits side rules name rule (sym e))).1
+      begins_length (pattern side rule) name
+      (and_parts (acts side rule) (begins (pattern side rule) name)
+      (sym (fits_is side name rule) ∙ deciding_fits side rules name rule (sym e))).1
 
 -- the length of the pattern that decides goes by the first rule alone
-pub same_deciding : (side : Side) (rules : List MappingRule) (name other : List ℕ) → first side rules name ≡ first side rules other → deciding_length side rules name ≡ deciding_length side rules other
-same_deciding side rules name other e = ap (λ place. option_map_or (λ rule. length (pattern side rule)) (option_and_then (slice_get rules) place) 0) e
+pub same_deciding : (side : Side) (rules : List MappingRule) (name other : List ℕ)
+    → first side rules name ≡ first side rules other
+    → deciding_length side rules name ≡ deciding_length side rules other
+same_deciding side rules name other e =
+    ap (λ place. option_map_or (λ rule. length (pattern side rule)) (option_and_then (slice_get rules) place) 0) e

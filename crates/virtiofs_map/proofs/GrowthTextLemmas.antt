@@ -7,24 +7,30 @@ use Rattle.virtiofs_map.specs.BranchParts.{no_answer}
 use Rattle.virtiofs_map.specs.GrowthParts.{text, number, start_of}
 use Rattle.virtiofs_map.specs.declared.xattrmap.patterns.Pattern.{Pattern}
 
-pub text-here : (patterns : List Pattern) (i : ℕ) (one : Pattern) → slice_get patterns i ≡ Some one → text patterns i ≡ one.bytes.now
+pub text-here : (patterns : List Pattern) (i : ℕ) (one : Pattern) → slice_get patterns i ≡ Some one
+    → text patterns i ≡ one.bytes.now
 unfolding text
 text-here patterns i one e = ap (λ o. option_map_or (λ (p : Pattern). p.bytes.now) o []) e
 
-pub number-here : (patterns : List Pattern) (i : ℕ) (one : Pattern) → slice_get patterns i ≡ Some one → number patterns i ≡ one.answer
+pub number-here : (patterns : List Pattern) (i : ℕ) (one : Pattern) → slice_get patterns i ≡ Some one
+    → number patterns i ≡ one.answer
 unfolding number
 number-here patterns i one e = ap (λ o. option_map_or (λ (p : Pattern). p.answer) o no_answer) e
 
-pub start_of-here : (patterns : List Pattern) (i : ℕ) (one : Pattern) → slice_get patterns i ≡ Some one → start_of patterns i ≡ one.start
+pub start_of-here : (patterns : List Pattern) (i : ℕ) (one : Pattern) → slice_get patterns i ≡ Some one
+    → start_of patterns i ≡ one.start
 unfolding start_of
 start_of-here patterns i one e = ap (λ o. option_map_or (λ (p : Pattern). p.start) o 0) e
 
 -- the same of a pattern that the code reads
-pub text-read : (patterns : List Pattern) (i : ℕ) (d : Pattern) → i < length patterns → (get_or patterns i d).bytes.now ≡ text patterns i
+pub text-read : (patterns : List Pattern) (i : ℕ) (d : Pattern) → i < length patterns
+    → (get_or patterns i d).bytes.now ≡ text patterns i
 text-read patterns i d l = sym (text-here patterns i (get_or patterns i d) (slice_get-get_or patterns i d l))
 
-pub number-read : (patterns : List Pattern) (i : ℕ) (d : Pattern) → i < length patterns → (get_or patterns i d).answer ≡ number patterns i
+pub number-read : (patterns : List Pattern) (i : ℕ) (d : Pattern) → i < length patterns
+    → (get_or patterns i d).answer ≡ number patterns i
 number-read patterns i d l = sym (number-here patterns i (get_or patterns i d) (slice_get-get_or patterns i d l))
 
-pub start_of-read : (patterns : List Pattern) (i : ℕ) (d : Pattern) → i < length patterns → (get_or patterns i d).start ≡ start_of patterns i
+pub start_of-read : (patterns : List Pattern) (i : ℕ) (d : Pattern) → i < length patterns
+    → (get_or patterns i d).start ≡ start_of patterns i
 start_of-read patterns i d l = sym (start_of-here patterns i (get_or patterns i d) (slice_get-get_or patterns i d l))

@@ -1,11 +1,13 @@
 -- The answers of the audits of ids.
-use Rattle.std.proofs.Common.{◌≡◌, ◌≢◌, ◌↔◌, inl, inr, ℕ, ◌+◌, ◌<◌, ◌≤◌, List, [], ◌∷◌, Option, Some, None, refl, sym, arith}
+use Rattle.std.proofs.Common.{◌≡◌, ◌≢◌, ◌↔◌, inl, inr, ℕ, ◌+◌, ◌<◌, ◌≤◌, List, [], ◌∷◌, Option, Some, None, refl, sym}
+use Rattle.std.proofs.Common.{arith}
 use Rattle.std.proofs.lemmas.Bool.{cases_eq, cases_order}
 use Rattle.std.proofs.lemmas.Bool.Decides.{nat_tests}
 use Rattle.std.proofs.lemmas.List.Elements.{All-contains, All-cons, All-nil}
 use Rattle.std.proofs.lemmas.List.Sorted.{IsNonDecreasingBy-short}
 use Rattle.virtiofs_map.specs.Build.{Accepted}
-use Rattle.virtiofs_map.specs.IdAudit.{IsLeastId, IsLeastIfAny, AnswersLeastId, GoesTo, ComesBack, IsAstray, IsAlone, IsShared, SharedAs, GoesInto, Between, ReachedBy, AreIdsApart}
+use Rattle.virtiofs_map.specs.IdAudit.{IsLeastId, IsLeastIfAny, AnswersLeastId, GoesTo, ComesBack, IsAstray, IsAlone}
+use Rattle.virtiofs_map.specs.IdAudit.{IsShared, SharedAs, GoesInto, Between, ReachedBy, AreIdsApart}
 use Rattle.virtiofs_map.specs.IdAuditParts.{Hold, AreInOrder, AreImages, times, once_below}
 use Rattle.virtiofs_map.specs.declared.cmdline.IdMap.{IdMap}
 use Rattle.virtiofs_map.specs.declared.id_audit.answer.IdAudit.{IdAudit}
@@ -18,18 +20,24 @@ use Rattle.virtiofs_map.proofs.MappingLawLemmas.{Becomes-one}
 -- ---- Yes and No
 
 -- Yes where no id is bad, and only there
-pub yes_where_none : {T : Type 0} (bad : ℕ → Type 0) (Holds : Type 0) (number : T → ℕ) (answer : IdAudit T) → AnswersLeastId bad number answer → (((n : ℕ) → ¬ bad n) → Holds) → (Holds → (n : ℕ) → ¬ bad n) → (answer ≡ Yes) ↔ Holds
+pub yes_where_none : {T : Type 0} (bad : ℕ → Type 0) (Holds : Type 0) (number : T → ℕ) (answer : IdAudit T)
+    → AnswersLeastId bad number answer → (((n : ℕ) → ¬ bad n) → Holds) → (Holds → (n : ℕ) → ¬ bad n)
+    → (answer ≡ Yes) ↔ Holds
 yes_where_none bad Holds number Yes least to from = (λ _. to least, λ _. refl)
-yes_where_none bad Holds number (No told) least to from = (λ e. absurd (cc), λ holds. absurd (from holds (number told) least.is_bad))
+yes_where_none bad Holds number (No told) least to from =
+    (λ e. absurd (cc), λ holds. absurd (from holds (number told) least.is_bad))
 
 -- a No, where what is asked does not hold
-pub no_where_bad : {T : Type 0} (bad : ℕ → Type 0) (Holds : Type 0) (n : ℕ) (told : T) → bad n → (Holds → (m : ℕ) → ¬ bad m) → (No told ≡ Yes) ↔ Holds
+pub no_where_bad : {T : Type 0} (bad : ℕ → Type 0) (Holds : Type 0) (n : ℕ) (told : T) → bad n
+    → (Holds → (m : ℕ) → ¬ bad m) → (No told ≡ Yes) ↔ Holds
 no_where_bad bad Holds n told is from = (λ e. absurd (cc), λ holds. absurd (from holds n is))
 
 -- what is bad by one word is bad by another
-pub IsLeastIfAny-same : (bad other : ℕ → Type 0) (least : Option ℕ) → ((n : ℕ) → bad n → other n) → ((n : ℕ) → other n → bad n) → IsLeastIfAny bad least → IsLeastIfAny other least
+pub IsLeastIfAny-same : (bad other : ℕ → Type 0) (least : Option ℕ) → ((n : ℕ) → bad n → other n)
+    → ((n : ℕ) → other n → bad n) → IsLeastIfAny bad least → IsLeastIfAny other least
 IsLeastIfAny-same bad other None to from none = λ n is. none n (from n is)
-IsLeastIfAny-same bad other (Some n) to from least = record { is_bad = to n least.is_bad; none_before = λ m before is. least.none_before m before (from m is) }
+IsLeastIfAny-same bad other (Some n) to from least =
+    record { is_bad = to n least.is_bad; none_before = λ m before is. least.none_before m before (from m is) }
 
 -- ---- comes back
 
@@ -40,16 +48,20 @@ ComesBack-none specs all n astray = astray.not_back (all n astray.host astray.go
 
 -- what is reached twice is shared
 pub IsAlone-none : (specs : List IdMap) → IsAlone specs → (n : ℕ) → ¬ IsShared specs n
-IsAlone-none specs alone n (other, shares) = shares.differ (sym (alone n other shares.host shares.goes shares.other_goes))
+IsAlone-none specs alone n (other, shares) =
+    shares.differ (sym (alone n other shares.host shares.goes shares.other_goes))
 
 pub IsAlone-all : (specs : List IdMap) → ((n : ℕ) → ¬ IsShared specs n) → IsAlone specs
 IsAlone-all specs none guest other host goes other_goes =
     elim (cases_eq guest other) [
       | inl same ↦ same
-      | inr differ ↦ absurd (none guest (other, record { host = host; differ = λ e. differ (sym e); goes = goes; other_goes = other_goes }))
+      | inr differ ↦ absurd
+          (none guest
+          (other, record { host = host; differ = λ e. differ (sym e); goes = goes; other_goes = other_goes }))
     ]
 
-module _ (specs : List IdMap) (images again : List Span) (are : AreImages specs images) (twice : (id : ℕ) → Hold again id ↔ (2 ≤ times images id + once_below 0 id)) where
+module _ (specs : List IdMap) (images again : List Span) (are : AreImages specs images)
+    (twice : (id : ℕ) → Hold again id ↔ (2 ≤ times images id + once_below 0 id)) where
   held_twice : (id : ℕ) → Hold again id ↔ (2 ≤ times images id)
   held_twice id = (λ held. (let two = (twice id).0 held in grind (arith, nat_tests)), λ two. (twice id).1 (omega arith))
 
@@ -67,22 +79,39 @@ module _ (specs : List IdMap) (images again : List Span) (are : AreImages specs 
         below k goes' = let is_id : k < 4294967295 = goes'.is_id in omega arith
 
   pub IsShared-into : (n : ℕ) → IsShared specs n → (0 ≤ n) × GoesInto specs (Hold again) n
-  IsShared-into n (other, shares) = (omega arith, record { host = shares.host; goes = shares.goes; is_one = two_share n other shares.host (λ e. shares.differ (sym e)) shares.goes shares.other_goes })
+  IsShared-into n (other, shares) = (
+    omega arith,
+    record {
+      host = shares.host;
+      goes = shares.goes;
+      is_one =
+          two_share n other shares.host (λ e. shares.differ (sym e)) shares.goes shares.other_goes;
+    },
+  )
 
   pub into-IsShared : (n : ℕ) → (0 ≤ n) × GoesInto specs (Hold again) n → IsShared specs n
   into-IsShared n (low, goes) = shared ((are.counts goes.host).two.0 ((held_twice goes.host).0 goes.is_one)) where
-    shared : (a b : ℕ) × (0 ≤ a) × (a < b) × (b < 4294967296) × GoesTo specs a goes.host × GoesTo specs b goes.host → IsShared specs n
+    shared : (a b : ℕ) × (0 ≤ a) × (a < b) × (b < 4294967296) × GoesTo specs a goes.host × GoesTo specs b goes.host
+        → IsShared specs n
     shared (a, b, from, less, below, a_goes, b_goes) =
         elim (cases_eq a n) [
-          | inl same ↦ (b, record { host = goes.host; differ = λ e. omega arith; goes = goes.goes; other_goes = b_goes })
+          | inl same ↦ (
+            b,
+            record { host = goes.host; differ = λ e. omega arith; goes = goes.goes; other_goes = b_goes },
+          )
           | inr differ ↦ (a, record { host = goes.host; differ = differ; goes = goes.goes; other_goes = a_goes })
         ]
 
-  pub IsLeastIfAny-shared : (least : Option ℕ) → IsLeastIfAny (λ n. (0 ≤ n) × GoesInto specs (Hold again) n) least → IsLeastIfAny (IsShared specs) least
-  IsLeastIfAny-shared least found = IsLeastIfAny-same (λ n. (0 ≤ n) × GoesInto specs (Hold again) n) (IsShared specs) least into-IsShared IsShared-into found
+  pub IsLeastIfAny-shared : (least : Option ℕ) → IsLeastIfAny (λ n. (0 ≤ n) × GoesInto specs (Hold again) n) least
+      → IsLeastIfAny (IsShared specs) least
+  IsLeastIfAny-shared least found =
+      IsLeastIfAny-same (λ n. (0 ≤ n) × GoesInto specs (Hold again) n) (IsShared specs) least into-IsShared
+      IsShared-into found
 
 -- the least id that shares has no lesser one with which it does
-pub SharedAs-next : (specs : List IdMap) (n other host : ℕ) → Accepted specs → IsLeastId (IsShared specs) n → GoesTo specs n host → IsLeastId (λ m. (n + 1 ≤ m) × GoesInto specs (λ id. id ≡ host) m) other → SharedAs specs n other host
+pub SharedAs-next : (specs : List IdMap) (n other host : ℕ) → Accepted specs → IsLeastId (IsShared specs) n
+    → GoesTo specs n host → IsLeastId (λ m. (n + 1 ≤ m) × GoesInto specs (λ id. id ≡ host) m) other
+    → SharedAs specs n other host
 SharedAs-next specs n other host accepted least goes next = record {
   least = record {
     is_bad = record {
@@ -94,22 +123,57 @@ SharedAs-next specs n other host accepted least goes next = record {
     none_before = λ m before shares.
         elim (cases_order m n) [
           | inl same ↦ shares.differ same
-          | inr (inl lesser) ↦ least.none_before m lesser (n, record { host = shares.host; differ = λ e. shares.differ (sym e); goes = shares.other_goes; other_goes = shares.goes })
-          | inr (inr later) ↦ next.none_before m before (omega arith, record { host = shares.host; goes = shares.other_goes; is_one = Becomes-one specs GuestToHost n shares.host host accepted shares.goes.becomes goes.becomes })
+          | inr (inl lesser) ↦ least.none_before m lesser (
+            n,
+            record {
+              host = shares.host;
+              differ = λ e. shares.differ (sym e);
+              goes =
+                  shares.other_goes;
+              other_goes = shares.goes;
+            },
+          )
+          | inr (inr later) ↦ next.none_before m before (
+            omega arith,
+            record {
+              host = shares.host;
+              goes = shares.other_goes;
+              is_one =
+                  Becomes-one specs GuestToHost n shares.host host accepted shares.goes.becomes goes.becomes;
+            },
+          )
         ];
   };
   goes = goes;
 }
 
 -- and there is a greater one
-pub shares_later : (specs : List IdMap) (n host : ℕ) → Accepted specs → IsLeastId (IsShared specs) n → GoesTo specs n host → ¬ ((m : ℕ) → ¬ ((n + 1 ≤ m) × GoesInto specs (λ id. id ≡ host) m))
+pub shares_later : (specs : List IdMap) (n host : ℕ) → Accepted specs → IsLeastId (IsShared specs) n
+    → GoesTo specs n host → ¬ ((m : ℕ) → ¬ ((n + 1 ≤ m) × GoesInto specs (λ id. id ≡ host) m))
 shares_later specs n host accepted least goes none = later least.is_bad where
   later : IsShared specs n → ⊥
   later (m, shares) =
       elim (cases_order m n) [
         | inl same ↦ shares.differ same
-        | inr (inl lesser) ↦ least.none_before m lesser (n, record { host = shares.host; differ = λ e. shares.differ (sym e); goes = shares.other_goes; other_goes = shares.goes })
-        | inr (inr after) ↦ none m (omega arith, record { host = shares.host; goes = shares.other_goes; is_one = Becomes-one specs GuestToHost n shares.host host accepted shares.goes.becomes goes.becomes })
+        | inr (inl lesser) ↦ least.none_before m lesser (
+          n,
+          record {
+            host = shares.host;
+            differ = λ e. shares.differ (sym e);
+            goes = shares.other_goes;
+            other_goes =
+                shares.goes;
+          },
+        )
+        | inr (inr after) ↦ none m (
+          omega arith,
+          record {
+            host = shares.host;
+            goes = shares.other_goes;
+            is_one =
+                Becomes-one specs GuestToHost n shares.host host accepted shares.goes.becomes goes.becomes;
+          },
+        )
       ]
 
 -- ---- one span
@@ -119,7 +183,9 @@ pub Hold-one : (span : Span) (id : ℕ) → Hold (span ∷ []) id ↔ Between sp
 Hold-one span id = (held, λ has. (span, (0, omega arith, refl), has)) where
   held : Hold (span ∷ []) id → Between span.first span.last id
   held (other, listed, has) =
-      let same : other ≡ span = All-contains (λ s. s ≡ span) (span ∷ []) other (All-cons (λ s. s ≡ span) span [] refl (All-nil (λ s. s ≡ span))) listed in
+      let same : other ≡ span =
+      All-contains (λ s. s ≡ span) (span ∷ []) other
+      (All-cons (λ s. s ≡ span) span [] refl (All-nil (λ s. s ≡ span))) listed in
       rw same at has
 
 pub AreInOrder-one : (span : Span) → span.first ≤ span.last → AreInOrder (span ∷ [])
@@ -130,40 +196,71 @@ AreInOrder-one span some = record {
 }
 
 -- ids that become one of those of other words
-GoesInto-same : (specs : List IdMap) (hosts others : ℕ → Type 0) (n : ℕ) → ((id : ℕ) → hosts id → others id) → GoesInto specs hosts n → GoesInto specs others n
-GoesInto-same specs hosts others n to goes = record { host = goes.host; goes = goes.goes; is_one = to goes.host goes.is_one }
+GoesInto-same : (specs : List IdMap) (hosts others : ℕ → Type 0) (n : ℕ) → ((id : ℕ) → hosts id → others id)
+    → GoesInto specs hosts n → GoesInto specs others n
+GoesInto-same specs hosts others n to goes =
+    record { host = goes.host; goes = goes.goes; is_one = to goes.host goes.is_one }
 
 -- the least id that becomes an id of one span
-pub IsLeastIfAny-one : (specs : List IdMap) (from : ℕ) (span : Span) (least : Option ℕ) → IsLeastIfAny (λ n. (from ≤ n) × GoesInto specs (Hold (span ∷ [])) n) least → IsLeastIfAny (λ n. (from ≤ n) × GoesInto specs (Between span.first span.last) n) least
+pub IsLeastIfAny-one : (specs : List IdMap) (from : ℕ) (span : Span) (least : Option ℕ)
+    → IsLeastIfAny (λ n. (from ≤ n) × GoesInto specs (Hold (span ∷ [])) n) least
+    → IsLeastIfAny (λ n. (from ≤ n) × GoesInto specs (Between span.first span.last) n) least
 IsLeastIfAny-one specs from span least found =
-    IsLeastIfAny-same (λ n. (from ≤ n) × GoesInto specs (Hold (span ∷ [])) n) (λ n. (from ≤ n) × GoesInto specs (Between span.first span.last) n) least
-    (λ n (low, goes). (low, GoesInto-same specs (Hold (span ∷ [])) (Between span.first span.last) n (λ id. (Hold-one span id).0) goes))
-    (λ n (low, goes). (low, GoesInto-same specs (Between span.first span.last) (Hold (span ∷ [])) n (λ id. (Hold-one span id).1) goes))
+    IsLeastIfAny-same (λ n. (from ≤ n) × GoesInto specs (Hold (span ∷ [])) n)
+    (λ n. (from ≤ n) × GoesInto specs (Between span.first span.last) n) least
+    (λ n (low, goes). (
+      low,
+      GoesInto-same specs (Hold (span ∷ [])) (Between span.first span.last) n (λ id. (Hold-one span id).0)
+          goes,
+    ))
+    (λ n (low, goes). (
+      low,
+      GoesInto-same specs (Between span.first span.last) (Hold (span ∷ [])) n (λ id. (Hold-one span id).1)
+          goes,
+    ))
     found
 
 -- the same of one id
-pub IsLeastIfAny-only : (specs : List IdMap) (from host : ℕ) (span : Span) (least : Option ℕ) → span.first ≡ host → span.last ≡ host → IsLeastIfAny (λ n. (from ≤ n) × GoesInto specs (Hold (span ∷ [])) n) least → IsLeastIfAny (λ n. (from ≤ n) × GoesInto specs (λ id. id ≡ host) n) least
+pub IsLeastIfAny-only : (specs : List IdMap) (from host : ℕ) (span : Span) (least : Option ℕ) → span.first ≡ host
+    → span.last ≡ host → IsLeastIfAny (λ n. (from ≤ n) × GoesInto specs (Hold (span ∷ [])) n) least
+    → IsLeastIfAny (λ n. (from ≤ n) × GoesInto specs (λ id. id ≡ host) n) least
 IsLeastIfAny-only specs from host span least first_is last_is found =
-    IsLeastIfAny-same (λ n. (from ≤ n) × GoesInto specs (Between span.first span.last) n) (λ n. (from ≤ n) × GoesInto specs (λ id. id ≡ host) n) least
-    (λ n (low, goes). (low, GoesInto-same specs (Between span.first span.last) (λ id. id ≡ host) n (λ id (above, below). omega arith) goes))
-    (λ n (low, goes). (low, GoesInto-same specs (λ id. id ≡ host) (Between span.first span.last) n (λ id same. (omega arith, omega arith)) goes))
+    IsLeastIfAny-same (λ n. (from ≤ n) × GoesInto specs (Between span.first span.last) n)
+    (λ n. (from ≤ n) × GoesInto specs (λ id. id ≡ host) n) least
+    (λ n (low, goes). (
+      low,
+      GoesInto-same specs (Between span.first span.last) (λ id. id ≡ host) n (λ id (above, below). omega arith)
+          goes,
+    ))
+    (λ n (low, goes). (
+      low,
+      GoesInto-same specs (λ id. id ≡ host) (Between span.first span.last) n
+          (λ id same. (omega arith, omega arith)) goes,
+    ))
     (IsLeastIfAny-one specs from span least found)
 
 -- the same of all ids of the guest
-pub IsLeastIfAny-range : (specs : List IdMap) (span : Span) (least : Option ℕ) → IsLeastIfAny (λ n. (0 ≤ n) × GoesInto specs (Hold (span ∷ [])) n) least → IsLeastIfAny (GoesInto specs (Between span.first span.last)) least
+pub IsLeastIfAny-range : (specs : List IdMap) (span : Span) (least : Option ℕ)
+    → IsLeastIfAny (λ n. (0 ≤ n) × GoesInto specs (Hold (span ∷ [])) n) least
+    → IsLeastIfAny (GoesInto specs (Between span.first span.last)) least
 IsLeastIfAny-range specs span least found =
-    IsLeastIfAny-same (λ n. (0 ≤ n) × GoesInto specs (Between span.first span.last) n) (GoesInto specs (Between span.first span.last)) least (λ n (low, goes). goes) (λ n goes. (omega arith, goes))
+    IsLeastIfAny-same (λ n. (0 ≤ n) × GoesInto specs (Between span.first span.last) n)
+    (GoesInto specs (Between span.first span.last)) least (λ n (low, goes). goes) (λ n goes. (omega arith, goes))
     (IsLeastIfAny-one specs 0 span least found)
 
 -- ---- ids apart
 
-pub AreIdsApart-all : (specs others : List IdMap) → ((n : ℕ) → ¬ GoesInto specs (ReachedBy others) n) → AreIdsApart specs others
-AreIdsApart-all specs others none guest host goes reached = none guest (record { host = host; goes = goes; is_one = reached })
+pub AreIdsApart-all : (specs others : List IdMap) → ((n : ℕ) → ¬ GoesInto specs (ReachedBy others) n)
+    → AreIdsApart specs others
+AreIdsApart-all specs others none guest host goes reached =
+    none guest (record { host = host; goes = goes; is_one = reached })
 
-pub AreIdsApart-none : (specs others : List IdMap) → AreIdsApart specs others → (n : ℕ) → ¬ GoesInto specs (ReachedBy others) n
+pub AreIdsApart-none : (specs others : List IdMap) → AreIdsApart specs others → (n : ℕ)
+    → ¬ GoesInto specs (ReachedBy others) n
 AreIdsApart-none specs others apart n goes = apart n goes.host goes.goes goes.is_one
 
-module _ (others : List IdMap) (images again : List Span) (are : AreImages others images) (all : (id : ℕ) → Hold again id ↔ (2 ≤ times images id + once_below 4294967296 id)) where
+module _ (others : List IdMap) (images again : List Span) (are : AreImages others images)
+    (all : (id : ℕ) → Hold again id ↔ (2 ≤ times images id + once_below 4294967296 id)) where
   pub Hold-reached : (id : ℕ) → Hold again id → ReachedBy others id
   Hold-reached id held = reached ((are.counts id).one.0 (let twice = (all id).0 held in grind (arith, nat_tests))) where
     reached : (n : ℕ) × (0 ≤ n) × (n < 4294967296) × GoesTo others n id → ReachedBy others id
@@ -177,7 +274,9 @@ module _ (others : List IdMap) (images again : List Span) (are : AreImages other
       (all id).1 (grind (arith, nat_tests))
 
   -- what becomes an id of the spans becomes one that the second map reaches
-  pub IsLeastIfAny-reached : (specs : List IdMap) (least : Option ℕ) → IsLeastIfAny (λ n. (0 ≤ n) × GoesInto specs (Hold again) n) least → IsLeastIfAny (GoesInto specs (ReachedBy others)) least
+  pub IsLeastIfAny-reached : (specs : List IdMap) (least : Option ℕ)
+      → IsLeastIfAny (λ n. (0 ≤ n) × GoesInto specs (Hold again) n) least
+      → IsLeastIfAny (GoesInto specs (ReachedBy others)) least
   IsLeastIfAny-reached specs least found =
       IsLeastIfAny-same (λ n. (0 ≤ n) × GoesInto specs (Hold again) n) (GoesInto specs (ReachedBy others)) least
       (λ n (low, goes). GoesInto-same specs (Hold again) (ReachedBy others) n Hold-reached goes)

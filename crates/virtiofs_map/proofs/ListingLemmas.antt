@@ -1,5 +1,6 @@
 -- What the guest sees of a list of names, a name at a time, and the list that these items make.
-use Rattle.std.proofs.Common.{◌≡◌, ℕ, Bool, true, false, cond, ◌&&◌, if◌then◌else◌, List, [], ◌∷◌, ◌++◌, map, Option, Some, None, Result, Ok, Err, is_ok, length, ◌+◌, ◌≤◌, refl, sym, ap, subst, ◌∙◌, arith}
+use Rattle.std.proofs.Common.{◌≡◌, ℕ, Bool, true, false, cond, ◌&&◌, if◌then◌else◌, List, [], ◌∷◌, ◌++◌, map, Option}
+use Rattle.std.proofs.Common.{Some, None, Result, Ok, Err, is_ok, length, ◌+◌, ◌≤◌, refl, sym, ap, subst, ◌∙◌, arith}
 use Rattle.std.specs.Iterator.{item_count, MakesProgress}
 use Rattle.std.specs.List.{take_while, list_all, filter_map, cons_option}
 use Rattle.std.specs.Result.{result_ok}
@@ -8,11 +9,13 @@ use Rattle.std.proofs.lemmas.List.{append_assoc, append-nil}
 use Rattle.std.proofs.lemmas.List.Sums.{take_while-cons}
 use Rattle.virtiofs_map.specs.LookupAnswers.{of_no_rule}
 use Rattle.virtiofs_map.specs.Listing.{listing, list_of}
-use Rattle.virtiofs_map.specs.Names.{HostAnswer, IsListed, IsHidden, IsUndecided, host_answer, is_decided, listed_name, names, as_list, server_answer}
+use Rattle.virtiofs_map.specs.Names.{HostAnswer, IsListed, IsHidden, IsUndecided, host_answer, is_decided, listed_name}
+use Rattle.virtiofs_map.specs.Names.{names, as_list, server_answer}
 use Rattle.virtiofs_map.specs.Rule.{MappingRule}
 use Rattle.virtiofs_map.specs.declared.xattrmap.errors.Error.{Error}
 use Rattle.virtiofs_map.specs.declared.xattrmap.errors.ErrorKind.TheVariants.{UnterminatedMapping}
-use Rattle.virtiofs_map.proofs.ServerListLemmas.{IsCut, is_name, names_step_name, names_step_none, shown, listed, with_zeros, length-listed}
+use Rattle.virtiofs_map.proofs.ServerListLemmas.{IsCut, is_name, names_step_name, names_step_none, shown, listed}
+use Rattle.virtiofs_map.proofs.ServerListLemmas.{with_zeros, length-listed}
 
 -- an item that is given, with the bytes of its name
 abbrev pub Item : Type 0 → Type 0
@@ -44,37 +47,53 @@ step_of answer kept decided =
     map (λ name. Ok name) (cond (is_decided answer) (cons_option (listed_name answer) kept) [])
     ++ (if is_decided answer && decided then [] else undecided ∷ [])
 
-step_of-item : {A : Type 0} (answer : HostAnswer) (kept : List (List ℕ)) (decided : Bool) → step_of {A = A} answer kept decided ≡ item_of answer (map (λ name. Ok name) kept ++ (if decided then [] else undecided ∷ []))
+step_of-item : {A : Type 0} (answer : HostAnswer) (kept : List (List ℕ)) (decided : Bool)
+    → step_of {A = A} answer kept decided ≡ item_of answer
+    (map (λ name. Ok name) kept ++ (if decided then [] else undecided ∷ []))
 step_of-item (IsListed name) kept decided = refl
 step_of-item IsHidden kept decided = refl
 step_of-item IsUndecided kept decided = refl
 
-filter_map-cond : {X Y : Type 0} (h : X → Option Y) (b : Bool) (x : X) (xs : List X) → filter_map h (cond b (x ∷ xs) []) ≡ cond b (cons_option (h x) (filter_map h xs)) []
+filter_map-cond : {X Y : Type 0} (h : X → Option Y) (b : Bool) (x : X) (xs : List X)
+    → filter_map h (cond b (x ∷ xs) []) ≡ cond b (cons_option (h x) (filter_map h xs)) []
 filter_map-cond h true x xs = refl
 filter_map-cond h false x xs = refl
 
-items_step : {A : Type 0} (rules : List MappingRule) (name : List ℕ) (parts : List (List ℕ)) → items {A = A} rules (name ∷ parts) ≡ item_of (host_answer rules name) (items rules parts)
+items_step : {A : Type 0} (rules : List MappingRule) (name : List ℕ) (parts : List (List ℕ))
+    → items {A = A} rules (name ∷ parts) ≡ item_of (host_answer rules name) (items rules parts)
 items_step {A} rules name parts =
     let tail : List (Item A) = if has_rule rules name && list_all (has_rule rules) parts then [] else undecided ∷ [] in
     let before = take_while (has_rule rules) parts in
-    ap (λ front. map (λ name. Ok name) (filter_map (shown rules) front) ++ tail) (take_while-cons (has_rule rules) name parts)
-    ∙ ap (λ front. map (λ name. Ok name) front ++ tail) (filter_map-cond (shown rules) (has_rule rules name) name before)
+    ap (λ front. map (λ name. Ok name) (filter_map (shown rules) front) ++ tail)
+    (take_while-cons (has_rule rules) name parts)
+    ∙ ap (λ front. map (λ name. Ok name) front ++ tail)
+    (filter_map-cond (shown rules) (has_rule rules name) name before)
     ∙ step_of-item (host_answer rules name) (filter_map (shown rules) before) (list_all (has_rule rules) parts)
 
-pub listing_name : {A : Type 0} (rules : List MappingRule) (list name rest : List ℕ) → IsCut list name rest → is_name name ≡ true → listing {A = A} rules list ≡ item_of (host_answer rules name) (listing rules rest)
-listing_name rules list name rest cut e = ap (items rules) (names_step_name list name rest cut e) ∙ items_step rules name (names rest)
+pub listing_name : {A : Type 0} (rules : List MappingRule) (list name rest : List ℕ) → IsCut list name rest
+    → is_name name ≡ true → listing {A = A} rules list ≡ item_of (host_answer rules name) (listing rules rest)
+listing_name rules list name rest cut e = ap (items rules) (names_step_name list name rest cut e)
+    ∙ items_step rules name (names rest)
 
-pub listing_none : {A : Type 0} (rules : List MappingRule) (list name rest : List ℕ) → IsCut list name rest → is_name name ≡ false → listing {A = A} rules list ≡ listing rules rest
+pub listing_none : {A : Type 0} (rules : List MappingRule) (list name rest : List ℕ) → IsCut list name rest
+    → is_name name ≡ false → listing {A = A} rules list ≡ listing rules rest
 listing_none rules list name rest cut e = ap (items rules) (names_step_none list name rest cut e)
 
-pub listing_shown : {A : Type 0} (rules : List MappingRule) (list name rest sees : List ℕ) → IsCut list name rest → is_name name ≡ true → host_answer rules name ≡ IsListed sees → listing {A = A} rules list ≡ Ok sees ∷ listing rules rest
-listing_shown {A} rules list name rest sees cut named e = listing_name {A = A} rules list name rest cut named ∙ ap (λ answer. item_of answer (listing {A = A} rules rest)) e
+pub listing_shown : {A : Type 0} (rules : List MappingRule) (list name rest sees : List ℕ) → IsCut list name rest
+    → is_name name ≡ true → host_answer rules name ≡ IsListed sees
+    → listing {A = A} rules list ≡ Ok sees ∷ listing rules rest
+listing_shown {A} rules list name rest sees cut named e = listing_name {A = A} rules list name rest cut named
+    ∙ ap (λ answer. item_of answer (listing {A = A} rules rest)) e
 
-pub listing_hidden : {A : Type 0} (rules : List MappingRule) (list name rest : List ℕ) → IsCut list name rest → is_name name ≡ true → host_answer rules name ≡ IsHidden → listing {A = A} rules list ≡ listing rules rest
-listing_hidden {A} rules list name rest cut named e = listing_name {A = A} rules list name rest cut named ∙ ap (λ answer. item_of answer (listing {A = A} rules rest)) e
+pub listing_hidden : {A : Type 0} (rules : List MappingRule) (list name rest : List ℕ) → IsCut list name rest
+    → is_name name ≡ true → host_answer rules name ≡ IsHidden → listing {A = A} rules list ≡ listing rules rest
+listing_hidden {A} rules list name rest cut named e = listing_name {A = A} rules list name rest cut named
+    ∙ ap (λ answer. item_of answer (listing {A = A} rules rest)) e
 
-pub listing_undecided : {A : Type 0} (rules : List MappingRule) (list name rest : List ℕ) → IsCut list name rest → is_name name ≡ true → host_answer rules name ≡ IsUndecided → listing {A = A} rules list ≡ undecided ∷ []
-listing_undecided {A} rules list name rest cut named e = listing_name {A = A} rules list name rest cut named ∙ ap (λ answer. item_of answer (listing {A = A} rules rest)) e
+pub listing_undecided : {A : Type 0} (rules : List MappingRule) (list name rest : List ℕ) → IsCut list name rest
+    → is_name name ≡ true → host_answer rules name ≡ IsUndecided → listing {A = A} rules list ≡ undecided ∷ []
+listing_undecided {A} rules list name rest cut named e = listing_name {A = A} rules list name rest cut named
+    ∙ ap (λ answer. item_of answer (listing {A = A} rules rest)) e
 
 -- ---- the list that the items make
 
@@ -86,43 +105,54 @@ names_of items = filter_map (λ item. result_ok item) items
 abbrev pub all_ok : {A : Type 0} → List (Item A) → Bool
 all_ok items = list_all (λ item. is_ok item) items
 
-all_ok-item : {A : Type 0} (answer : HostAnswer) (rest : List (Item A)) → all_ok (item_of answer rest) ≡ is_decided answer && all_ok rest
+all_ok-item : {A : Type 0} (answer : HostAnswer) (rest : List (Item A))
+    → all_ok (item_of answer rest) ≡ is_decided answer && all_ok rest
 all_ok-item (IsListed name) rest = refl
 all_ok-item IsHidden rest = refl
 all_ok-item IsUndecided rest = refl
 
-all_ok-items : (A : Type 0) (rules : List MappingRule) (parts : List (List ℕ)) → all_ok (items {A = A} rules parts) ≡ list_all (has_rule rules) parts
+all_ok-items : (A : Type 0) (rules : List MappingRule) (parts : List (List ℕ))
+    → all_ok (items {A = A} rules parts) ≡ list_all (has_rule rules) parts
 all_ok-items A rules [] = refl
 all_ok-items A rules (name ∷ parts) =
     ap (λ all. all_ok all) (items_step {A = A} rules name parts)
     ∙ all_ok-item (host_answer rules name) (items rules parts)
     ∙ ap (λ decided. has_rule rules name && decided) (all_ok-items A rules parts)
 
-names_of-item : {A : Type 0} (answer : HostAnswer) (rest : List (Item A)) → is_decided answer ≡ true → names_of (item_of answer rest) ≡ cons_option (listed_name answer) (names_of rest)
+names_of-item : {A : Type 0} (answer : HostAnswer) (rest : List (Item A)) → is_decided answer ≡ true
+    → names_of (item_of answer rest) ≡ cons_option (listed_name answer) (names_of rest)
 names_of-item (IsListed name) rest e = refl
 names_of-item IsHidden rest e = refl
 names_of-item IsUndecided rest e = cc
 
-names_of-items : (A : Type 0) (rules : List MappingRule) (parts : List (List ℕ)) → list_all (has_rule rules) parts ≡ true → names_of (items {A = A} rules parts) ≡ filter_map (shown rules) parts
+names_of-items : (A : Type 0) (rules : List MappingRule) (parts : List (List ℕ))
+    → list_all (has_rule rules) parts ≡ true → names_of (items {A = A} rules parts) ≡ filter_map (shown rules) parts
 names_of-items A rules [] e = refl
 names_of-items A rules (name ∷ parts) e =
     ap (λ all. names_of all) (items_step {A = A} rules name parts)
     ∙ names_of-item (host_answer rules name) (items rules parts) (and_parts _ _ e).0
     ∙ ap (cons_option (shown rules name)) (names_of-items A rules parts (and_parts _ _ e).1)
 
-if_same : {X : Type 0} (b : Bool) (x y none : X) → (b ≡ true → x ≡ y) → (if b then x else none) ≡ (if b then y else none)
+if_same : {X : Type 0} (b : Bool) (x y none : X) → (b ≡ true → x ≡ y)
+    → (if b then x else none) ≡ (if b then y else none)
 if_same true x y none h = h refl
 if_same false x y none h = refl
 
 -- the items make the list that the guest gets
-pub list_of-listing : (A : Type 0) (rules : List MappingRule) (list : List ℕ) → list_of (listing {A = A} rules list) ≡ server_answer rules list
+pub list_of-listing : (A : Type 0) (rules : List MappingRule) (list : List ℕ)
+    → list_of (listing {A = A} rules list) ≡ server_answer rules list
 list_of-listing A rules list =
-    ap (λ all. if all then Some (as_list (names_of (listing {A = A} rules list))) else None) (all_ok-items A rules (names list))
-    ∙ if_same (list_all (has_rule rules) (names list)) _ _ None (λ e. ap (λ parts. Some (as_list parts)) (names_of-items A rules (names list) e))
+    ap (λ all. if all then Some (as_list (names_of (listing {A = A} rules list))) else None)
+    (all_ok-items A rules (names list))
+    ∙ if_same (list_all (has_rule rules) (names list)) _ _ None
+    (λ e. ap (λ parts. Some (as_list parts)) (names_of-items A rules (names list) e))
 
 -- without an error they are what the guest sees of each name of the list
-pub names_of-listing : (A : Type 0) (rules : List MappingRule) (list : List ℕ) → all_ok (listing {A = A} rules list) ≡ true → with_zeros (names_of (listing {A = A} rules list)) ≡ listed rules list
-names_of-listing A rules list e = ap with_zeros (names_of-items A rules (names list) (sym (all_ok-items A rules (names list)) ∙ e))
+pub names_of-listing : (A : Type 0) (rules : List MappingRule) (list : List ℕ)
+    → all_ok (listing {A = A} rules list) ≡ true
+    → with_zeros (names_of (listing {A = A} rules list)) ≡ listed rules list
+names_of-listing A rules list e =
+    ap with_zeros (names_of-items A rules (names list) (sym (all_ok-items A rules (names list)) ∙ e))
 
 -- ---- the list, item by item
 
@@ -135,31 +165,38 @@ pub record IsSoFar {A : Type 0} (rules : List MappingRule) (list so_far : List �
   pub zeros : so_far ++ zeros_of left ≡ zeros_of (listing {A = A} rules list)
   pub ok : all_ok left ≡ all_ok (listing {A = A} rules list)
 
-pub IsSoFar-first : {A : Type 0} (rules : List MappingRule) (list so_far : List ℕ) (left : List (Item A)) → so_far ≡ [] → left ≡ listing rules list → IsSoFar rules list so_far left
+pub IsSoFar-first : {A : Type 0} (rules : List MappingRule) (list so_far : List ℕ) (left : List (Item A)) → so_far ≡ []
+    → left ≡ listing rules list → IsSoFar rules list so_far left
 IsSoFar-first rules list so_far left none all = record {
   zeros = rw (none, all) refl;
   ok = ap all_ok all;
 }
 
-zeros_more : {A : Type 0} (old new name : List ℕ) (rest : List (Item A)) → new ≡ old ++ name ++ 0 ∷ [] → new ++ zeros_of rest ≡ old ++ zeros_of (Ok name ∷ rest)
+zeros_more : {A : Type 0} (old new name : List ℕ) (rest : List (Item A)) → new ≡ old ++ name ++ 0 ∷ []
+    → new ++ zeros_of rest ≡ old ++ zeros_of (Ok name ∷ rest)
 zeros_more old new name rest e = ap (λ list. list ++ zeros_of rest) e ∙ simp append_assoc
 
-pub IsSoFar-name : {A : Type 0} (rules : List MappingRule) (list old new name : List ℕ) (left rest : List (Item A)) → IsSoFar rules list old left → left ≡ Ok name ∷ rest → new ≡ old ++ name ++ 0 ∷ [] → IsSoFar rules list new rest
+pub IsSoFar-name : {A : Type 0} (rules : List MappingRule) (list old new name : List ℕ) (left rest : List (Item A))
+    → IsSoFar rules list old left → left ≡ Ok name ∷ rest → new ≡ old ++ name ++ 0 ∷ [] → IsSoFar rules list new rest
 IsSoFar-name rules list old new name left rest so_far one e = record {
   zeros = zeros_more old new name rest e ∙ ap (λ items. old ++ zeros_of items) (sym one) ∙ so_far.zeros;
   ok = ap all_ok (sym one) ∙ so_far.ok;
 }
 
 -- what all the items come to is no longer than the list and a zero
-pub IsSoFar-length : {A : Type 0} (rules : List MappingRule) (list so_far : List ℕ) (left : List (Item A)) → IsSoFar rules list so_far left → left ≡ [] → length so_far ≤ length list + 1
+pub IsSoFar-length : {A : Type 0} (rules : List MappingRule) (list so_far : List ℕ) (left : List (Item A))
+    → IsSoFar rules list so_far left → left ≡ [] → length so_far ≤ length list + 1
 IsSoFar-length {A} rules list so_far left until end =
     let all : all_ok (listing {A = A} rules list) ≡ true = sym until.ok ∙ ap all_ok end in
-    let zeros : so_far ≡ zeros_of (listing {A = A} rules list) = sym (append-nil so_far) ∙ ap (λ items. so_far ++ zeros_of items) (sym end) ∙ until.zeros in
-    subst (λ (shown : List ℕ). length shown ≤ length list + 1) (sym (zeros ∙ names_of-listing A rules list all)) (length-listed rules list)
+    let zeros : so_far ≡ zeros_of (listing {A = A} rules list) = sym (append-nil so_far)
+    ∙ ap (λ items. so_far ++ zeros_of items) (sym end) ∙ until.zeros in
+    subst (λ (shown : List ℕ). length shown ≤ length list + 1) (sym (zeros ∙ names_of-listing A rules list all))
+    (length-listed rules list)
 
 -- ---- a call of `next` that gives an item
 
-pub one_less : {X Y : Type 0} (left rest : List X) (item : X) (given : Y) → left ≡ item ∷ rest → MakesProgress (λ _. Unit {0}) (item_count (λ left. left)) left (Some given) rest
+pub one_less : {X Y : Type 0} (left rest : List X) (item : X) (given : Y) → left ≡ item ∷ rest
+    → MakesProgress (λ _. Unit {0}) (item_count (λ left. left)) left (Some given) rest
 one_less left rest item given e = record {
   on = λ _. (tt, tt, omega (arith, ap length e));
   keeps = tt;

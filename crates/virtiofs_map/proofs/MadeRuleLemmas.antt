@@ -29,19 +29,23 @@ head_is_map (heads.Typed kind scope) e = absurd (cc)
 head_is_map heads.Map e = refl
 
 pub made-rule_of : (kind : RuleKind) (word : ScopeWord) (scope : Scope) (key prepend k p : List ℕ)
-    → scope.0 ≡ bits_of word → k ≡ key → p ≡ prepend → IsUtf8 key → IsUtf8 prepend → rule_with kind scope k p ≡ rule_of (type_of kind) (scope_of word) (chars key) (chars prepend)
+    → scope.0 ≡ bits_of word → k ≡ key → p ≡ prepend → IsUtf8 key → IsUtf8 prepend
+    → rule_with kind scope k p ≡ rule_of (type_of kind) (scope_of word) (chars key) (chars prepend)
 made-rule_of kind word scope key prepend k p b ek ep uk up =
     rw (b, ek, ep, holds_client word, holds_server word, encodes-chars key uk, encodes-chars prepend up) refl
 
 -- two rules that were put at the end, where the key is empty
 pub pushed_two : (old one two : List MappingRule) (key prepend : List ℕ)
-    → one ≡ old ++ rule_of Prefix All key prepend ∷ [] → two ≡ one ++ rule_of Bad All (chars []) (chars []) ∷ [] → key ≡ []
+    → one ≡ old ++ rule_of Prefix All key prepend ∷ [] → two ≡ one ++ rule_of Bad All (chars []) (chars []) ∷ []
+    → key ≡ []
     → two ≡ old ++ rules_of Map key prepend
 pushed_two old one two key prepend e f nothing = rw (f, e, nothing, chars-nil) (append_assoc old _ _)
 
 -- three rules that were put at the end, where it is not
 pub pushed_three : (old one two three : List MappingRule) (key prepend : List ℕ)
-    → one ≡ old ++ rule_of Prefix All key prepend ∷ [] → two ≡ one ++ rule_of Bad All prepend key ∷ [] → three ≡ two ++ rule_of Okay All (chars []) (chars []) ∷ [] → key ≢ []
+    → one ≡ old ++ rule_of Prefix All key prepend ∷ [] → two ≡ one ++ rule_of Bad All prepend key ∷ []
+    → three ≡ two ++ rule_of Okay All (chars []) (chars []) ∷ [] → key ≢ []
     → three ≡ old ++ rules_of Map key prepend
 pushed_three old one two three [] prepend e f g some = absurd (some refl)
-pushed_three old one two three (k ∷ ks) prepend e f g some = rw (g, f, e, chars-nil) (append_assoc (old ++ _) _ _ ∙ append_assoc old _ _)
+pushed_three old one two three (k ∷ ks) prepend e f g some =
+    rw (g, f, e, chars-nil) (append_assoc (old ++ _) _ _ ∙ append_assoc old _ _)

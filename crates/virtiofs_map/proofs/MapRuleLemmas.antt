@@ -1,10 +1,13 @@
 -- What one map rule means.
-use Rattle.std.proofs.Common.{◌≡◌, ℕ, ◌<◌, Bool, true, false, not, cond, List, [], ◌∷◌, ◌++◌, length, drop, filter, Option, Some, None, ◌⊎◌, inl, inr, refl, sym, ap, ◌∙◌, subst, arith}
+use Rattle.std.proofs.Common.{◌≡◌, ℕ, ◌<◌, Bool, true, false, not, cond, List, [], ◌∷◌, ◌++◌, length, drop, filter}
+use Rattle.std.proofs.Common.{Option, Some, None, ◌⊎◌, inl, inr, refl, sym, ap, ◌∙◌, subst, arith}
 use Rattle.std.specs.List.{All, cons_option, list_all, filter_map}
 use Rattle.std.specs.Option.{option_map_or}
 use Rattle.virtiofs_map.specs.Rule.{RuleType, Prefix, Okay, Bad, MappingRule}
 use Rattle.virtiofs_map.specs.declared.xattrmap.scopes.Side.TheVariants.{Client, Server}
-use Rattle.virtiofs_map.specs.Names.{begins, Passes, IsDenied, IsUnterminated, answer_by, client_answer, HostAnswer, IsListed, IsHidden, IsUndecided, host_answer_by, host_answer, is_decided, listed_name, names, as_list, server_answer}
+use Rattle.virtiofs_map.specs.Names.{begins, Passes, IsDenied, IsUnterminated, answer_by, client_answer, HostAnswer}
+use Rattle.virtiofs_map.specs.Names.{IsListed, IsHidden, IsUndecided, host_answer_by, host_answer, is_decided}
+use Rattle.virtiofs_map.specs.Names.{listed_name, names, as_list, server_answer}
 use Rattle.virtiofs_map.specs.MapRule.{map_client, map_server, IsName, IsMapRule, map_rule, Agree, KeepsGuestsApart}
 use Rattle.virtiofs_map.specs.RuleText.{RuleText, expanded}
 use Rattle.std.specs.Str.{encode_utf8_all}
@@ -34,23 +37,35 @@ pub record Acts (key prepend : List ℕ) (rules : List MappingRule) : Type 0 whe
 
 -- ---- the two or three rules act as the one
 
-client_by : (a b : Bool) (key prepend name : List ℕ) → option_map_or (λ rule. answer_by rule.kind rule.prepend name) (cond a (Some (both Prefix key prepend)) (cond b (Some (both Bad prepend key)) (Some (both Okay [] [])))) IsUnterminated ≡ cond a (Passes (prepend ++ name)) (cond b IsDenied (Passes name))
+client_by : (a b : Bool) (key prepend name : List ℕ)
+    → option_map_or (λ rule. answer_by rule.kind rule.prepend name)
+    (cond a (Some (both Prefix key prepend)) (cond b (Some (both Bad prepend key)) (Some (both Okay [] []))))
+    IsUnterminated ≡ cond a (Passes (prepend ++ name)) (cond b IsDenied (Passes name))
 client_by true b key prepend name = refl
 client_by false true key prepend name = refl
 client_by false false key prepend name = refl
 
-host_by : (a b : Bool) (key prepend name : List ℕ) → option_map_or (λ rule. host_answer_by rule.kind rule.prepend name) (cond a (Some (both Prefix key prepend)) (cond b (Some (both Bad prepend key)) (Some (both Okay [] [])))) IsUndecided ≡ cond a (IsListed (drop (length prepend) name)) (cond b IsHidden (IsListed name))
+host_by : (a b : Bool) (key prepend name : List ℕ)
+    → option_map_or (λ rule. host_answer_by rule.kind rule.prepend name)
+    (cond a (Some (both Prefix key prepend)) (cond b (Some (both Bad prepend key)) (Some (both Okay [] []))))
+    IsUndecided ≡ cond a (IsListed (drop (length prepend) name)) (cond b IsHidden (IsListed name))
 host_by true b key prepend name = refl
 host_by false true key prepend name = refl
 host_by false false key prepend name = refl
 
 pub keyed_acts : (key prepend : List ℕ) → Acts key prepend (keyed key prepend)
 keyed_acts key prepend = record {
-  client = λ name. rw (deciding-find Client (keyed key prepend) name) (client_by (begins key name) (begins prepend name) key prepend name);
-  host = λ name. rw (deciding-find Server (keyed key prepend) name) (host_by (begins prepend name) (begins key name) key prepend name);
+  client =
+      λ name. rw (deciding-find Client (keyed key prepend) name)
+      (client_by (begins key name) (begins prepend name) key prepend name);
+  host = λ name. rw (deciding-find Server (keyed key prepend) name)
+      (host_by (begins prepend name) (begins key name) key prepend name);
 }
 
-keyless_host_by : (a : Bool) (prepend name : List ℕ) → option_map_or (λ rule. host_answer_by rule.kind rule.prepend name) (cond a (Some (both Prefix [] prepend)) (Some (both Bad [] []))) IsUndecided ≡ cond a (IsListed (drop (length prepend) name)) IsHidden
+keyless_host_by : (a : Bool) (prepend name : List ℕ)
+    → option_map_or (λ rule. host_answer_by rule.kind rule.prepend name)
+    (cond a (Some (both Prefix [] prepend)) (Some (both Bad [] []))) IsUndecided ≡ cond a
+    (IsListed (drop (length prepend) name)) IsHidden
 keyless_host_by true prepend name = refl
 keyless_host_by false prepend name = refl
 
@@ -62,37 +77,50 @@ keyless_acts prepend = record {
 
 -- ---- what follows from that
 
-all_decided : (rules : List MappingRule) (all : (name : List ℕ) → is_decided (host_answer rules name) ≡ true) (names : List (List ℕ)) → list_all (λ name. is_decided (host_answer rules name)) names ≡ true
+all_decided : (rules : List MappingRule) (all : (name : List ℕ) → is_decided (host_answer rules name) ≡ true)
+    (names : List (List ℕ)) → list_all (λ name. is_decided (host_answer rules name)) names ≡ true
 all_decided rules all [] = refl
 all_decided rules all (name ∷ names) = rw (all name) (all_decided rules all names)
 
-same_listed : (f g : List ℕ → HostAnswer) → ((name : List ℕ) → f name ≡ g name) → (names : List (List ℕ)) → filter_map (λ name. listed_name (f name)) names ≡ filter_map (λ name. listed_name (g name)) names
+same_listed : (f g : List ℕ → HostAnswer) → ((name : List ℕ) → f name ≡ g name) → (names : List (List ℕ))
+    → filter_map (λ name. listed_name (f name)) names ≡ filter_map (λ name. listed_name (g name)) names
 same_listed f g same [] = refl
 same_listed f g same (name ∷ names) = rw (same name, same_listed f g same names) refl
 
 -- a map that decides each name answers the list of what it makes of them
-pub server_of : (rules : List MappingRule) (answer : List ℕ → HostAnswer) → ((name : List ℕ) → is_decided (host_answer rules name) ≡ true) → ((name : List ℕ) → host_answer rules name ≡ answer name) → (list : List ℕ) → server_answer rules list ≡ Some (as_list (filter_map (λ name. listed_name (answer name)) (names list)))
+pub server_of : (rules : List MappingRule) (answer : List ℕ → HostAnswer)
+    → ((name : List ℕ) → is_decided (host_answer rules name) ≡ true)
+    → ((name : List ℕ) → host_answer rules name ≡ answer name) → (list : List ℕ)
+    → server_answer rules list ≡ Some (as_list (filter_map (λ name. listed_name (answer name)) (names list)))
 server_of rules answer all same list =
     rw (all_decided rules all (names list), same_listed (host_answer rules) answer same (names list)) refl
 
-map_decided_by : (a b : Bool) (one other : List ℕ) → is_decided (cond a (IsListed one) (cond b IsHidden (IsListed other))) ≡ true
+map_decided_by : (a b : Bool) (one other : List ℕ)
+    → is_decided (cond a (IsListed one) (cond b IsHidden (IsListed other))) ≡ true
 map_decided_by true b one other = refl
 map_decided_by false true one other = refl
 map_decided_by false false one other = refl
 
 -- what acts as one map rule decides each name
-pub decides : {key prepend : List ℕ} {rules : List MappingRule} → Acts key prepend rules → (name : List ℕ) → is_decided (host_answer rules name) ≡ true
-decides {key} {prepend} acts name = ap is_decided (acts.host name) ∙ map_decided_by (begins prepend name) (begins key name) (drop (length prepend) name) name
+pub decides : {key prepend : List ℕ} {rules : List MappingRule} → Acts key prepend rules → (name : List ℕ)
+    → is_decided (host_answer rules name) ≡ true
+decides {key} {prepend} acts name = ap is_decided (acts.host name)
+    ∙ map_decided_by (begins prepend name) (begins key name) (drop (length prepend) name) name
 
 -- ---- a name that passes
 
 -- the two ways in which a name passes
-pub passes_by : (a b : Bool) (prepend name host : List ℕ) → cond a (Passes (prepend ++ name)) (cond b IsDenied (Passes name)) ≡ Passes host → ((a ≡ true) × (host ≡ prepend ++ name)) ⊎ ((a ≡ false) × (b ≡ false) × (host ≡ name))
+pub passes_by : (a b : Bool) (prepend name host : List ℕ)
+    → cond a (Passes (prepend ++ name)) (cond b IsDenied (Passes name)) ≡ Passes host
+    → ((a ≡ true) × (host ≡ prepend ++ name)) ⊎ ((a ≡ false) × (b ≡ false) × (host ≡ name))
 passes_by true b prepend name host e = inl (refl, cc)
 passes_by false true prepend name host e = absurd (cc)
 passes_by false false prepend name host e = inr (refl, refl, cc)
 
-abbrev pub passes_cases : {key prepend : List ℕ} {rules : List MappingRule} → Acts key prepend rules → (name host : List ℕ) → client_answer rules name ≡ Passes host → ((begins key name ≡ true) × (host ≡ prepend ++ name)) ⊎ ((begins key name ≡ false) × (begins prepend name ≡ false) × (host ≡ name))
+abbrev pub passes_cases : {key prepend : List ℕ} {rules : List MappingRule} → Acts key prepend rules
+    → (name host : List ℕ) → client_answer rules name ≡ Passes host
+    → ((begins key name ≡ true) × (host ≡ prepend ++ name))
+    ⊎ ((begins key name ≡ false) × (begins prepend name ≡ false) × (host ≡ name))
 passes_cases {key} {prepend} acts name host e =
     passes_by (begins key name) (begins prepend name) prepend name host (sym (acts.client name) ∙ e)
 
@@ -100,11 +128,13 @@ prefixed_listed : (key prepend name : List ℕ) → map_server key prepend (prep
 prefixed_listed key prepend name =
     rw (begins-append prepend name) (ap IsListed (drop_at prepend name (length prepend) refl))
 
-apart_listed : (key prepend name : List ℕ) → begins key name ≡ false → begins prepend name ≡ false → map_server key prepend name ≡ IsListed name
+apart_listed : (key prepend name : List ℕ) → begins key name ≡ false → begins prepend name ≡ false
+    → map_server key prepend name ≡ IsListed name
 apart_listed key prepend name k p = rw (p, k) refl
 
 -- what a name passes as is listed as that name
-passed_listed : {key prepend : List ℕ} {rules : List MappingRule} → Acts key prepend rules → (name host : List ℕ) → client_answer rules name ≡ Passes host → host_answer rules host ≡ IsListed name
+passed_listed : {key prepend : List ℕ} {rules : List MappingRule} → Acts key prepend rules → (name host : List ℕ)
+    → client_answer rules name ≡ Passes host → host_answer rules host ≡ IsListed name
 passed_listed {key} {prepend} acts name host e =
     elim (passes_cases acts name host e) [
       | inl way ↦ acts.host host ∙ ap (map_server key prepend) way.1 ∙ prefixed_listed key prepend name
@@ -112,37 +142,54 @@ passed_listed {key} {prepend} acts name host e =
     ]
 
 -- it holds no zero
-passed_no_zero : {key prepend : List ℕ} {rules : List MappingRule} → Acts key prepend rules → (name host : List ℕ) → All IsNotZero prepend → All IsNotZero name → client_answer rules name ≡ Passes host → All IsNotZero host
+passed_no_zero : {key prepend : List ℕ} {rules : List MappingRule} → Acts key prepend rules → (name host : List ℕ)
+    → All IsNotZero prepend → All IsNotZero name → client_answer rules name ≡ Passes host → All IsNotZero host
 passed_no_zero {key} {prepend} acts name host p n e =
-    elim (passes_cases acts name host e) [ inl way ↦ All-same IsNotZero host (prepend ++ name) way.1 (All-append IsNotZero prepend name p n) | inr way ↦ All-same IsNotZero host name way.2 n ]
+    elim (passes_cases acts name host e) [
+      | inl way ↦ All-same IsNotZero host (prepend ++ name) way.1
+          (All-append IsNotZero prepend name p n)
+      | inr way ↦ All-same IsNotZero host name way.2 n
+    ]
 
 no_name_by : (prepend name : List ℕ) → prepend ++ name ≡ [] → name ≡ []
 no_name_by [] name e = e
 no_name_by (x ∷ xs) name e = cc
 
 -- it is empty only where the name is
-passed_empty : {key prepend : List ℕ} {rules : List MappingRule} → Acts key prepend rules → (name host : List ℕ) → client_answer rules name ≡ Passes host → host ≡ [] → name ≡ []
+passed_empty : {key prepend : List ℕ} {rules : List MappingRule} → Acts key prepend rules → (name host : List ℕ)
+    → client_answer rules name ≡ Passes host → host ≡ [] → name ≡ []
 passed_empty {key} {prepend} acts name host e none =
-    elim (passes_cases acts name host e) [ inl way ↦ no_name_by prepend name (sym way.1 ∙ none) | inr way ↦ sym way.2 ∙ none ]
+    elim (passes_cases acts name host e) [
+      | inl way ↦ no_name_by prepend name (sym way.1 ∙ none)
+      | inr way ↦ sym way.2
+          ∙ none
+    ]
 
 -- ---- the list of one name
 
 pub names_of_one : (name : List ℕ) → All IsNotZero name → names (name ++ 0 ∷ []) ≡ filter is_name (name ∷ [])
 names_of_one name no_zero =
-    ap (filter is_name) (slice_split_at is_zero name 0 [] (All-weaker IsNotZero (λ byte. is_zero byte ≡ false) (λ byte h. ne_eqb byte 0 h) name no_zero) refl)
+    ap (filter is_name)
+    (slice_split_at is_zero name 0 []
+    (All-weaker IsNotZero (λ byte. is_zero byte ≡ false) (λ byte h. ne_eqb byte 0 h) name no_zero) refl)
 
 pub some_name : (byte : ℕ) (bytes : List ℕ) → is_name (byte ∷ bytes) ≡ true
 some_name byte bytes = ap not (ne_eqb (length (byte ∷ bytes)) 0 (λ e. absurd (omega arith)))
 
 -- the list of one name that is listed
-lists_one : (rules : List MappingRule) (host name : List ℕ) → ((each : List ℕ) → is_decided (host_answer rules each) ≡ true) → host_answer rules host ≡ IsListed name → (host ≡ [] → name ≡ []) → names (host ++ 0 ∷ []) ≡ filter is_name (host ∷ []) → server_answer rules (host ++ 0 ∷ []) ≡ Some (name ++ 0 ∷ [])
+lists_one : (rules : List MappingRule) (host name : List ℕ)
+    → ((each : List ℕ) → is_decided (host_answer rules each) ≡ true) → host_answer rules host ≡ IsListed name
+    → (host ≡ [] → name ≡ []) → names (host ++ 0 ∷ []) ≡ filter is_name (host ∷ [])
+    → server_answer rules (host ++ 0 ∷ []) ≡ Some (name ++ 0 ∷ [])
 lists_one rules [] name all listed empty one =
     server_of rules (host_answer rules) all (λ each. refl) (0 ∷ []) ∙ rw (empty refl) refl
 lists_one rules (byte ∷ bytes) name all listed empty one =
-    server_of rules (host_answer rules) all (λ each. refl) (byte ∷ bytes ++ 0 ∷ []) ∙ rw (one, some_name byte bytes, listed) (ap Some (append-nil (name ++ 0 ∷ [])))
+    server_of rules (host_answer rules) all (λ each. refl) (byte ∷ bytes ++ 0 ∷ [])
+    ∙ rw (one, some_name byte bytes, listed) (ap Some (append-nil (name ++ 0 ∷ [])))
 
 pub not_zero_name : (name : List ℕ) → IsName name → All IsNotZero name
-not_zero_name name is = All-weaker (λ byte. (0 < byte) × (byte < 256)) IsNotZero (λ byte h e. absurd (omega (arith, h.0))) name is
+not_zero_name name is =
+    All-weaker (λ byte. (0 < byte) × (byte < 256)) IsNotZero (λ byte h e. absurd (omega (arith, h.0))) name is
 
 -- ---- all that one map rule means
 
@@ -152,24 +199,39 @@ terminated_by false true x y e = cc
 terminated_by false false x y e = cc
 
 -- what passes begins with the prepend and the key, or with neither of them
-fronts_of : {key prepend : List ℕ} {rules : List MappingRule} → Acts key prepend rules → (name host : List ℕ) → client_answer rules name ≡ Passes host → (begins (prepend ++ key) host ≡ true) ⊎ ((begins key host ≡ false) × (begins prepend host ≡ false))
+fronts_of : {key prepend : List ℕ} {rules : List MappingRule} → Acts key prepend rules → (name host : List ℕ)
+    → client_answer rules name ≡ Passes host
+    → (begins (prepend ++ key) host ≡ true) ⊎ ((begins key host ≡ false) × (begins prepend host ≡ false))
 fronts_of {key} {prepend} acts name host e =
-    elim (passes_cases acts name host e) [ inl way ↦ inl (begins_from (prepend ++ key) host (drop (length key) name) (way.1 ∙ ap (λ n. prepend ++ n) (begins_split key name way.0) ∙ sym (append_assoc prepend key (drop (length key) name)))) | inr way ↦ inr (ap (begins key) way.2 ∙ way.0, ap (begins prepend) way.2 ∙ way.1) ]
+    elim (passes_cases acts name host e) [
+      | inl way ↦ inl
+          (begins_from (prepend ++ key) host (drop (length key) name)
+          (way.1 ∙ ap (λ n. prepend ++ n) (begins_split key name way.0)
+          ∙ sym (append_assoc prepend key (drop (length key) name))))
+      | inr way ↦ inr (ap (begins key) way.2 ∙ way.0, ap (begins prepend) way.2 ∙ way.1)
+    ]
 
 -- with no key, what a host name is listed as passes as that host name
-listed_back : (a : Bool) (prepend name host : List ℕ) → (a ≡ true → host ≡ prepend ++ drop (length prepend) host) → cond a (IsListed (drop (length prepend) host)) IsHidden ≡ IsListed name → prepend ++ name ≡ host
-listed_back true prepend name host split e = let rest : drop (length prepend) host ≡ name = cc in ap (λ n. prepend ++ n) (sym rest) ∙ sym (split refl)
+listed_back : (a : Bool) (prepend name host : List ℕ) → (a ≡ true → host ≡ prepend ++ drop (length prepend) host)
+    → cond a (IsListed (drop (length prepend) host)) IsHidden ≡ IsListed name → prepend ++ name ≡ host
+listed_back true prepend name host split e = let rest : drop (length prepend) host ≡ name = cc in
+    ap (λ n. prepend ++ n) (sym rest) ∙ sym (split refl)
 listed_back false prepend name host split e = absurd (cc)
 
-way_back_of : (key prepend : List ℕ) (rules : List MappingRule) → Acts key prepend rules → (name host : List ℕ) → key ≡ [] → host_answer rules host ≡ IsListed name → client_answer rules name ≡ Passes host
+way_back_of : (key prepend : List ℕ) (rules : List MappingRule) → Acts key prepend rules → (name host : List ℕ)
+    → key ≡ [] → host_answer rules host ≡ IsListed name → client_answer rules name ≡ Passes host
 way_back_of [] prepend rules acts name host none k =
-    acts.client name ∙ ap Passes (listed_back (begins prepend host) prepend name host (begins_split prepend host) (sym (acts.host host) ∙ k))
+    acts.client name
+    ∙ ap Passes
+    (listed_back (begins prepend host) prepend name host (begins_split prepend host) (sym (acts.host host) ∙ k))
 way_back_of (x ∷ xs) prepend rules acts name host none k = absurd (cc)
 
-server_ends : (rules : List MappingRule) (list answer : List ℕ) → server_answer rules list ≡ Some answer → server_answer rules list ≡ None → ⊥
+server_ends : (rules : List MappingRule) (list answer : List ℕ) → server_answer rules list ≡ Some answer
+    → server_answer rules list ≡ None → ⊥
 server_ends rules list answer some none = cc
 
-pub acts_mean : (key prepend : List ℕ) (rules : List MappingRule) → All IsNotZero prepend → Acts key prepend rules → IsMapRule key prepend rules
+pub acts_mean : (key prepend : List ℕ) (rules : List MappingRule) → All IsNotZero prepend → Acts key prepend rules
+    → IsMapRule key prepend rules
 acts_mean key prepend rules no_zero acts = record {
   client = acts.client;
   host = acts.host;
@@ -177,24 +239,32 @@ acts_mean key prepend rules no_zero acts = record {
   lists_back = λ name host is e. record {
     becomes = host;
     passes = e;
-    lists = lists_one rules host name (decides acts) (passed_listed acts name host e) (passed_empty acts name host e) (names_of_one host (passed_no_zero acts name host no_zero (not_zero_name name is) e));
+    lists = lists_one rules host name (decides acts) (passed_listed acts name host e) (passed_empty acts name host e)
+        (names_of_one host (passed_no_zero acts name host no_zero (not_zero_name name is) e));
   };
-  client_terminated = λ name e. terminated_by (begins key name) (begins prepend name) (prepend ++ name) name (sym (acts.client name) ∙ e);
-  server_terminated = λ list. server_ends rules list _ (server_of rules (map_server key prepend) (decides acts) acts.host list);
+  client_terminated =
+      λ name e. terminated_by (begins key name) (begins prepend name) (prepend ++ name) name
+      (sym (acts.client name) ∙ e);
+  server_terminated =
+      λ list. server_ends rules list _ (server_of rules (map_server key prepend) (decides acts) acts.host list);
   fronts = λ name host some e. fronts_of acts name host e;
   way_back = λ name host none k. way_back_of key prepend rules acts name host none k;
 }
 
 -- ---- the rules of a text that is one map rule
 
-pub expanded_acts : (key prepend : List ℕ) → Acts (encode_utf8_all key) (encode_utf8_all prepend) (expanded (map_rule key prepend ∷ []))
+pub expanded_acts : (key prepend : List ℕ)
+    → Acts (encode_utf8_all key) (encode_utf8_all prepend) (expanded (map_rule key prepend ∷ []))
 expanded_acts [] prepend = keyless_acts (encode_utf8_all prepend)
 expanded_acts (c ∷ cs) prepend = keyed_acts (encode_utf8_all (c ∷ cs)) (encode_utf8_all prepend)
 
 -- where a text is one map rule, and the rules are those that it stands for, they mean what it means
-pub map_rule_means : (text key prepend : List ℕ) (rules : List MappingRule) → RuleText text (map_rule key prepend ∷ []) → rules ≡ expanded (map_rule key prepend ∷ []) → IsMapRule (encode_utf8_all key) (encode_utf8_all prepend) rules
+pub map_rule_means : (text key prepend : List ℕ) (rules : List MappingRule) → RuleText text (map_rule key prepend ∷ [])
+    → rules ≡ expanded (map_rule key prepend ∷ []) → IsMapRule (encode_utf8_all key) (encode_utf8_all prepend) rules
 map_rule_means text key prepend rules read are =
-    subst (IsMapRule (encode_utf8_all key) (encode_utf8_all prepend)) (sym are) (acts_mean _ _ _ (text_no_zero prepend (text_no_nul text (map_rule key prepend ∷ []) read).0.1) (expanded_acts key prepend))
+    subst (IsMapRule (encode_utf8_all key) (encode_utf8_all prepend)) (sym are)
+    (acts_mean _ _ _ (text_no_zero prepend (text_no_nul text (map_rule key prepend ∷ []) read).0.1)
+    (expanded_acts key prepend))
 
 -- ---- two guests
 
@@ -208,29 +278,45 @@ one_begins (x ∷ p) (y ∷ q) r s e =
     elim (one_begins p q r s tail) [ inl h ↦ inl (h.0, let rest = h.1 in cc) | inr h ↦ inr (h.0, let rest = h.1 in cc) ]
 
 -- a name that begins with one prepend is hidden under the other
-apart_hidden : (prepend another name : List ℕ) → begins prepend another ≡ false → begins another prepend ≡ false → begins another name ≡ true → map_server [] prepend name ≡ IsHidden
+apart_hidden : (prepend another name : List ℕ) → begins prepend another ≡ false → begins another prepend ≡ false
+    → begins another name ≡ true → map_server [] prepend name ≡ IsHidden
 apart_hidden prepend another name a b n =
     rw (false_from_ne_true (begins prepend name) clash) refl where
       clash : begins prepend name ≡ true → ⊥
       clash both =
-          elim (one_begins prepend another (drop (length prepend) name) (drop (length another) name) (sym (begins_split prepend name both) ∙ begins_split another name n)) [ inl h ↦ false≢true (sym a ∙ begins_from prepend another h.0 h.1) | inr h ↦ false≢true (sym b ∙ begins_from another prepend h.0 h.1) ]
+          elim (one_begins prepend another (drop (length prepend) name) (drop (length another) name)
+          (sym (begins_split prepend name both) ∙ begins_split another name n)) [
+            | inl h ↦ false≢true
+                (sym a ∙ begins_from prepend another h.0 h.1)
+            | inr h ↦ false≢true (sym b ∙ begins_from another prepend h.0 h.1)
+          ]
 
 -- names that are not listed may be left out
-listed_without : (keep : List ℕ → Option (List ℕ)) (set : List ℕ → Bool) → ((name : List ℕ) → set name ≡ true → keep name ≡ None) → (all : List (List ℕ)) → filter_map keep all ≡ filter_map keep (filter (λ name. not (set name)) all)
+listed_without : (keep : List ℕ → Option (List ℕ)) (set : List ℕ → Bool)
+    → ((name : List ℕ) → set name ≡ true → keep name ≡ None) → (all : List (List ℕ))
+    → filter_map keep all ≡ filter_map keep (filter (λ name. not (set name)) all)
 listed_without keep set hides [] = refl
 listed_without keep set hides (name ∷ others) = by (listed_without keep set hides others) (set name) refl where
-  by : filter_map keep others ≡ filter_map keep (filter (λ each. not (set each)) others) → (b : Bool) → set name ≡ b → cons_option (keep name) (filter_map keep others) ≡ filter_map keep (cond (not b) (name ∷ filter (λ each. not (set each)) others) (filter (λ each. not (set each)) others))
+  by : filter_map keep others ≡ filter_map keep (filter (λ each. not (set each)) others) → (b : Bool) → set name ≡ b
+      → cons_option (keep name) (filter_map keep others) ≡ filter_map keep
+      (cond (not b) (name ∷ filter (λ each. not (set each)) others) (filter (λ each. not (set each)) others))
   by rest true e = rw (hides name e) rest
   by rest false e = ap (cons_option (keep name)) rest
 
 -- the list of one prepend, whatever names begin with another
-same_lists : (prepend another list other : List ℕ) (rules : List MappingRule) → Acts [] prepend rules → begins prepend another ≡ false → begins another prepend ≡ false → Agree list other (begins another) → server_answer rules list ≡ server_answer rules other
+same_lists : (prepend another list other : List ℕ) (rules : List MappingRule) → Acts [] prepend rules
+    → begins prepend another ≡ false → begins another prepend ≡ false → Agree list other (begins another)
+    → server_answer rules list ≡ server_answer rules other
 same_lists prepend another list other rules acts a b agree =
     let keep : List ℕ → Option (List ℕ) = λ name. listed_name (map_server [] prepend name) in
-    let hidden : (name : List ℕ) → begins another name ≡ true → keep name ≡ None = λ name n. ap listed_name (apart_hidden prepend another name a b n) in
-    let same = listed_without keep (begins another) hidden (names list) ∙ ap (filter_map keep) agree ∙ sym (listed_without keep (begins another) hidden (names other)) in
-    server_of rules (map_server [] prepend) (decides acts) acts.host list ∙ ap (λ all. Some (as_list all)) same ∙ sym (server_of rules (map_server [] prepend) (decides acts) acts.host other)
+    let hidden : (name : List ℕ) → begins another name ≡ true → keep name ≡ None =
+    λ name n. ap listed_name (apart_hidden prepend another name a b n) in
+    let same = listed_without keep (begins another) hidden (names list) ∙ ap (filter_map keep) agree
+    ∙ sym (listed_without keep (begins another) hidden (names other)) in
+    server_of rules (map_server [] prepend) (decides acts) acts.host list ∙ ap (λ all. Some (as_list all)) same
+    ∙ sym (server_of rules (map_server [] prepend) (decides acts) acts.host other)
 
 pub guests_apart : (rules : List MappingRule) (list : List ℕ) → KeepsGuestsApart rules list
 guests_apart rules list prepend another other are a b agree =
-    same_lists (encode_utf8_all prepend) another list other rules (subst (Acts [] (encode_utf8_all prepend)) (sym are) (expanded_acts [] prepend)) a b agree
+    same_lists (encode_utf8_all prepend) another list other rules
+    (subst (Acts [] (encode_utf8_all prepend)) (sym are) (expanded_acts [] prepend)) a b agree

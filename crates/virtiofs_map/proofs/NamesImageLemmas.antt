@@ -1,5 +1,6 @@
 -- The parts of an image, and what is written as one.
-use Rattle.std.proofs.Common.{◌≡◌, ℕ, ◌+◌, ◌-◌, ◌*◌, ◌^◌, ◌<◌, ◌≤◌, zero, suc, List, [], ◌∷◌, ◌++◌, All, length, get_or, take, drop, refl, ap, sym, subst, ◌∙◌, arith, append_assoc, append-nil, length-append}
+use Rattle.std.proofs.Common.{◌≡◌, ℕ, ◌+◌, ◌-◌, ◌*◌, ◌^◌, ◌<◌, ◌≤◌, zero, suc, List, [], ◌∷◌, ◌++◌, All, length, get_or}
+use Rattle.std.proofs.Common.{take, drop, refl, ap, sym, subst, ◌∙◌, arith, append_assoc, append-nil, length-append}
 use Rattle.std.proofs.Math.Seq.{drop-append_seam, take-append_seam}
 use Rattle.std.proofs.lemmas.List.Elements.{All-cons, All-nil}
 use Rattle.virtiofs_map.specs.BranchParts.{AreSpans, IsTrieIn}
@@ -39,11 +40,16 @@ part_laid image front one back which from to is is_from is_to starts ends =
     let size = ap length is ∙ length-append (front ++ one) back in
     let sizes = length-append front one in
     record {
-      has = record { rising = omega (arith, starts, ends, is_to); within = omega (arith, ends, is_to, is_from, size, sizes) };
+      has = record {
+        rising = omega (arith, starts, ends, is_to);
+        within =
+            omega (arith, ends, is_to, is_from, size, sizes);
+      };
       is = rw (starts, ends, is) (part_here front one back from to is_from is_to);
     }
 
-numbers_fit : (places : Places) → places.server < 2 ^ 64 → places.rules < 2 ^ 64 → places.bytes < 2 ^ 64 → places.end < 2 ^ 64
+numbers_fit : (places : Places) → places.server < 2 ^ 64 → places.rules < 2 ^ 64 → places.bytes < 2 ^ 64
+    → places.end < 2 ^ 64
     → All (λ w. w < 2 ^ 64) (numbers_of places)
 numbers_fit places a b c d =
     let Fits : ℕ → Type 0 = λ w. w < 2 ^ 64 in
@@ -61,7 +67,8 @@ abbrev pub content : Places → List ℕ → List ℕ → List ℕ → List ℕ 
 content places client server rows bytes = header_of places ++ client ++ server ++ rows ++ bytes
 
 module _ (places : Places) (client server rows bytes : List ℕ) (rules : ℕ)
-    (are : ArePlaces (length client) (length server) rules (length bytes) places) (long : length rows ≡ 24 * rules) where
+    (are : ArePlaces (length client) (length server) rules (length bytes) places)
+    (long : length rows ≡ 24 * rules) where
   pub header_length : length (header_of places) ≡ 48
   header_length = length-words (numbers_of places)
 
@@ -73,40 +80,54 @@ module _ (places : Places) (client server rows bytes : List ℕ) (rules : ℕ)
       let d = length-append (header_of places ++ client ++ server ++ rows) bytes in
       omega (arith, a, b, c, d, header_length, are.first, are.second, are.third, are.last, long)
 
-  content_word : (k : ℕ) → k < 6 → word_at (content places client server rows bytes) (8 * k) ≡ get_or (numbers_of places) k 0
+  content_word : (k : ℕ) → k < 6
+      → word_at (content places client server rows bytes) (8 * k) ≡ get_or (numbers_of places) k 0
   content_word k below =
-      let fit = numbers_fit places (omega (arith, are.first, are.second, are.third, are.last, are.short)) (omega (arith, are.second, are.third, are.last, are.short)) (omega (arith, are.third, are.last, are.short)) (omega (arith, are.last, are.short)) in
-      let apart : content places client server rows bytes ≡ header_of places ++ (client ++ (server ++ (rows ++ bytes))) = simp append_assoc in
-      ap (λ (l : List ℕ). word_at l (8 * k)) apart ∙ word_of_words (numbers_of places) (client ++ (server ++ (rows ++ bytes))) k below fit
+      let fit =
+      numbers_fit places (omega (arith, are.first, are.second, are.third, are.last, are.short))
+      (omega (arith, are.second, are.third, are.last, are.short)) (omega (arith, are.third, are.last, are.short))
+      (omega (arith, are.last, are.short)) in
+      let apart : content places client server rows bytes ≡ header_of places
+      ++ (client ++ (server ++ (rows ++ bytes))) = simp append_assoc in
+      ap (λ (l : List ℕ). word_at l (8 * k)) apart
+      ∙ word_of_words (numbers_of places) (client ++ (server ++ (rows ++ bytes))) k below fit
 
   pub content_kind : word_at (content places client server rows bytes) 0 ≡ image_kind
   content_kind = content_word 0 (omega arith)
 
   pub first_part : IsPartAt (content places client server rows bytes) 0 client
   first_part =
-      part_laid (content places client server rows bytes) (header_of places) client (server ++ rows ++ bytes) 0 48 places.server
+      part_laid (content places client server rows bytes) (header_of places) client (server ++ rows ++ bytes) 0 48
+      places.server
       (simp append_assoc) (sym header_length) are.first (content_word 1 (omega arith)) (content_word 2 (omega arith))
 
   pub second_part : IsPartAt (content places client server rows bytes) 1 server
   second_part =
       let a = length-append (header_of places) client in
-      part_laid (content places client server rows bytes) (header_of places ++ client) server (rows ++ bytes) 1 places.server places.rules
-      (simp append_assoc) (omega (arith, a, header_length, are.first)) are.second (content_word 2 (omega arith)) (content_word 3 (omega arith))
+      part_laid (content places client server rows bytes) (header_of places ++ client) server (rows ++ bytes) 1
+      places.server places.rules
+      (simp append_assoc) (omega (arith, a, header_length, are.first)) are.second (content_word 2 (omega arith))
+      (content_word 3 (omega arith))
 
   pub third_part : IsPartAt (content places client server rows bytes) 2 rows
   third_part =
       let a = length-append (header_of places) client in
       let b = length-append (header_of places ++ client) server in
-      part_laid (content places client server rows bytes) (header_of places ++ client ++ server) rows bytes 2 places.rules places.bytes
-      refl (omega (arith, a, b, header_length, are.first, are.second)) (omega (arith, are.third, long)) (content_word 3 (omega arith)) (content_word 4 (omega arith))
+      part_laid (content places client server rows bytes) (header_of places ++ client ++ server) rows bytes 2
+      places.rules places.bytes
+      refl (omega (arith, a, b, header_length, are.first, are.second)) (omega (arith, are.third, long))
+      (content_word 3 (omega arith)) (content_word 4 (omega arith))
 
   pub fourth_part : IsPartAt (content places client server rows bytes) 3 bytes
   fourth_part =
       let a = length-append (header_of places) client in
       let b = length-append (header_of places ++ client) server in
       let c = length-append (header_of places ++ client ++ server) rows in
-      part_laid (content places client server rows bytes) (header_of places ++ client ++ server ++ rows) bytes [] 3 places.bytes places.end
-      (sym (append-nil (content places client server rows bytes))) (omega (arith, a, b, c, header_length, are.first, are.second, are.third, long)) are.last (content_word 4 (omega arith)) (content_word 5 (omega arith))
+      part_laid (content places client server rows bytes) (header_of places ++ client ++ server ++ rows) bytes [] 3
+      places.bytes places.end
+      (sym (append-nil (content places client server rows bytes)))
+      (omega (arith, a, b, c, header_length, are.first, are.second, are.third, long)) are.last
+      (content_word 4 (omega arith)) (content_word 5 (omega arith))
 
   pub every_part : (which : ℕ) → which < 4 → HasPart (content places client server rows bytes) which
   every_part zero below = first_part.has
@@ -116,8 +137,10 @@ module _ (places : Places) (client server rows bytes : List ℕ) (rules : ℕ)
   every_part (suc (suc (suc (suc n)))) below = absurd (omega arith)
 
 module _ (rules : List MappingRule) (spans : List Span) (client server bytes : List ℕ) (places : Places)
-    (are : ArePlaces (length client) (length server) (length rules) (length bytes) places) (stand : AreSpans bytes rules spans)
-    (no_zero : All HasNoZero rules) (clients : IsTrieIn Client rules client bytes) (servers : IsTrieIn Server rules server bytes) where
+    (are : ArePlaces (length client) (length server) (length rules) (length bytes) places)
+    (stand : AreSpans bytes rules spans)
+    (no_zero : All HasNoZero rules) (clients : IsTrieIn Client rules client bytes)
+    (servers : IsTrieIn Server rules server bytes) where
   rows_long : length (rule_rows rules spans) ≡ 24 * length rules
   rows_long = length-rule_rows rules spans stand.counted
 
@@ -136,14 +159,21 @@ module _ (rules : List MappingRule) (spans : List Span) (client server bytes : L
         parts = every_part places client server rows bytes (length rules) are rows_long;
         client = rw (one.is, four.is) clients;
         server = rw (two.is, four.is) servers;
-        stored = rw (three.is, four.is) record { spans = spans; stand = stand; are = refl; few = omega (arith, are.last, are.short) };
+        stored =
+            rw (three.is, four.is)
+            record { spans = spans; stand = stand; are = refl; few = omega (arith, are.last, are.short) };
         no_zero = no_zero;
       }
 
   pub has_image : HasImage rules places.end
-  has_image = (content places client server (rule_rows rules spans) bytes, content_length places client server (rule_rows rules spans) bytes (length rules) are rows_long, content_image)
+  has_image = (
+    content places client server (rule_rows rules spans) bytes,
+    content_length places client server (rule_rows rules spans) bytes (length rules) are rows_long,
+    content_image,
+  )
 
-  module _ (old new : List ℕ) (room : places.end ≤ length old) (holds : Holds (content places client server (rule_rows rules spans) bytes) old new) where
+  module _ (old new : List ℕ) (room : places.end ≤ length old)
+      (holds : Holds (content places client server (rule_rows rules spans) bytes) old new) where
     -- where it was written, it stands at the front
     pub image_written : IsImage rules (take places.end new)
     image_written =
@@ -151,7 +181,8 @@ module _ (rules : List MappingRule) (spans : List Span) (client server bytes : L
         let size = content_length places client server (rule_rows rules spans) bytes (length rules) are rows_long in
         let whole = holds.are (omega (arith, size, room)) in
         subst (IsImage rules)
-        (sym (ap (take places.end) whole ∙ ap (λ (n : ℕ). take n (all ++ drop (length all) old)) (sym size) ∙ take-append_seam all (drop (length all) old)))
+        (sym (ap (take places.end) whole ∙ ap (λ (n : ℕ). take n (all ++ drop (length all) old)) (sym size)
+        ∙ take-append_seam all (drop (length all) old)))
         content_image
 
 -- and what was behind it stays
@@ -176,9 +207,11 @@ holds_none old = record { same = refl; are = λ _. refl }
 
 -- the bytes were appended at that place, whatever stood before them
 abbrev pub Puts : ℕ → List ℕ → List ℕ → List ℕ → Type 0
-Puts at bytes before after = (so_far first : List ℕ) → Holds so_far first before → at ≡ length so_far → Holds (so_far ++ bytes) first after
+Puts at bytes before after = (so_far first : List ℕ) → Holds so_far first before → at ≡ length so_far
+    → Holds (so_far ++ bytes) first after
 
-pub puts_same : (at : ℕ) (bytes other before after : List ℕ) → bytes ≡ other → Puts at bytes before after → Puts at other before after
+pub puts_same : (at : ℕ) (bytes other before after : List ℕ) → bytes ≡ other → Puts at bytes before after
+    → Puts at other before after
 puts_same at bytes other before after same puts so_far first holds place =
     subst (λ (l : List ℕ). Holds (so_far ++ l) first after) same (puts so_far first holds place)
 
@@ -186,9 +219,11 @@ puts_same at bytes other before after same puts so_far first holds place =
 pub parts_written : (rules : List MappingRule) (spans : List Span) (client server bytes : List ℕ) (places : Places)
     → ArePlaces (length client) (length server) (length rules) (length bytes) places → AreSpans bytes rules spans
     → (old one two three four five : List ℕ) → Holds (header_of places) old one
-    → Puts 48 client one two → Puts places.server server two three → Puts places.rules (rule_rows rules spans) three four → Puts places.bytes bytes four five
+    → Puts 48 client one two → Puts places.server server two three
+    → Puts places.rules (rule_rows rules spans) three four → Puts places.bytes bytes four five
     → Holds (content places client server (rule_rows rules spans) bytes) old five
-parts_written rules spans client server bytes places are stand old one two three four five header first second third fourth =
+parts_written rules spans client server bytes places are stand old one two three four five header first second third
+    fourth =
     let rows : List ℕ = rule_rows rules spans in
     let long = length-rule_rows rules spans stand.counted in
     let size = header_length places client server rows bytes (length rules) are long in
@@ -197,5 +232,8 @@ parts_written rules spans client server bytes places are stand old one two three
     let c = length-append (header_of places ++ client ++ server) rows in
     let with_client = first (header_of places) old header (omega (arith, size)) in
     let with_server = second (header_of places ++ client) old with_client (omega (arith, size, a, are.first)) in
-    let with_rules = third (header_of places ++ client ++ server) old with_server (omega (arith, size, a, b, are.first, are.second)) in
-    fourth (header_of places ++ client ++ server ++ rows) old with_rules (omega (arith, size, a, b, c, long, are.first, are.second, are.third))
+    let with_rules =
+    third (header_of places ++ client ++ server) old with_server
+    (omega (arith, size, a, b, are.first, are.second)) in
+    fourth (header_of places ++ client ++ server ++ rows) old with_rules
+    (omega (arith, size, a, b, c, long, are.first, are.second, are.third))

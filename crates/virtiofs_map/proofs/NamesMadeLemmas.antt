@@ -1,5 +1,6 @@
 -- The rules that are read back from an image, one by one.
-use Rattle.std.proofs.Common.{◌≡◌, ◌↔◌, ℕ, ◌+◌, ◌/◌, ◌<◌, Bool, true, false, eqb, List, [], ◌∷◌, ◌++◌, All, length, take, Some, None, refl, sym, ap, subst, ◌∙◌, arith}
+use Rattle.std.proofs.Common.{◌≡◌, ◌↔◌, ℕ, ◌+◌, ◌/◌, ◌<◌, Bool, true, false, eqb, List, [], ◌∷◌, ◌++◌, All, length}
+use Rattle.std.proofs.Common.{take, Some, None, refl, sym, ap, subst, ◌∙◌, arith}
 use Rattle.std.specs.List.{list_any, slice_get}
 use Rattle.std.proofs.lemmas.Bool.{eqb-true, eqb-false}
 use Rattle.std.proofs.lemmas.List.{take_more}
@@ -12,9 +13,11 @@ use Rattle.virtiofs_map.proofs.RuleRowLemmas.{length-rule_rows, rule_there}
 
 -- ---- zeros
 
-zero_by : (b : Bool) (byte : ℕ) (bytes : List ℕ) → eqb byte 0 ≡ b → ((list_any (λ y. eqb y 0) bytes ≡ false) ↔ All IsNotZero bytes)
+zero_by : (b : Bool) (byte : ℕ) (bytes : List ℕ) → eqb byte 0 ≡ b
+    → ((list_any (λ y. eqb y 0) bytes ≡ false) ↔ All IsNotZero bytes)
     → (list_any (λ y. eqb y 0) (byte ∷ bytes) ≡ false) ↔ All IsNotZero (byte ∷ bytes)
-zero_by true byte bytes e more = (λ none. absurd (cc (e, none)), λ all. absurd (All-head IsNotZero byte bytes all (eqb-true byte 0 e)))
+zero_by true byte bytes e more =
+    (λ none. absurd (cc (e, none)), λ all. absurd (All-head IsNotZero byte bytes all (eqb-true byte 0 e)))
 zero_by false byte bytes e more = (
   λ none. All-cons IsNotZero byte bytes (eqb-false byte 0 e) (more.0 (cc (e, none))),
   λ all. (let rest = more.1 (All-tail IsNotZero byte bytes all) in cc (e, rest)),
@@ -35,7 +38,8 @@ module _ (rules : List MappingRule) (rows bytes : List ℕ) (are : AreRuleRows r
       omega (arith, long, same)
 
   -- one rule more
-  pub one_more : (at : ℕ) (rule : MappingRule) (so_far : List MappingRule) → Some rule ≡ slice_get rules at → so_far ≡ take at rules → so_far ++ rule ∷ [] ≡ take (at + 1) rules
+  pub one_more : (at : ℕ) (rule : MappingRule) (so_far : List MappingRule) → Some rule ≡ slice_get rules at
+      → so_far ≡ take at rules → so_far ++ rule ∷ [] ≡ take (at + 1) rules
   one_more at rule so_far here is =
       let below = slice_get_within rules at rule (sym here) in
       sym (take_more rules at rule below ∙ rw (← is, get_or_from_slice_get rules at rule rule (sym here)) refl)
@@ -50,4 +54,5 @@ module _ (rules : List MappingRule) (rows bytes : List ℕ) (are : AreRuleRows r
   -- which has no zero
   pub has_none : (at : ℕ) (rule : MappingRule) → All HasNoZero rules → Some rule ≡ slice_get rules at → HasNoZero rule
   has_none at rule plain here =
-      subst HasNoZero (get_or_from_slice_get rules at rule rule (sym here)) (plain at rule (slice_get_within rules at rule (sym here)))
+      subst HasNoZero (get_or_from_slice_get rules at rule rule (sym here))
+      (plain at rule (slice_get_within rules at rule (sym here)))

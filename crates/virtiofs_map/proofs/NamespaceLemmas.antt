@@ -1,5 +1,7 @@
 -- The delimiters and fields of a namespace's range, and what is wrong with them.
-use Rattle.std.proofs.Common.{◌≡◌, ◌≢◌, inl, inr, ◌==◌, ℕ, ◌<◌, Bool, true, false, not, List, [], ◌∷◌, ◌++◌, length, take, All, Contains, slice_get, Option, Some, None, nat_eq, refl, sym, ap, ◌∙◌, subst, eq-eqb, append_assoc, arith}
+use Rattle.std.proofs.Common.{◌≡◌, ◌≢◌, inl, inr, ◌==◌, ℕ, ◌<◌, Bool, true, false, not, List, [], ◌∷◌, ◌++◌, length}
+use Rattle.std.proofs.Common.{take, All, Contains, slice_get, Option, Some, None, nat_eq, refl, sym, ap, ◌∙◌, subst}
+use Rattle.std.proofs.Common.{eq-eqb, append_assoc, arith}
 use Rattle.std.specs.Char.{IsScalar, encode_utf8}
 use Rattle.std.specs.Option.{option_eq}
 use Rattle.std.specs.Str.{chars, IsUtf8}
@@ -13,16 +15,20 @@ use Rattle.virtiofs_map.specs.Alphanumeric.{is_alphanumeric}
 use Rattle.virtiofs_map.specs.Numeral.{IsNumeral}
 use Rattle.virtiofs_map.specs.Separator.{Lacks, split_at_each}
 use Rattle.virtiofs_map.specs.NamespaceParts.{IsThreeFields}
-use Rattle.virtiofs_map.specs.NamespaceText.{SaysNamespace, IsEnclosed, HasNoDelimiter, HasOtherField, NamespaceFault, InvalidDelimiter, IncompleteMap, InvalidValue, HasNamespaceFault}
+use Rattle.virtiofs_map.specs.NamespaceText.{SaysNamespace, IsEnclosed, HasNoDelimiter, HasOtherField, NamespaceFault}
+use Rattle.virtiofs_map.specs.NamespaceText.{InvalidDelimiter, IncompleteMap, InvalidValue, HasNamespaceFault}
 use Rattle.virtiofs_map.proofs.NumeralLemmas.{IsNumeral-one}
 use Rattle.virtiofs_map.proofs.SpecificationPrefixLemmas.{chars-push}
 use Rattle.virtiofs_map.proofs.SpecificationLemmas.{split_at_each-cut, split_at_each-last}
 
 -- the three fields are those that the delimiter separates
-split_at_each-three : (d : ℕ) (inner x y z : List ℕ) → IsThreeFields d inner x y z → split_at_each d inner ≡ x ∷ y ∷ z ∷ []
+split_at_each-three : (d : ℕ) (inner x y z : List ℕ) → IsThreeFields d inner x y z
+    → split_at_each d inner ≡ x ∷ y ∷ z ∷ []
 split_at_each-three d inner x y z three =
-    let one : split_at_each d inner ≡ x ∷ split_at_each d (y ++ d ∷ z) = split_at_each-cut d inner x (y ++ d ∷ z) three.whole three.first_free in
-    let two : split_at_each d (y ++ d ∷ z) ≡ y ∷ split_at_each d z = split_at_each-cut d (y ++ d ∷ z) y z refl three.second_free in
+    let one : split_at_each d inner ≡ x ∷ split_at_each d (y ++ d ∷ z) =
+    split_at_each-cut d inner x (y ++ d ∷ z) three.whole three.first_free in
+    let two : split_at_each d (y ++ d ∷ z) ≡ y ∷ split_at_each d z =
+    split_at_each-cut d (y ++ d ∷ z) y z refl three.second_free in
     let last : split_at_each d z ≡ z ∷ [] = split_at_each-last d z three.third_free in
     cc
 
@@ -38,7 +44,8 @@ snoc_same (a ∷ xs) (b ∷ ys) x y e =
     (cc, last)
 
 -- the delimiter of a text, and what it encloses, are determined
-enclosed_same : (text : List ℕ) (d e : ℕ) (inner other : List ℕ) → IsEnclosed text d inner → IsEnclosed text e other → (d ≡ e) × (inner ≡ other)
+enclosed_same : (text : List ℕ) (d e : ℕ) (inner other : List ℕ) → IsEnclosed text d inner → IsEnclosed text e other
+    → (d ≡ e) × (inner ≡ other)
 enclosed_same text d e inner other one two =
     let (front, last) = snoc_same (d ∷ inner) (e ∷ other) d e (sym one.whole ∙ two.whole) in
     (last, cc)
@@ -79,9 +86,11 @@ range_inside text a b c says =
     }
 
 -- three numerals between delimiters say a range
-pub SaysNamespace-parts : (text : List ℕ) (d : ℕ) (inner x y z : List ℕ) (a b c : ℕ) → IsEnclosed text d inner → IsThreeFields d inner x y z → IsNumeral x a → IsNumeral y b → IsNumeral z c → SaysNamespace text a b c
+pub SaysNamespace-parts : (text : List ℕ) (d : ℕ) (inner x y z : List ℕ) (a b c : ℕ) → IsEnclosed text d inner
+    → IsThreeFields d inner x y z → IsNumeral x a → IsNumeral y b → IsNumeral z c → SaysNamespace text a b c
 SaysNamespace-parts text d inner x y z a b c enclosed three one two last =
-    let opened : text ≡ d ∷ (x ++ d ∷ (y ++ d ∷ z)) ++ d ∷ [] = enclosed.whole ∙ ap (λ (cs : List ℕ). d ∷ cs ++ d ∷ []) three.whole in
+    let opened : text ≡ d ∷ (x ++ d ∷ (y ++ d ∷ z)) ++ d ∷ [] = enclosed.whole
+    ∙ ap (λ (cs : List ℕ). d ∷ cs ++ d ∷ []) three.whole in
     record {
       delimiter = d;
       first = x;
@@ -95,7 +104,9 @@ SaysNamespace-parts text d inner x y z a b c enclosed three one two last =
     }
 
 -- one of the three fields is no numeral
-pub HasOtherField-parts : (text : List ℕ) (d : ℕ) (inner x y z field : List ℕ) → IsEnclosed text d inner → IsThreeFields d inner x y z → Contains (x ∷ y ∷ z ∷ []) field → ((value : ℕ) → ¬ IsNumeral field value) → HasOtherField text
+pub HasOtherField-parts : (text : List ℕ) (d : ℕ) (inner x y z field : List ℕ) → IsEnclosed text d inner
+    → IsThreeFields d inner x y z → Contains (x ∷ y ∷ z ∷ []) field → ((value : ℕ) → ¬ IsNumeral field value)
+    → HasOtherField text
 HasOtherField-parts text d inner x y z field enclosed three here unread =
     let fields : split_at_each d inner ≡ x ∷ y ∷ z ∷ [] = split_at_each-three d inner x y z three in
     record {
@@ -109,13 +120,15 @@ HasOtherField-parts text d inner x y z field enclosed three here unread =
     }
 
 -- a text says one range at most
-pub SaysNamespace-one : (text : List ℕ) (a b c x y z : ℕ) → SaysNamespace text a b c → SaysNamespace text x y z → (a ≡ x) × (b ≡ y) × (c ≡ z)
+pub SaysNamespace-one : (text : List ℕ) (a b c x y z : ℕ) → SaysNamespace text a b c → SaysNamespace text x y z
+    → (a ≡ x) × (b ≡ y) × (c ≡ z)
 SaysNamespace-one text a b c x y z one two =
     let p = range_inside text a b c one in
     let q = range_inside text x y z two in
     let (delimiter, inner) = enclosed_same text p.delimiter q.delimiter p.inner q.inner p.enclosed q.enclosed in
     let same : split_at_each p.delimiter p.inner ≡ split_at_each q.delimiter q.inner = rw (delimiter, inner) refl in
-    let fields : p.first ∷ p.second ∷ p.third ∷ [] ≡ q.first ∷ q.second ∷ q.third ∷ [] = sym p.fields ∙ same ∙ q.fields in
+    let fields : p.first ∷ p.second ∷ p.third ∷ [] ≡ q.first ∷ q.second ∷ q.third ∷ [] = sym p.fields ∙ same
+    ∙ q.fields in
     let first : p.first ≡ q.first = cc in
     let second : p.second ≡ q.second = cc in
     let third : p.third ≡ q.third = cc in (
@@ -143,13 +156,15 @@ some_of_enclosed text d inner enclosed empty =
     cc
 
 -- the count of its fields is determined
-count_of_enclosed : (text : List ℕ) (d e : ℕ) (inner other : List ℕ) → IsEnclosed text d inner → IsEnclosed text e other → length (split_at_each d inner) ≡ length (split_at_each e other)
+count_of_enclosed : (text : List ℕ) (d e : ℕ) (inner other : List ℕ) → IsEnclosed text d inner → IsEnclosed text e other
+    → length (split_at_each d inner) ≡ length (split_at_each e other)
 count_of_enclosed text d e inner other one two =
     let (delimiter, inside) = enclosed_same text d e inner other one two in
     rw (delimiter, inside) refl
 
 -- where the fields of a range are numerals, none is no numeral
-fields_of_range : (text : List ℕ) (a b c : ℕ) → (p : IsRangeInside text a b c) → All (λ field. (value : ℕ) × IsNumeral field value) (split_at_each p.delimiter p.inner)
+fields_of_range : (text : List ℕ) (a b c : ℕ) → (p : IsRangeInside text a b c)
+    → All (λ field. (value : ℕ) × IsNumeral field value) (split_at_each p.delimiter p.inner)
 fields_of_range text a b c p =
     let Read : List ℕ → Type 0 = λ field. (value : ℕ) × IsNumeral field value in
     rw p.fields
@@ -158,7 +173,8 @@ fields_of_range text a b c p =
     (All-cons Read p.third [] (c, p.third_says) (All-nil Read))))
 
 -- a text that says a range has no fault
-pub SaysNamespace-no_fault : (text : List ℕ) (a b c : ℕ) (e : NamespaceFault) → SaysNamespace text a b c → ¬ HasNamespaceFault text e
+pub SaysNamespace-no_fault : (text : List ℕ) (a b c : ℕ) (e : NamespaceFault) → SaysNamespace text a b c
+    → ¬ HasNamespaceFault text e
 SaysNamespace-no_fault text a b c InvalidDelimiter says fault =
     let p = range_inside text a b c says in
     delimiter_of_enclosed text p.delimiter p.inner p.enclosed fault
@@ -166,21 +182,29 @@ SaysNamespace-no_fault text a b c IncompleteMap says fault =
     let p = range_inside text a b c says in
     elim fault [
       | inl empty ↦ some_of_enclosed text p.delimiter p.inner p.enclosed empty
-      | inr count ↦ count.other (count_of_enclosed text count.delimiter p.delimiter count.inner p.inner count.enclosed p.enclosed ∙ ap length p.fields)
+      | inr count ↦ count.other
+          (count_of_enclosed text count.delimiter p.delimiter count.inner p.inner count.enclosed p.enclosed
+          ∙ ap length p.fields)
     ]
 SaysNamespace-no_fault text a b c InvalidValue says fault =
     let p = range_inside text a b c says in
-    let (delimiter, inner) = enclosed_same text fault.delimiter p.delimiter fault.inner p.inner fault.enclosed p.enclosed in
-    let here : Contains (split_at_each p.delimiter p.inner) fault.field = subst (λ (fs : List (List ℕ)). Contains fs fault.field) (rw (delimiter, inner) refl) fault.here in
-    let read : (value : ℕ) × IsNumeral fault.field value = All-contains (λ field. (value : ℕ) × IsNumeral field value) (split_at_each p.delimiter p.inner) fault.field (fields_of_range text a b c p) here in
+    let (delimiter, inner) =
+    enclosed_same text fault.delimiter p.delimiter fault.inner p.inner fault.enclosed p.enclosed in
+    let here : Contains (split_at_each p.delimiter p.inner) fault.field =
+    subst (λ (fs : List (List ℕ)). Contains fs fault.field) (rw (delimiter, inner) refl) fault.here in
+    let read : (value : ℕ) × IsNumeral fault.field value =
+    All-contains (λ field. (value : ℕ) × IsNumeral field value) (split_at_each p.delimiter p.inner) fault.field
+    (fields_of_range text a b c p) here in
     fault.unread read.0 read.1
 
 -- an empty text or another count of fields is no other fault
-apart_from_incomplete : (text : List ℕ) (d : ℕ) (inner : List ℕ) → IsEnclosed text d inner → length (split_at_each d inner) ≡ 3 → ¬ HasNamespaceFault text IncompleteMap
+apart_from_incomplete : (text : List ℕ) (d : ℕ) (inner : List ℕ) → IsEnclosed text d inner
+    → length (split_at_each d inner) ≡ 3 → ¬ HasNamespaceFault text IncompleteMap
 apart_from_incomplete text d inner enclosed three fault =
     elim fault [
       | inl empty ↦ some_of_enclosed text d inner enclosed empty
-      | inr count ↦ count.other (count_of_enclosed text count.delimiter d count.inner inner count.enclosed enclosed ∙ three)
+      | inr count ↦ count.other
+          (count_of_enclosed text count.delimiter d count.inner inner count.enclosed enclosed ∙ three)
     ]
 
 apart_from_delimiter : (text : List ℕ) → HasNoDelimiter text → ¬ HasNamespaceFault text IncompleteMap
@@ -191,15 +215,20 @@ apart_from_delimiter text none fault =
     ]
 
 -- a text has one fault at most
-pub HasNamespaceFault-one : (text : List ℕ) (e f : NamespaceFault) → HasNamespaceFault text e → HasNamespaceFault text f → e ≡ f
+pub HasNamespaceFault-one : (text : List ℕ) (e f : NamespaceFault) → HasNamespaceFault text e → HasNamespaceFault text f
+    → e ≡ f
 HasNamespaceFault-one text InvalidDelimiter InvalidDelimiter one two = refl
 HasNamespaceFault-one text InvalidDelimiter IncompleteMap one two = absurd (apart_from_delimiter text one two)
-HasNamespaceFault-one text InvalidDelimiter InvalidValue one two = absurd (delimiter_of_enclosed text two.delimiter two.inner two.enclosed one)
+HasNamespaceFault-one text InvalidDelimiter InvalidValue one two =
+    absurd (delimiter_of_enclosed text two.delimiter two.inner two.enclosed one)
 HasNamespaceFault-one text IncompleteMap InvalidDelimiter one two = absurd (apart_from_delimiter text two one)
 HasNamespaceFault-one text IncompleteMap IncompleteMap one two = refl
-HasNamespaceFault-one text IncompleteMap InvalidValue one two = absurd (apart_from_incomplete text two.delimiter two.inner two.enclosed two.three one)
-HasNamespaceFault-one text InvalidValue InvalidDelimiter one two = absurd (delimiter_of_enclosed text one.delimiter one.inner one.enclosed two)
-HasNamespaceFault-one text InvalidValue IncompleteMap one two = absurd (apart_from_incomplete text one.delimiter one.inner one.enclosed one.three two)
+HasNamespaceFault-one text IncompleteMap InvalidValue one two =
+    absurd (apart_from_incomplete text two.delimiter two.inner two.enclosed two.three one)
+HasNamespaceFault-one text InvalidValue InvalidDelimiter one two =
+    absurd (delimiter_of_enclosed text one.delimiter one.inner one.enclosed two)
+HasNamespaceFault-one text InvalidValue IncompleteMap one two =
+    absurd (apart_from_incomplete text one.delimiter one.inner one.enclosed one.three two)
 HasNamespaceFault-one text InvalidValue InvalidValue one two = refl
 
 -- a text before its last character
@@ -207,10 +236,14 @@ pub record IsBeforeLast (bs rest : List ℕ) (c : ℕ) : Type 0 where
   pub is_text : IsUtf8 rest
   pub whole : chars bs ≡ chars rest ++ c ∷ []
 
-pub IsBeforeLast-here : (bs rest : List ℕ) (c : ℕ) → IsUtf8 bs → IsScalar c → bs ≡ rest ++ encode_utf8 c → IsBeforeLast bs rest c
+pub IsBeforeLast-here : (bs rest : List ℕ) (c : ℕ) → IsUtf8 bs → IsScalar c → bs ≡ rest ++ encode_utf8 c
+    → IsBeforeLast bs rest c
 IsBeforeLast-here bs rest c text scalar ends =
     let front : take (length rest) bs ≡ rest = rw ends (take-append_seam rest (encode_utf8 c)) in
-    let is_front : IsUtf8 rest = subst (λ (xs : List ℕ). IsUtf8 xs) front (IsUtf8-take bs (length rest) text (IsCharBoundary-at_seam bs rest (encode_utf8 c) ends (IsUtf8-encode c scalar))) in
+    let is_front : IsUtf8 rest =
+    subst (λ (xs : List ℕ). IsUtf8 xs) front
+    (IsUtf8-take bs (length rest) text
+    (IsCharBoundary-at_seam bs rest (encode_utf8 c) ends (IsUtf8-encode c scalar))) in
     record { is_text = is_front; whole = ap chars ends ∙ chars-push rest c is_front scalar }
 
 -- no byte, no character
@@ -219,20 +252,26 @@ chars-empty [] empty = chars-nil
 chars-empty (b ∷ bs) empty = absurd (omega arith)
 
 -- the last character is alphanumeric
-pub HasNoDelimiter-letter : (bs rest : List ℕ) (c : ℕ) → IsBeforeLast bs rest c → is_alphanumeric c ≡ true → HasNoDelimiter (chars bs)
-HasNoDelimiter-letter bs rest c before letter = record { front = chars rest; last = c; ends = before.whole; wrong = inl letter }
+pub HasNoDelimiter-letter : (bs rest : List ℕ) (c : ℕ) → IsBeforeLast bs rest c → is_alphanumeric c ≡ true
+    → HasNoDelimiter (chars bs)
+HasNoDelimiter-letter bs rest c before letter =
+    record { front = chars rest; last = c; ends = before.whole; wrong = inl letter }
 
 -- the first of what stands before the last character is not that character
-pub HasNoDelimiter-first : (bs rest : List ℕ) (c : ℕ) → IsBeforeLast bs rest c → slice_get (chars rest) 0 ≢ Some c → HasNoDelimiter (chars bs)
+pub HasNoDelimiter-first : (bs rest : List ℕ) (c : ℕ) → IsBeforeLast bs rest c → slice_get (chars rest) 0 ≢ Some c
+    → HasNoDelimiter (chars bs)
 HasNoDelimiter-first bs rest c before other = record {
   front = chars rest;
   last = c;
   ends = before.whole;
-  wrong = inr (λ inner whole. other (ap (λ (cs : List ℕ). slice_get cs 0) (snoc_same (chars rest) (c ∷ inner) c c (sym before.whole ∙ whole)).0));
+  wrong = inr
+      (λ inner whole. other
+      (ap (λ (cs : List ℕ). slice_get cs 0) (snoc_same (chars rest) (c ∷ inner) c c (sym before.whole ∙ whole)).0));
 }
 
 -- it is that character
-pub IsEnclosed-here : (bs rest inner : List ℕ) (c : ℕ) → IsBeforeLast bs rest c → is_alphanumeric c ≡ false → rest ≡ encode_utf8 c ++ inner → IsEnclosed (chars bs) c (chars inner)
+pub IsEnclosed-here : (bs rest inner : List ℕ) (c : ℕ) → IsBeforeLast bs rest c → is_alphanumeric c ≡ false
+    → rest ≡ encode_utf8 c ++ inner → IsEnclosed (chars bs) c (chars inner)
 IsEnclosed-here bs rest inner c before delimits begins =
     let opened : chars rest ≡ c ∷ chars inner = chars_past_char rest inner c before.is_text begins in
     record { whole = before.whole ∙ ap (λ (cs : List ℕ). cs ++ c ∷ []) opened; delimits = delimits }
@@ -257,11 +296,14 @@ pub one_field : (d : ℕ) (inner : List ℕ) → Lacks d inner → length (split
 one_field d inner none = rw (split_at_each-last d inner none) (omega arith)
 
 -- where it is in it once, it is two
-pub two_fields : (d : ℕ) (inner x rest : List ℕ) → inner ≡ x ++ d ∷ rest → Lacks d x → Lacks d rest → length (split_at_each d inner) ≢ 3
-two_fields d inner x rest whole first none = rw (split_at_each-cut d inner x rest whole first, split_at_each-last d rest none) (omega arith)
+pub two_fields : (d : ℕ) (inner x rest : List ℕ) → inner ≡ x ++ d ∷ rest → Lacks d x → Lacks d rest
+    → length (split_at_each d inner) ≢ 3
+two_fields d inner x rest whole first none =
+    rw (split_at_each-cut d inner x rest whole first, split_at_each-last d rest none) (omega arith)
 
 -- where it is in it twice, it is three
-pub IsThreeFields-here : (d : ℕ) (inner x rest y z : List ℕ) → inner ≡ x ++ d ∷ rest → Lacks d x → rest ≡ y ++ d ∷ z → Lacks d y → Lacks d z → IsThreeFields d inner x y z
+pub IsThreeFields-here : (d : ℕ) (inner x rest y z : List ℕ) → inner ≡ x ++ d ∷ rest → Lacks d x → rest ≡ y ++ d ∷ z
+    → Lacks d y → Lacks d z → IsThreeFields d inner x y z
 IsThreeFields-here d inner x rest y z whole first cut second third = record {
   whole = whole ∙ ap (λ (cs : List ℕ). x ++ d ∷ cs) cut;
   first_free = first;
@@ -274,7 +316,12 @@ length-split_at_each : (d : ℕ) (cs : List ℕ) → 0 < length (split_at_each d
 length-split_at_each d cs = omega (arith, length-slice_split (λ c. c == d) cs)
 
 -- where it is in it more often, there are more
-pub more_fields : (d : ℕ) (inner x rest y z front back : List ℕ) → inner ≡ x ++ d ∷ rest → Lacks d x → rest ≡ y ++ d ∷ z → Lacks d y → z ≡ front ++ d ∷ back → Lacks d front → length (split_at_each d inner) ≢ 3
+pub more_fields : (d : ℕ) (inner x rest y z front back : List ℕ) → inner ≡ x ++ d ∷ rest → Lacks d x → rest ≡ y ++ d ∷ z
+    → Lacks d y → z ≡ front ++ d ∷ back → Lacks d front → length (split_at_each d inner) ≢ 3
 more_fields d inner x rest y z front back whole first cut second more third =
-    rw (split_at_each-cut d inner x rest whole first, split_at_each-cut d rest y z cut second, split_at_each-cut d z front back more third)
+    rw (
+      split_at_each-cut d inner x rest whole first,
+      split_at_each-cut d rest y z cut second,
+      split_at_each-cut d z front back more third,
+    )
     (omega (arith, length-split_at_each d back))

@@ -30,22 +30,26 @@ IsAscii-colon = IsAscii-cons 58 [] (omega arith) IsAscii-nil
 -- one more field, and a colon after it
 IsAscii-field : (front : List ℕ) (n : ℕ) → IsAscii front → n < 2 ^ 32 → IsAscii (front ++ decimal n ++ codes ":")
 IsAscii-field front n ascii small =
-    IsAscii-append (front ++ decimal n) (codes ":") (IsAscii-append front (decimal n) ascii (IsAscii-decimal n (omega arith))) IsAscii-colon
+    IsAscii-append (front ++ decimal n) (codes ":")
+    (IsAscii-append front (decimal n) ascii (IsAscii-decimal n (omega arith))) IsAscii-colon
 
 IsAscii-namespace_text : (a b c : ℕ) → a < 2 ^ 32 → b < 2 ^ 32 → c < 2 ^ 32 → IsAscii (namespace_text a b c)
 IsAscii-namespace_text a b c small_a small_b small_c =
     let one : IsAscii (codes ":" ++ decimal a ++ codes ":") = IsAscii-field (codes ":") a IsAscii-colon small_a in
-    let two : IsAscii (codes ":" ++ decimal a ++ codes ":" ++ decimal b ++ codes ":") = IsAscii-field (codes ":" ++ decimal a ++ codes ":") b one small_b in
+    let two : IsAscii (codes ":" ++ decimal a ++ codes ":" ++ decimal b ++ codes ":") =
+    IsAscii-field (codes ":" ++ decimal a ++ codes ":") b one small_b in
     IsAscii-field (codes ":" ++ decimal a ++ codes ":" ++ decimal b ++ codes ":") c two small_c
 
 -- what a range is printed as says the range
-pub SaysNamespace-printed : (a b c : ℕ) → a < 2 ^ 32 → b < 2 ^ 32 → c < 2 ^ 32 → SaysNamespace (chars (namespace_text a b c)) a b c
+pub SaysNamespace-printed : (a b c : ℕ) → a < 2 ^ 32 → b < 2 ^ 32 → c < 2 ^ 32
+    → SaysNamespace (chars (namespace_text a b c)) a b c
 SaysNamespace-printed a b c small_a small_b small_c = record {
   delimiter = 58;
   first = decimal a;
   second = decimal b;
   third = decimal c;
-  whole = chars-IsAscii (namespace_text a b c) (IsAscii-namespace_text a b c small_a small_b small_c) ∙ simp append_assoc;
+  whole = chars-IsAscii (namespace_text a b c) (IsAscii-namespace_text a b c small_a small_b small_c)
+      ∙ simp append_assoc;
   delimits = colon_delimits;
   first_says = field_decimal a small_a;
   second_says = field_decimal b small_b;

@@ -6,7 +6,8 @@ use Rattle.std.proofs.lemmas.Bool.{cond_both}
 use Rattle.std.proofs.lemmas.List.Elements.{All-nil, All-append, All-same, All-from_recursion}
 use lib.Utf8.{encode}
 use Rattle.virtiofs_map.specs.Rule.{RuleType, Prefix, Okay, Bad, MappingRule, HasNoZero}
-use Rattle.virtiofs_map.specs.RuleText.{ScopeName, RuleHead, Typed, Map, RuleAsWritten, HasNoNul, RulesThen, RuleText, rule_of, rules_of, expanded, SaysRules}
+use Rattle.virtiofs_map.specs.RuleText.{ScopeName, RuleHead, Typed, Map, RuleAsWritten, HasNoNul, RulesThen, RuleText}
+use Rattle.virtiofs_map.specs.RuleText.{rule_of, rules_of, expanded, SaysRules}
 use Rattle.virtiofs_map.specs.RuleText as texts
 use Rattle.virtiofs_map.specs.Separator.{Lacks}
 
@@ -20,36 +21,57 @@ not_zero n l e = absurd (omega arith)
 char_no_zero : (c : ℕ) → c ≢ 0 → All IsNotZero (encode c)
 unfolding encode
 char_no_zero c some =
-    All-from_recursion IsNotZero _ (cond_both (ltb c 128) _ _ (AllByRecursion IsNotZero) (λ _. (some, tt)) (λ _. cond_both (ltb c 2048) _ _ (AllByRecursion IsNotZero) (λ _. (not_zero _ (omega arith), (not_zero _ (omega arith), tt))) (λ _. cond_both (ltb c 65536) _ _ (AllByRecursion IsNotZero) (λ _. (not_zero _ (omega arith), (not_zero _ (omega arith), (not_zero _ (omega arith), tt)))) (λ _. (not_zero _ (omega arith), (not_zero _ (omega arith), (not_zero _ (omega arith), (not_zero _ (omega arith), tt))))))))
+    All-from_recursion IsNotZero _
+    (cond_both (ltb c 128) _ _ (AllByRecursion IsNotZero) (λ _. (some, tt))
+    (λ _. cond_both (ltb c 2048) _ _ (AllByRecursion IsNotZero)
+    (λ _. (not_zero _ (omega arith), (not_zero _ (omega arith), tt)))
+    (λ _. cond_both (ltb c 65536) _ _ (AllByRecursion IsNotZero)
+    (λ _. (not_zero _ (omega arith), (not_zero _ (omega arith), (not_zero _ (omega arith), tt))))
+    (λ _. (
+      not_zero _ (omega arith),
+      (not_zero _ (omega arith), (not_zero _ (omega arith), (not_zero _ (omega arith), tt))),
+    )))))
 
 pub text_no_zero : (text : List ℕ) → Lacks 0 text → All IsNotZero (encode_utf8_all text)
 text_no_zero [] lacks = All-nil IsNotZero
-text_no_zero (c ∷ cs) lacks = All-append IsNotZero (encode c) (encode_utf8_all cs) (char_no_zero c lacks.0) (text_no_zero cs lacks.1)
+text_no_zero (c ∷ cs) lacks =
+    All-append IsNotZero (encode c) (encode_utf8_all cs) (char_no_zero c lacks.0) (text_no_zero cs lacks.1)
 
-rule_no_zero : (kind : RuleType) (word : ScopeName) (key prepend : List ℕ) → Lacks 0 key → Lacks 0 prepend → HasNoZero (rule_of kind word key prepend)
+rule_no_zero : (kind : RuleType) (word : ScopeName) (key prepend : List ℕ) → Lacks 0 key → Lacks 0 prepend
+    → HasNoZero (rule_of kind word key prepend)
 rule_no_zero kind word key prepend k p = record { in_key = text_no_zero key k; in_prepend = text_no_zero prepend p }
 
-rules_no_zero : (head : RuleHead) (key prepend : List ℕ) → Lacks 0 key → Lacks 0 prepend → All HasNoZero (rules_of head key prepend)
+rules_no_zero : (head : RuleHead) (key prepend : List ℕ) → Lacks 0 key → Lacks 0 prepend
+    → All HasNoZero (rules_of head key prepend)
 rules_no_zero (Typed kind word) key prepend k p =
     All-from_recursion HasNoZero (rules_of (Typed kind word) key prepend) (rule_no_zero kind word key prepend k p, tt)
 rules_no_zero Map [] prepend k p =
-    All-from_recursion HasNoZero (rules_of Map [] prepend) (rule_no_zero Prefix texts.All [] prepend k p, (rule_no_zero Bad texts.All [] [] tt tt, tt))
+    All-from_recursion HasNoZero (rules_of Map [] prepend)
+    (rule_no_zero Prefix texts.All [] prepend k p, (rule_no_zero Bad texts.All [] [] tt tt, tt))
 rules_no_zero Map (c ∷ cs) prepend k p =
-    All-from_recursion HasNoZero (rules_of Map (c ∷ cs) prepend) (rule_no_zero Prefix texts.All (c ∷ cs) prepend k p, (rule_no_zero Bad texts.All prepend (c ∷ cs) p k, (rule_no_zero Okay texts.All [] [] tt tt, tt)))
+    All-from_recursion HasNoZero (rules_of Map (c ∷ cs) prepend) (
+      rule_no_zero Prefix texts.All (c ∷ cs) prepend k p,
+      (rule_no_zero Bad texts.All prepend (c ∷ cs) p k, (rule_no_zero Okay texts.All [] [] tt tt, tt)),
+    )
 
 pub expanded_no_zero : (rules : List RuleAsWritten) → AllByRecursion HasNoNul rules → All HasNoZero (expanded rules)
 expanded_no_zero [] all = All-nil HasNoZero
 expanded_no_zero (rule ∷ rules) all =
-    All-append HasNoZero (rules_of rule.head rule.key rule.prepend) (expanded rules) (rules_no_zero rule.head rule.key rule.prepend all.0.0 all.0.1) (expanded_no_zero rules all.1)
+    All-append HasNoZero (rules_of rule.head rule.key rule.prepend) (expanded rules)
+    (rules_no_zero rule.head rule.key rule.prepend all.0.0 all.0.1) (expanded_no_zero rules all.1)
 
 -- the rules of a text hold no U+0000
-front_no_nul : (text : List ℕ) (rules : List RuleAsWritten) (rest : List ℕ) (last : RuleAsWritten) → RulesThen text rules rest → HasNoNul last → AllByRecursion HasNoNul (rules ++ last ∷ [])
+front_no_nul : (text : List ℕ) (rules : List RuleAsWritten) (rest : List ℕ) (last : RuleAsWritten)
+    → RulesThen text rules rest → HasNoNul last → AllByRecursion HasNoNul (rules ++ last ∷ [])
 front_no_nul text [] rest last read none = (none, tt)
-front_no_nul text (rule ∷ rules) rest last (blanks, next, whole, _, _, others) none = (whole.no_nul, front_no_nul next rules rest last others none)
+front_no_nul text (rule ∷ rules) rest last (blanks, next, whole, _, _, others) none =
+    (whole.no_nul, front_no_nul next rules rest last others none)
 
 pub text_no_nul : (text : List ℕ) (rules : List RuleAsWritten) → RuleText text rules → AllByRecursion HasNoNul rules
 text_no_nul text rules read =
-    subst (AllByRecursion HasNoNul) (sym read.are) (front_no_nul _ read.front read.rest read.last read.before read.ends.no_nul)
+    subst (AllByRecursion HasNoNul) (sym read.are)
+    (front_no_nul _ read.front read.rest read.last read.before read.ends.no_nul)
 
 pub read_no_zero : (text : List ℕ) (rules : List MappingRule) → SaysRules text rules → All HasNoZero rules
-read_no_zero text rules (written, read, are) = All-same HasNoZero rules (expanded written) are (expanded_no_zero written (text_no_nul text written read))
+read_no_zero text rules (written, read, are) =
+    All-same HasNoZero rules (expanded written) are (expanded_no_zero written (text_no_nul text written read))

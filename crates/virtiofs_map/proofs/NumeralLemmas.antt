@@ -1,15 +1,18 @@
 -- What `parse` reads as a number is a numeral, over characters, and nothing else is.
-use Rattle.std.proofs.Common.{◌≡◌, ◌≢◌, ◌⊎◌, ℕ, zero, suc, ◌^◌, ◌<◌, List, [], ◌∷◌, length, get_or, All, Result, Ok, Err, MatchResult, IfOk, IfErr, IsOkAnd, IsErr, refl, sym, ap, ◌∙◌, subst, inl, inr, arith}
+use Rattle.std.proofs.Common.{◌≡◌, ◌≢◌, ◌⊎◌, ℕ, zero, suc, ◌^◌, ◌<◌, List, [], ◌∷◌, length, get_or, All, Result, Ok}
+use Rattle.std.proofs.Common.{Err, MatchResult, IfOk, IfErr, IsOkAnd, IsErr, refl, sym, ap, ◌∙◌, subst, inl, inr, arith}
 use Rattle.std.specs.Char.{IsAsciiDigit}
 use Rattle.std.specs.Fmt.{decimal}
 use Rattle.std.specs.Int.{IsInRange}
 use Rattle.std.specs.Str.{chars, IsUtf8, IsAscii}
 use Rattle.std.specs.Str.Parse.{AllDigits, digits_value, without_leading_plus, IsNumeral as IsDigits, ParsesUnsigned}
 use Rattle.std.proofs.lemmas.Str.{chars-IsAscii, encodes-chars, encodes-IsAscii}
-use Rattle.std.proofs.lemmas.Str.Parse.{IsNumeralModel, numerals_by_value, tells_by_index, without_leading_plus_none, without_leading_plus_plus}
+use Rattle.std.proofs.lemmas.Str.Parse.{IsNumeralModel, numerals_by_value, tells_by_index, without_leading_plus_none}
+use Rattle.std.proofs.lemmas.Str.Parse.{without_leading_plus_plus}
 use Rattle.std.proofs.lemmas.Bool.Decides.{eqb_tells}
 use Rattle.std.proofs.lemmas.Fmt.{decimal_is_IsNumeral}
-use Rattle.std.proofs.lemmas.List.Elements.{All-get_or, All-from_get_or, All-head, All-tail, All-weaker, recursion_from_All}
+use Rattle.std.proofs.lemmas.List.Elements.{All-get_or, All-from_get_or, All-head, All-tail, All-weaker}
+use Rattle.std.proofs.lemmas.List.Elements.{recursion_from_All}
 use Rattle.virtiofs_map.specs.Numeral.{IsNumeral}
 use Rattle.virtiofs_map.specs.Separator.{Lacks}
 
@@ -38,7 +41,8 @@ IsAscii-numeral : (text : List ℕ) (value : ℕ) → IsNumeral text value → I
 IsAscii-numeral text value numeral =
     elim numeral.written [
       | inl bare ↦ subst (λ (xs : List ℕ). IsAscii xs) (sym bare) (IsAscii-digits numeral.digits numeral.decimal)
-      | inr signed ↦ subst (λ (xs : List ℕ). IsAscii xs) (sym signed) (IsAscii-cons 43 numeral.digits (omega arith) (IsAscii-digits numeral.digits numeral.decimal))
+      | inr signed ↦ subst (λ (xs : List ℕ). IsAscii xs) (sym signed)
+          (IsAscii-cons 43 numeral.digits (omega arith) (IsAscii-digits numeral.digits numeral.decimal))
     ]
 
 -- so they are its bytes
@@ -47,7 +51,8 @@ bytes-numeral bs value text numeral =
     sym (encodes-IsAscii (chars bs) (IsAscii-numeral (chars bs) value numeral)) ∙ encodes-chars bs text
 
 -- the digits of a text, and the text again
-written_from_plus : (bs : List ℕ) → 0 < length (without_leading_plus bs) → (bs ≡ without_leading_plus bs) ⊎ (bs ≡ 43 ∷ without_leading_plus bs)
+written_from_plus : (bs : List ℕ) → 0 < length (without_leading_plus bs)
+    → (bs ≡ without_leading_plus bs) ⊎ (bs ≡ 43 ∷ without_leading_plus bs)
 written_from_plus [] some = absurd (omega arith)
 written_from_plus (b ∷ bs) some =
     elim (eqb_tells b 43) [
@@ -56,7 +61,8 @@ written_from_plus (b ∷ bs) some =
     ]
 
 -- a text that `parse` reads is a numeral
-numeral_from_digits : (bs : List ℕ) → IsDigits 10 (without_leading_plus bs) → digits_value 10 (without_leading_plus bs) < 2 ^ 32 → IsNumeral bs (digits_value 10 (without_leading_plus bs))
+numeral_from_digits : (bs : List ℕ) → IsDigits 10 (without_leading_plus bs)
+    → digits_value 10 (without_leading_plus bs) < 2 ^ 32 → IsNumeral bs (digits_value 10 (without_leading_plus bs))
 numeral_from_digits bs digits small = record {
   digits = without_leading_plus bs;
   written = written_from_plus bs digits.0;
@@ -85,31 +91,42 @@ IsNumeral-one text v w a b =
     let same : a.digits ≡ b.digits = sym (digits_of_numeral text v a) ∙ digits_of_numeral text w b in
     sym a.worth ∙ ap (digits_value 10) same ∙ b.worth
 
-numeral_from_parse : {E : Type 0} (bs : List ℕ) (r : Result ℕ E) → IsUtf8 bs → ParsesUnsigned 32 10 bs r → MatchResult r (λ value. IsNumeral (chars bs) value) (λ _. (value : ℕ) → IsNumeral (chars bs) value → ⊥)
+numeral_from_parse : {E : Type 0} (bs : List ℕ) (r : Result ℕ E) → IsUtf8 bs → ParsesUnsigned 32 10 bs r
+    → MatchResult r (λ value. IsNumeral (chars bs) value) (λ _. (value : ℕ) → IsNumeral (chars bs) value → ⊥)
 numeral_from_parse bs (Ok value) text (parsed, is) =
-    let numeral : IsNumeral bs value = subst (λ (n : ℕ). IsNumeral bs n) (sym is) (numeral_from_digits bs parsed.0 parsed.1) in
+    let numeral : IsNumeral bs value =
+    subst (λ (n : ℕ). IsNumeral bs n) (sym is) (numeral_from_digits bs parsed.0 parsed.1) in
     subst (λ (xs : List ℕ). IsNumeral xs value) (sym (chars-IsAscii bs (IsAscii-numeral bs value numeral))) numeral
 numeral_from_parse bs (Err e) text refused =
     λ value numeral.
-    let numeral : IsNumeral bs value = subst (λ (xs : List ℕ). IsNumeral xs value) (bytes-numeral bs value text numeral) numeral in
+    let numeral : IsNumeral bs value =
+    subst (λ (xs : List ℕ). IsNumeral xs value) (bytes-numeral bs value text numeral) numeral in
     let same : without_leading_plus bs ≡ numeral.digits = digits_of_numeral bs value numeral in
-    refused (rw same ((numeral.some, AllDigits-All numeral.digits numeral.decimal), rw numeral.worth (omega (arith, numeral.fits))))
+    refused (rw same
+    ((numeral.some, AllDigits-All numeral.digits numeral.decimal), rw numeral.worth (omega (arith, numeral.fits))))
 
 -- so what `parse` answers is told both ways
-pub numeral_read : {E : Type 0} (bs : List ℕ) (r : Result ℕ E) → IsUtf8 bs → ParsesUnsigned 32 10 bs r → IfOk r (λ value. IsNumeral (chars bs) value)
+pub numeral_read : {E : Type 0} (bs : List ℕ) (r : Result ℕ E) → IsUtf8 bs → ParsesUnsigned 32 10 bs r
+    → IfOk r (λ value. IsNumeral (chars bs) value)
 numeral_read {E} bs (Ok value) text parsed = numeral_from_parse {E = E} bs (Ok value) text parsed
 numeral_read {E} bs (Err e) text parsed = tt
 
-pub numeral_complete : {E : Type 0} (bs : List ℕ) (r : Result ℕ E) → IsUtf8 bs → ParsesUnsigned 32 10 bs r → (value : ℕ) → IsNumeral (chars bs) value → IsOkAnd r (λ read. read ≡ value)
-numeral_complete {E} bs (Ok read) text parsed value numeral = IsNumeral-one (chars bs) read value (numeral_from_parse {E = E} bs (Ok read) text parsed) numeral
-numeral_complete {E} bs (Err e) text parsed value numeral = numeral_from_parse {E = E} bs (Err e) text parsed value numeral
+pub numeral_complete : {E : Type 0} (bs : List ℕ) (r : Result ℕ E) → IsUtf8 bs → ParsesUnsigned 32 10 bs r → (value : ℕ)
+    → IsNumeral (chars bs) value → IsOkAnd r (λ read. read ≡ value)
+numeral_complete {E} bs (Ok read) text parsed value numeral =
+    IsNumeral-one (chars bs) read value (numeral_from_parse {E = E} bs (Ok read) text parsed) numeral
+numeral_complete {E} bs (Err e) text parsed value numeral =
+    numeral_from_parse {E = E} bs (Err e) text parsed value numeral
 
-pub numeral_refused : {E : Type 0} (bs : List ℕ) (r : Result ℕ E) → IsUtf8 bs → ParsesUnsigned 32 10 bs r → IfErr r (λ _. (value : ℕ) → ¬ IsNumeral (chars bs) value)
+pub numeral_refused : {E : Type 0} (bs : List ℕ) (r : Result ℕ E) → IsUtf8 bs → ParsesUnsigned 32 10 bs r
+    → IfErr r (λ _. (value : ℕ) → ¬ IsNumeral (chars bs) value)
 numeral_refused {E} bs (Ok value) text parsed = tt
 numeral_refused {E} bs (Err e) text parsed = numeral_from_parse {E = E} bs (Err e) text parsed
 
-pub numeral_faulty : {E : Type 0} (bs : List ℕ) (r : Result ℕ E) → IsUtf8 bs → ParsesUnsigned 32 10 bs r → ((value : ℕ) → ¬ IsNumeral (chars bs) value) → IsErr r
-numeral_faulty {E} bs (Ok value) text parsed none = absurd (none value (numeral_from_parse {E = E} bs (Ok value) text parsed))
+pub numeral_faulty : {E : Type 0} (bs : List ℕ) (r : Result ℕ E) → IsUtf8 bs → ParsesUnsigned 32 10 bs r
+    → ((value : ℕ) → ¬ IsNumeral (chars bs) value) → IsErr r
+numeral_faulty {E} bs (Ok value) text parsed none =
+    absurd (none value (numeral_from_parse {E = E} bs (Ok value) text parsed))
 numeral_faulty {E} bs (Err e) text parsed none = refl
 
 -- a number in decimal is nothing but digits
@@ -118,7 +135,9 @@ All-decimal n small = All-AllDigits (decimal n) (decimal_is_IsNumeral n (omega a
 
 -- so it holds no colon
 pub decimal_lacks_colon : (n : ℕ) → n < 2 ^ 32 → Lacks 58 (decimal n)
-decimal_lacks_colon n small = recursion_from_All (λ c. c ≢ 58) (decimal n) (All-weaker IsAsciiDigit (λ c. c ≢ 58) (λ c digit. omega arith) (decimal n) (All-decimal n small))
+decimal_lacks_colon n small =
+    recursion_from_All (λ c. c ≢ 58) (decimal n)
+    (All-weaker IsAsciiDigit (λ c. c ≢ 58) (λ c digit. omega arith) (decimal n) (All-decimal n small))
 
 -- and is a numeral of the number
 pub IsNumeral-decimal : (n : ℕ) → n < 2 ^ 32 → IsNumeral (decimal n) n

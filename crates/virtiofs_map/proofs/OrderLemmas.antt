@@ -1,5 +1,6 @@
 -- What each two elements of a list keep when the list is put in another order.
-use Rattle.std.proofs.Common.{◌≡◌, inl, inr, ℕ, ◌<◌, List, length, get_or, AllPairs, IsPermutation, refl, sym, ap, ◌∙◌, arith}
+use Rattle.std.proofs.Common.{◌≡◌, inl, inr, ℕ, ◌<◌, List, length, get_or, AllPairs, IsPermutation, refl, sym, ap, ◌∙◌}
+use Rattle.std.proofs.Common.{arith}
 use Rattle.std.specs.List.{swap}
 use Rattle.std.proofs.lemmas.Bool.{cases_order, cases_eq}
 use Rattle.std.proofs.lemmas.List.Edits.{Swapped, swapped_from_swap, length-swap}
@@ -14,7 +15,8 @@ record CameFrom {X : Type 0} (f g : ℕ → X) (a b n place : ℕ) : Type 0 wher
   from_second : place ≡ b → origin ≡ a
   unmoved : (place ≡ a → ⊥) → (place ≡ b → ⊥) → origin ≡ place
 
-came_from : {X : Type 0} (f g : ℕ → X) (a b n place : ℕ) → Swapped f g a b → a < n → b < n → place < n → CameFrom f g a b n place
+came_from : {X : Type 0} (f g : ℕ → X) (a b n place : ℕ) → Swapped f g a b → a < n → b < n → place < n
+    → CameFrom f g a b n place
 came_from f g a b n place swapped first second below =
     elim (cases_eq place a) [
       | inl at_first ↦ record {
@@ -46,11 +48,14 @@ came_from f g a b n place swapped first second below =
     ]
 
 -- two places come from two places
-origins_differ : (a b i j s t : ℕ) → (i ≡ j → ⊥) → (i ≡ a → s ≡ b) → (i ≡ b → s ≡ a) → ((i ≡ a → ⊥) → (i ≡ b → ⊥) → s ≡ i) → (j ≡ a → t ≡ b) → (j ≡ b → t ≡ a) → ((j ≡ a → ⊥) → (j ≡ b → ⊥) → t ≡ j) → s ≡ t → ⊥
+origins_differ : (a b i j s t : ℕ) → (i ≡ j → ⊥) → (i ≡ a → s ≡ b) → (i ≡ b → s ≡ a)
+    → ((i ≡ a → ⊥) → (i ≡ b → ⊥) → s ≡ i) → (j ≡ a → t ≡ b) → (j ≡ b → t ≡ a) → ((j ≡ a → ⊥) → (j ≡ b → ⊥) → t ≡ j)
+    → s ≡ t → ⊥
 origins_differ a b i j s t differ i_first i_second i_unmoved j_first j_second j_unmoved same = grind arith
 
 -- where the relation has no order, the two places may come in either order
-either_order : {X : Type 0} (R : X → X → Type 0) (flips : (x y : X) → R x y → R y x) (xs : List X) (i j : ℕ) (d : X) → AllPairs R xs → (i ≡ j → ⊥) → i < length xs → j < length xs → R (get_or xs i d) (get_or xs j d)
+either_order : {X : Type 0} (R : X → X → Type 0) (flips : (x y : X) → R x y → R y x) (xs : List X) (i j : ℕ) (d : X)
+    → AllPairs R xs → (i ≡ j → ⊥) → i < length xs → j < length xs → R (get_or xs i d) (get_or xs j d)
 either_order R flips xs i j d pairs differ below under =
     elim (cases_order i j) [
       | inl same ↦ absurd (differ same)
@@ -58,16 +63,23 @@ either_order R flips xs i j d pairs differ below under =
       | inr (inr later) ↦ flips (get_or xs j d) (get_or xs i d) (pairs j i d later below)
     ]
 
-AllPairs-swap : {X : Type 0} (R : X → X → Type 0) (flips : (x y : X) → R x y → R y x) (xs : List X) (a b : ℕ) → a < length xs → b < length xs → AllPairs R xs → AllPairs R (swap xs a b)
+AllPairs-swap : {X : Type 0} (R : X → X → Type 0) (flips : (x y : X) → R x y → R y x) (xs : List X) (a b : ℕ)
+    → a < length xs → b < length xs → AllPairs R xs → AllPairs R (swap xs a b)
 AllPairs-swap R flips xs a b first second pairs i j d before below =
     let under : j < length xs = rw (length-swap xs a b) at below in
     let swapped = swapped_from_swap xs (swap xs a b) a b d first second refl in
-    let p = came_from (λ k. get_or xs k d) (λ k. get_or (swap xs a b) k d) a b (length xs) i swapped first second (omega arith) in
-    let q = came_from (λ k. get_or xs k d) (λ k. get_or (swap xs a b) k d) a b (length xs) j swapped first second under in
-    let differ : p.origin ≡ q.origin → ⊥ = origins_differ a b i j p.origin q.origin (λ same. omega arith) p.from_first p.from_second p.unmoved q.from_first q.from_second q.unmoved in
+    let p = came_from (λ k. get_or xs k d) (λ k. get_or (swap xs a b) k d) a b (length xs) i swapped first second
+    (omega arith) in
+    let q = came_from (λ k. get_or xs k d) (λ k. get_or (swap xs a b) k d) a b (length xs) j swapped first second
+    under in
+    let differ : p.origin ≡ q.origin → ⊥ =
+    origins_differ a b i j p.origin q.origin (λ same. omega arith) p.from_first p.from_second p.unmoved q.from_first
+    q.from_second q.unmoved in
     rw (p.same, q.same) (either_order R flips xs p.origin q.origin d pairs differ p.below q.below)
 
 -- each two elements are related in any order of the list
-pub AllPairs-permutation : {X : Type 0} (R : X → X → Type 0) (flips : (x y : X) → R x y → R y x) (xs ys : List X) → IsPermutation xs ys → AllPairs R xs → AllPairs R ys
+pub AllPairs-permutation : {X : Type 0} (R : X → X → Type 0) (flips : (x y : X) → R x y → R y x) (xs ys : List X)
+    → IsPermutation xs ys → AllPairs R xs → AllPairs R ys
 AllPairs-permutation R flips xs ys permutation pairs =
-    IsPermutation-keeps xs (λ l. AllPairs R l) pairs (λ l a b first second so_far. AllPairs-swap R flips l a b first second so_far) ys permutation
+    IsPermutation-keeps xs (λ l. AllPairs R l) pairs
+    (λ l a b first second so_far. AllPairs-swap R flips l a b first second so_far) ys permutation

@@ -1,5 +1,7 @@
 -- The patterns of a side, gathered rule by rule, and in any order.
-use Rattle.std.proofs.Common.{◌≡◌, ◌≢◌, ◌⊎◌, ℕ, zero, suc, ◌+◌, ◌*◌, ◌<◌, ◌≤◌, Bool, true, false, cond, eqb, ltb, List, [], ◌∷◌, ◌++◌, length, take, get_or, Some, inl, inr, refl, sym, ap, subst, ◌∙◌, eq-eqb, arith}
+use Rattle.std.proofs.Common.{◌≡◌, ◌≢◌, ◌⊎◌, ℕ, zero, suc, ◌+◌, ◌*◌, ◌<◌, ◌≤◌, Bool, true, false, cond, eqb, ltb, List}
+use Rattle.std.proofs.Common.{[], ◌∷◌, ◌++◌, length, take, get_or, Some, inl, inr, refl, sym, ap, subst, ◌∙◌, eq-eqb}
+use Rattle.std.proofs.Common.{arith}
 use Rattle.std.specs.Cmp.Lexicographic.{slice_cmp, nat_list_cmp_total}
 use Rattle.std.specs.List.{All, Contains, slice_get}
 use Rattle.std.specs.List.Sorted.{IsPermutation, IsSortedBy}
@@ -20,7 +22,8 @@ use Rattle.virtiofs_map.specs.declared.xattrmap.scopes.Side.{Side}
 use Rattle.virtiofs_map.proofs.WayLemmas.{pattern_no_zero}
 
 -- the rule at the place has a pattern
-pub patterns_more : (side : Side) (rules : List MappingRule) (bytes : List ℕ) (place : ℕ) (patterns : List Pattern) (one : Pattern)
+pub patterns_more : (side : Side) (rules : List MappingRule) (bytes : List ℕ) (place : ℕ) (patterns : List Pattern)
+    (one : Pattern)
     → ArePatternsBelow side rules bytes place patterns → IsPatternAt side rules bytes place one
     → ArePatternsBelow side rules bytes (place + 1) (patterns ++ one ∷ [])
 patterns_more side rules bytes place patterns one below is = record {
@@ -31,14 +34,21 @@ patterns_more side rules bytes place patterns one below is = record {
         (other, Contains-append_left patterns (one ∷ []) other stored, same, answer))
     | inr later ↦
         (let now : at ≡ place = omega (arith, before, later) in
-        let rule_is : is.rule ≡ rule = same_Some _ _ (sym is.here ∙ ap (slice_get rules) (sym now) ∙ here) in
-        (one, Contains-push patterns one, is.are ∙ ap (pattern side) rule_is, is.stands_for ∙ ap (λ n. 4 * n + type_number is.rule.kind) (sym now) ∙ ap (λ (r : MappingRule). 4 * at + type_number r.kind) rule_is))
+        let rule_is : is.rule ≡ rule = same_Some _ _ (sym is.here ∙ ap (slice_get rules) (sym now) ∙ here) in (
+          one,
+          Contains-push patterns one,
+          is.are ∙ ap (pattern side) rule_is,
+          is.stands_for
+              ∙ ap (λ n. 4 * n + type_number is.rule.kind) (sym now)
+              ∙ ap (λ (r : MappingRule). 4 * at + type_number r.kind) rule_is,
+        ))
   ];
 }
 
 -- it has none
 pub patterns_same : (side : Side) (rules : List MappingRule) (bytes : List ℕ) (place : ℕ) (patterns : List Pattern)
-    → ArePatternsBelow side rules bytes place patterns → ((rule : MappingRule) → slice_get rules place ≡ Some rule → acts side rule ≡ false)
+    → ArePatternsBelow side rules bytes place patterns
+    → ((rule : MappingRule) → slice_get rules place ≡ Some rule → acts side rule ≡ false)
     → ArePatternsBelow side rules bytes (place + 1) patterns
 patterns_same side rules bytes place patterns below none = record {
   each = below.each;
@@ -85,13 +95,15 @@ level y rest = by (ltb y y) (eqb y y) not_below (eq-eqb y y refl) where
   not_below : ltb y y ≡ false
   not_below = grind (arith, nat_tests)
 
-  by : (b e : Bool) → b ≡ false → e ≡ true → is_lt (ordering_then (cond b Less (cond e Equal Greater)) rest) ≡ is_lt rest
+  by : (b e : Bool) → b ≡ false → e ≡ true
+      → is_lt (ordering_then (cond b Less (cond e Equal Greater)) rest) ≡ is_lt rest
   by false true b e = refl
   by true e b f = absurd (true≢false b)
   by false false b e = absurd (true≢false (sym e))
 
 -- the bytes of one pattern do not come after those of another: where they share a front, nor does its next byte
-later_byte : (one other : List ℕ) (depth : ℕ) → take depth one ≡ take depth other → is_lt (slice_cmp nat_cmp other one) ≡ false
+later_byte : (one other : List ℕ) (depth : ℕ) → take depth one ≡ take depth other
+    → is_lt (slice_cmp nat_cmp other one) ≡ false
     → get_or one depth 0 ≤ get_or other depth 0
 later_byte [] other depth same order = omega arith
 later_byte (x ∷ one) [] zero same order = absurd (true≢false order)
@@ -103,29 +115,43 @@ later_byte (x ∷ one) (y ∷ other) zero same order = first (cases_lt y x) wher
 later_byte (x ∷ one) (y ∷ other) (suc depth) same order =
     let head : x ≡ y = cc in
     let rest : take depth one ≡ take depth other = cc in
-    let lower : is_lt (ordering_then (nat_cmp y y) (slice_cmp nat_cmp other one)) ≡ false = subst (λ (b : ℕ). is_lt (ordering_then (nat_cmp y b) (slice_cmp nat_cmp other one)) ≡ false) head order in
+    let lower : is_lt (ordering_then (nat_cmp y y) (slice_cmp nat_cmp other one)) ≡ false =
+    subst (λ (b : ℕ). is_lt (ordering_then (nat_cmp y b) (slice_cmp nat_cmp other one)) ≡ false) head order in
     later_byte one other depth rest (sym (level y (slice_cmp nat_cmp other one)) ∙ lower)
 
-pub AreInOrder-sorted : (patterns : List Pattern) → IsSortedBy (λ (a b : Pattern). is_lt (slice_cmp nat_cmp a.bytes.now b.bytes.now)) patterns → AreInOrder patterns
+pub AreInOrder-sorted : (patterns : List Pattern)
+    → IsSortedBy (λ (a b : Pattern). is_lt (slice_cmp nat_cmp a.bytes.now b.bytes.now)) patterns → AreInOrder patterns
 AreInOrder-sorted patterns sorted = record {
   rising = λ i j depth one other before here there same.
       let inside : j < length patterns = slice_get_within patterns j other there in
-      let far = sorted_far (λ (a b : Pattern). is_lt (slice_cmp nat_cmp a.bytes.now b.bytes.now)) (ranks_by nat_list_cmp_total (λ (a : Pattern). a.bytes.now)) patterns sorted i j one (omega (arith, before)) inside in
+      let far =
+      sorted_far (λ (a b : Pattern). is_lt (slice_cmp nat_cmp a.bytes.now b.bytes.now))
+      (ranks_by nat_list_cmp_total (λ (a : Pattern). a.bytes.now)) patterns sorted i j one (omega (arith, before))
+      inside in
       let at_i : get_or patterns i one ≡ one = get_or_from_slice_get patterns i one one here in
       let at_j : get_or patterns j one ≡ other = get_or_from_slice_get patterns j other one there in
-      later_byte one.bytes.now other.bytes.now depth same (subst (λ (a : Pattern). is_lt (slice_cmp nat_cmp other.bytes.now a.bytes.now) ≡ false) at_i (subst (λ (b : Pattern). is_lt (slice_cmp nat_cmp b.bytes.now (get_or patterns i one).bytes.now) ≡ false) at_j far));
+      later_byte one.bytes.now other.bytes.now depth same
+      (subst (λ (a : Pattern). is_lt (slice_cmp nat_cmp other.bytes.now a.bytes.now) ≡ false) at_i
+      (subst (λ (b : Pattern). is_lt (slice_cmp nat_cmp b.bytes.now (get_or patterns i one).bytes.now) ≡ false) at_j
+      far));
 }
 
 -- ---- patterns of which a trie can be made
 
 pub AreReady-made : (side : Side) (rules : List MappingRule) (bytes : List ℕ) (patterns : List Pattern)
-    → ArePatterns side rules bytes patterns → All HasNoZero rules → AreInOrder patterns → AreReady (length bytes) patterns
+    → ArePatterns side rules bytes patterns → All HasNoZero rules → AreInOrder patterns
+    → AreReady (length bytes) patterns
 AreReady-made side rules bytes patterns are plain order = record {
   each = λ k d below.
       let of_rule = are.each k d below in
       let is = of_rule.is in
-      let stored : Contains rules is.rule = (of_rule.place, slice_get_within rules of_rule.place is.rule is.here, get_or_from_slice_get rules of_rule.place is.rule is.rule is.here) in
-      let none : All (λ byte. byte ≢ 0) (pattern side is.rule) = pattern_no_zero side is.rule (All-contains HasNoZero rules is.rule plain stored) in
+      let stored : Contains rules is.rule = (
+        of_rule.place,
+        slice_get_within rules of_rule.place is.rule is.here,
+        get_or_from_slice_get rules of_rule.place is.rule is.rule is.here,
+      ) in
+      let none : All (λ byte. byte ≢ 0) (pattern side is.rule) =
+      pattern_no_zero side is.rule (All-contains HasNoZero rules is.rule plain stored) in
       record { within = is.within; full = subst (λ (s : List ℕ). All (λ byte. byte ≢ 0) s) (sym is.are) none };
   order = order;
 }

@@ -1,5 +1,6 @@
 -- Patterns in order, and what those have in common that stand between two.
-use Rattle.std.proofs.Common.{◌≡◌, ◌≢◌, ℕ, zero, suc, ◌+◌, ◌<◌, ◌≤◌, List, length, take, get_or, Some, inl, inr, refl, sym, ap, subst, ◌∙◌, arith, add-one}
+use Rattle.std.proofs.Common.{◌≡◌, ◌≢◌, ℕ, zero, suc, ◌+◌, ◌<◌, ◌≤◌, List, length, take, get_or, Some, inl, inr, refl}
+use Rattle.std.proofs.Common.{sym, ap, subst, ◌∙◌, arith, add-one}
 use Rattle.std.specs.List.{All, slice_get}
 use Rattle.std.proofs.lemmas.Bool.{cases_lt}
 use Rattle.std.proofs.lemmas.List.{take_more_same, take-take, get_or-take, get_or_past, length-take}
@@ -16,7 +17,8 @@ shorter one other m k l e = sym (take-take k m one l) ∙ ap (take k) e ∙ take
 
 -- and the byte there
 pub same_byte : (one other : List ℕ) (m k : ℕ) → k < m → take m one ≡ take m other → get_or one k 0 ≡ get_or other k 0
-same_byte one other m k l e = sym (get_or-take m one k 0 l) ∙ ap (λ (s : List ℕ). get_or s k 0) e ∙ get_or-take m other k 0 l
+same_byte one other m k l e = sym (get_or-take m one k 0 l) ∙ ap (λ (s : List ℕ). get_or s k 0) e
+    ∙ get_or-take m other k 0 l
 
 -- and are as long
 pub same_length : (one other : List ℕ) (m : ℕ) → m ≤ length one → take m one ≡ take m other → m ≤ length other
@@ -37,20 +39,28 @@ module _ (most : ℕ) (patterns : List Pattern) (ready : AreReady most patterns)
         subst (λ (s : List ℕ). k < length s → get_or s k 0 ≢ 0) (sym same) (λ n. full i one here l k n) m)
     | inr (past, _) ↦ absurd (omega (arith, l, past))
   ] where
-    full : (i : ℕ) (one : Pattern) → slice_get patterns i ≡ Some one → i < length patterns → (k : ℕ) → k < length one.bytes.now → get_or one.bytes.now k 0 ≢ 0
+    full : (i : ℕ) (one : Pattern) → slice_get patterns i ≡ Some one → i < length patterns → (k : ℕ)
+        → k < length one.bytes.now → get_or one.bytes.now k 0 ≢ 0
     full i one here l k n =
         let read : get_or patterns i one ≡ one = cc (slice_get-get_or patterns i one l) in
         subst (λ (p : Pattern). All (λ byte. byte ≢ 0) p.bytes.now) read (ready.each i one l).full k 0 n
 
   -- a pattern goes on where its byte is not zero
   pub goes_on : (i k : ℕ) → get_or (text patterns i) k 0 ≢ 0 → k < length (text patterns i)
-  goes_on i k ne = elim (cases_lt k (length (text patterns i))) [ inl l ↦ l | inr g ↦ absurd (ne (get_or_past (text patterns i) k 0 g)) ]
+  goes_on i k ne =
+      elim (cases_lt k (length (text patterns i))) [
+        | inl l ↦ l
+        | inr g ↦ absurd (ne (get_or_past (text patterns i) k 0 g))
+      ]
 
   -- patterns that share a front stand in the order of their next bytes
-  pub rising : (i j depth : ℕ) → i ≤ j → j < length patterns → take depth (text patterns i) ≡ take depth (text patterns j) → get_or (text patterns i) depth 0 ≤ get_or (text patterns j) depth 0
+  pub rising : (i j depth : ℕ) → i ≤ j → j < length patterns
+      → take depth (text patterns i) ≡ take depth (text patterns j)
+      → get_or (text patterns i) depth 0 ≤ get_or (text patterns j) depth 0
   rising i j depth l within e = elim (cases_lt i j) [
     | inl below ↦ apart below
-    | inr g ↦ (let same : i ≡ j = omega (arith, l, g) in let same_text = ap (λ n. get_or (text patterns n) depth 0) same in omega (arith, same_text))
+    | inr g ↦ (let same : i ≡ j = omega (arith, l, g) in let same_text =
+        ap (λ n. get_or (text patterns n) depth 0) same in omega (arith, same_text))
   ] where
     apart : i < j → get_or (text patterns i) depth 0 ≤ get_or (text patterns j) depth 0
     apart below = elim (slice_get_cases patterns i).1 [
@@ -60,7 +70,9 @@ module _ (most : ℕ) (patterns : List Pattern) (ready : AreReady most patterns)
         | inl (other, _, there, _) ↦
             (let a = text-here patterns i one here in
             let b = text-here patterns j other there in
-            let low = ready.order.rising i j depth one other below here there (ap (take depth) (sym a) ∙ e ∙ ap (take depth) b) in
+            let low =
+            ready.order.rising i j depth one other below here there
+            (ap (take depth) (sym a) ∙ e ∙ ap (take depth) b) in
             let c = ap (λ (s : List ℕ). get_or s depth 0) a in
             let d = ap (λ (s : List ℕ). get_or s depth 0) b in
             omega (arith, low, c, d))
@@ -68,7 +80,8 @@ module _ (most : ℕ) (patterns : List Pattern) (ready : AreReady most patterns)
     ]
 
   -- what two patterns share, all between them share
-  pub between : (m i k j : ℕ) → i ≤ k → k ≤ j → j < length patterns → m ≤ length (text patterns i) → take m (text patterns i) ≡ take m (text patterns j)
+  pub between : (m i k j : ℕ) → i ≤ k → k ≤ j → j < length patterns → m ≤ length (text patterns i)
+      → take m (text patterns i) ≡ take m (text patterns j)
       → (take m (text patterns k) ≡ take m (text patterns i)) × (m ≤ length (text patterns k))
   between zero i k j ik kj within long e = (refl, omega arith)
   between (suc m) i k j ik kj within long e =

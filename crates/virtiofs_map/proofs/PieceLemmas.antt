@@ -11,7 +11,8 @@ use Rattle.virtiofs_map.specs.declared.soft_idmap.piece.Piece.{Piece}
 -- ---- what numbers become
 
 -- one after the other
-each_by : (outcome : Outcome) (first to n : ℕ) → is_one_to_one outcome ≡ true → Some to ≡ value_by outcome first first → first ≤ n → value_by outcome first n ≡ Some (to + (n - first))
+each_by : (outcome : Outcome) (first to n : ℕ) → is_one_to_one outcome ≡ true → Some to ≡ value_by outcome first first
+    → first ≤ n → value_by outcome first n ≡ Some (to + (n - first))
 each_by Kept first to n is start from =
     let same : to ≡ first = same_Some _ _ start in
     ap (λ (k : ℕ). Some k) (omega arith)
@@ -21,17 +22,22 @@ each_by (OneToOne target) first to n is start from =
 each_by (AllToOne target) first to n is start from = absurd (false≢true is)
 each_by Forbidden first to n is start from = absurd (false≢true is)
 
-pub value-each : (piece : Piece) (to n : ℕ) → is_one_to_one piece.becomes ≡ true → Some to ≡ value_in piece piece.first → piece.first ≤ n → value_in piece n ≡ Some (to + (n - piece.first))
+pub value-each : (piece : Piece) (to n : ℕ) → is_one_to_one piece.becomes ≡ true → Some to ≡ value_in piece piece.first
+    → piece.first ≤ n → value_in piece n ≡ Some (to + (n - piece.first))
 value-each piece to n is start from = each_by piece.becomes piece.first to n is start from
 
 -- where they are not one after the other, they are two or more and all become one number
-not_each_by : (outcome : Outcome) (first last to : ℕ) → is_one_to_one outcome ≡ false → Some to ≡ value_by outcome first first → IsNamed outcome first last → (first < last) × ((n : ℕ) → value_by outcome first n ≡ Some to)
+not_each_by : (outcome : Outcome) (first last to : ℕ) → is_one_to_one outcome ≡ false
+    → Some to ≡ value_by outcome first first → IsNamed outcome first last
+    → (first < last) × ((n : ℕ) → value_by outcome first n ≡ Some to)
 not_each_by Kept first last to is start named = absurd (false≢true (sym is))
 not_each_by (OneToOne target) first last to is start named = absurd (false≢true (sym is))
 not_each_by (AllToOne target) first last to is start named = (named, λ n. sym start)
 not_each_by Forbidden first last to is start named = absurd (cc)
 
-pub value-not_each : (piece : Piece) (to : ℕ) → is_one_to_one piece.becomes ≡ false → Some to ≡ value_in piece piece.first → IsNamed piece.becomes piece.first piece.last → (piece.first < piece.last) × ((n : ℕ) → value_in piece n ≡ Some to)
+pub value-not_each : (piece : Piece) (to : ℕ) → is_one_to_one piece.becomes ≡ false
+    → Some to ≡ value_in piece piece.first → IsNamed piece.becomes piece.first piece.last
+    → (piece.first < piece.last) × ((n : ℕ) → value_in piece n ≡ Some to)
 value-not_each piece to is start named = not_each_by piece.becomes piece.first piece.last to is start named
 
 -- no number of a piece fails where the first one does not

@@ -1,5 +1,7 @@
--- The pieces of a map: each as long as it can be, and no more of them than twice as many as specifications act, and one.
-use Rattle.std.proofs.Common.{◌≡◌, inl, inr, ◌⊎◌, ℕ, ◌+◌, ◌-◌, ◌*◌, ◌<◌, ◌≤◌, false, nat_lt, if◌then◌else◌, List, [], ◌∷◌, length, Contains, Option, Some, None, IsSomeAnd, refl, ap, ◌∙◌, arith}
+-- The pieces of a map: each as long as it can be, and no more of them than twice as many as specifications act, and
+-- one.
+use Rattle.std.proofs.Common.{◌≡◌, inl, inr, ◌⊎◌, ℕ, ◌+◌, ◌-◌, ◌*◌, ◌<◌, ◌≤◌, false, nat_lt, if◌then◌else◌, List, []}
+use Rattle.std.proofs.Common.{◌∷◌, length, Contains, Option, Some, None, IsSomeAnd, refl, ap, ◌∙◌, arith}
 use Rattle.std.specs.Iterator.{Yields, Drains}
 use Rattle.std.specs.List.{AllByRecursion, sum_by}
 use Rattle.std.proofs.lemmas.Bool.{cases_Bool, cases_order}
@@ -10,7 +12,8 @@ use Rattle.virtiofs_map.specs.Build.{Accepted}
 use Rattle.virtiofs_map.specs.LookupSteps.{acting, covers_some}
 use Rattle.virtiofs_map.specs.Mapping.{entry_of, first_of, count_of, target_of, EntryCovers, Covers, Becomes}
 use Rattle.virtiofs_map.specs.PieceParts.{IsStretch, CanJoin, Joins}
-use Rattle.virtiofs_map.specs.Pieces.{value_by, value_in, AreOne, IsPiece, FollowFrom, ArePieces, PiecesLeft, GivesPiece}
+use Rattle.virtiofs_map.specs.Pieces.{value_by, value_in, AreOne, IsPiece, FollowFrom, ArePieces, PiecesLeft}
+use Rattle.virtiofs_map.specs.Pieces.{GivesPiece}
 use Rattle.virtiofs_map.specs.declared.cmdline.IdMap.{IdMap}
 use Rattle.virtiofs_map.specs.declared.soft_idmap.entry.Direction.{Direction}
 use Rattle.virtiofs_map.specs.declared.soft_idmap.entry.Entry.{Entry}
@@ -23,7 +26,9 @@ use Rattle.virtiofs_map.proofs.StoredLemmas.{found_entry}
 
 -- ---- the longest piece
 
-pub IsStretch-join : (specs : List IdMap) (direction : Direction) (piece more longer : Piece) → IsStretch specs direction piece → IsStretch specs direction more → more.first ≡ piece.last + 1 → Joins piece more longer → IsStretch specs direction longer
+pub IsStretch-join : (specs : List IdMap) (direction : Direction) (piece more longer : Piece)
+    → IsStretch specs direction piece → IsStretch specs direction more → more.first ≡ piece.last + 1
+    → Joins piece more longer → IsStretch specs direction longer
 IsStretch-join specs direction piece more longer stretch more_stretch follows joins =
     let first : longer.first ≡ piece.first = joins.first_is in
     let order : piece.first ≤ piece.last = stretch.order in
@@ -37,7 +42,8 @@ IsStretch-join specs direction piece more longer stretch more_stretch follows jo
       becomes = λ n low high.
           elim (cases_order n more.first) [
             | inl same ↦ later n (omega arith) high
-            | inr (inl before) ↦ rw (joins.value n (omega arith) (omega arith)) (stretch.becomes n (omega arith) (omega arith))
+            | inr (inl before) ↦ rw (joins.value n (omega arith) (omega arith))
+                (stretch.becomes n (omega arith) (omega arith))
             | inr (inr after) ↦ later n (omega arith) high
           ];
     } where
@@ -47,7 +53,9 @@ IsStretch-join specs direction piece more longer stretch more_stretch follows jo
           rw (joins.value_more n low high) (more_stretch.becomes n low (omega arith))
 
 -- where the piece cannot have the number after it, no outcome has
-pub IsPiece-longest : (specs : List IdMap) (direction : Direction) (piece more : Piece) → Accepted specs → IsStretch specs direction piece → IsStretch specs direction more → more.first ≡ piece.last + 1 → ¬ CanJoin piece more → IsPiece specs direction piece
+pub IsPiece-longest : (specs : List IdMap) (direction : Direction) (piece more : Piece) → Accepted specs
+    → IsStretch specs direction piece → IsStretch specs direction more → more.first ≡ piece.last + 1
+    → ¬ CanJoin piece more → IsPiece specs direction piece
 IsPiece-longest specs direction piece more accepted stretch more_stretch follows cannot = record {
   order = stretch.order;
   within = stretch.within;
@@ -55,13 +63,17 @@ IsPiece-longest specs direction piece more accepted stretch more_stretch follows
   becomes = stretch.becomes;
   longest = λ below (outcome, by). cannot (
     outcome,
-    (λ n low high. HasOneValue-accepted specs accepted direction n _ _ (by n low (omega arith)) (stretch.becomes n low high)),
-    HasOneValue-accepted specs accepted direction more.first _ _ (let order : piece.first ≤ piece.last = stretch.order in by more.first (omega arith) (omega arith)) (more_stretch.becomes more.first (omega arith) more_stretch.order),
+    (λ n low high. HasOneValue-accepted specs accepted direction n _ _ (by n low (omega arith))
+        (stretch.becomes n low high)),
+    HasOneValue-accepted specs accepted direction more.first _ _
+        (let order : piece.first ≤ piece.last = stretch.order in by more.first (omega arith) (omega arith))
+        (more_stretch.becomes more.first (omega arith) more_stretch.order),
   );
 }
 
 -- nor where there is no number after it
-pub IsPiece-last : (specs : List IdMap) (direction : Direction) (piece : Piece) → IsStretch specs direction piece → 4294967295 ≤ piece.last → IsPiece specs direction piece
+pub IsPiece-last : (specs : List IdMap) (direction : Direction) (piece : Piece) → IsStretch specs direction piece
+    → 4294967295 ≤ piece.last → IsPiece specs direction piece
 IsPiece-last specs direction piece stretch last = record {
   order = stretch.order;
   within = stretch.within;
@@ -79,7 +91,8 @@ above n end = if nat_lt n end then 1 else 0
 -- how many ends of a range are
 ends : ℕ → Option Entry → ℕ
 ends n None = 0
-ends n (Some entry) = if nat_lt 0 (count_of entry) then above n (first_of entry) + above n (first_of entry + count_of entry) else 0
+ends n (Some entry) =
+    if nat_lt 0 (count_of entry) then above n (first_of entry) + above n (first_of entry + count_of entry) else 0
 
 -- and how many of all specifications
 ends_above : Direction → ℕ → List IdMap → ℕ
@@ -91,7 +104,8 @@ unfolding ends above
 two_ends n None = omega arith
 two_ends n (Some entry) = grind (arith, nat_tests)
 
-ends_above-acting : (direction : Direction) (n : ℕ) (specs : List IdMap) → ends_above direction n specs ≤ 2 * acting specs direction
+ends_above-acting : (direction : Direction) (n : ℕ) (specs : List IdMap)
+    → ends_above direction n specs ≤ 2 * acting specs direction
 unfolding ends_above
 ends_above-acting direction n [] = omega arith
 ends_above-acting direction n (spec ∷ specs) =
@@ -103,9 +117,12 @@ ends_above-acting direction n (spec ∷ specs) =
 
 -- no end of the range stands above a number but not above a greater one
 abbrev IsSteady : ℕ → ℕ → Option Entry → Type 0
-IsSteady n m o = (entry : Entry) → o ≡ Some entry → 1 ≤ count_of entry → (n < first_of entry → m < first_of entry) × (n < first_of entry + count_of entry → m < first_of entry + count_of entry)
+IsSteady n m o = (entry : Entry) → o ≡ Some entry → 1 ≤ count_of entry
+    → (n < first_of entry → m < first_of entry)
+    × (n < first_of entry + count_of entry → m < first_of entry + count_of entry)
 
-end_fewer : (n m end : ℕ) → n ≤ m → (above m end + 1 ≤ above n end) ⊎ ((above m end ≡ above n end) × (n < end → m < end))
+end_fewer : (n m end : ℕ) → n ≤ m
+    → (above m end + 1 ≤ above n end) ⊎ ((above m end ≡ above n end) × (n < end → m < end))
 unfolding above
 end_fewer n m end up =
     elim (cases_order m end) [
@@ -122,18 +139,22 @@ end_fewer n m end up =
           ]
 
 -- of two sums whose parts are no greater than those of the other, one is less, or both parts are the same
-sum_fewer : {P Q : Type 0} (a b c d : ℕ) → (a + 1 ≤ b) ⊎ ((a ≡ b) × P) → (c + 1 ≤ d) ⊎ ((c ≡ d) × Q) → (a + c + 1 ≤ b + d) ⊎ ((a + c ≡ b + d) × (P × Q))
+sum_fewer : {P Q : Type 0} (a b c d : ℕ) → (a + 1 ≤ b) ⊎ ((a ≡ b) × P) → (c + 1 ≤ d) ⊎ ((c ≡ d) × Q)
+    → (a + c + 1 ≤ b + d) ⊎ ((a + c ≡ b + d) × (P × Q))
 sum_fewer a b c d (inl less) (inl less') = inl (omega arith)
 sum_fewer a b c d (inl less) (inr (same, q)) = inl (omega arith)
 sum_fewer a b c d (inr (same, p)) (inl less) = inl (omega arith)
 sum_fewer a b c d (inr (same, p)) (inr (same', q)) = inr (omega arith, (p, q))
 
-fewer_or_steady : (n m : ℕ) (o : Option Entry) → n ≤ m → (ends m o + 1 ≤ ends n o) ⊎ ((ends m o ≡ ends n o) × IsSteady n m o)
+fewer_or_steady : (n m : ℕ) (o : Option Entry) → n ≤ m
+    → (ends m o + 1 ≤ ends n o) ⊎ ((ends m o ≡ ends n o) × IsSteady n m o)
 unfolding ends
 fewer_or_steady n m None up = inr (refl, λ entry is some. absurd (cc))
 fewer_or_steady n m (Some entry) up =
     elim (cases_Bool (nat_lt 0 (count_of entry))) [
-      | inl acts ↦ rw acts (both (sum_fewer _ _ _ _ (end_fewer n m (first_of entry) up) (end_fewer n m (first_of entry + count_of entry) up)))
+      | inl acts ↦ rw acts
+          (both (sum_fewer _ _ _ _ (end_fewer n m (first_of entry) up)
+          (end_fewer n m (first_of entry + count_of entry) up)))
       | inr empty ↦ rw empty (inr (refl, λ other is some. absurd (none other is some empty)))
     ] where
       none : (other : Entry) → Some entry ≡ Some other → 1 ≤ count_of other → nat_lt 0 (count_of entry) ≡ false → ⊥
@@ -142,15 +163,26 @@ fewer_or_steady n m (Some entry) up =
           let counts = ap (λ (e : Entry). count_of e) same in
           grind (arith, nat_tests)
 
-      both : {a b : ℕ} → (a + 1 ≤ b) ⊎ ((a ≡ b) × ((n < first_of entry → m < first_of entry) × (n < first_of entry + count_of entry → m < first_of entry + count_of entry))) → (a + 1 ≤ b) ⊎ ((a ≡ b) × IsSteady n m (Some entry))
+      both : {a b : ℕ}
+          → (a + 1 ≤ b)
+          ⊎ ((a ≡ b)
+          × ((n < first_of entry → m < first_of entry)
+          × (n < first_of entry + count_of entry → m < first_of entry + count_of entry)))
+          → (a + 1 ≤ b) ⊎ ((a ≡ b) × IsSteady n m (Some entry))
       both (inl less) = inl less
       both (inr (same, steady)) = inr (same, λ other is some. (let e : entry ≡ other = cc in rw (← e) steady))
 
-all_fewer_or_steady : (direction : Direction) (n m : ℕ) (specs : List IdMap) → n ≤ m → (ends_above direction m specs + 1 ≤ ends_above direction n specs) ⊎ ((ends_above direction m specs ≡ ends_above direction n specs) × AllByRecursion (λ spec. IsSteady n m (entry_of spec direction)) specs)
+all_fewer_or_steady : (direction : Direction) (n m : ℕ) (specs : List IdMap) → n ≤ m
+    → (ends_above direction m specs + 1 ≤ ends_above direction n specs)
+    ⊎ ((ends_above direction m specs ≡ ends_above direction n specs)
+    × AllByRecursion (λ spec. IsSteady n m (entry_of spec direction)) specs)
 unfolding ends_above
 all_fewer_or_steady direction n m [] up = inr (refl, tt)
 all_fewer_or_steady direction n m (spec ∷ specs) up =
-    rw (sum_by-cons (λ s. ends m (entry_of s direction)) spec specs, sum_by-cons (λ s. ends n (entry_of s direction)) spec specs)
+    rw (
+      sum_by-cons (λ s. ends m (entry_of s direction)) spec specs,
+      sum_by-cons (λ s. ends n (entry_of s direction)) spec specs,
+    )
     (sum_fewer _ _ _ _ (fewer_or_steady n m (entry_of spec direction) up) (all_fewer_or_steady direction n m specs up))
 
 -- ---- numbers between which no range begins or ends are one piece
@@ -161,59 +193,83 @@ outcome_from (Map first to count) n = OneToOne (to + (n - first))
 outcome_from (Squash first to count) n = AllToOne to
 outcome_from (Fail first count) n = Forbidden
 
-value_from : (entry : Entry) (n k : ℕ) → first_of entry ≤ n → n ≤ k → target_of entry k ≡ value_by (outcome_from entry n) n k
+value_from : (entry : Entry) (n k : ℕ) → first_of entry ≤ n → n ≤ k
+    → target_of entry k ≡ value_by (outcome_from entry n) n k
 unfolding outcome_from
 value_from (Map first to count) n k low from = ap (λ (v : ℕ). Some v) (omega arith)
 value_from (Squash first to count) n k low from = refl
 value_from (Fail first count) n k low from = refl
 
 -- an entry that there is covers the number, and makes that of it
-maps_by : (o : Option Entry) (entry : Entry) (k : ℕ) (value : Option ℕ) → o ≡ Some entry → EntryCovers entry k → target_of entry k ≡ value → IsSomeAnd o (λ e. EntryCovers e k × (target_of e k ≡ value))
+maps_by : (o : Option Entry) (entry : Entry) (k : ℕ) (value : Option ℕ) → o ≡ Some entry → EntryCovers entry k
+    → target_of entry k ≡ value → IsSomeAnd o (λ e. EntryCovers e k × (target_of e k ≡ value))
 maps_by o entry k value is covers target = rw is (covers, target)
 
-AreOne-steady : (specs : List IdMap) (direction : Direction) (n m : ℕ) (value : Option ℕ) → n ≤ m → Becomes specs direction n value → ((spec : IdMap) → Contains specs spec → IsSteady n m (entry_of spec direction)) → AreOne specs direction n m
+AreOne-steady : (specs : List IdMap) (direction : Direction) (n m : ℕ) (value : Option ℕ) → n ≤ m
+    → Becomes specs direction n value → ((spec : IdMap) → Contains specs spec → IsSteady n m (entry_of spec direction))
+    → AreOne specs direction n m
 AreOne-steady specs direction n m value up (inl (spec, listed, maps)) steady =
-    let found = found_entry (entry_of spec direction) (λ entry. EntryCovers entry n × (target_of entry n ≡ value)) maps in
+    let found =
+    found_entry (entry_of spec direction) (λ entry. EntryCovers entry n × (target_of entry n ≡ value)) maps in
     let entry : Entry = found.entry in
     let low : first_of entry ≤ n = found.holds.0.0 in
     let high : n < first_of entry + count_of entry = found.holds.0.1 in
-    let later : m < first_of entry + count_of entry = (steady spec listed entry found.is (omega arith)).1 high in
-    (outcome_from entry n, λ k from to. inl (spec, listed, maps_by (entry_of spec direction) entry k (value_by (outcome_from entry n) n k) found.is (omega arith, omega arith) (value_from entry n k low from)))
-AreOne-steady specs direction n m value up (inr (none, same)) steady = (Kept, λ k from to. inr (uncovered k from to, refl)) where
-  uncovered : (k : ℕ) → n ≤ k → k ≤ m → (spec : IdMap) → Contains specs spec → ¬ Covers spec direction k
-  uncovered k from to spec listed covers =
-      let found = found_entry (entry_of spec direction) (λ entry. EntryCovers entry k) covers in
-      let entry : Entry = found.entry in
-      let low : first_of entry ≤ k = found.holds.0 in
-      let high : k < first_of entry + count_of entry = found.holds.1 in
-      let ends = steady spec listed entry found.is (omega arith) in
-      elim (cases_order n (first_of entry)) [
-        | inl here ↦ none spec listed (rw found.is (omega arith, omega arith))
-        | inr (inl before) ↦ (let begins : m < first_of entry = ends.0 before in omega arith)
-        | inr (inr after) ↦ none spec listed (rw found.is (omega arith, omega arith))
-      ]
+    let later : m < first_of entry + count_of entry = (steady spec listed entry found.is (omega arith)).1 high in (
+      outcome_from entry n,
+      λ k from to. inl (
+        spec,
+        listed,
+        maps_by (entry_of spec direction) entry k (value_by (outcome_from entry n) n k) found.is
+            (omega arith, omega arith) (value_from entry n k low from),
+      ),
+    )
+AreOne-steady specs direction n m value up (inr (none, same)) steady =
+    (Kept, λ k from to. inr (uncovered k from to, refl)) where
+      uncovered : (k : ℕ) → n ≤ k → k ≤ m → (spec : IdMap) → Contains specs spec → ¬ Covers spec direction k
+      uncovered k from to spec listed covers =
+          let found = found_entry (entry_of spec direction) (λ entry. EntryCovers entry k) covers in
+          let entry : Entry = found.entry in
+          let low : first_of entry ≤ k = found.holds.0 in
+          let high : k < first_of entry + count_of entry = found.holds.1 in
+          let ends = steady spec listed entry found.is (omega arith) in
+          elim (cases_order n (first_of entry)) [
+            | inl here ↦ none spec listed (rw found.is (omega arith, omega arith))
+            | inr (inl before) ↦ (let begins : m < first_of entry = ends.0 before in omega arith)
+            | inr (inr after) ↦ none spec listed (rw found.is (omega arith, omega arith))
+          ]
 
 -- so after a piece there are fewer ends
-fewer_after : (specs : List IdMap) (direction : Direction) (piece : Piece) → IsPiece specs direction piece → piece.last < 4294967295 → ends_above direction (piece.last + 1) specs + 1 ≤ ends_above direction piece.first specs
+fewer_after : (specs : List IdMap) (direction : Direction) (piece : Piece) → IsPiece specs direction piece
+    → piece.last < 4294967295 → ends_above direction (piece.last + 1) specs + 1 ≤ ends_above direction piece.first specs
 fewer_after specs direction piece is below =
     let order : piece.first ≤ piece.last = is.order in
     elim (all_fewer_or_steady direction piece.first (piece.last + 1) specs (omega arith)) [
       | inl less ↦ less
-      | inr (same, steady) ↦ absurd (is.longest below (AreOne-steady specs direction piece.first (piece.last + 1) (value_in piece piece.first) (omega arith) (is.becomes piece.first (omega arith) order) (λ spec listed. All-contains (λ s. IsSteady piece.first (piece.last + 1) (entry_of s direction)) specs spec (All-from_recursion (λ s. IsSteady piece.first (piece.last + 1) (entry_of s direction)) specs steady) listed)))
+      | inr (same, steady) ↦ absurd
+          (is.longest below
+          (AreOne-steady specs direction piece.first (piece.last + 1) (value_in piece piece.first) (omega arith)
+          (is.becomes piece.first (omega arith) order)
+          (λ spec listed. All-contains (λ s. IsSteady piece.first (piece.last + 1) (entry_of s direction)) specs spec
+          (All-from_recursion (λ s. IsSteady piece.first (piece.last + 1) (entry_of s direction)) specs steady)
+          listed)))
     ]
 
-few_from : (specs : List IdMap) (direction : Direction) (next : ℕ) (pieces : List Piece) → FollowFrom next pieces → AllByRecursion (IsPiece specs direction) pieces → length pieces ≤ ends_above direction next specs + 1
+few_from : (specs : List IdMap) (direction : Direction) (next : ℕ) (pieces : List Piece) → FollowFrom next pieces
+    → AllByRecursion (IsPiece specs direction) pieces → length pieces ≤ ends_above direction next specs + 1
 few_from specs direction next [] follow each = omega arith
 few_from specs direction next (piece ∷ pieces) (begins, follow) (is, each) =
     elim (cases_order piece.last 4294967295) [
       | inl last ↦ (let none : length pieces ≡ 0 = ended pieces follow each (omega arith) in omega arith)
       | inr (inl below) ↦
-          let rest : length pieces ≤ ends_above direction (piece.last + 1) specs + 1 = few_from specs direction (piece.last + 1) pieces follow each in
-          let fewer : ends_above direction (piece.last + 1) specs + 1 ≤ ends_above direction next specs = rw begins at (fewer_after specs direction piece is below) in
+          let rest : length pieces ≤ ends_above direction (piece.last + 1) specs + 1 =
+          few_from specs direction (piece.last + 1) pieces follow each in
+          let fewer : ends_above direction (piece.last + 1) specs + 1 ≤ ends_above direction next specs =
+          rw begins at (fewer_after specs direction piece is below) in
           omega arith
       | inr (inr beyond) ↦ absurd (let within : piece.last ≤ 4294967295 = is.within in omega arith)
     ] where
-      ended : (ps : List Piece) → FollowFrom (piece.last + 1) ps → AllByRecursion (IsPiece specs direction) ps → 4294967295 ≤ piece.last → length ps ≡ 0
+      ended : (ps : List Piece) → FollowFrom (piece.last + 1) ps → AllByRecursion (IsPiece specs direction) ps
+          → 4294967295 ≤ piece.last → length ps ≡ 0
       ended [] follow each last = refl
       ended (p ∷ ps) (begins, follow) (is, each) last =
           let order : p.first ≤ p.last = is.order in
@@ -222,17 +278,21 @@ few_from specs direction next (piece ∷ pieces) (begins, follow) (is, each) =
 
 -- ---- what an iterator gives in all
 
-given : (left : PiecesLeft) (pieces : List Piece) (after : PiecesLeft) → Yields GivesPiece left pieces after → after.next ≡ 4294967296 → FollowFrom left.next pieces × AllByRecursion (IsPiece left.specs left.direction) pieces
+given : (left : PiecesLeft) (pieces : List Piece) (after : PiecesLeft) → Yields GivesPiece left pieces after
+    → after.next ≡ 4294967296 → FollowFrom left.next pieces × AllByRecursion (IsPiece left.specs left.direction) pieces
 given left [] after same end = (ap (λ (l : PiecesLeft). l.next) same ∙ end, tt)
 given left (piece ∷ pieces) after (more, (is, begins, leaves), rest) end =
     let later = given more pieces after rest end in
     ((begins, rw leaves at later.0), (is, rw leaves at later.1))
 
-pub ArePieces-drained : (specs : List IdMap) (direction : Direction) (left : PiecesLeft) (pieces : List Piece) → left ≡ record { specs = specs; direction = direction; next = 0 } → Drains GivesPiece left pieces → ArePieces specs direction pieces
+pub ArePieces-drained : (specs : List IdMap) (direction : Direction) (left : PiecesLeft) (pieces : List Piece)
+    → left ≡ record { specs = specs; direction = direction; next = 0 } → Drains GivesPiece left pieces
+    → ArePieces specs direction pieces
 ArePieces-drained specs direction left pieces is (end, (after, yields, (last, same))) =
     let all = rw is at (given left pieces after yields last) in
     record {
       follow = all.0;
       each = All-from_recursion (IsPiece specs direction) pieces all.1;
-      few = (let few = few_from specs direction 0 pieces all.0 all.1 in let ends = ends_above-acting direction 0 specs in omega arith);
+      few = (let few = few_from specs direction 0 pieces all.0 all.1 in let ends =
+          ends_above-acting direction 0 specs in omega arith);
     }

@@ -1,5 +1,6 @@
 -- Places that are appended to others.
-use Rattle.std.proofs.Common.{◌≡◌, ◌⊎◌, ℕ, zero, suc, ◌<◌, List, [], ◌∷◌, ◌++◌, length, Some, inl, inr, refl, ◌∙◌, arith}
+use Rattle.std.proofs.Common.{◌≡◌, ◌⊎◌, ℕ, zero, suc, ◌<◌, List, [], ◌∷◌, ◌++◌, length, Some, inl, inr, refl, ◌∙◌}
+use Rattle.std.proofs.Common.{arith}
 use Rattle.std.specs.List.{slice_get}
 use Rattle.std.proofs.lemmas.List.{length_push}
 use Rattle.std.proofs.lemmas.Option.{slice_get_within}
@@ -7,14 +8,16 @@ use Rattle.virtiofs_map.specs.GrowthParts.{IsLonger}
 use Rattle.virtiofs_map.specs.declared.xattrmap.growth.Part.{Part}
 
 -- an element of a list with one more is one of the list, or the last
-pub push_cases : {X : Type 0} (xs : List X) (y : X) (k : ℕ) (z : X) → slice_get (xs ++ y ∷ []) k ≡ Some z → ((k < length xs) × (slice_get xs k ≡ Some z)) ⊎ ((k ≡ length xs) × (y ≡ z))
+pub push_cases : {X : Type 0} (xs : List X) (y : X) (k : ℕ) (z : X) → slice_get (xs ++ y ∷ []) k ≡ Some z
+    → ((k < length xs) × (slice_get xs k ≡ Some z)) ⊎ ((k ≡ length xs) × (y ≡ z))
 push_cases [] y zero z e = inr (refl, cc)
 push_cases [] y (suc k) z e = absurd cc
 push_cases (x ∷ xs) y zero z e = inl (omega arith, e)
 push_cases (x ∷ xs) y (suc k) z e =
     elim (push_cases xs y k z e) [ inl (l, h) ↦ inl (omega (arith, l), h) | inr (l, h) ↦ inr (omega (arith, l), h) ]
 
-pub push_keeps : {X : Type 0} (xs : List X) (y : X) (k : ℕ) → k < length xs → slice_get (xs ++ y ∷ []) k ≡ slice_get xs k
+pub push_keeps : {X : Type 0} (xs : List X) (y : X) (k : ℕ) → k < length xs
+    → slice_get (xs ++ y ∷ []) k ≡ slice_get xs k
 push_keeps [] y k l = absurd (omega (arith, l))
 push_keeps (x ∷ xs) y zero l = refl
 push_keeps (x ∷ xs) y (suc k) l = push_keeps xs y k (omega (arith, l))
@@ -39,5 +42,6 @@ IsLonger-trans old mid new a b = record {
 }
 
 -- a place that was there is there still
-pub still_there : (old new : List Part) → IsLonger old new → (at : ℕ) (part : Part) → slice_get old at ≡ Some part → slice_get new at ≡ Some part
+pub still_there : (old new : List Part) → IsLonger old new → (at : ℕ) (part : Part) → slice_get old at ≡ Some part
+    → slice_get new at ≡ Some part
 still_there old new longer at part e = longer.same at (slice_get_within old at part e) ∙ e

@@ -1,12 +1,15 @@
 -- What is known of a text of rules of which a front was read.
-use Rattle.std.proofs.Common.{◌≡◌, ◌≢◌, ℕ, ◌+◌, ◌<◌, Bool, true, false, eqb, List, [], ◌∷◌, ◌++◌, length, Option, Some, None, IsSomeAnd, ◌⊎◌, inl, inr, refl, sym, ap, subst, ◌∙◌, arith, append_assoc, length-append, append-nil}
+use Rattle.std.proofs.Common.{◌≡◌, ◌≢◌, ℕ, ◌+◌, ◌<◌, Bool, true, false, eqb, List, [], ◌∷◌, ◌++◌, length, Option, Some}
+use Rattle.std.proofs.Common.{None, IsSomeAnd, ◌⊎◌, inl, inr, refl, sym, ap, subst, ◌∙◌, arith, append_assoc}
+use Rattle.std.proofs.Common.{length-append, append-nil}
 use Rattle.std.proofs.lemmas.Bool.Decides.{nat_tests}
 use Rattle.std.proofs.lemmas.Grind.{flat_map-append}
 use Rattle.std.specs.List.{AllByRecursion}
 use Rattle.std.specs.Option.{option_map_or}
 use Rattle.std.specs.Str.{drop_trailing_whitespace}
 use Rattle.virtiofs_map.specs.Rule.{MappingRule}
-use Rattle.virtiofs_map.specs.RuleText.{RuleHead, Typed, Map, RuleAsWritten, Fields, RuleThen, RulesThen, RuleText, IsBlank, trimmed, rule_fields, rules_of, expanded, SaysRules, CountsRules}
+use Rattle.virtiofs_map.specs.RuleText.{RuleHead, Typed, Map, RuleAsWritten, Fields, RuleThen, RulesThen, RuleText}
+use Rattle.virtiofs_map.specs.RuleText.{IsBlank, trimmed, rule_fields, rules_of, expanded, SaysRules, CountsRules}
 use Rattle.virtiofs_map.specs.Refusal.{OutOfMemoryOr}
 use Rattle.virtiofs_map.specs.RulesFault.{RuleFault, InRule, NotOfText, HasRulesFault, rule_fault_of, rules_fault_of}
 use Rattle.virtiofs_map.specs.RuleParts.{IsOpened, BeginsWithFault}
@@ -19,49 +22,75 @@ pub record EndsWith (text rest : List ℕ) : Type 0 where
   pub front : List ℕ
   pub are : text ≡ front ++ rest
 
-fields_end : (d : ℕ) (text : List ℕ) (fields : List (List ℕ)) (rest : List ℕ) → Fields d text fields rest → EndsWith text rest
+fields_end : (d : ℕ) (text : List ℕ) (fields : List (List ℕ)) (rest : List ℕ) → Fields d text fields rest
+    → EndsWith text rest
 fields_end d text [] rest e = record { front = []; are = e }
 fields_end d text (field ∷ fields) rest (after, spells, lacks, others) =
     let back = fields_end d after fields rest others in
-    record { front = field ++ d ∷ back.front; are = spells ∙ ap (λ x. field ++ d ∷ x) back.are ∙ sym (append_assoc field (d ∷ back.front) rest) }
+    record {
+      front = field ++ d ∷ back.front;
+      are = spells ∙ ap (λ x. field ++ d ∷ x) back.are
+          ∙ sym (append_assoc field (d ∷ back.front) rest);
+    }
 
-pub rule_end : (text : List ℕ) (rule : RuleAsWritten) (after : List ℕ) → RuleThen text rule after → (d : ℕ) × (front : List ℕ) × (text ≡ d ∷ front ++ after)
+pub rule_end : (text : List ℕ) (rule : RuleAsWritten) (after : List ℕ) → RuleThen text rule after
+    → (d : ℕ) × (front : List ℕ) × (text ≡ d ∷ front ++ after)
 rule_end text rule after whole =
     let back = fields_end whole.delimiter whole.body (rule_fields rule) after whole.fields in
     (whole.delimiter, back.front, whole.opens.0 ∙ ap (λ x. whole.delimiter ∷ x) back.are)
 
 -- a rule takes at least its delimiter
-pub rule_shorter : (text : List ℕ) (rule : RuleAsWritten) (after : List ℕ) → RuleThen text rule after → length after < length text
+pub rule_shorter : (text : List ℕ) (rule : RuleAsWritten) (after : List ℕ) → RuleThen text rule after
+    → length after < length text
 rule_shorter text rule after whole =
     let (d, front, e) = rule_end text rule after whole in
     omega (arith, ap length e, length-append front after)
 
 -- ---- rules, one after another
 
-rules_snoc : (text : List ℕ) (rules : List RuleAsWritten) (middle : List ℕ) (rule : RuleAsWritten) (blanks rest : List ℕ)
-    → RulesThen text rules middle → RuleThen middle rule (blanks ++ rest) → rule.head ≢ Map → AllByRecursion IsBlank blanks → RulesThen text (rules ++ rule ∷ []) rest
-rules_snoc text [] middle rule blanks rest e whole plain blank = (blanks, rest, subst (λ t. RuleThen t rule (blanks ++ rest)) (sym e) whole, plain, blank, refl)
-rules_snoc text (first ∷ rules) middle rule blanks rest (between, next, here, not_map, are_blank, others) whole plain blank =
+rules_snoc : (text : List ℕ) (rules : List RuleAsWritten) (middle : List ℕ) (rule : RuleAsWritten)
+    (blanks rest : List ℕ)
+    → RulesThen text rules middle → RuleThen middle rule (blanks ++ rest) → rule.head ≢ Map
+    → AllByRecursion IsBlank blanks → RulesThen text (rules ++ rule ∷ []) rest
+rules_snoc text [] middle rule blanks rest e whole plain blank =
+    (blanks, rest, subst (λ t. RuleThen t rule (blanks ++ rest)) (sym e) whole, plain, blank, refl)
+rules_snoc text (first ∷ rules) middle rule blanks rest (between, next, here, not_map, are_blank, others) whole plain
+    blank =
     (between, next, here, not_map, are_blank, rules_snoc next rules middle rule blanks rest others whole plain blank)
 
-expanded_snoc : (rules : List RuleAsWritten) (rule : RuleAsWritten) → expanded (rules ++ rule ∷ []) ≡ expanded rules ++ rules_of rule.head rule.key rule.prepend
+expanded_snoc : (rules : List RuleAsWritten) (rule : RuleAsWritten)
+    → expanded (rules ++ rule ∷ []) ≡ expanded rules ++ rules_of rule.head rule.key rule.prepend
 expanded_snoc rules rule =
-    flat_map-append (λ (r : RuleAsWritten). rules_of r.head r.key r.prepend) rules (rule ∷ []) ∙ ap (λ x. expanded rules ++ x) (append-nil (rules_of rule.head rule.key rule.prepend))
+    flat_map-append (λ (r : RuleAsWritten). rules_of r.head r.key r.prepend) rules (rule ∷ [])
+    ∙ ap (λ x. expanded rules ++ x) (append-nil (rules_of rule.head rule.key rule.prepend))
 
 -- a text that is nothing but rules with blanks after each, and does not end in a blank, is a text of rules
-text_of_rules : (text : List ℕ) (rules : List RuleAsWritten) → RulesThen text rules [] → drop_trailing_whitespace text ≡ text
-    → (rules ≡ []) ⊎ ((front : List RuleAsWritten) × (last : RuleAsWritten) × (rest : List ℕ) × (rules ≡ front ++ last ∷ []) × RulesThen text front rest × RuleThen rest last [])
+text_of_rules : (text : List ℕ) (rules : List RuleAsWritten) → RulesThen text rules []
+    → drop_trailing_whitespace text ≡ text
+    → (rules ≡ [])
+    ⊎ ((front : List RuleAsWritten) × (last : RuleAsWritten) × (rest : List ℕ) × (rules ≡ front ++ last ∷ [])
+    × RulesThen text front rest × RuleThen rest last [])
 text_of_rules text [] before solid = inl refl
 text_of_rules text (rule ∷ rules) (blanks, next, here, plain, blank, others) solid =
     let (d, front, e) = rule_end text rule (blanks ++ next) here in
-    let solid_after : drop_trailing_whitespace (blanks ++ next) ≡ blanks ++ next = solid_back (d ∷ front) (blanks ++ next) (subst (λ t. drop_trailing_whitespace t ≡ t) e solid) in
+    let solid_after : drop_trailing_whitespace (blanks ++ next) ≡ blanks ++ next =
+    solid_back (d ∷ front) (blanks ++ next) (subst (λ t. drop_trailing_whitespace t ≡ t) e solid) in
     let only : rules ≡ [] → next ≡ [] = λ none. subst (λ rs. RulesThen next rs []) none others in
     elim (text_of_rules next rules others (solid_back blanks next solid_after)) [
       | inl none ↦
           (let here_only : blanks ++ next ≡ blanks = ap (λ x. blanks ++ x) (only none) ∙ append-nil blanks in
-          let no_blanks : blanks ≡ [] = solid_blanks blanks blank (subst (λ x. drop_trailing_whitespace x ≡ x) here_only solid_after) in
-          inr ([], rule, text, ap (λ rs. rule ∷ rs) none, refl, subst (RuleThen text rule) (here_only ∙ no_blanks) here))
-      | inr (init, last, rest, are, before, ends) ↦ inr (rule ∷ init, last, rest, ap (λ x. rule ∷ x) are, (blanks, next, here, plain, blank, before), ends)
+          let no_blanks : blanks ≡ [] =
+          solid_blanks blanks blank (subst (λ x. drop_trailing_whitespace x ≡ x) here_only solid_after) in
+          inr (
+            [],
+            rule,
+            text,
+            ap (λ rs. rule ∷ rs) none,
+            refl,
+            subst (RuleThen text rule) (here_only ∙ no_blanks) here,
+          ))
+      | inr (init, last, rest, are, before, ends) ↦ inr
+          (rule ∷ init, last, rest, ap (λ x. rule ∷ x) are, (blanks, next, here, plain, blank, before), ends)
     ]
 
 -- ---- the state of the reader
@@ -79,7 +108,8 @@ pub record ReadSoFar (text rest : List ℕ) (items : List MappingRule) (count : 
   pub counted : count ≡ length written
   pub state : Going text rest written items ⊎ ((rest ≡ []) × RuleText text written)
 
-pub start : (text rest : List ℕ) (items : List MappingRule) → rest ≡ trimmed text → items ≡ [] → ReadSoFar text rest items 0
+pub start : (text rest : List ℕ) (items : List MappingRule) → rest ≡ trimmed text → items ≡ []
+    → ReadSoFar text rest items 0
 start text rest items e none = record {
   written = [];
   are = none;
@@ -91,14 +121,18 @@ start text rest items e none = record {
   };
 }
 
-going : (text rest : List ℕ) (items : List MappingRule) (count : ℕ) (so_far : ReadSoFar text rest items count) → rest ≢ [] → Going text rest so_far.written items
+going : (text rest : List ℕ) (items : List MappingRule) (count : ℕ) (so_far : ReadSoFar text rest items count)
+    → rest ≢ [] → Going text rest so_far.written items
 going text rest items count so_far more = elim so_far.state [ inl state ↦ state | inr over ↦ absurd (more over.0) ]
 
-pub opened : (text rest : List ℕ) (items : List MappingRule) (count : ℕ) → ReadSoFar text rest items count → rest ≢ [] → IsOpened rest
-opened text rest items count so_far more = elim (going text rest items count so_far more).opened [ inl none ↦ absurd (more none) | inr opens ↦ opens ]
+pub opened : (text rest : List ℕ) (items : List MappingRule) (count : ℕ) → ReadSoFar text rest items count → rest ≢ []
+    → IsOpened rest
+opened text rest items count so_far more =
+    elim (going text rest items count so_far more).opened [ inl none ↦ absurd (more none) | inr opens ↦ opens ]
 
 pub fault : (text rest : List ℕ) (items : List MappingRule) (count : ℕ) (cause : RuleFault) (k : ℕ)
-    → ReadSoFar text rest items count → rest ≢ [] → BeginsWithFault rest cause → k ≡ length items + 1 → HasRulesFault text (InRule k cause)
+    → ReadSoFar text rest items count → rest ≢ [] → BeginsWithFault rest cause → k ≡ length items + 1
+    → HasRulesFault text (InRule k cause)
 fault text rest items count cause k so_far more (d, body, opens, wrong) number =
     let state = going text rest items count so_far more in
     record {
@@ -114,17 +148,22 @@ fault text rest items count cause k so_far more (d, body, opens, wrong) number =
 
 -- an error that tells a fault of the rule that is read, told with the number of that rule, tells a fault of the text
 told_at : (text rest : List ℕ) (items : List MappingRule) (count k : ℕ) (told : Option RuleFault)
-    → ReadSoFar text rest items count → rest ≢ [] → k ≡ length items + 1 → IsSomeAnd told (BeginsWithFault rest) → HasRulesFault text (option_map_or (InRule k) told NotOfText)
+    → ReadSoFar text rest items count → rest ≢ [] → k ≡ length items + 1 → IsSomeAnd told (BeginsWithFault rest)
+    → HasRulesFault text (option_map_or (InRule k) told NotOfText)
 told_at text rest items count k None so_far more number none = absurd none
-told_at text rest items count k (Some cause) so_far more number wrong = fault text rest items count cause k so_far more wrong number
+told_at text rest items count k (Some cause) so_far more number wrong =
+    fault text rest items count cause k so_far more wrong number
 
 pub refused_at : {A : Type 0} (text rest : List ℕ) (items : List MappingRule) (count k : ℕ) (cause : ErrorKind A)
-    → ReadSoFar text rest items count → rest ≢ [] → k ≡ length items + 1 → IsSomeAnd (rule_fault_of cause) (BeginsWithFault rest)
+    → ReadSoFar text rest items count → rest ≢ [] → k ≡ length items + 1
+    → IsSomeAnd (rule_fault_of cause) (BeginsWithFault rest)
     → OutOfMemoryOr (rules_fault_of (record { cause = cause; rule = Some k })) (HasRulesFault text)
-refused_at text rest items count k cause so_far more number wrong = told_at text rest items count k (rule_fault_of cause) so_far more number wrong
+refused_at text rest items count k cause so_far more number wrong =
+    told_at text rest items count k (rule_fault_of cause) so_far more number wrong
 
 -- it does not tell out of memory
-pub not_out_of_memory : {A : Type 0} (cause : ErrorKind A) (P : RuleFault → Type 0) → IsSomeAnd (rule_fault_of cause) P → cause ≢ OutOfMemory
+pub not_out_of_memory : {A : Type 0} (cause : ErrorKind A) (P : RuleFault → Type 0) → IsSomeAnd (rule_fault_of cause) P
+    → cause ≢ OutOfMemory
 not_out_of_memory cause P wrong e = subst (λ x. IsSomeAnd (rule_fault_of x) P) e wrong
 
 pub nothing_after : {A : Type 0} (xs ys : List A) → xs ++ ys ≡ [] → ys ≡ []
@@ -136,11 +175,14 @@ one_more : (number : ℕ) (items : List MappingRule) (written : List RuleAsWritt
     → number ≡ length items + 1 → length items ≡ length written → number ≡ length (written ++ rule ∷ [])
 one_more number items written rule is same = omega (arith, is, same, length-append written (rule ∷ []))
 
-step_by : (head : RuleHead) (text rest : List ℕ) (items more_items : List MappingRule) (count number : ℕ) (rule : RuleAsWritten) (after blanks next : List ℕ)
-    → rule.head ≡ head → ReadSoFar text rest items count → number ≡ length items + 1 → rest ≢ [] → RuleThen rest rule after → (rule.head ≡ Map → after ≡ [])
+step_by : (head : RuleHead) (text rest : List ℕ) (items more_items : List MappingRule) (count number : ℕ)
+    (rule : RuleAsWritten) (after blanks next : List ℕ)
+    → rule.head ≡ head → ReadSoFar text rest items count → number ≡ length items + 1 → rest ≢ []
+    → RuleThen rest rule after → (rule.head ≡ Map → after ≡ [])
     → after ≡ blanks ++ next → AllByRecursion IsBlank blanks → (next ≡ []) ⊎ IsOpened next
     → more_items ≡ items ++ rules_of rule.head rule.key rule.prepend → ReadSoFar text next more_items number
-step_by (Typed kind scope) text rest items more_items count number rule after blanks next is_head so_far is_number more whole last spells blank open_next pushed =
+step_by (Typed kind scope) text rest items more_items count number rule after blanks next is_head so_far is_number more
+    whole last spells blank open_next pushed =
     let state = going text rest items count so_far more in
     let w = so_far.written in
     let one : length (rules_of rule.head rule.key rule.prepend) ≡ 1 = rw is_head refl in
@@ -150,12 +192,22 @@ step_by (Typed kind scope) text rest items more_items count number rule after bl
       are = pushed ∙ ap (λ x. x ++ rules_of rule.head rule.key rule.prepend) so_far.are ∙ sym (expanded_snoc w rule);
       counted = one_more number items w rule is_number state.count;
       state = inl record {
-        before = rules_snoc (trimmed text) w rest rule blanks next state.before (subst (RuleThen rest rule) spells whole) plain blank;
+        before =
+            rules_snoc (trimmed text) w rest rule blanks next state.before (subst (RuleThen rest rule) spells whole)
+            plain blank;
         opened = open_next;
-        count = omega (arith, ap length pushed, length-append items (rules_of rule.head rule.key rule.prepend), one, state.count, length-append w (rule ∷ []));
+        count = omega (
+          arith,
+          ap length pushed,
+          length-append items (rules_of rule.head rule.key rule.prepend),
+          one,
+          state.count,
+          length-append w (rule ∷ []),
+        );
       };
     }
-step_by Map text rest items more_items count number rule after blanks next is_head so_far is_number more whole last spells blank open_next pushed =
+step_by Map text rest items more_items count number rule after blanks next is_head so_far is_number more whole last
+    spells blank open_next pushed =
     let state = going text rest items count so_far more in
     let w = so_far.written in
     record {
@@ -176,15 +228,19 @@ step_by Map text rest items more_items count number rule after blanks next is_he
     }
 
 -- one more rule was read
-pub step : (text rest : List ℕ) (items more_items : List MappingRule) (count number : ℕ) (rule : RuleAsWritten) (after next : List ℕ)
-    → ReadSoFar text rest items count → number ≡ length items + 1 → rest ≢ [] → RuleThen rest rule after → (rule.head ≡ Map → after ≡ []) → Skips after next
+pub step : (text rest : List ℕ) (items more_items : List MappingRule) (count number : ℕ) (rule : RuleAsWritten)
+    (after next : List ℕ)
+    → ReadSoFar text rest items count → number ≡ length items + 1 → rest ≢ [] → RuleThen rest rule after
+    → (rule.head ≡ Map → after ≡ []) → Skips after next
     → more_items ≡ items ++ rules_of rule.head rule.key rule.prepend → ReadSoFar text next more_items number
 step text rest items more_items count number rule after next so_far is_number more whole last skipped pushed =
-    step_by rule.head text rest items more_items count number rule after skipped.blanks next refl so_far is_number more whole last skipped.spells skipped.are_blank skipped.opened pushed
+    step_by rule.head text rest items more_items count number rule after skipped.blanks next refl so_far is_number more
+    whole last skipped.spells skipped.are_blank skipped.opened pushed
 
 -- ---- the end
 
-some_rules : (head : RuleHead) (key prepend : List ℕ) (others : List MappingRule) → rules_of head key prepend ++ others ≢ []
+some_rules : (head : RuleHead) (key prepend : List ℕ) (others : List MappingRule)
+    → rules_of head key prepend ++ others ≢ []
 some_rules (Typed kind scope) key prepend others e = (cc)
 some_rules Map [] prepend others e = (cc)
 some_rules Map (c ∷ cs) prepend others e = (cc)
@@ -194,7 +250,8 @@ expanded_none [] e = refl
 expanded_none (rule ∷ rules) e = absurd (some_rules rule.head rule.key rule.prepend (expanded rules) e)
 
 -- the rest is empty, and some rules were read
-pub finish : (text rest : List ℕ) (items : List MappingRule) (count : ℕ) → ReadSoFar text rest items count → rest ≡ [] → items ≢ []
+pub finish : (text rest : List ℕ) (items : List MappingRule) (count : ℕ) → ReadSoFar text rest items count → rest ≡ []
+    → items ≢ []
     → SaysRules text items × CountsRules text count
 finish text rest items count so_far over some =
     let w = so_far.written in
@@ -202,13 +259,22 @@ finish text rest items count so_far over some =
     (let all : RulesThen (trimmed text) w [] = subst (RulesThen (trimmed text) w) over state.before in
     elim (text_of_rules (trimmed text) w all (trimmed_solid text)) [
       | inl none ↦ absurd (some (so_far.are ∙ ap expanded none))
-      | inr (front, last, last_rest, are, before, ends) ↦ record { front = front; last = last; rest = last_rest; are = are; before = before; ends = ends }
+      | inr (front, last, last_rest, are, before, ends) ↦ record {
+        front = front;
+        last = last;
+        rest = last_rest;
+        are =
+            are;
+        before = before;
+        ends = ends;
+      }
     ]) in
     let is : RuleText text w = elim so_far.state [ inl state ↦ whole state | inr done ↦ done.1 ] in
     ((w, is, so_far.are), (w, is, so_far.counted))
 
 -- the rest is empty, and no rule was read
-pub nothing : (text rest : List ℕ) (items : List MappingRule) (count : ℕ) → ReadSoFar text rest items count → rest ≡ [] → items ≡ [] → trimmed text ≡ []
+pub nothing : (text rest : List ℕ) (items : List MappingRule) (count : ℕ) → ReadSoFar text rest items count → rest ≡ []
+    → items ≡ [] → trimmed text ≡ []
 nothing text rest items count so_far over none =
     let no_rules : so_far.written ≡ [] = expanded_none so_far.written (sym so_far.are ∙ none) in
     elim so_far.state [
@@ -223,4 +289,6 @@ items_none [] n r long e is_true = refl
 items_none (x ∷ xs) n r long e is_true = absurd (let f : eqb n 0 ≡ true = sym e ∙ is_true in grind (arith, nat_tests))
 
 pub items_some : {A : Type 0} (xs : List A) (n : ℕ) (r : Bool) → length xs ≡ n → r ≡ eqb n 0 → r ≡ false → xs ≢ []
-items_some xs n r long e is_false none = absurd (let f : eqb n 0 ≡ false = sym e ∙ is_false in let z : length xs ≡ 0 = ap length none in grind (arith, nat_tests))
+items_some xs n r long e is_false none =
+    absurd (let f : eqb n 0 ≡ false = sym e ∙ is_false in let z : length xs ≡ 0 = ap length none in
+    grind (arith, nat_tests))

@@ -1,8 +1,10 @@
 -- Fields of rules, and the fault of a rule that is not whole.
-use Rattle.std.proofs.Common.{◌≡◌, ℕ, List, [], ◌∷◌, ◌++◌, Option, Some, None, IsSomeAnd, ◌⊎◌, inl, inr, refl, sym, subst, ◌∙◌, codes, false}
+use Rattle.std.proofs.Common.{◌≡◌, ℕ, List, [], ◌∷◌, ◌++◌, Option, Some, None, IsSomeAnd, ◌⊎◌, inl, inr, refl, sym}
+use Rattle.std.proofs.Common.{subst, ◌∙◌, codes, false}
 use Rattle.std.specs.Char.{is_ascii_whitespace}
 use Rattle.virtiofs_map.specs.Rule.{RuleType}
-use Rattle.virtiofs_map.specs.RuleText.{All, RuleHead, Typed, Map, RuleAsWritten, Fields, RuleThen, HasNoNul, Opens, rule_fields, head_fields, type_word}
+use Rattle.virtiofs_map.specs.RuleText.{All, RuleHead, Typed, Map, RuleAsWritten, Fields, RuleThen, HasNoNul, Opens}
+use Rattle.virtiofs_map.specs.RuleText.{rule_fields, head_fields, type_word}
 use Rattle.virtiofs_map.specs.RulesFault.{RuleFault, IsUnfinished, HasRuleFault}
 use Rattle.virtiofs_map.specs.Separator.{Lacks}
 use Rattle.virtiofs_map.specs.RuleParts.{HasPatternFault, IsOpened, BeginsWithFault}
@@ -64,17 +66,34 @@ unfinished_key Map key lacks = record {
 
 pub key_fault : (d : ℕ) (text rest : List ℕ) (head : RuleHead) (cause : RuleFault)
     → Fields d text (head_fields head) rest → HasPatternFault d rest Key cause → HasRuleFault d text cause
-key_fault d text rest head cause before (inl (e, lacks)) = subst (HasRuleFault d text) (sym e) (head_fields head, rest, before, unfinished_head head, lacks)
+key_fault d text rest head cause before (inl (e, lacks)) =
+    subst (HasRuleFault d text) (sym e) (head_fields head, rest, before, unfinished_head head, lacks)
 key_fault d text rest head cause before (inr (e, key, after, found, holds)) =
-    subst (HasRuleFault d text) (sym e) (head, key, after, fields_append d text (head_fields head) (key ∷ []) rest after before found, holds)
+    subst (HasRuleFault d text) (sym e)
+    (head, key, after, fields_append d text (head_fields head) (key ∷ []) rest after before found, holds)
 
 pub prepend_fault : (d : ℕ) (text middle rest : List ℕ) (head : RuleHead) (key : List ℕ) (cause : RuleFault)
-    → Fields d text (head_fields head) middle → Fields d middle (key ∷ []) rest → Lacks 0 key → HasPatternFault d rest Prepend cause → HasRuleFault d text cause
+    → Fields d text (head_fields head) middle → Fields d middle (key ∷ []) rest → Lacks 0 key
+    → HasPatternFault d rest Prepend cause → HasRuleFault d text cause
 prepend_fault d text middle rest head key cause before found no_nul (inl (e, lacks)) =
-    subst (HasRuleFault d text) (sym e) (head_fields head ++ key ∷ [], rest, fields_append d text (head_fields head) (key ∷ []) middle rest before found, unfinished_key head key no_nul, lacks)
+    subst (HasRuleFault d text) (sym e) (
+      head_fields head ++ key ∷ [],
+      rest,
+      fields_append d text (head_fields head) (key ∷ []) middle rest before found,
+      unfinished_key head key no_nul,
+      lacks,
+    )
 prepend_fault d text middle rest head key cause before found no_nul (inr (e, prepend, after, last, holds)) =
-    subst (HasRuleFault d text) (sym e)
-    (head, key, prepend, after, fields_append d text (head_fields head) (key ∷ prepend ∷ []) middle after before (fields_append d middle (key ∷ []) (prepend ∷ []) rest after found last), no_nul, holds)
+    subst (HasRuleFault d text) (sym e) (
+      head,
+      key,
+      prepend,
+      after,
+      fields_append d text (head_fields head) (key ∷ prepend ∷ []) middle after before
+          (fields_append d middle (key ∷ []) (prepend ∷ []) rest after found last),
+      no_nul,
+      holds,
+    )
 
 -- a text that some delimiter opens is opened by its first character
 pub opens_at : (text : List ℕ) (d : ℕ) (body : List ℕ) → IsOpened text → text ≡ d ∷ body → Opens text d body
@@ -87,7 +106,8 @@ empty_is_not_opened (first, others, (e, solid)) = (cc)
 
 -- a rule that a delimiter opens and whose fields follow
 pub rule_then : (text : List ℕ) (d : ℕ) (body : List ℕ) (rule : RuleAsWritten) (after : List ℕ)
-    → IsOpened text → text ≡ d ∷ body → Fields d body (rule_fields rule) after → HasNoNul rule → RuleThen text rule after
+    → IsOpened text → text ≡ d ∷ body → Fields d body (rule_fields rule) after → HasNoNul rule
+    → RuleThen text rule after
 rule_then text d body rule after opened e fields no_nul = record {
   delimiter = d;
   body = body;
@@ -97,13 +117,16 @@ rule_then text d body rule after opened e fields no_nul = record {
 }
 
 -- what P says of the fault that is told, Q says of it
-pub some_and : (told : Option RuleFault) (P Q : RuleFault → Type 0) → ((fault : RuleFault) → P fault → Q fault) → IsSomeAnd told P → IsSomeAnd told Q
+pub some_and : (told : Option RuleFault) (P Q : RuleFault → Type 0) → ((fault : RuleFault) → P fault → Q fault)
+    → IsSomeAnd told P → IsSomeAnd told Q
 some_and None P Q all none = none
 some_and (Some fault) P Q all holds = all fault holds
 
 -- a fault of the fields, unless something else holds, is one of the text
 pub fault_from : (text : List ℕ) (d : ℕ) (body : List ℕ) (told : Option RuleFault) (Other : Type 0)
-    → IsOpened text → text ≡ d ∷ body → Other ⊎ IsSomeAnd told (HasRuleFault d body) → Other ⊎ IsSomeAnd told (BeginsWithFault text)
+    → IsOpened text → text ≡ d ∷ body → Other ⊎ IsSomeAnd told (HasRuleFault d body)
+    → Other ⊎ IsSomeAnd told (BeginsWithFault text)
 fault_from text d body told Other opened e (inl other) = inl other
 fault_from text d body told Other opened e (inr wrong) =
-    inr (some_and told (HasRuleFault d body) (BeginsWithFault text) (λ fault here. (d, body, opens_at text d body opened e, here)) wrong)
+    inr (some_and told (HasRuleFault d body) (BeginsWithFault text)
+    (λ fault here. (d, body, opens_at text d body opened e, here)) wrong)

@@ -1,13 +1,17 @@
 -- A text has one reading: the rule or the fault that it begins with is found by reading it once, field by field.
-use Rattle.std.proofs.Common.{◌≡◌, ◌≢◌, ℕ, Bool, true, false, cond, eqb, nat_eq, ◌||◌, List, [], ◌∷◌, ◌++◌, Contains, Option, Some, None, Result, Ok, Err, codes, ◌⊎◌, inl, inr, refl, sym, ap, subst, ◌∙◌, arith, zero, suc}
+use Rattle.std.proofs.Common.{◌≡◌, ◌≢◌, ℕ, Bool, true, false, cond, eqb, nat_eq, ◌||◌, List, [], ◌∷◌, ◌++◌, Contains}
+use Rattle.std.proofs.Common.{Option, Some, None, Result, Ok, Err, codes, ◌⊎◌, inl, inr, refl, sym, ap, subst, ◌∙◌}
+use Rattle.std.proofs.Common.{arith, zero, suc}
 use Rattle.std.proofs.lemmas.Bool.Decides.{nat_tests, Decides-eqb}
 use Rattle.std.proofs.lemmas.Slice.Eq.{slice_eq-Decides}
 use lib.Pointwise.{pointwise}
 use Rattle.virtiofs_map.proofs.TrimLemmas.{otherwise_false}
 use Rattle.virtiofs_map.proofs.ReadSoFarLemmas.{nothing_after}
 use Rattle.virtiofs_map.specs.Rule.{RuleType, Prefix, Okay, Bad, Unsupported}
-use Rattle.virtiofs_map.specs.RuleText.{ScopeName, All, Client, Server, RuleHead, Typed, Map, RuleAsWritten, Fields, HasNoNul, RuleThen, rule_fields, head_fields, type_word, scope_word}
-use Rattle.virtiofs_map.specs.RulesFault.{RuleFault, InvalidScope, InvalidType, IncompleteRule, MapRuleViolation, NulInPattern, HasRuleFault}
+use Rattle.virtiofs_map.specs.RuleText.{ScopeName, All, Client, Server, RuleHead, Typed, Map, RuleAsWritten, Fields}
+use Rattle.virtiofs_map.specs.RuleText.{HasNoNul, RuleThen, rule_fields, head_fields, type_word, scope_word}
+use Rattle.virtiofs_map.specs.RulesFault.{RuleFault, InvalidScope, InvalidType, IncompleteRule, MapRuleViolation}
+use Rattle.virtiofs_map.specs.RulesFault.{NulInPattern, HasRuleFault}
 use Rattle.virtiofs_map.specs.Separator.{Lacks}
 use Rattle.virtiofs_map.specs.RuleParts.{BeginsWithFault}
 use Rattle.virtiofs_map.specs.declared.xattrmap.errors.PatternField.{PatternField}
@@ -40,7 +44,9 @@ unless_nul false which next = next
 patterns : ℕ → RuleHead → List ℕ → Result (RuleAsWritten × List ℕ) RuleFault
 patterns d head text =
     after_field (cut d text) (λ key text. unless_nul (has_nul key) Key
-    (after_field (cut d text) (λ prepend text. unless_nul (has_nul prepend) Prepend (Ok (record { head = head; key = key; prepend = prepend }, text)))))
+    (after_field (cut d text)
+    (λ prepend text. unless_nul (has_nul prepend) Prepend
+    (Ok (record { head = head; key = key; prepend = prepend }, text)))))
 
 same : List ℕ → List ℕ → Bool
 same = pointwise nat_eq
@@ -48,11 +54,14 @@ same = pointwise nat_eq
 -- the type that a word names, or the word map
 type_at : List ℕ → Option (Option RuleType)
 type_at w =
-    cond (same w (codes "prefix")) (Some (Some Prefix)) (cond (same w (codes "ok")) (Some (Some Okay)) (cond (same w (codes "bad")) (Some (Some Bad))
+    cond (same w (codes "prefix")) (Some (Some Prefix))
+    (cond (same w (codes "ok")) (Some (Some Okay)) (cond (same w (codes "bad")) (Some (Some Bad))
     (cond (same w (codes "unsupported")) (Some (Some Unsupported)) (cond (same w (codes "map")) (Some None) None))))
 
 scope_at : List ℕ → Option ScopeName
-scope_at w = cond (same w (codes "all")) (Some All) (cond (same w (codes "client")) (Some Client) (cond (same w (codes "server")) (Some Server) None))
+scope_at w =
+    cond (same w (codes "all")) (Some All)
+    (cond (same w (codes "client")) (Some Client) (cond (same w (codes "server")) (Some Server) None))
 
 by_scope : ℕ → RuleType → Option ScopeName → List ℕ → List ℕ → Result (RuleAsWritten × List ℕ) RuleFault
 by_scope d kind (Some scope) w text = patterns d (Typed kind scope) text
@@ -88,7 +97,8 @@ record OneField (d : ℕ) (text field : List ℕ) (fields : List (List ℕ)) (re
   pub found : cut d text ≡ Some (field, after)
   pub others : Fields d after fields rest
 
-one_field : (d : ℕ) (text field : List ℕ) (fields : List (List ℕ)) (rest : List ℕ) → Fields d text (field ∷ fields) rest → OneField d text field fields rest
+one_field : (d : ℕ) (text field : List ℕ) (fields : List (List ℕ)) (rest : List ℕ) → Fields d text (field ∷ fields) rest
+    → OneField d text field fields rest
 one_field d text field fields rest (after, spells, lacks, others) = record {
   after = after;
   found = ap (cut d) spells ∙ cut_here d field after lacks;
@@ -131,7 +141,9 @@ scope_at-word Server = refl
 
 not_same : (s word : List ℕ) → s ≢ word → same s word ≡ false
 unfolding same
-not_same s word differ = otherwise_false _ (λ e. differ ((slice_eq-Decides (λ a b. Decides-eqb a b) s word (pointwise nat_eq s word) refl).0 e))
+not_same s word differ =
+    otherwise_false _
+    (λ e. differ ((slice_eq-Decides (λ a b. Decides-eqb a b) s word (pointwise nat_eq s word) refl).0 e))
 
 type_at-none : (w : List ℕ) → ((kind : RuleType) → w ≢ type_word kind) → w ≢ codes "map" → type_at w ≡ None
 unfolding type_at
@@ -147,12 +159,17 @@ type_at-none w no_type no_map =
 scope_at-none : (w : List ℕ) → ((word : ScopeName) → w ≢ scope_word word) → scope_at w ≡ None
 unfolding scope_at
 scope_at-none w no_scope =
-    rw (not_same w (codes "all") (no_scope All), not_same w (codes "client") (no_scope Client), not_same w (codes "server") (no_scope Server)) refl
+    rw (
+      not_same w (codes "all") (no_scope All),
+      not_same w (codes "client") (no_scope Client),
+      not_same w (codes "server") (no_scope Server),
+    ) refl
 
 -- ---- what the patterns give
 
 patterns_whole : (d : ℕ) (text : List ℕ) (head : RuleHead) (key prepend rest : List ℕ)
-    → Fields d text (key ∷ prepend ∷ []) rest → Lacks 0 key → Lacks 0 prepend → patterns d head text ≡ Ok (record { head = head; key = key; prepend = prepend }, rest)
+    → Fields d text (key ∷ prepend ∷ []) rest → Lacks 0 key → Lacks 0 prepend
+    → patterns d head text ≡ Ok (record { head = head; key = key; prepend = prepend }, rest)
 unfolding patterns after_field unless_nul
 patterns_whole d text head key prepend rest fields no_key no_prepend =
     let one = one_field d text key (prepend ∷ []) rest fields in
@@ -178,7 +195,8 @@ patterns_nul_key d text head key rest fields holds =
     rw (one.found, nul_here key holds) refl
 
 patterns_nul_prepend : (d : ℕ) (text : List ℕ) (head : RuleHead) (key prepend rest : List ℕ)
-    → Fields d text (key ∷ prepend ∷ []) rest → Lacks 0 key → Contains prepend 0 → patterns d head text ≡ Err (NulInPattern Prepend)
+    → Fields d text (key ∷ prepend ∷ []) rest → Lacks 0 key → Contains prepend 0
+    → patterns d head text ≡ Err (NulInPattern Prepend)
 unfolding patterns after_field unless_nul
 patterns_nul_prepend d text head key prepend rest fields no_nul holds =
     let one = one_field d text key (prepend ∷ []) rest fields in
@@ -187,7 +205,8 @@ patterns_nul_prepend d text head key prepend rest fields no_nul holds =
 
 -- ---- what the head gives
 
-reading_head : (d : ℕ) (text : List ℕ) (head : RuleHead) (rest : List ℕ) → Fields d text (head_fields head) rest → reading d text ≡ patterns d head rest
+reading_head : (d : ℕ) (text : List ℕ) (head : RuleHead) (rest : List ℕ) → Fields d text (head_fields head) rest
+    → reading d text ≡ patterns d head rest
 unfolding reading after_field by_type by_scope
 reading_head d text (Typed kind word) rest fields =
     let one = one_field d text (type_word kind) (scope_word word ∷ []) rest fields in
@@ -209,14 +228,16 @@ reading_type d text kind rest fields lacks =
     rw (one.found, type_at-word kind, one.others, cut_nowhere d rest lacks) refl
 
 reading_no_type : (d : ℕ) (text got rest : List ℕ)
-    → Fields d text (got ∷ []) rest → ((kind : RuleType) → got ≢ type_word kind) → got ≢ codes "map" → reading d text ≡ Err (InvalidType got (codes "prefix, ok, bad, map"))
+    → Fields d text (got ∷ []) rest → ((kind : RuleType) → got ≢ type_word kind) → got ≢ codes "map"
+    → reading d text ≡ Err (InvalidType got (codes "prefix, ok, bad, map"))
 unfolding reading after_field by_type
 reading_no_type d text got rest fields no_type no_map =
     let one = one_field d text got [] rest fields in
     rw (one.found, type_at-none got no_type no_map) refl
 
 reading_no_scope : (d : ℕ) (text : List ℕ) (kind : RuleType) (got rest : List ℕ)
-    → Fields d text (type_word kind ∷ got ∷ []) rest → ((word : ScopeName) → got ≢ scope_word word) → reading d text ≡ Err (InvalidScope got (codes "all, client, server"))
+    → Fields d text (type_word kind ∷ got ∷ []) rest → ((word : ScopeName) → got ≢ scope_word word)
+    → reading d text ≡ Err (InvalidScope got (codes "all, client, server"))
 unfolding reading after_field by_type by_scope
 reading_no_scope d text kind got rest fields no_scope =
     let one = one_field d text (type_word kind) (got ∷ []) rest fields in
@@ -233,46 +254,62 @@ fields_split d text (field ∷ front) back rest (after, spells, lacks, others) =
 
 -- ---- a rule, a rule that is not whole, a fault
 
-reading_whole : (d : ℕ) (text : List ℕ) (rule : RuleAsWritten) (rest : List ℕ) → Fields d text (rule_fields rule) rest → HasNoNul rule → reading d text ≡ Ok (rule, rest)
+reading_whole : (d : ℕ) (text : List ℕ) (rule : RuleAsWritten) (rest : List ℕ) → Fields d text (rule_fields rule) rest
+    → HasNoNul rule → reading d text ≡ Ok (rule, rest)
 reading_whole d text rule rest fields no_nul =
-    let (middle, before, last) = fields_split d text (head_fields rule.head) (rule.key ∷ rule.prepend ∷ []) rest fields in
-    reading_head d text rule.head middle before ∙ patterns_whole d middle rule.head rule.key rule.prepend rest last no_nul.0 no_nul.1
+    let (middle, before, last) =
+    fields_split d text (head_fields rule.head) (rule.key ∷ rule.prepend ∷ []) rest fields in
+    reading_head d text rule.head middle before
+    ∙ patterns_whole d middle rule.head rule.key rule.prepend rest last no_nul.0 no_nul.1
 
-unfinished_typed : (d : ℕ) (text : List ℕ) (kind : RuleType) (word : ScopeName) (key prepend : List ℕ) (fields missing : List (List ℕ)) (rest : List ℕ)
-    → Fields d text fields rest → fields ++ missing ≡ type_word kind ∷ scope_word word ∷ key ∷ prepend ∷ [] → missing ≢ [] → Lacks 0 key → Lacks d rest
+unfinished_typed : (d : ℕ) (text : List ℕ) (kind : RuleType) (word : ScopeName) (key prepend : List ℕ)
+    (fields missing : List (List ℕ)) (rest : List ℕ)
+    → Fields d text fields rest → fields ++ missing ≡ type_word kind ∷ scope_word word ∷ key ∷ prepend ∷ []
+    → missing ≢ [] → Lacks 0 key → Lacks d rest
     → reading d text ≡ Err IncompleteRule
-unfinished_typed d text kind word key prepend [] missing rest fields e more no_nul lacks = reading_nothing d text (subst (Lacks d) (sym fields) lacks)
+unfinished_typed d text kind word key prepend [] missing rest fields e more no_nul lacks =
+    reading_nothing d text (subst (Lacks d) (sym fields) lacks)
 unfinished_typed d text kind word key prepend (a ∷ []) missing rest fields e more no_nul lacks =
     let ea : a ≡ type_word kind = (cc) in
     reading_type d text kind rest (subst (λ w. Fields d text (w ∷ []) rest) ea fields) lacks
 unfinished_typed d text kind word key prepend (a ∷ b ∷ []) missing rest fields e more no_nul lacks =
     let both : a ∷ b ∷ [] ≡ type_word kind ∷ scope_word word ∷ [] = (cc) in
-    reading_head d text (Typed kind word) rest (subst (λ ws. Fields d text ws rest) both fields) ∙ patterns_no_key d rest (Typed kind word) lacks
+    reading_head d text (Typed kind word) rest (subst (λ ws. Fields d text ws rest) both fields)
+    ∙ patterns_no_key d rest (Typed kind word) lacks
 unfinished_typed d text kind word key prepend (a ∷ b ∷ c ∷ []) missing rest fields e more no_nul lacks =
     let three : a ∷ b ∷ c ∷ [] ≡ head_fields (Typed kind word) ++ key ∷ [] = (cc) in
-    let (middle, before, last) = fields_split d text (head_fields (Typed kind word)) (key ∷ []) rest (subst (λ ws. Fields d text ws rest) three fields) in
-    reading_head d text (Typed kind word) middle before ∙ patterns_no_prepend d middle (Typed kind word) key rest last no_nul lacks
+    let (middle, before, last) =
+    fields_split d text (head_fields (Typed kind word)) (key ∷ []) rest
+    (subst (λ ws. Fields d text ws rest) three fields) in
+    reading_head d text (Typed kind word) middle before
+    ∙ patterns_no_prepend d middle (Typed kind word) key rest last no_nul lacks
 unfinished_typed d text kind word key prepend (a ∷ b ∷ c ∷ f ∷ others) missing rest fields e more no_nul lacks =
     let none : others ++ missing ≡ [] = (cc) in absurd (more (nothing_after others missing none))
 
 unfinished_map : (d : ℕ) (text key prepend : List ℕ) (fields missing : List (List ℕ)) (rest : List ℕ)
-    → Fields d text fields rest → fields ++ missing ≡ codes "map" ∷ key ∷ prepend ∷ [] → missing ≢ [] → Lacks 0 key → Lacks d rest
+    → Fields d text fields rest → fields ++ missing ≡ codes "map" ∷ key ∷ prepend ∷ [] → missing ≢ [] → Lacks 0 key
+    → Lacks d rest
     → reading d text ≡ Err IncompleteRule
-unfinished_map d text key prepend [] missing rest fields e more no_nul lacks = reading_nothing d text (subst (Lacks d) (sym fields) lacks)
+unfinished_map d text key prepend [] missing rest fields e more no_nul lacks =
+    reading_nothing d text (subst (Lacks d) (sym fields) lacks)
 unfinished_map d text key prepend (a ∷ []) missing rest fields e more no_nul lacks =
     let one : a ∷ [] ≡ head_fields Map = (cc) in
     reading_head d text Map rest (subst (λ ws. Fields d text ws rest) one fields) ∙ patterns_no_key d rest Map lacks
 unfinished_map d text key prepend (a ∷ b ∷ []) missing rest fields e more no_nul lacks =
     let two : a ∷ b ∷ [] ≡ head_fields Map ++ key ∷ [] = (cc) in
-    let (middle, before, last) = fields_split d text (head_fields Map) (key ∷ []) rest (subst (λ ws. Fields d text ws rest) two fields) in
+    let (middle, before, last) =
+    fields_split d text (head_fields Map) (key ∷ []) rest (subst (λ ws. Fields d text ws rest) two fields) in
     reading_head d text Map middle before ∙ patterns_no_prepend d middle Map key rest last no_nul lacks
 unfinished_map d text key prepend (a ∷ b ∷ c ∷ others) missing rest fields e more no_nul lacks =
     let none : others ++ missing ≡ [] = (cc) in absurd (more (nothing_after others missing none))
 
-unfinished : (d : ℕ) (text : List ℕ) (head : RuleHead) (key prepend : List ℕ) (fields missing : List (List ℕ)) (rest : List ℕ)
-    → Fields d text fields rest → fields ++ missing ≡ head_fields head ++ key ∷ prepend ∷ [] → missing ≢ [] → Lacks 0 key → Lacks d rest
+unfinished : (d : ℕ) (text : List ℕ) (head : RuleHead) (key prepend : List ℕ) (fields missing : List (List ℕ))
+    (rest : List ℕ)
+    → Fields d text fields rest → fields ++ missing ≡ head_fields head ++ key ∷ prepend ∷ [] → missing ≢ []
+    → Lacks 0 key → Lacks d rest
     → reading d text ≡ Err IncompleteRule
-unfinished d text (Typed kind word) key prepend fields missing rest = unfinished_typed d text kind word key prepend fields missing rest
+unfinished d text (Typed kind word) key prepend fields missing rest =
+    unfinished_typed d text kind word key prepend fields missing rest
 unfinished d text Map key prepend fields missing rest = unfinished_map d text key prepend fields missing rest
 
 -- something follows a map rule
@@ -284,9 +321,11 @@ record Follows (d : ℕ) (text : List ℕ) (cause : RuleFault) : Type 0 where
   pub last : rule.head ≡ Map
   pub more : rest ≢ []
 
-reading_fault : (d : ℕ) (text : List ℕ) (cause : RuleFault) → HasRuleFault d text cause → (reading d text ≡ Err cause) ⊎ Follows d text cause
+reading_fault : (d : ℕ) (text : List ℕ) (cause : RuleFault) → HasRuleFault d text cause
+    → (reading d text ≡ Err cause) ⊎ Follows d text cause
 reading_fault d text IncompleteRule (fields, rest, found, bad, lacks) =
-    inl (unfinished d text bad.rule.head bad.rule.key bad.rule.prepend fields bad.missing rest found bad.are bad.more bad.no_nul.0 lacks)
+    inl (unfinished d text bad.rule.head bad.rule.key bad.rule.prepend fields bad.missing rest found bad.are bad.more
+    bad.no_nul.0 lacks)
 reading_fault d text (InvalidType got expected) (rest, found, no_type, no_map, e) =
     inl (reading_no_type d text got rest found no_type no_map ∙ ap (λ x. Err (InvalidType got x)) (sym e))
 reading_fault d text (InvalidScope got expected) (kind, rest, found, no_scope, e) =
@@ -308,7 +347,8 @@ reading_fault d text MapRuleViolation (rule, rest, is_map, found, no_nul, some) 
 
 -- ---- at one place of a text
 
-same_reading : (text : List ℕ) (d e : ℕ) (body other : List ℕ) → text ≡ d ∷ body → text ≡ e ∷ other → reading d body ≡ reading e other
+same_reading : (text : List ℕ) (d e : ℕ) (body other : List ℕ) → text ≡ d ∷ body → text ≡ e ∷ other
+    → reading d body ≡ reading e other
 same_reading text d e body other f g =
     let both : d ∷ body ≡ e ∷ other = sym f ∙ g in
     let first : d ≡ e = (cc) in
@@ -318,21 +358,27 @@ same_reading text d e body other f g =
 abbrev Read : Type 0
 Read = Result (RuleAsWritten × List ℕ) RuleFault
 
-reads_rule : (text : List ℕ) (rule : RuleAsWritten) (after : List ℕ) (whole : RuleThen text rule after) → reading whole.delimiter whole.body ≡ Ok (rule, after)
+reads_rule : (text : List ℕ) (rule : RuleAsWritten) (after : List ℕ) (whole : RuleThen text rule after)
+    → reading whole.delimiter whole.body ≡ Ok (rule, after)
 reads_rule text rule after whole = reading_whole whole.delimiter whole.body rule after whole.fields whole.no_nul
 
 both_read : (a b : RuleAsWritten) (x y : List ℕ) → ◌≡◌ {A = Read} (Ok (a, x)) (Ok (b, y)) → (a ≡ b) × (x ≡ y)
-both_read a b x y e = let both : ◌≡◌ {A = RuleAsWritten × List ℕ} (a, x) (b, y) = (cc) in (ap (λ (p : RuleAsWritten × List ℕ). p.0) both, ap (λ (p : RuleAsWritten × List ℕ). p.1) both)
+both_read a b x y e = let both : ◌≡◌ {A = RuleAsWritten × List ℕ} (a, x) (b, y) = (cc) in
+    (ap (λ (p : RuleAsWritten × List ℕ). p.0) both, ap (λ (p : RuleAsWritten × List ℕ). p.1) both)
 
 -- one rule stands there, and one text follows it
-pub rule_again : (text : List ℕ) (a b : RuleAsWritten) (x y : List ℕ) → RuleThen text a x → RuleThen text b y → (a ≡ b) × (x ≡ y)
+pub rule_again : (text : List ℕ) (a b : RuleAsWritten) (x y : List ℕ) → RuleThen text a x → RuleThen text b y
+    → (a ≡ b) × (x ≡ y)
 rule_again text a b x y one two =
-    both_read a b x y (sym (reads_rule text a x one) ∙ same_reading text _ _ _ _ one.opens.0 two.opens.0 ∙ reads_rule text b y two)
+    both_read a b x y
+    (sym (reads_rule text a x one) ∙ same_reading text _ _ _ _ one.opens.0 two.opens.0 ∙ reads_rule text b y two)
 
 -- where a rule stands, the only fault is that something follows a map rule
-pub rule_and_fault : (text : List ℕ) (rule : RuleAsWritten) (after : List ℕ) (cause : RuleFault) → RuleThen text rule after → BeginsWithFault text cause → (rule.head ≡ Map) × (after ≢ [])
+pub rule_and_fault : (text : List ℕ) (rule : RuleAsWritten) (after : List ℕ) (cause : RuleFault)
+    → RuleThen text rule after → BeginsWithFault text cause → (rule.head ≡ Map) × (after ≢ [])
 rule_and_fault text rule after cause whole (d, body, opens, wrong) =
-    let here : reading d body ≡ Ok (rule, after) = same_reading text d whole.delimiter body whole.body opens.0 whole.opens.0 ∙ reads_rule text rule after whole in
+    let here : reading d body ≡ Ok (rule, after) =
+    same_reading text d whole.delimiter body whole.body opens.0 whole.opens.0 ∙ reads_rule text rule after whole in
     elim (reading_fault d body cause wrong) [
       | inl e ↦ absurd (let f : ◌≡◌ {A = Read} (Err cause) (Ok (rule, after)) = sym e ∙ here in (cc))
       | inr follows ↦
@@ -341,16 +387,21 @@ rule_and_fault text rule after cause whole (d, body, opens, wrong) =
     ]
 
 -- one fault is there
-pub fault_again : (text : List ℕ) (one two : RuleFault) → BeginsWithFault text one → BeginsWithFault text two → one ≡ two
+pub fault_again : (text : List ℕ) (one two : RuleFault) → BeginsWithFault text one → BeginsWithFault text two
+    → one ≡ two
 fault_again text one two (d, body, opens, wrong) (e, other, opened, bad) =
     let same_read : reading d body ≡ reading e other = same_reading text d e body other opens.0 opened.0 in
     elim (reading_fault d body one wrong) [
       | inl f ↦ elim (reading_fault e other two bad) [
         | inl g ↦ (let h : ◌≡◌ {A = Read} (Err one) (Err two) = sym f ∙ same_read ∙ g in (cc))
-        | inr follows ↦ absurd (let h : ◌≡◌ {A = Read} (Err one) (Ok (follows.rule, follows.rest)) = sym f ∙ same_read ∙ follows.reads in (cc))
+        | inr follows ↦ absurd
+            (let h : ◌≡◌ {A = Read} (Err one) (Ok (follows.rule, follows.rest)) = sym f ∙ same_read ∙ follows.reads in
+            (cc))
       ]
       | inr follows ↦ elim (reading_fault e other two bad) [
-        | inl g ↦ absurd (let h : ◌≡◌ {A = Read} (Ok (follows.rule, follows.rest)) (Err two) = sym follows.reads ∙ same_read ∙ g in (cc))
+        | inl g ↦ absurd
+            (let h : ◌≡◌ {A = Read} (Ok (follows.rule, follows.rest)) (Err two) = sym follows.reads ∙ same_read ∙ g in
+            (cc))
         | inr later ↦ follows.is ∙ sym later.is
       ]
     ]

@@ -28,4 +28,5 @@ chars_nonempty s utf8 r e is_false f =
 -- a text with no byte has no character
 pub chars_empty : (s : List ℕ) → (r : Bool) → r ≡ nat_eq (length s) 0 → r ≡ true → chars s ≡ []
 chars_empty [] r e is_true = chars-nil
-chars_empty (b ∷ s) r e is_true = absurd (let f : nat_eq (suc (length s)) 0 ≡ true = sym e ∙ is_true in grind (arith, nat_tests))
+chars_empty (b ∷ s) r e is_true =
+    absurd (let f : nat_eq (suc (length s)) 0 ≡ true = sym e ∙ is_true in grind (arith, nat_tests))

@@ -1,6 +1,8 @@
 -- The list that the guest gets, name by name.
-use Rattle.std.proofs.Common.{◌≡◌, ℕ, ◌+◌, ◌<◌, ◌≤◌, Bool, true, false, not, eqb, ltb, List, [], ◌∷◌, ◌++◌, length, Option, Some, None, IfSome, inl, inr, refl, sym, ap, ◌∙◌, arith, filter}
-use Rattle.std.specs.List.{slice_split, onto_first, cons_option, filter_map, flat_map, position, position_or_len, before_first, after_first}
+use Rattle.std.proofs.Common.{◌≡◌, ℕ, ◌+◌, ◌<◌, ◌≤◌, Bool, true, false, not, eqb, ltb, List, [], ◌∷◌, ◌++◌, length}
+use Rattle.std.proofs.Common.{Option, Some, None, IfSome, inl, inr, refl, sym, ap, ◌∙◌, arith, filter}
+use Rattle.std.specs.List.{slice_split, onto_first, cons_option, filter_map, flat_map, position, position_or_len}
+use Rattle.std.specs.List.{before_first, after_first}
 use Rattle.std.proofs.lemmas.Bool.{cond_both, ltb-true, ltb-false, cases_lt}
 use Rattle.std.proofs.lemmas.List.{take_all, drop_all, append-nil, length-append, length-drop, length_push}
 use Rattle.std.proofs.lemmas.List.Splits.{slice_split_first, slice_split_none, length-slice_split}
@@ -20,42 +22,60 @@ is_name part = not (eqb (length part) 0)
 -- ---- the first zero
 
 -- a place that `position` gives is the first that passes
-pub position-Some_is : {X : Type 0} (p : X → Bool) (xs : List X) (i : ℕ) → Some i ≡ position p xs → (i ≡ position_or_len p xs) × (i < length xs)
+pub position-Some_is : {X : Type 0} (p : X → Bool) (xs : List X) (i : ℕ) → Some i ≡ position p xs
+    → (i ≡ position_or_len p xs) × (i < length xs)
 position-Some_is p xs i =
-    cond_both (ltb (position_or_len p xs) (length xs)) (Some (position_or_len p xs)) None (λ o. Some i ≡ o → (i ≡ position_or_len p xs) × (i < length xs)) (λ b k. let e : i ≡ position_or_len p xs = cc in (e, omega (arith, ltb-true (position_or_len p xs) (length xs) b))) (λ _ k. cc)
+    cond_both (ltb (position_or_len p xs) (length xs)) (Some (position_or_len p xs)) None
+    (λ o. Some i ≡ o → (i ≡ position_or_len p xs) × (i < length xs))
+    (λ b k. let e : i ≡ position_or_len p xs = cc in
+    (e, omega (arith, ltb-true (position_or_len p xs) (length xs) b))) (λ _ k. cc)
 
-pub position-None_is : {X : Type 0} (p : X → Bool) (xs : List X) → None ≡ position p xs → length xs ≤ position_or_len p xs
+pub position-None_is : {X : Type 0} (p : X → Bool) (xs : List X) → None ≡ position p xs
+    → length xs ≤ position_or_len p xs
 position-None_is p xs =
-    cond_both (ltb (position_or_len p xs) (length xs)) (Some (position_or_len p xs)) None (λ o. None ≡ o → length xs ≤ position_or_len p xs) (λ _ k. cc) (λ b _. ltb-false (position_or_len p xs) (length xs) b)
+    cond_both (ltb (position_or_len p xs) (length xs)) (Some (position_or_len p xs)) None
+    (λ o. None ≡ o → length xs ≤ position_or_len p xs) (λ _ k. cc)
+    (λ b _. ltb-false (position_or_len p xs) (length xs) b)
 
 -- ---- the names of a list
 
 -- a list with a zero is its first part, and then the others
-parts_first : (list : List ℕ) → position_or_len is_zero list < length list → slice_split is_zero list ≡ before_first is_zero list ∷ slice_split is_zero (after_first is_zero list)
+parts_first : (list : List ℕ) → position_or_len is_zero list < length list
+    → slice_split is_zero list ≡ before_first is_zero list ∷ slice_split is_zero (after_first is_zero list)
 parts_first list l = slice_split_first is_zero list 0 l
 
 -- a list with no zero is one part
 parts_none : (list : List ℕ) → length list ≤ position_or_len is_zero list → slice_split is_zero list ≡ list ∷ []
 parts_none list l =
-    slice_split_none is_zero list (All-from_get_or (λ x. is_zero x ≡ false) list 0 (λ i h. fails_before_first is_zero list i 0 (omega arith)))
+    slice_split_none is_zero list
+    (All-from_get_or (λ x. is_zero x ≡ false) list 0 (λ i h. fails_before_first is_zero list i 0 (omega arith)))
 
 -- the first name of a list, if it is one, and then the names of the rest
-pub names_step : (list : List ℕ) → names list ≡ filter is_name (before_first is_zero list ∷ []) ++ names (after_first is_zero list)
+pub names_step : (list : List ℕ)
+    → names list ≡ filter is_name (before_first is_zero list ∷ []) ++ names (after_first is_zero list)
 names_step list =
     elim (cases_lt (position_or_len is_zero list) (length list)) [
-      | inl l ↦ ap (filter is_name) (parts_first list l) ∙ filter-append is_name (before_first is_zero list ∷ []) (slice_split is_zero (after_first is_zero list))
+      | inl l ↦ ap (filter is_name) (parts_first list l)
+          ∙ filter-append is_name (before_first is_zero list ∷ []) (slice_split is_zero (after_first is_zero list))
       | inr l ↦ ap (filter is_name) (parts_none list l) ∙ alone list l
     ] where
-      alone : (list : List ℕ) → length list ≤ position_or_len is_zero list → filter is_name (list ∷ []) ≡ filter is_name (before_first is_zero list ∷ []) ++ names (after_first is_zero list)
+      alone : (list : List ℕ) → length list ≤ position_or_len is_zero list
+          → filter is_name (list ∷ []) ≡ filter is_name (before_first is_zero list ∷ [])
+          ++ names (after_first is_zero list)
       alone list l =
-          rw (take_all (position_or_len is_zero list) list l, drop_all (position_or_len is_zero list + 1) list (omega arith)) (sym (append-nil (filter is_name (list ∷ []))))
+          rw (
+            take_all (position_or_len is_zero list) list l,
+            drop_all (position_or_len is_zero list + 1) list (omega arith),
+          )
+          (sym (append-nil (filter is_name (list ∷ []))))
 
 -- what `cut_name` gives: what stands before the first zero, and what stands after it
 pub record IsCut (list name rest : List ℕ) : Type 0 where
   pub before : name ≡ before_first is_zero list
   pub after : rest ≡ after_first is_zero list
 
-pub names_step_name : (list name rest : List ℕ) → IsCut list name rest → is_name name ≡ true → names list ≡ name ∷ names rest
+pub names_step_name : (list name rest : List ℕ) → IsCut list name rest → is_name name ≡ true
+    → names list ≡ name ∷ names rest
 names_step_name list name rest cut e = names_step list ∙ rw (← cut.before, ← cut.after, e) refl
 
 pub names_step_none : (list name rest : List ℕ) → IsCut list name rest → is_name name ≡ false → names list ≡ names rest
@@ -88,29 +108,47 @@ total_onto x (part ∷ parts) l = omega arith
 total_split : (list : List ℕ) → total (slice_split is_zero list) ≡ length list + 1
 total_split [] = refl
 total_split (x ∷ xs) =
-    cond_both (is_zero x) ([] ∷ slice_split is_zero xs) (onto_first x (slice_split is_zero xs)) (λ parts. total parts ≡ length (x ∷ xs) + 1) (λ _. omega (arith, total_split xs)) (λ _. omega (arith, total_split xs, total_onto x (slice_split is_zero xs) (omega (arith, length-slice_split is_zero xs))))
+    cond_both (is_zero x) ([] ∷ slice_split is_zero xs) (onto_first x (slice_split is_zero xs))
+    (λ parts. total parts ≡ length (x ∷ xs) + 1) (λ _. omega (arith, total_split xs))
+    (λ _. omega
+    (arith, total_split xs, total_onto x (slice_split is_zero xs) (omega (arith, length-slice_split is_zero xs))))
 
 -- a name is listed as no longer a name than it is
-length_by : (kind : RuleType) (prepend name : List ℕ) → IfSome (listed_name (host_answer_by kind prepend name)) (λ shown. length shown ≤ length name)
+length_by : (kind : RuleType) (prepend name : List ℕ)
+    → IfSome (listed_name (host_answer_by kind prepend name)) (λ shown. length shown ≤ length name)
 length_by Okay prepend name = omega arith
 length_by Prefix prepend name = omega (arith, length-drop (length prepend) name)
 length_by Bad prepend name = tt
 length_by Unsupported prepend name = tt
 
-shown_length : (rules : List MappingRule) (name : List ℕ) → IfSome (shown rules name) (λ shown. length shown ≤ length name)
+shown_length : (rules : List MappingRule) (name : List ℕ)
+    → IfSome (shown rules name) (λ shown. length shown ≤ length name)
 shown_length rules name = by_rule (deciding Server rules name) where
-  by_rule : (o : Option MappingRule) → IfSome (listed_name (option_map_or (λ rule. host_answer_by rule.kind rule.prepend name) o IsUndecided)) (λ shown. length shown ≤ length name)
+  by_rule : (o : Option MappingRule)
+      → IfSome (listed_name (option_map_or (λ rule. host_answer_by rule.kind rule.prepend name) o IsUndecided))
+      (λ shown. length shown ≤ length name)
   by_rule None = tt
   by_rule (Some rule) = length_by rule.kind rule.prepend name
 
-length_more : (o : Option (List ℕ)) (part : List ℕ) (names : List (List ℕ)) → IfSome o (λ shown. length shown ≤ length part) → length (with_zeros (cons_option o names)) ≤ (length part + 1) + length (with_zeros names)
+length_more : (o : Option (List ℕ)) (part : List ℕ) (names : List (List ℕ))
+    → IfSome o (λ shown. length shown ≤ length part)
+    → length (with_zeros (cons_option o names)) ≤ (length part + 1) + length (with_zeros names)
 length_more None part names h = omega arith
-length_more (Some shown) part names h = omega (arith, length-append (shown ++ 0 ∷ []) (with_zeros names), length_push shown 0)
+length_more (Some shown) part names h =
+    omega (arith, length-append (shown ++ 0 ∷ []) (with_zeros names), length_push shown 0)
 
-length_parts : (rules : List MappingRule) (parts : List (List ℕ)) → length (with_zeros (filter_map (shown rules) (filter is_name parts))) ≤ total parts
+length_parts : (rules : List MappingRule) (parts : List (List ℕ))
+    → length (with_zeros (filter_map (shown rules) (filter is_name parts))) ≤ total parts
 length_parts rules [] = omega arith
 length_parts rules (part ∷ parts) =
-    cond_both (is_name part) (part ∷ filter is_name parts) (filter is_name parts) (λ names. length (with_zeros (filter_map (shown rules) names)) ≤ total (part ∷ parts)) (λ _. omega (arith, length_parts rules parts, length_more (shown rules part) part (filter_map (shown rules) (filter is_name parts)) (shown_length rules part))) (λ _. omega (arith, length_parts rules parts))
+    cond_both (is_name part) (part ∷ filter is_name parts) (filter is_name parts)
+    (λ names. length (with_zeros (filter_map (shown rules) names)) ≤ total (part ∷ parts))
+    (λ _. omega (
+      arith,
+      length_parts rules parts,
+      length_more (shown rules part) part (filter_map (shown rules) (filter is_name parts))
+          (shown_length rules part),
+    )) (λ _. omega (arith, length_parts rules parts))
 
 pub length-listed : (rules : List MappingRule) (list : List ℕ) → length (listed rules list) ≤ length list + 1
 length-listed rules list = omega (arith, length_parts rules (slice_split is_zero list), total_split list)

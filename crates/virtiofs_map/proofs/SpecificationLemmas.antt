@@ -1,5 +1,6 @@
 -- The fields of a specification's text, and what is wrong with them.
-use Rattle.std.proofs.Common.{◌≡◌, inl, inr, ◌==◌, ℕ, ◌<◌, nat_lt, true, false, List, [], ◌∷◌, ◌++◌, length, All, Option, Some, None, Result, Ok, Err, IfOk, IfErr, refl, sym, ap, ◌∙◌, subst, eq-eqb}
+use Rattle.std.proofs.Common.{◌≡◌, inl, inr, ◌==◌, ℕ, ◌<◌, nat_lt, true, false, List, [], ◌∷◌, ◌++◌, length, All}
+use Rattle.std.proofs.Common.{Option, Some, None, Result, Ok, Err, IfOk, IfErr, refl, sym, ap, ◌∙◌, subst, eq-eqb}
 use Rattle.std.specs.Str.{encode_utf8_all}
 use Rattle.std.specs.List.{AllZip, list_all}
 use Rattle.std.specs.Str.{chars, IsUtf8, IsAscii}
@@ -11,44 +12,59 @@ use Rattle.std.proofs.lemmas.List.Sums.{AllPass-from_list_all}
 use Rattle.std.proofs.lemmas.List.Splits.{slice_split_at, slice_split_none}
 use Rattle.std.proofs.lemmas.List.Elements.{All-weaker, All-nil, All-cons}
 use Rattle.virtiofs_map.specs.Numeral.{IsNumeral}
-use Rattle.virtiofs_map.specs.SpecificationText.{word_of, numbers_of, HasNumerals, Says, SpecificationFault, HasSpecificationFault, specification_fault_of}
+use Rattle.virtiofs_map.specs.SpecificationText.{word_of, numbers_of, HasNumerals, Says, SpecificationFault}
+use Rattle.virtiofs_map.specs.SpecificationText.{HasSpecificationFault, specification_fault_of}
 use Rattle.virtiofs_map.specs.Refusal.{OutOfMemoryOr}
 use Rattle.virtiofs_map.specs.Separator.{Lacks, split_at_each}
 use Rattle.virtiofs_map.specs.SpecificationParts.{IsFieldFault, IsFieldsFault, IsCountFault, IsWordFault, IsLoweredCut}
 use Rattle.virtiofs_map.specs.declared.cmdline.IdMap.{IdMap}
-use Rattle.virtiofs_map.specs.declared.cmdline.IdMap.TheVariants.{Guest, Host, SquashGuest, SquashHost, Bidirectional, ForbidGuest}
+use Rattle.virtiofs_map.specs.declared.cmdline.IdMap.TheVariants.{Guest, Host, SquashGuest, SquashHost, Bidirectional}
+use Rattle.virtiofs_map.specs.declared.cmdline.IdMap.TheVariants.{ForbidGuest}
 use Rattle.virtiofs_map.specs.declared.cmdline.IdMapError.{IdMapError}
 
 -- no character is the separator, as a test
 fails_from_lacks : (separator : ℕ) (text : List ℕ) → Lacks separator text → All (λ c. (c == separator) ≡ false) text
 fails_from_lacks separator [] lacks = All-nil _
 fails_from_lacks separator (c ∷ cs) (other, lacks) =
-    let here : (c == separator) ≡ false = elim (eqb_tells c separator) [ inl same ↦ absurd (other same.1) | inr differs ↦ differs.0 ] in
+    let here : (c == separator) ≡ false =
+    elim (eqb_tells c separator) [ inl same ↦ absurd (other same.1) | inr differs ↦ differs.0 ] in
     All-cons (λ x. (x == separator) ≡ false) c cs here (fails_from_lacks separator cs lacks)
 
 -- the field before the first separator, and those after it
-pub split_at_each-cut : (separator : ℕ) (rest front back : List ℕ) → rest ≡ front ++ separator ∷ back → Lacks separator front → split_at_each separator rest ≡ front ∷ split_at_each separator back
+pub split_at_each-cut : (separator : ℕ) (rest front back : List ℕ) → rest ≡ front ++ separator ∷ back
+    → Lacks separator front → split_at_each separator rest ≡ front ∷ split_at_each separator back
 split_at_each-cut separator rest front back whole first =
-    ap (split_at_each separator) whole ∙ slice_split_at (λ c. c == separator) front separator back (fails_from_lacks separator front first) (eq-eqb separator separator refl)
+    ap (split_at_each separator) whole
+    ∙ slice_split_at (λ c. c == separator) front separator back (fails_from_lacks separator front first)
+    (eq-eqb separator separator refl)
 
 -- where no separator is left, the rest is one field
-pub split_at_each-last : (separator : ℕ) (rest : List ℕ) → Lacks separator rest → split_at_each separator rest ≡ rest ∷ []
-split_at_each-last separator rest none = slice_split_none (λ c. c == separator) rest (fails_from_lacks separator rest none)
+pub split_at_each-last : (separator : ℕ) (rest : List ℕ) → Lacks separator rest
+    → split_at_each separator rest ≡ rest ∷ []
+split_at_each-last separator rest none =
+    slice_split_none (λ c. c == separator) rest (fails_from_lacks separator rest none)
 
 -- the fault of a field is that of the fields, where those before it are numerals
-pub IsFieldsFault-here : (fields done after : List (List ℕ)) (numbers field : List ℕ) (told : Option SpecificationFault) → fields ≡ done ++ field ∷ after → AllZip IsNumeral done numbers → OutOfMemoryOr told (IsFieldFault field) → OutOfMemoryOr told (IsFieldsFault fields)
+pub IsFieldsFault-here : (fields done after : List (List ℕ)) (numbers field : List ℕ) (told : Option SpecificationFault)
+    → fields ≡ done ++ field ∷ after → AllZip IsNumeral done numbers → OutOfMemoryOr told (IsFieldFault field)
+    → OutOfMemoryOr told (IsFieldsFault fields)
 IsFieldsFault-here fields done after numbers field None here read refused = tt
 IsFieldsFault-here fields done after numbers field (Some fault) here read (is, unread) =
     (field, is, record { before = done; after = after; values = numbers; here = here; read = read; unread = unread })
 
 -- the word of a specification that takes another count
-pub IsWordFault-count : (spec : IdMap) (word numbers : List ℕ) (told : Option SpecificationFault) → word ≡ word_of spec → OutOfMemoryOr told (IsCountFault (length (numbers_of spec)) numbers) → OutOfMemoryOr told (IsWordFault word numbers)
+pub IsWordFault-count : (spec : IdMap) (word numbers : List ℕ) (told : Option SpecificationFault) → word ≡ word_of spec
+    → OutOfMemoryOr told (IsCountFault (length (numbers_of spec)) numbers)
+    → OutOfMemoryOr told (IsWordFault word numbers)
 IsWordFault-count spec word numbers None is refused = tt
 IsWordFault-count spec word numbers (Some fault) is refused = inr (spec, is, refused)
 
 -- a text whose bytes are all below 128
 IsAscii-test : (bs : List ℕ) → list_all (λ b. nat_lt b 128) bs ≡ true → IsAscii bs
-IsAscii-test bs all = IsAscii-from_all bs (All-weaker (λ b. nat_lt b 128 ≡ true) (λ b. b < 128) (λ b below. ltb-true b 128 below) bs (AllPass-from_list_all (λ b. nat_lt b 128) bs all))
+IsAscii-test bs all =
+    IsAscii-from_all bs
+    (All-weaker (λ b. nat_lt b 128 ≡ true) (λ b. b < 128) (λ b below. ltb-true b 128 below) bs
+    (AllPass-from_list_all (λ b. nat_lt b 128) bs all))
 
 -- the words are ASCII
 all_ascii-word_of : (spec : IdMap) → list_all (λ b. nat_lt b 128) (word_of spec) ≡ true
@@ -64,9 +80,12 @@ IsAscii-word_of spec = IsAscii-test (word_of spec) (all_ascii-word_of spec)
 
 -- the characters of a text are the word of a specification just where its bytes are
 bytes-word_of : (spec : IdMap) (bs : List ℕ) → IsUtf8 bs → chars bs ≡ word_of spec → bs ≡ word_of spec
-bytes-word_of spec bs text same = sym (encodes-chars bs text) ∙ ap encode_utf8_all same ∙ encodes-IsAscii (word_of spec) (IsAscii-word_of spec)
+bytes-word_of spec bs text same = sym (encodes-chars bs text) ∙ ap encode_utf8_all same
+    ∙ encodes-IsAscii (word_of spec) (IsAscii-word_of spec)
 
-Says-parts : (text word rest : List ℕ) (separator : ℕ) (values : List ℕ) (spec : IdMap) → IsLoweredCut text (chars word) separator rest → AllZip IsNumeral (split_at_each separator rest) values → word ≡ word_of spec → values ≡ numbers_of spec → Says text spec
+Says-parts : (text word rest : List ℕ) (separator : ℕ) (values : List ℕ) (spec : IdMap)
+    → IsLoweredCut text (chars word) separator rest → AllZip IsNumeral (split_at_each separator rest) values
+    → word ≡ word_of spec → values ≡ numbers_of spec → Says text spec
 Says-parts text word rest separator values spec cut read is same = record {
   prefix = cut.prefix;
   separator = separator;
@@ -76,7 +95,9 @@ Says-parts text word rest separator values spec cut read is same = record {
   numbers = subst (λ (ns : List ℕ). AllZip IsNumeral (split_at_each separator rest) ns) same read;
 }
 
-has_numerals : (text word rest : List ℕ) (separator : ℕ) (values : List ℕ) (seen : ℕ) (cut : IsLoweredCut text word separator rest) → AllZip IsNumeral (split_at_each separator rest) values → length values ≡ seen → HasNumerals text cut.prefix seen
+has_numerals : (text word rest : List ℕ) (separator : ℕ) (values : List ℕ) (seen : ℕ)
+    (cut : IsLoweredCut text word separator rest) → AllZip IsNumeral (split_at_each separator rest) values
+    → length values ≡ seen → HasNumerals text cut.prefix seen
 has_numerals text word rest separator values seen cut read count = record {
   separator = separator;
   rest = rest;
@@ -87,7 +108,9 @@ has_numerals text word rest separator values seen cut read count = record {
 }
 
 -- a word and numbers that say no specification
-word_fault : (text word rest : List ℕ) (separator : ℕ) (values : List ℕ) (fault : SpecificationFault) → IsUtf8 word → IsLoweredCut text (chars word) separator rest → AllZip IsNumeral (split_at_each separator rest) values → IsWordFault word values fault → HasSpecificationFault text fault
+word_fault : (text word rest : List ℕ) (separator : ℕ) (values : List ℕ) (fault : SpecificationFault) → IsUtf8 word
+    → IsLoweredCut text (chars word) separator rest → AllZip IsNumeral (split_at_each separator rest) values
+    → IsWordFault word values fault → HasSpecificationFault text fault
 word_fault text word rest separator values fault is_text cut read (inl (is, unknown)) =
     rw is (record {
       prefix = cut.prefix;
@@ -107,23 +130,41 @@ word_fault text word rest separator values fault is_text cut read (inr (spec, wo
     }))
 
 -- a field that is no numeral
-fields_fault : (text word rest : List ℕ) (separator : ℕ) (fault : SpecificationFault) → IsLoweredCut text word separator rest → IsFieldsFault (split_at_each separator rest) fault → HasSpecificationFault text fault
+fields_fault : (text word rest : List ℕ) (separator : ℕ) (fault : SpecificationFault)
+    → IsLoweredCut text word separator rest → IsFieldsFault (split_at_each separator rest) fault
+    → HasSpecificationFault text fault
 fields_fault text word rest separator fault cut (field, is, first) =
     rw is (record { prefix = cut.prefix; separator = separator; rest = rest; cut = cut.cut; first = first })
 
-pub refused-fields : (text word rest : List ℕ) (separator : ℕ) (told : Option SpecificationFault) → IsLoweredCut text word separator rest → OutOfMemoryOr told (IsFieldsFault (split_at_each separator rest)) → OutOfMemoryOr told (HasSpecificationFault text)
+pub refused-fields : (text word rest : List ℕ) (separator : ℕ) (told : Option SpecificationFault)
+    → IsLoweredCut text word separator rest → OutOfMemoryOr told (IsFieldsFault (split_at_each separator rest))
+    → OutOfMemoryOr told (HasSpecificationFault text)
 refused-fields text word rest separator None cut refused = tt
-refused-fields text word rest separator (Some fault) cut refused = fields_fault text word rest separator fault cut refused
+refused-fields text word rest separator (Some fault) cut refused =
+    fields_fault text word rest separator fault cut refused
 
-refused_word : (text word rest : List ℕ) (separator : ℕ) (values : List ℕ) (told : Option SpecificationFault) → IsUtf8 word → IsLoweredCut text (chars word) separator rest → AllZip IsNumeral (split_at_each separator rest) values → OutOfMemoryOr told (IsWordFault word values) → OutOfMemoryOr told (HasSpecificationFault text)
+refused_word : (text word rest : List ℕ) (separator : ℕ) (values : List ℕ) (told : Option SpecificationFault)
+    → IsUtf8 word → IsLoweredCut text (chars word) separator rest
+    → AllZip IsNumeral (split_at_each separator rest) values → OutOfMemoryOr told (IsWordFault word values)
+    → OutOfMemoryOr told (HasSpecificationFault text)
 refused_word text word rest separator values None is_text cut read refused = tt
-refused_word text word rest separator values (Some fault) is_text cut read refused = word_fault text word rest separator values fault is_text cut read refused
+refused_word text word rest separator values (Some fault) is_text cut read refused =
+    word_fault text word rest separator values fault is_text cut read refused
 
 -- what the reader answers, from what it found of the word and the numbers
-pub read-word : {A : Type 0} (text word rest : List ℕ) (separator : ℕ) (values : List ℕ) (r : Result IdMap (IdMapError A)) → IsLoweredCut text (chars word) separator rest → AllZip IsNumeral (split_at_each separator rest) values → IfOk r (λ spec. word ≡ word_of spec) → IfOk r (λ spec. values ≡ numbers_of spec) → IfOk r (Says text)
-read-word text word rest separator values (Ok spec) cut read is same = Says-parts text word rest separator values spec cut read is same
+pub read-word : {A : Type 0} (text word rest : List ℕ) (separator : ℕ) (values : List ℕ)
+    (r : Result IdMap (IdMapError A)) → IsLoweredCut text (chars word) separator rest
+    → AllZip IsNumeral (split_at_each separator rest) values → IfOk r (λ spec. word ≡ word_of spec)
+    → IfOk r (λ spec. values ≡ numbers_of spec) → IfOk r (Says text)
+read-word text word rest separator values (Ok spec) cut read is same =
+    Says-parts text word rest separator values spec cut read is same
 read-word text word rest separator values (Err e) cut read is same = tt
 
-pub refused-word : {A : Type 0} (text word rest : List ℕ) (separator : ℕ) (values : List ℕ) (r : Result IdMap (IdMapError A)) → IsUtf8 word → IsLoweredCut text (chars word) separator rest → AllZip IsNumeral (split_at_each separator rest) values → IfErr r (λ e. OutOfMemoryOr (specification_fault_of e) (IsWordFault word values)) → IfErr r (λ e. OutOfMemoryOr (specification_fault_of e) (HasSpecificationFault text))
+pub refused-word : {A : Type 0} (text word rest : List ℕ) (separator : ℕ) (values : List ℕ)
+    (r : Result IdMap (IdMapError A)) → IsUtf8 word → IsLoweredCut text (chars word) separator rest
+    → AllZip IsNumeral (split_at_each separator rest) values
+    → IfErr r (λ e. OutOfMemoryOr (specification_fault_of e) (IsWordFault word values))
+    → IfErr r (λ e. OutOfMemoryOr (specification_fault_of e) (HasSpecificationFault text))
 refused-word text word rest separator values (Ok spec) is_text cut read refused = tt
-refused-word text word rest separator values (Err e) is_text cut read refused = refused_word text word rest separator values (specification_fault_of e) is_text cut read refused
+refused-word text word rest separator values (Err e) is_text cut read refused =
+    refused_word text word rest separator values (specification_fault_of e) is_text cut read refused

@@ -1,9 +1,11 @@
 -- The front of a specification's text: how far its prefix has been read.
-use Rattle.std.proofs.Common.{◌≡◌, ℕ, ◌+◌, ◌<◌, Bool, true, false, ◌&&◌, nat_lt, ◌≤◌, ◌⊎◌, inl, inr, List, [], ◌∷◌, ◌++◌, length, map, refl, sym, ap, ◌∙◌, subst, append_assoc, arith}
+use Rattle.std.proofs.Common.{◌≡◌, ℕ, ◌+◌, ◌<◌, Bool, true, false, ◌&&◌, nat_lt, ◌≤◌, ◌⊎◌, inl, inr, List, [], ◌∷◌}
+use Rattle.std.proofs.Common.{◌++◌, length, map, refl, sym, ap, ◌∙◌, subst, append_assoc, arith}
 use Rattle.std.specs.Char.{IsScalar, encode_utf8, to_ascii_lowercase}
 use Rattle.std.specs.List.{AllPass}
 use Rattle.std.specs.Str.{chars, IsUtf8}
-use Rattle.std.proofs.lemmas.Str.{chars-append, chars-nil, chars_past_char, scalars-chars, IsUtf8-encode, IsUtf8-past_char}
+use Rattle.std.proofs.lemmas.Str.{chars-append, chars-nil, chars_past_char, scalars-chars, IsUtf8-encode}
+use Rattle.std.proofs.lemmas.Str.{IsUtf8-past_char}
 use Rattle.std.proofs.lemmas.List.{append-nil}
 use Rattle.std.proofs.lemmas.Bool.{cases_Bool, ltb-true, ltb-false}
 use Rattle.std.proofs.Math.Utf8.{scalar, scalars, low_scalar}
@@ -19,7 +21,8 @@ pub record IsPrefixSoFar (text rest word : List ℕ) : Type 0 where
   pub passed : AllPass is_word_character done
   pub lower : chars word ≡ lowered done
 
-pub IsPrefixSoFar-start : (text rest word : List ℕ) → IsUtf8 text → rest ≡ text → word ≡ [] → IsPrefixSoFar text rest word
+pub IsPrefixSoFar-start : (text rest word : List ℕ) → IsUtf8 text → rest ≡ text → word ≡ []
+    → IsPrefixSoFar text rest word
 IsPrefixSoFar-start text rest word is_text same empty = record {
   is_text = rw same is_text;
   done = [];
@@ -41,7 +44,11 @@ IsScalar-first c cs all = first_true (scalar c) (scalars cs) all where
 
 -- whether one number is below another
 ltb_tells : (a b : ℕ) → ((nat_lt a b ≡ true) × (a < b)) ⊎ ((nat_lt a b ≡ false) × (b ≤ a))
-ltb_tells a b = elim (cases_Bool (nat_lt a b)) [ inl below ↦ inl (below, ltb-true a b below) | inr past ↦ inr (past, ltb-false a b past) ]
+ltb_tells a b =
+    elim (cases_Bool (nat_lt a b)) [
+      | inl below ↦ inl (below, ltb-true a b below)
+      | inr past ↦ inr (past, ltb-false a b past)
+    ]
 
 -- a character in lower case is one
 IsScalar-lower : (c : ℕ) → IsScalar c → IsScalar (to_ascii_lowercase c)
@@ -57,27 +64,38 @@ IsScalar-lower c scalar =
 -- one character as a text
 chars-encode : (c : ℕ) → IsScalar c → chars (encode_utf8 c) ≡ c ∷ []
 chars-encode c scalar =
-    chars_past_char (encode_utf8 c) [] c (IsUtf8-encode c scalar) (sym (append-nil (encode_utf8 c))) ∙ ap (λ (cs : List ℕ). c ∷ cs) chars-nil
+    chars_past_char (encode_utf8 c) [] c (IsUtf8-encode c scalar) (sym (append-nil (encode_utf8 c)))
+    ∙ ap (λ (cs : List ℕ). c ∷ cs) chars-nil
 
 -- a text with one more character at its end
 pub chars-push : (bs : List ℕ) (c : ℕ) → IsUtf8 bs → IsScalar c → chars (bs ++ encode_utf8 c) ≡ chars bs ++ c ∷ []
-chars-push bs c text scalar = chars-append bs (encode_utf8 c) text ∙ ap (λ (cs : List ℕ). chars bs ++ cs) (chars-encode c scalar)
+chars-push bs c text scalar = chars-append bs (encode_utf8 c) text
+    ∙ ap (λ (cs : List ℕ). chars bs ++ cs) (chars-encode c scalar)
 
-pub IsPrefixSoFar-more : (text rest back word : List ℕ) (c d : ℕ) → IsUtf8 word → d ≡ to_ascii_lowercase c → rest ≡ encode_utf8 c ++ back → is_word_character c ≡ true → IsPrefixSoFar text rest word → IsPrefixSoFar text back (word ++ encode_utf8 d)
+pub IsPrefixSoFar-more : (text rest back word : List ℕ) (c d : ℕ) → IsUtf8 word → d ≡ to_ascii_lowercase c
+    → rest ≡ encode_utf8 c ++ back → is_word_character c ≡ true → IsPrefixSoFar text rest word
+    → IsPrefixSoFar text back (word ++ encode_utf8 d)
 IsPrefixSoFar-more text rest back word c d is_word lower next passes so_far =
     let next_chars : chars rest ≡ c ∷ chars back = chars_past_char rest back c so_far.is_text next in
-    let scalar : IsScalar d = rw lower (IsScalar-lower c (IsScalar-first c (chars back) (ap scalars (sym next_chars) ∙ scalars-chars rest so_far.is_text))) in
+    let scalar : IsScalar d =
+    rw lower
+    (IsScalar-lower c
+    (IsScalar-first c (chars back) (ap scalars (sym next_chars) ∙ scalars-chars rest so_far.is_text))) in
     let pushed : chars (word ++ encode_utf8 d) ≡ chars word ++ d ∷ [] = chars-push word d is_word scalar in
     record {
       is_text = IsUtf8-past_char rest back c so_far.is_text next;
       done = so_far.done ++ c ∷ [];
-      whole = so_far.whole ∙ ap (λ (cs : List ℕ). so_far.done ++ cs) next_chars ∙ sym (append_assoc so_far.done (c ∷ []) (chars back));
+      whole = so_far.whole ∙ ap (λ (cs : List ℕ). so_far.done ++ cs) next_chars
+          ∙ sym (append_assoc so_far.done (c ∷ []) (chars back));
       passed = All-push (λ x. is_word_character x ≡ true) so_far.done c so_far.passed passes;
-      lower = pushed ∙ ap (λ (cs : List ℕ). cs ++ d ∷ []) so_far.lower ∙ ap (λ (x : ℕ). lowered so_far.done ++ x ∷ []) lower ∙ sym (map-append to_ascii_lowercase so_far.done (c ∷ []));
+      lower = pushed ∙ ap (λ (cs : List ℕ). cs ++ d ∷ []) so_far.lower
+          ∙ ap (λ (x : ℕ). lowered so_far.done ++ x ∷ []) lower
+          ∙ sym (map-append to_ascii_lowercase so_far.done (c ∷ []));
     }
 
 -- the prefix ends at a character that is no word character
-pub IsLoweredCut-here : (text rest back word : List ℕ) (c : ℕ) → rest ≡ encode_utf8 c ++ back → is_word_character c ≡ false → IsPrefixSoFar text rest word → IsLoweredCut (chars text) (chars word) c (chars back)
+pub IsLoweredCut-here : (text rest back word : List ℕ) (c : ℕ) → rest ≡ encode_utf8 c ++ back
+    → is_word_character c ≡ false → IsPrefixSoFar text rest word → IsLoweredCut (chars text) (chars word) c (chars back)
 IsLoweredCut-here text rest back word c next ends so_far =
     let next_chars : chars rest ≡ c ∷ chars back = chars_past_char rest back c so_far.is_text next in
     record {
@@ -91,8 +109,10 @@ IsLoweredCut-here text rest back word c next ends so_far =
     }
 
 -- where nothing is left, the text is nothing but word characters
-pub AllPass-prefix : (text rest word : List ℕ) → length rest ≡ 0 → IsPrefixSoFar text rest word → AllPass is_word_character (chars text)
+pub AllPass-prefix : (text rest word : List ℕ) → length rest ≡ 0 → IsPrefixSoFar text rest word
+    → AllPass is_word_character (chars text)
 AllPass-prefix text [] word empty so_far =
-    let whole : chars text ≡ so_far.done = so_far.whole ∙ ap (λ (cs : List ℕ). so_far.done ++ cs) chars-nil ∙ append-nil so_far.done in
+    let whole : chars text ≡ so_far.done = so_far.whole ∙ ap (λ (cs : List ℕ). so_far.done ++ cs) chars-nil
+    ∙ append-nil so_far.done in
     subst (λ (cs : List ℕ). AllPass is_word_character cs) (sym whole) so_far.passed
 AllPass-prefix text (b ∷ rest) word empty so_far = absurd (omega arith)

@@ -1,5 +1,6 @@
 -- The printed form of a specification is a text that says it.
-use Rattle.std.proofs.Common.{◌≡◌, ℕ, ◌^◌, ◌<◌, true, false, List, [], ◌∷◌, ◌++◌, All, flat_map, codes, refl, sym, ap, ◌∙◌, subst, arith}
+use Rattle.std.proofs.Common.{◌≡◌, ℕ, ◌^◌, ◌<◌, true, false, List, [], ◌∷◌, ◌++◌, All, flat_map, codes, refl, sym, ap}
+use Rattle.std.proofs.Common.{◌∙◌, subst, arith}
 use Rattle.std.specs.Fmt.{decimal}
 use Rattle.std.specs.List.{AllZip, list_all}
 use Rattle.std.specs.Str.{chars, IsAscii}
@@ -17,7 +18,8 @@ use Rattle.virtiofs_map.specs.Printed.{specification_text}
 use Rattle.virtiofs_map.specs.SpecificationText.{is_word_character, lowered, word_of, numbers_of, Says}
 use Rattle.virtiofs_map.specs.Separator.{split_at_each}
 use Rattle.virtiofs_map.specs.declared.cmdline.IdMap.{IdMap}
-use Rattle.virtiofs_map.specs.declared.cmdline.IdMap.TheVariants.{Guest, Host, SquashGuest, SquashHost, Bidirectional, ForbidGuest}
+use Rattle.virtiofs_map.specs.declared.cmdline.IdMap.TheVariants.{Guest, Host, SquashGuest, SquashHost, Bidirectional}
+use Rattle.virtiofs_map.specs.declared.cmdline.IdMap.TheVariants.{ForbidGuest}
 use Rattle.virtiofs_map.proofs.NumeralLemmas.{decimal_lacks_colon, IsNumeral-decimal}
 use Rattle.virtiofs_map.proofs.SpecificationLemmas.{split_at_each-cut, split_at_each-last, IsAscii-word_of}
 
@@ -50,29 +52,41 @@ abbrev after_colons : List ℕ → List ℕ
 after_colons ns = flat_map (λ n. codes ":" ++ decimal n) ns
 
 -- their fields are the numbers
-AllZip-fields : (n : ℕ) (ns : List ℕ) → All (λ m. m < 2 ^ 32) (n ∷ ns) → AllZip IsNumeral (split_at_each 58 (decimal n ++ after_colons ns)) (n ∷ ns)
+AllZip-fields : (n : ℕ) (ns : List ℕ) → All (λ m. m < 2 ^ 32) (n ∷ ns)
+    → AllZip IsNumeral (split_at_each 58 (decimal n ++ after_colons ns)) (n ∷ ns)
 AllZip-fields n [] small =
     let below : n < 2 ^ 32 = All-head (λ m. m < 2 ^ 32) n [] small in
-    let one : split_at_each 58 (decimal n ++ []) ≡ decimal n ∷ [] = ap (split_at_each 58) (append-nil (decimal n)) ∙ split_at_each-last 58 (decimal n) (decimal_lacks_colon n below) in
+    let one : split_at_each 58 (decimal n ++ []) ≡ decimal n ∷ [] = ap (split_at_each 58) (append-nil (decimal n))
+    ∙ split_at_each-last 58 (decimal n) (decimal_lacks_colon n below) in
     subst (λ (fs : List (List ℕ)). AllZip IsNumeral fs (n ∷ [])) (sym one) (IsNumeral-decimal n below, tt)
 AllZip-fields n (m ∷ ns) small =
     let below : n < 2 ^ 32 = All-head (λ m. m < 2 ^ 32) n (m ∷ ns) small in
-    let cut : split_at_each 58 (decimal n ++ after_colons (m ∷ ns)) ≡ decimal n ∷ split_at_each 58 (decimal m ++ after_colons ns) =
-    split_at_each-cut 58 (decimal n ++ after_colons (m ∷ ns)) (decimal n) (decimal m ++ after_colons ns) refl (decimal_lacks_colon n below) in
-    subst (λ (fs : List (List ℕ)). AllZip IsNumeral fs (n ∷ m ∷ ns)) (sym cut) (IsNumeral-decimal n below, AllZip-fields m ns (All-tail (λ m. m < 2 ^ 32) n (m ∷ ns) small))
+    let cut : split_at_each 58 (decimal n ++ after_colons (m ∷ ns)) ≡ decimal n ∷ split_at_each 58
+    (decimal m ++ after_colons ns) =
+    split_at_each-cut 58 (decimal n ++ after_colons (m ∷ ns)) (decimal n) (decimal m ++ after_colons ns) refl
+    (decimal_lacks_colon n below) in
+    subst (λ (fs : List (List ℕ)). AllZip IsNumeral fs (n ∷ m ∷ ns)) (sym cut)
+    (IsNumeral-decimal n below, AllZip-fields m ns (All-tail (λ m. m < 2 ^ 32) n (m ∷ ns) small))
 
 IsAscii-after_colons : (ns : List ℕ) → All (λ m. m < 2 ^ 32) ns → IsAscii (after_colons ns)
 IsAscii-after_colons [] small = IsAscii-nil
 IsAscii-after_colons (n ∷ ns) small =
     let below : n < 2 ^ 32 = All-head (λ m. m < 2 ^ 32) n ns small in
-    IsAscii-cons 58 (decimal n ++ after_colons ns) (omega arith) (IsAscii-append (decimal n) (after_colons ns) (IsAscii-decimal n (omega arith)) (IsAscii-after_colons ns (All-tail (λ m. m < 2 ^ 32) n ns small)))
+    IsAscii-cons 58 (decimal n ++ after_colons ns) (omega arith)
+    (IsAscii-append (decimal n) (after_colons ns) (IsAscii-decimal n (omega arith))
+    (IsAscii-after_colons ns (All-tail (λ m. m < 2 ^ 32) n ns small)))
 
 -- the printed form is ASCII, so its characters are its bytes
-chars-printed : (spec : IdMap) → All (λ n. n < 2 ^ 32) (numbers_of spec) → chars (specification_text spec) ≡ specification_text spec
-chars-printed spec small = chars-IsAscii (specification_text spec) (IsAscii-append (word_of spec) (after_colons (numbers_of spec)) (IsAscii-word_of spec) (IsAscii-after_colons (numbers_of spec) small))
+chars-printed : (spec : IdMap) → All (λ n. n < 2 ^ 32) (numbers_of spec)
+    → chars (specification_text spec) ≡ specification_text spec
+chars-printed spec small =
+    chars-IsAscii (specification_text spec)
+    (IsAscii-append (word_of spec) (after_colons (numbers_of spec)) (IsAscii-word_of spec)
+    (IsAscii-after_colons (numbers_of spec) small))
 
 -- the word, and the numbers after it
-Says-parts : (spec : IdMap) (n : ℕ) (ns : List ℕ) → numbers_of spec ≡ n ∷ ns → All (λ m. m < 2 ^ 32) (numbers_of spec) → Says (chars (specification_text spec)) spec
+Says-parts : (spec : IdMap) (n : ℕ) (ns : List ℕ) → numbers_of spec ≡ n ∷ ns → All (λ m. m < 2 ^ 32) (numbers_of spec)
+    → Says (chars (specification_text spec)) spec
 Says-parts spec n ns are small = record {
   prefix = word_of spec;
   separator = 58;
@@ -83,10 +97,13 @@ Says-parts spec n ns are small = record {
     ends = colon_ends;
   };
   word = lowered-word_of spec;
-  numbers = subst (λ (ms : List ℕ). AllZip IsNumeral (split_at_each 58 (decimal n ++ after_colons ns)) ms) (sym are) (AllZip-fields n ns (subst (λ (ms : List ℕ). All (λ m. m < 2 ^ 32) ms) are small));
+  numbers =
+      subst (λ (ms : List ℕ). AllZip IsNumeral (split_at_each 58 (decimal n ++ after_colons ns)) ms) (sym are)
+      (AllZip-fields n ns (subst (λ (ms : List ℕ). All (λ m. m < 2 ^ 32) ms) are small));
 }
 
-pub Says-printed : (spec : IdMap) → All (λ n. n < 2 ^ 32) (numbers_of spec) → Says (chars (specification_text spec)) spec
+pub Says-printed : (spec : IdMap) → All (λ n. n < 2 ^ 32) (numbers_of spec)
+    → Says (chars (specification_text spec)) spec
 Says-printed (Guest a b n) small = Says-parts (Guest a b n) a (b ∷ n ∷ []) refl small
 Says-printed (Host a b n) small = Says-parts (Host a b n) a (b ∷ n ∷ []) refl small
 Says-printed (SquashGuest a b n) small = Says-parts (SquashGuest a b n) a (b ∷ n ∷ []) refl small

@@ -1,5 +1,6 @@
 -- A list of texts says at most one list of specifications, and has at most one fault.
-use Rattle.std.proofs.Common.{◌≡◌, inl, inr, ℕ, ◌+◌, ◌<◌, zero, suc, List, [], ◌∷◌, ◌++◌, length, take, get_or, slice_get, Option, Some, None, IsSomeAnd, Bor, sym, ap, ◌∙◌, subst, arith}
+use Rattle.std.proofs.Common.{◌≡◌, inl, inr, ℕ, ◌+◌, ◌<◌, zero, suc, List, [], ◌∷◌, ◌++◌, length, take, get_or}
+use Rattle.std.proofs.Common.{slice_get, Option, Some, None, IsSomeAnd, Bor, sym, ap, ◌∙◌, subst, arith}
 use Rattle.std.specs.Option.{option_map}
 use Rattle.std.specs.Str.{chars}
 use Rattle.std.proofs.lemmas.Bool.{cases_order}
@@ -8,51 +9,65 @@ use Rattle.std.proofs.lemmas.Option.{slice_get-map, slice_get-get_or}
 use Rattle.virtiofs_map.specs.Build.{Accepted, BuildFault, HasFirstFault}
 use Rattle.virtiofs_map.specs.Refusal.{OutOfMemoryOr}
 use Rattle.virtiofs_map.specs.SpecificationText.{Says, SpecificationFault, HasSpecificationFault}
-use Rattle.virtiofs_map.specs.Specifications.{texts_of, AllSay, HasFirstUnread, SpecsFault, Unread, Unbuilt, HasSpecsFault, IsReadUpTo}
+use Rattle.virtiofs_map.specs.Specifications.{texts_of, AllSay, HasFirstUnread, SpecsFault, Unread, Unbuilt}
+use Rattle.virtiofs_map.specs.Specifications.{HasSpecsFault, IsReadUpTo}
 use Rattle.virtiofs_map.specs.declared.cmdline.IdMap.{IdMap}
 use Rattle.virtiofs_map.proofs.BuildFaultLemmas.{Accepted-no_fault, HasFirstFault-one}
 use Rattle.virtiofs_map.proofs.SpecificationLawLemmas.{Says-one, Says-no_fault, HasSpecificationFault-one}
 use Rattle.virtiofs_map.proofs.ZipLemmas.{AllZip-push, AllZip-one}
 
 -- one more text
-pub AllSay-more : (texts : List (Bor (List ℕ))) (specs : List IdMap) (i : ℕ) (d : Bor (List ℕ)) (spec : IdMap) → i < length texts → AllSay (take i (texts_of texts)) specs → Says (chars (get_or texts i d).now) spec → AllSay (take (i + 1) (texts_of texts)) (specs ++ spec ∷ [])
+pub AllSay-more : (texts : List (Bor (List ℕ))) (specs : List IdMap) (i : ℕ) (d : Bor (List ℕ)) (spec : IdMap)
+    → i < length texts → AllSay (take i (texts_of texts)) specs → Says (chars (get_or texts i d).now) spec
+    → AllSay (take (i + 1) (texts_of texts)) (specs ++ spec ∷ [])
 AllSay-more texts specs i d spec below say here =
     let f : Bor (List ℕ) → List ℕ = λ text. chars text.now in
     let more : take (i + 1) (texts_of texts) ≡ take i (texts_of texts) ++ f (get_or texts i d) ∷ [] =
-    take-map f (i + 1) texts ∙ map_more f texts i d below ∙ ap (λ (front : List (List ℕ)). front ++ f (get_or texts i d) ∷ []) (sym (take-map f i texts)) in
+    take-map f (i + 1) texts ∙ map_more f texts i d below
+    ∙ ap (λ (front : List (List ℕ)). front ++ f (get_or texts i d) ∷ []) (sym (take-map f i texts)) in
     rw more (AllZip-push Says (take i (texts_of texts)) specs (f (get_or texts i d)) spec say here)
 
-pub AllSay-one : (texts : List (List ℕ)) (specs others : List IdMap) → AllSay texts specs → AllSay texts others → specs ≡ others
+pub AllSay-one : (texts : List (List ℕ)) (specs others : List IdMap) → AllSay texts specs → AllSay texts others
+    → specs ≡ others
 AllSay-one = AllZip-one Says Says-one
 
 -- where each text says a specification, none has a fault
-no_unread : (texts : List (List ℕ)) (specs : List IdMap) (i : ℕ) (fault : SpecificationFault) → AllSay texts specs → ¬ IsSomeAnd (slice_get texts i) (λ text. HasSpecificationFault text fault)
+no_unread : (texts : List (List ℕ)) (specs : List IdMap) (i : ℕ) (fault : SpecificationFault) → AllSay texts specs
+    → ¬ IsSomeAnd (slice_get texts i) (λ text. HasSpecificationFault text fault)
 no_unread [] specs i fault say here = absurd here
 no_unread (t ∷ texts) [] i fault say here = absurd say
 no_unread (t ∷ texts) (s ∷ specs) zero fault say here = Says-no_fault t s fault say.0 here
 no_unread (t ∷ texts) (s ∷ specs) (suc i) fault say here = no_unread texts specs i fault say.1 here
 
 -- where each text of a front does, none of that front has one
-no_earlier : (texts : List (List ℕ)) (specs : List IdMap) (i j : ℕ) (fault : SpecificationFault) → i < j → AllSay (take j texts) specs → ¬ IsSomeAnd (slice_get texts i) (λ text. HasSpecificationFault text fault)
+no_earlier : (texts : List (List ℕ)) (specs : List IdMap) (i j : ℕ) (fault : SpecificationFault) → i < j
+    → AllSay (take j texts) specs → ¬ IsSomeAnd (slice_get texts i) (λ text. HasSpecificationFault text fault)
 no_earlier [] specs i j fault before say here = absurd here
 no_earlier (t ∷ texts) specs i zero fault before say here = absurd (omega arith)
 no_earlier (t ∷ texts) [] i (suc j) fault before say here = absurd say
 no_earlier (t ∷ texts) (s ∷ specs) zero (suc j) fault before say here = Says-no_fault t s fault say.0 here
-no_earlier (t ∷ texts) (s ∷ specs) (suc i) (suc j) fault before say here = no_earlier texts specs i j fault (omega arith) say.1 here
+no_earlier (t ∷ texts) (s ∷ specs) (suc i) (suc j) fault before say here =
+    no_earlier texts specs i j fault (omega arith) say.1 here
 
 -- texts that say an accepted list have no fault
-pub AllSay-no_fault : (texts : List (List ℕ)) (specs : List IdMap) (fault : SpecsFault) → AllSay texts specs → Accepted specs → ¬ HasSpecsFault texts fault
+pub AllSay-no_fault : (texts : List (List ℕ)) (specs : List IdMap) (fault : SpecsFault) → AllSay texts specs
+    → Accepted specs → ¬ HasSpecsFault texts fault
 AllSay-no_fault texts specs (Unread index fault) say accepted unread = no_unread texts specs index fault say unread.here
 AllSay-no_fault texts specs (Unbuilt fault) say accepted unbuilt =
-    Accepted-no_fault specs fault accepted (subst (λ (xs : List IdMap). HasFirstFault xs fault) (AllSay-one texts unbuilt.specs specs unbuilt.say say) unbuilt.first)
+    Accepted-no_fault specs fault accepted
+    (subst (λ (xs : List IdMap). HasFirstFault xs fault) (AllSay-one texts unbuilt.specs specs unbuilt.say say)
+    unbuilt.first)
 
 -- one text has at most one fault
-one_here : (text : Option (List ℕ)) (fault other : SpecificationFault) → IsSomeAnd text (λ t. HasSpecificationFault t fault) → IsSomeAnd text (λ t. HasSpecificationFault t other) → fault ≡ other
+one_here : (text : Option (List ℕ)) (fault other : SpecificationFault)
+    → IsSomeAnd text (λ t. HasSpecificationFault t fault) → IsSomeAnd text (λ t. HasSpecificationFault t other)
+    → fault ≡ other
 one_here None fault other first second = absurd first
 one_here (Some text) fault other first second = HasSpecificationFault-one text fault other first second
 
 -- two texts that are not read, each the first one, are one
-one_unread : (texts : List (List ℕ)) (i j : ℕ) (fault other : SpecificationFault) → HasFirstUnread texts i fault → HasFirstUnread texts j other → Unread i fault ≡ Unread j other
+one_unread : (texts : List (List ℕ)) (i j : ℕ) (fault other : SpecificationFault) → HasFirstUnread texts i fault
+    → HasFirstUnread texts j other → Unread i fault ≡ Unread j other
 one_unread texts i j fault other first second =
     elim (cases_order i j) [
       | inl same ↦
@@ -64,29 +79,41 @@ one_unread texts i j fault other first second =
     ]
 
 -- a list of texts has at most one fault
-pub HasSpecsFault-one : (texts : List (List ℕ)) (fault other : SpecsFault) → HasSpecsFault texts fault → HasSpecsFault texts other → fault ≡ other
+pub HasSpecsFault-one : (texts : List (List ℕ)) (fault other : SpecsFault) → HasSpecsFault texts fault
+    → HasSpecsFault texts other → fault ≡ other
 HasSpecsFault-one texts (Unread i fault) (Unread j other) first second = one_unread texts i j fault other first second
-HasSpecsFault-one texts (Unread i fault) (Unbuilt other) first second = absurd (no_unread texts second.specs i fault second.say first.here)
-HasSpecsFault-one texts (Unbuilt fault) (Unread j other) first second = absurd (no_unread texts first.specs j other first.say second.here)
+HasSpecsFault-one texts (Unread i fault) (Unbuilt other) first second =
+    absurd (no_unread texts second.specs i fault second.say first.here)
+HasSpecsFault-one texts (Unbuilt fault) (Unread j other) first second =
+    absurd (no_unread texts first.specs j other first.say second.here)
 HasSpecsFault-one texts (Unbuilt fault) (Unbuilt other) first second =
-    ap Unbuilt (HasFirstFault-one second.specs fault other (subst (λ (xs : List IdMap). HasFirstFault xs fault) (AllSay-one texts first.specs second.specs first.say second.say) first.first) second.first)
+    ap Unbuilt
+    (HasFirstFault-one second.specs fault other
+    (subst (λ (xs : List IdMap). HasFirstFault xs fault)
+    (AllSay-one texts first.specs second.specs first.say second.say) first.first) second.first)
 
 -- the text at a place, as characters
-text_at : (texts : List (Bor (List ℕ))) (i : ℕ) (d : Bor (List ℕ)) → i < length texts → slice_get (texts_of texts) i ≡ Some (chars (get_or texts i d).now)
+text_at : (texts : List (Bor (List ℕ))) (i : ℕ) (d : Bor (List ℕ)) → i < length texts
+    → slice_get (texts_of texts) i ≡ Some (chars (get_or texts i d).now)
 text_at texts i d below =
     let f : Bor (List ℕ) → List ℕ = λ text. chars text.now in
     slice_get-map f texts i ∙ ap (option_map f) (slice_get-get_or texts i d below)
 
 -- a text that is not read, after texts that are
-pub refused-text : (texts : List (Bor (List ℕ))) (specs : List IdMap) (i : ℕ) (d : Bor (List ℕ)) (told : Option SpecificationFault) → i < length texts → AllSay (take i (texts_of texts)) specs → OutOfMemoryOr told (HasSpecificationFault (chars (get_or texts i d).now)) → OutOfMemoryOr (option_map (Unread i) told) (HasSpecsFault (texts_of texts))
+pub refused-text : (texts : List (Bor (List ℕ))) (specs : List IdMap) (i : ℕ) (d : Bor (List ℕ))
+    (told : Option SpecificationFault) → i < length texts → AllSay (take i (texts_of texts)) specs
+    → OutOfMemoryOr told (HasSpecificationFault (chars (get_or texts i d).now))
+    → OutOfMemoryOr (option_map (Unread i) told) (HasSpecsFault (texts_of texts))
 refused-text texts specs i d None below say refused = tt
 refused-text texts specs i d (Some fault) below say refused = record {
   before = specs;
   say = say;
-  here = subst (λ (text : Option (List ℕ)). IsSomeAnd text (λ t. HasSpecificationFault t fault)) (sym (text_at texts i d below)) refused;
+  here = subst (λ (text : Option (List ℕ)). IsSomeAnd text (λ t. HasSpecificationFault t fault))
+      (sym (text_at texts i d below)) refused;
 }
 
-pub IsReadUpTo-here : (texts : List (Bor (List ℕ))) (specs : List IdMap) (i : ℕ) → i < length texts → AllSay (take i (texts_of texts)) specs → IsReadUpTo (texts_of texts) i
+pub IsReadUpTo-here : (texts : List (Bor (List ℕ))) (specs : List IdMap) (i : ℕ) → i < length texts
+    → AllSay (take i (texts_of texts)) specs → IsReadUpTo (texts_of texts) i
 IsReadUpTo-here texts specs i below say = record {
   within = rw length-map below;
   specs = specs;
@@ -94,6 +121,7 @@ IsReadUpTo-here texts specs i below say = record {
 }
 
 -- texts that say a list of which no map is made
-pub refused-build : (texts : List (List ℕ)) (specs : List IdMap) (told : Option BuildFault) → AllSay texts specs → OutOfMemoryOr told (HasFirstFault specs) → OutOfMemoryOr (option_map Unbuilt told) (HasSpecsFault texts)
+pub refused-build : (texts : List (List ℕ)) (specs : List IdMap) (told : Option BuildFault) → AllSay texts specs
+    → OutOfMemoryOr told (HasFirstFault specs) → OutOfMemoryOr (option_map Unbuilt told) (HasSpecsFault texts)
 refused-build texts specs None say refused = tt
 refused-build texts specs (Some fault) say refused = record { specs = specs; say = say; first = refused }

@@ -1,10 +1,12 @@
 -- A walk along a trie: where it stands, and what it has found where it ends.
-use Rattle.std.proofs.Common.{◌≡◌, ◌≢◌, inl, inr, ℕ, suc, ◌+◌, ◌-◌, ◌<◌, ◌≤◌, Bool, true, false, ◌&&◌, List, [], ◌∷◌, ◌++◌, length, take, Contains, slice_get, Some, refl, sym, ap, ◌∙◌, subst, arith}
+use Rattle.std.proofs.Common.{◌≡◌, ◌≢◌, inl, inr, ℕ, suc, ◌+◌, ◌-◌, ◌<◌, ◌≤◌, Bool, true, false, ◌&&◌, List, [], ◌∷◌}
+use Rattle.std.proofs.Common.{◌++◌, length, take, Contains, slice_get, Some, refl, sym, ap, ◌∙◌, subst, arith}
 use Rattle.std.proofs.lemmas.Bool.{cases_lt, true≢false}
 use Rattle.std.proofs.lemmas.List.{append_assoc, length-append, take_at}
 use Rattle.std.proofs.lemmas.List.Elements.{All-same, All-get_or}
 use Rattle.std.proofs.lemmas.Option.{slice_get_within, get_or_from_slice_get}
-use Rattle.virtiofs_map.specs.BranchParts.{IsBranch, IsChild, IsReadable, IsReal, IsSmall, IsTrieIn, CountsWalk, Ends, Misses, Passes, StandsAt, StaysAt, StepsTo, answer_for, answer_of, label_of}
+use Rattle.virtiofs_map.specs.BranchParts.{IsBranch, IsChild, IsReadable, IsReal, IsSmall, IsTrieIn, CountsWalk, Ends}
+use Rattle.virtiofs_map.specs.BranchParts.{Misses, Passes, StandsAt, StaysAt, StepsTo, answer_for, answer_of, label_of}
 use Rattle.virtiofs_map.specs.FirstRule.{acts, pattern, deciding_length, most_shared, shared}
 use Rattle.virtiofs_map.specs.Names.{begins, fits, first}
 use Rattle.virtiofs_map.specs.Rule.{MappingRule}
@@ -12,8 +14,10 @@ use Rattle.virtiofs_map.specs.Steps.{count_after}
 use Rattle.virtiofs_map.specs.declared.xattrmap.branches.Branch.{Branch}
 use Rattle.virtiofs_map.specs.declared.xattrmap.scopes.Side.{Side}
 use Rattle.virtiofs_map.proofs.BeginsLemmas.{begins_length}
-use Rattle.virtiofs_map.proofs.FittingLemmas.{begins_front, deciding_within, fits_is, front_more, label_begins, same_deciding, same_first}
-use Rattle.virtiofs_map.proofs.SharedLemmas.{most_at_least, most_at_most, shared_front, shared_misses, shared_way, shared_whole, shared_within}
+use Rattle.virtiofs_map.proofs.FittingLemmas.{begins_front, deciding_within, fits_is, front_more, label_begins}
+use Rattle.virtiofs_map.proofs.FittingLemmas.{same_deciding, same_first}
+use Rattle.virtiofs_map.proofs.SharedLemmas.{most_at_least, most_at_most, shared_front, shared_misses, shared_way}
+use Rattle.virtiofs_map.proofs.SharedLemmas.{shared_whole, shared_within}
 use Rattle.virtiofs_map.proofs.WayLemmas.{way_no_zero, way_short}
 
 module _ (side : Side) (rules : List MappingRule) (rows bytes : List ℕ) (inside : IsTrieIn side rules rows bytes) where
@@ -21,20 +25,25 @@ module _ (side : Side) (rules : List MappingRule) (rows bytes : List ℕ) (insid
   is_real : (parent child : Branch) (byte at : ℕ) → IsChild inside.branches parent byte at child → IsReal at child
   is_real parent child byte at leads = inr (λ none. leads.real (sym leads.head ∙ none))
 
-  child_is : (parent child : Branch) (byte at : ℕ) → IsChild inside.branches parent byte at child → IsBranch side rules inside.branches bytes inside.trie.way at child
+  child_is : (parent child : Branch) (byte at : ℕ) → IsChild inside.branches parent byte at child
+      → IsBranch side rules inside.branches bytes inside.trie.way at child
   child_is parent child byte at leads = inside.trie.each at child leads.here (is_real parent child byte at leads)
 
   -- the children of each branch can be found
-  pub readable : (at : ℕ) (branch : Branch) → slice_get inside.branches at ≡ Some branch → IsReal at branch → IsReadable inside.branches bytes branch
+  pub readable : (at : ℕ) (branch : Branch) → slice_get inside.branches at ≡ Some branch → IsReal at branch
+      → IsReadable inside.branches bytes branch
   readable at branch here real = record {
-    small = subst IsSmall (get_or_from_slice_get inside.branches at branch branch here) (All-get_or IsSmall inside.branches at branch (slice_get_within inside.branches at branch here) inside.rows_of.small);
+    small = subst IsSmall (get_or_from_slice_get inside.branches at branch branch here)
+        (All-get_or IsSmall inside.branches at branch (slice_get_within inside.branches at branch here)
+        inside.rows_of.small);
     placed = (inside.trie.each at branch here real).placed;
     labels = λ byte next child leads. (child_is branch child byte next leads).label;
   }
 
   module _ (name : List ℕ) (start : ℕ) where
     -- at the root nothing is passed
-    pub stands_at_root : (root : Branch) (count : ℕ) → slice_get inside.branches 0 ≡ Some root → count ≡ count_after start 1 → StandsAt side rules inside.branches bytes inside.trie name root name start count
+    pub stands_at_root : (root : Branch) (count : ℕ) → slice_get inside.branches 0 ≡ Some root
+        → count ≡ count_after start 1 → StandsAt side rules inside.branches bytes inside.trie name root name start count
     stands_at_root root count here counts = record {
       at = 0;
       here = here;
@@ -43,7 +52,8 @@ module _ (side : Side) (rules : List MappingRule) (rows bytes : List ℕ) (insid
       counted = let none = ap length inside.trie.begun in omega (arith, counts, none);
     }
 
-    module _ (branch : Branch) (rest : List ℕ) (before : ℕ) (stands : StandsAt side rules inside.branches bytes inside.trie name branch rest start before) where
+    module _ (branch : Branch) (rest : List ℕ) (before : ℕ)
+        (stands : StandsAt side rules inside.branches bytes inside.trie name branch rest start before) where
       this : IsBranch side rules inside.branches bytes inside.trie.way stands.at branch
       this = inside.trie.each stands.at branch stands.here stands.real
 
@@ -51,7 +61,9 @@ module _ (side : Side) (rules : List MappingRule) (rows bytes : List ℕ) (insid
       stands_readable = readable stands.at branch stands.here stands.real
 
       -- a step leads on to the child
-      pub stands_on : (child : Branch) (left : List ℕ) (after : ℕ) → StepsTo inside.branches bytes branch rest child left before after → StandsAt side rules inside.branches bytes inside.trie name child left start after
+      pub stands_on : (child : Branch) (left : List ℕ) (after : ℕ)
+          → StepsTo inside.branches bytes branch rest child left before after
+          → StandsAt side rules inside.branches bytes inside.trie name child left start after
       stands_on child left after step =
           let leads = step.to.leads in
           let way = this.ways step.byte step.to.place child leads in
@@ -59,8 +71,12 @@ module _ (side : Side) (rules : List MappingRule) (rows bytes : List ℕ) (insid
             at = step.to.place;
             here = leads.here;
             real = is_real branch child step.byte step.to.place leads;
-            split = stands.split ∙ ap (λ more. inside.trie.way stands.at ++ more) step.passed ∙ sym (append_assoc (inside.trie.way stands.at) (step.byte ∷ label_of bytes child) left) ∙ ap (λ front. front ++ left) (sym way);
-            counted = let size = ap length way in let both = length-append (inside.trie.way stands.at) (step.byte ∷ label_of bytes child) in let was = stands.counted in let now = step.counted in omega (arith, size, both, was, now);
+            split = stands.split ∙ ap (λ more. inside.trie.way stands.at ++ more) step.passed
+                ∙ sym (append_assoc (inside.trie.way stands.at) (step.byte ∷ label_of bytes child) left)
+                ∙ ap (λ front. front ++ left) (sym way);
+            counted = let size = ap length way in let both =
+                length-append (inside.trie.way stands.at) (step.byte ∷ label_of bytes child) in let was =
+                stands.counted in let now = step.counted in omega (arith, size, both, was, now);
           }
 
       -- ---- the end of the way
@@ -172,10 +188,13 @@ module _ (side : Side) (rules : List MappingRule) (rows bytes : List ℕ) (insid
 
       module _ (whole : Bool) (after : ℕ) (stays : StaysAt inside.branches bytes branch rest whole before after) where
         front_is : take (length (inside.trie.way stands.at)) name ≡ inside.trie.way stands.at
-        front_is = ap (take (length (inside.trie.way stands.at))) stands.split ∙ take_at (inside.trie.way stands.at) rest (length (inside.trie.way stands.at)) refl
+        front_is = ap (take (length (inside.trie.way stands.at))) stands.split
+            ∙ take_at (inside.trie.way stands.at) rest (length (inside.trie.way stands.at)) refl
 
         -- no rule whose pattern is longer than the way fits
-        none_longer : (rule : MappingRule) → Contains rules rule → acts side rule ≡ true → length (inside.trie.way stands.at) < length (pattern side rule) → begins (pattern side rule) name ≡ true → ⊥
+        none_longer : (rule : MappingRule) → Contains rules rule → acts side rule ≡ true
+            → length (inside.trie.way stands.at) < length (pattern side rule) → begins (pattern side rule) name ≡ true
+            → ⊥
         none_longer rule within acting long fit =
             let all = shared_whole (pattern side rule) name fit in
             let more : length (inside.trie.way stands.at) < shared (pattern side rule) name =
@@ -189,22 +208,36 @@ module _ (side : Side) (rules : List MappingRule) (rows bytes : List ℕ) (insid
                   true≢false (sym begun ∙ misses.unlike))
             ]
 
-        by_length : (rule : MappingRule) → Contains rules rule → acts side rule ≡ true → begins (pattern side rule) name ≡ begins (pattern side rule) (inside.trie.way stands.at)
-        by_length rule within acting = elim (cases_lt (length (inside.trie.way stands.at)) (length (pattern side rule))) [
-          | inl long ↦ both_fail long (begins (pattern side rule) name) refl (begins (pattern side rule) (inside.trie.way stands.at)) refl
-          | inr short ↦ sym (begins_front (pattern side rule) name (length (inside.trie.way stands.at)) short) ∙ ap (begins (pattern side rule)) front_is
-        ] where
-          both_fail : length (inside.trie.way stands.at) < length (pattern side rule) → (a : Bool) → begins (pattern side rule) name ≡ a → (b : Bool) → begins (pattern side rule) (inside.trie.way stands.at) ≡ b → begins (pattern side rule) name ≡ begins (pattern side rule) (inside.trie.way stands.at)
-          both_fail long false e false f = e ∙ sym f
-          both_fail long false e true f = absurd (let short = begins_length (pattern side rule) (inside.trie.way stands.at) f in omega (arith, short, long))
-          both_fail long true e b f = absurd (none_longer rule within acting long e)
+        by_length : (rule : MappingRule) → Contains rules rule → acts side rule ≡ true
+            → begins (pattern side rule) name ≡ begins (pattern side rule) (inside.trie.way stands.at)
+        by_length rule within acting =
+            elim (cases_lt (length (inside.trie.way stands.at)) (length (pattern side rule))) [
+              | inl long ↦ both_fail long (begins (pattern side rule) name) refl
+                  (begins (pattern side rule) (inside.trie.way stands.at)) refl
+              | inr short ↦ sym (begins_front (pattern side rule) name (length (inside.trie.way stands.at)) short)
+                  ∙ ap (begins (pattern side rule)) front_is
+            ] where
+              both_fail : length (inside.trie.way stands.at) < length (pattern side rule) → (a : Bool)
+                  → begins (pattern side rule) name ≡ a → (b : Bool)
+                  → begins (pattern side rule) (inside.trie.way stands.at) ≡ b
+                  → begins (pattern side rule) name ≡ begins (pattern side rule) (inside.trie.way stands.at)
+              both_fail long false e false f = e ∙ sym f
+              both_fail long false e true f =
+                  absurd (let short = begins_length (pattern side rule) (inside.trie.way stands.at) f in
+                  omega (arith, short, long))
+              both_fail long true e b f = absurd (none_longer rule within acting long e)
 
         -- so a rule fits the name where it fits the way
-        fits_alike : (rule : MappingRule) → Contains rules rule → fits side name rule ≡ fits side (inside.trie.way stands.at) rule
-        fits_alike rule within = fits_is side name rule ∙ by_acting (acts side rule) refl ∙ sym (fits_is side (inside.trie.way stands.at) rule) where
-          by_acting : (b : Bool) → acts side rule ≡ b → (acts side rule && begins (pattern side rule) name) ≡ (acts side rule && begins (pattern side rule) (inside.trie.way stands.at))
-          by_acting true e = ap (λ b. acts side rule && b) (by_length rule within e)
-          by_acting false e = ap (λ b. b && begins (pattern side rule) name) e ∙ sym (ap (λ b. b && begins (pattern side rule) (inside.trie.way stands.at)) e)
+        fits_alike : (rule : MappingRule) → Contains rules rule
+            → fits side name rule ≡ fits side (inside.trie.way stands.at) rule
+        fits_alike rule within = fits_is side name rule ∙ by_acting (acts side rule) refl
+            ∙ sym (fits_is side (inside.trie.way stands.at) rule) where
+              by_acting : (b : Bool) → acts side rule ≡ b
+                  → (acts side rule && begins (pattern side rule) name) ≡ (acts side rule && begins (pattern side rule)
+                  (inside.trie.way stands.at))
+              by_acting true e = ap (λ b. acts side rule && b) (by_length rule within e)
+              by_acting false e = ap (λ b. b && begins (pattern side rule) name) e
+                  ∙ sym (ap (λ b. b && begins (pattern side rule) (inside.trie.way stands.at)) e)
 
         first_is : first side rules name ≡ first side rules (inside.trie.way stands.at)
         first_is = same_first side rules name (inside.trie.way stands.at) fits_alike
@@ -216,7 +249,8 @@ module _ (side : Side) (rules : List MappingRule) (rows bytes : List ℕ) (insid
         answers = this.answers ∙ ap (answer_for rules) (sym first_is)
 
         decided : deciding_length side rules name ≤ length (inside.trie.way stands.at)
-        decided = let same = same_deciding side rules name (inside.trie.way stands.at) first_is in let low = deciding_within side rules (inside.trie.way stands.at) in omega (arith, same, low)
+        decided = let same = same_deciding side rules name (inside.trie.way stands.at) first_is in let low =
+            deciding_within side rules (inside.trie.way stands.at) in omega (arith, same, low)
 
         -- where no step is left, the branch has the answer, and its way was passed
         pub stands_passed : Passes side rules name branch.answer (length name - length rest)

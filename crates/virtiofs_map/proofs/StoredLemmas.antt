@@ -1,5 +1,6 @@
 -- What a number becomes, by the ranges that a map has.
-use Rattle.std.proofs.Common.{◌≡◌, inl, inr, ℕ, ◌+◌, ◌<◌, ◌≤◌, List, Contains, Option, Some, None, IsSomeAnd, refl, arith}
+use Rattle.std.proofs.Common.{◌≡◌, inl, inr, ℕ, ◌+◌, ◌<◌, ◌≤◌, List, Contains, Option, Some, None, IsSomeAnd, refl}
+use Rattle.std.proofs.Common.{arith}
 use Rattle.std.proofs.lemmas.List.Elements.{All-contains}
 use Rattle.virtiofs_map.specs.Mapping.{entry_of, first_of, count_of, EntryCovers, target_of, Covers, Becomes}
 use Rattle.virtiofs_map.specs.RangeParts.{IsOfOne, Stores}
@@ -18,7 +19,9 @@ found_entry None P h = absurd h
 found_entry (Some entry) P h = record { entry = entry; is = refl; holds = h }
 
 -- no range covers the number, so no specification does
-pub Becomes-itself : (specs : List IdMap) (direction : Direction) (ranges : List Entry) (n : ℕ) → Stores specs direction ranges → ((range : Entry) → Contains ranges range → ¬ EntryCovers range n) → Becomes specs direction n (Some n)
+pub Becomes-itself : (specs : List IdMap) (direction : Direction) (ranges : List Entry) (n : ℕ)
+    → Stores specs direction ranges → ((range : Entry) → Contains ranges range → ¬ EntryCovers range n)
+    → Becomes specs direction n (Some n)
 Becomes-itself specs direction ranges n stores none = inr (uncovered, refl) where
   uncovered : (spec : IdMap) → Contains specs spec → ¬ Covers spec direction n
   uncovered spec listed covers =
@@ -28,7 +31,9 @@ Becomes-itself specs direction ranges n stores none = inr (uncovered, refl) wher
       none found.entry (stores.each spec found.entry listed found.is (omega arith)) found.holds
 
 -- a range that covers it is that of a specification
-pub Becomes-by_range : (specs : List IdMap) (direction : Direction) (ranges : List Entry) (n : ℕ) (range : Entry) → Stores specs direction ranges → Contains ranges range → EntryCovers range n → Becomes specs direction n (target_of range n)
+pub Becomes-by_range : (specs : List IdMap) (direction : Direction) (ranges : List Entry) (n : ℕ) (range : Entry)
+    → Stores specs direction ranges → Contains ranges range → EntryCovers range n
+    → Becomes specs direction n (target_of range n)
 Becomes-by_range specs direction ranges n range stores stored covers =
     let (spec, listed, is) = All-contains (IsOfOne specs direction) ranges range stores.from stored in
     inl (spec, listed, rw is (covers, refl))

@@ -1,5 +1,6 @@
 -- What a range, or the want of one, says of the numbers from some number on.
-use Rattle.std.proofs.Common.{◌≡◌, ◌≢◌, inl, inr, ℕ, zero, suc, ◌+◌, ◌-◌, ◌<◌, ◌≤◌, List, length, get_or, AllPairs, Contains, Some, slice_get, sym, ap, ◌∙◌, arith}
+use Rattle.std.proofs.Common.{◌≡◌, ◌≢◌, inl, inr, ℕ, zero, suc, ◌+◌, ◌-◌, ◌<◌, ◌≤◌, List, length, get_or, AllPairs}
+use Rattle.std.proofs.Common.{Contains, Some, slice_get, sym, ap, ◌∙◌, arith}
 use Rattle.std.proofs.lemmas.Bool.{cases_order}
 use Rattle.std.proofs.lemmas.List.Elements.{All-contains}
 use Rattle.std.proofs.lemmas.Option.{slice_get-get_or, slice_get_within, get_or_from_slice_get}
@@ -19,24 +20,34 @@ use Rattle.virtiofs_map.proofs.StoredLemmas.{Becomes-itself, Becomes-by_range}
 -- ---- ranges that were read
 
 -- what was read at a place is the range there
-pub range_at : (specs : List IdMap) (direction : Direction) (table : Table) (at : ℕ) (range : Entry) (has : HasRanges specs direction table) → at < table.count → ((other : Entry) → IsAt table at other → range ≡ other) → slice_get has.ranges at ≡ Some range
+pub range_at : (specs : List IdMap) (direction : Direction) (table : Table) (at : ℕ) (range : Entry)
+    (has : HasRanges specs direction table) → at < table.count → ((other : Entry) → IsAt table at other → range ≡ other)
+    → slice_get has.ranges at ≡ Some range
 range_at specs direction table at range has inside is =
     let counted : length has.ranges ≡ table.count = has.stand.counted in
-    let here : slice_get has.ranges at ≡ Some (get_or has.ranges at range) = slice_get-get_or has.ranges at range (omega arith) in
-    here ∙ ap (λ (r : Entry). Some r) (sym (is (get_or has.ranges at range) (has.stand.each at (get_or has.ranges at range) here)))
+    let here : slice_get has.ranges at ≡ Some (get_or has.ranges at range) =
+    slice_get-get_or has.ranges at range (omega arith) in
+    here ∙ ap (λ (r : Entry). Some r)
+    (sym (is (get_or has.ranges at range) (has.stand.each at (get_or has.ranges at range) here)))
 
 stored : (ranges : List Entry) (at : ℕ) (range : Entry) → slice_get ranges at ≡ Some range → Contains ranges range
-stored ranges at range here = (at, slice_get_within ranges at range here, get_or_from_slice_get ranges at range range here)
+stored ranges at range here =
+    (at, slice_get_within ranges at range here, get_or_from_slice_get ranges at range range here)
 
-pub numbers_at : (specs : List IdMap) (direction : Direction) (table : Table) (at : ℕ) (range : Entry) (has : HasRanges specs direction table) → slice_get has.ranges at ≡ Some range → HasNumbers range
-numbers_at specs direction table at range has here = All-contains HasNumbers has.ranges range has.ordered.numbers (stored has.ranges at range here)
+pub numbers_at : (specs : List IdMap) (direction : Direction) (table : Table) (at : ℕ) (range : Entry)
+    (has : HasRanges specs direction table) → slice_get has.ranges at ≡ Some range → HasNumbers range
+numbers_at specs direction table at range has here =
+    All-contains HasNumbers has.ranges range has.ordered.numbers (stored has.ranges at range here)
 
-pub target_at : (specs : List IdMap) (direction : Direction) (table : Table) (at : ℕ) (range : Entry) (has : HasRanges specs direction table) → slice_get has.ranges at ≡ Some range → HasTarget range
-target_at specs direction table at range has here = All-contains HasTarget has.ranges range has.ordered.target (stored has.ranges at range here)
+pub target_at : (specs : List IdMap) (direction : Direction) (table : Table) (at : ℕ) (range : Entry)
+    (has : HasRanges specs direction table) → slice_get has.ranges at ≡ Some range → HasTarget range
+target_at specs direction table at range has here =
+    All-contains HasTarget has.ranges range has.ordered.target (stored has.ranges at range here)
 
 -- ---- numbers that a range covers
 
-pub IsStretch-covered : (specs : List IdMap) (direction : Direction) (table : Table) (n at : ℕ) (range : Entry) (piece : Piece) (has : HasRanges specs direction table) → slice_get has.ranges at ≡ Some range → EntryCovers range n
+pub IsStretch-covered : (specs : List IdMap) (direction : Direction) (table : Table) (n at : ℕ) (range : Entry)
+    (piece : Piece) (has : HasRanges specs direction table) → slice_get has.ranges at ≡ Some range → EntryCovers range n
     → IsMade n (first_of range + count_of range - 1) (target_of range) piece → IsStretch specs direction piece
 IsStretch-covered specs direction table n at range piece has here covers made =
     let numbers : HasNumbers range = numbers_at specs direction table at range has here in
@@ -51,13 +62,18 @@ IsStretch-covered specs direction table n at range piece has here covers made =
       named = rw (first, last) made.named;
       becomes = λ k from to.
           (let value : value_in piece k ≡ target_of range k = made.value k (omega arith) (omega arith) in
-          rw value (Becomes-by_range specs direction has.ranges k range has.stores (stored has.ranges at range here) (omega arith, omega arith)));
+          rw value
+          (Becomes-by_range specs direction has.ranges k range has.stores (stored has.ranges at range here)
+          (omega arith, omega arith)));
     }
 
 -- ---- numbers that no range covers
 
--- the first number of the range before a place is no greater, and it does not cover the number, so it covers no greater one
-before_covers : (ranges : List Entry) (n end k j : ℕ) (range : Entry) → AllPairs Precedes ranges → Searched ranges n end end (before ranges end) → ((last : Entry) → slice_get ranges (end - 1) ≡ Some last → ¬ EntryCovers last n)
+-- the first number of the range before a place is no greater, and it does not cover the number, so it covers no greater
+-- one
+before_covers : (ranges : List Entry) (n end k j : ℕ) (range : Entry) → AllPairs Precedes ranges
+    → Searched ranges n end end (before ranges end)
+    → ((last : Entry) → slice_get ranges (end - 1) ≡ Some last → ¬ EntryCovers last n)
     → n ≤ k → j < end → j < length ranges → get_or ranges j range ≡ range → ¬ EntryCovers range k
 before_covers ranges n zero k j range ordered searched beyond from below inside here covers = absurd (omega arith)
 before_covers ranges n (suc e) k j range ordered searched beyond from below inside here covers =
@@ -82,49 +98,67 @@ before_covers ranges n (suc e) k j range ordered searched beyond from below insi
     ]
 
 -- the next range begins above the number, and those after it too
-after_covers : (ranges : List Entry) (end k j : ℕ) (range : Entry) → AllPairs Precedes ranges → ((next : Entry) → slice_get ranges end ≡ Some next → k < first_of next)
+after_covers : (ranges : List Entry) (end k j : ℕ) (range : Entry) → AllPairs Precedes ranges
+    → ((next : Entry) → slice_get ranges end ≡ Some next → k < first_of next)
     → end ≤ j → j < length ranges → get_or ranges j range ≡ range → ¬ EntryCovers range k
 after_covers ranges end k j range ordered above from inside here covers =
     let low : first_of range ≤ k = covers.0 in
     elim (cases_order end j) [
       | inl same ↦
-          let next : k < first_of range = above range (rw same (slice_get-get_or ranges j range inside ∙ ap (λ (r : Entry). Some r) here)) in
+          let next : k < first_of range =
+          above range (rw same (slice_get-get_or ranges j range inside ∙ ap (λ (r : Entry). Some r) here)) in
           absurd (omega arith)
       | inr (inl later) ↦
-          let next : k < first_of (get_or ranges end range) = above (get_or ranges end range) (slice_get-get_or ranges end range (omega arith)) in
-          let precedes : Precedes (get_or ranges end range) (get_or ranges j range) = ordered end j range later inside in
-          let precedes' : first_of (get_or ranges end range) + count_of (get_or ranges end range) ≤ first_of range = rw here at precedes in
+          let next : k < first_of (get_or ranges end range) =
+          above (get_or ranges end range) (slice_get-get_or ranges end range (omega arith)) in
+          let precedes : Precedes (get_or ranges end range) (get_or ranges j range) =
+          ordered end j range later inside in
+          let precedes' : first_of (get_or ranges end range) + count_of (get_or ranges end range) ≤ first_of range =
+          rw here at precedes in
           absurd (omega arith)
       | inr (inr earlier) ↦ absurd (omega arith)
     ]
 
-pub IsStretch-kept : (specs : List IdMap) (direction : Direction) (table : Table) (n end : ℕ) (piece : Piece) (has : HasRanges specs direction table) → Searches table n end end
-    → ((last : Entry) → slice_get has.ranges (end - 1) ≡ Some last → 1 ≤ end → ¬ EntryCovers last n) → ((next : Entry) → slice_get has.ranges end ≡ Some next → piece.last < first_of next)
-    → piece.first ≡ n → n ≤ piece.last → piece.last ≤ 4294967295 → piece.becomes ≡ Kept → IsStretch specs direction piece
+pub IsStretch-kept : (specs : List IdMap) (direction : Direction) (table : Table) (n end : ℕ) (piece : Piece)
+    (has : HasRanges specs direction table) → Searches table n end end
+    → ((last : Entry) → slice_get has.ranges (end - 1) ≡ Some last → 1 ≤ end → ¬ EntryCovers last n)
+    → ((next : Entry) → slice_get has.ranges end ≡ Some next → piece.last < first_of next)
+    → piece.first ≡ n → n ≤ piece.last → piece.last ≤ 4294967295 → piece.becomes ≡ Kept
+    → IsStretch specs direction piece
 IsStretch-kept specs direction table n end piece has searches beyond next first order within kept = record {
   order = omega arith;
   within = within;
   named = rw kept tt;
   becomes = λ k from to. rw kept (Becomes-itself specs direction has.ranges k has.stores (uncovered k from to));
 } where
-  uncovered : (k : ℕ) → piece.first ≤ k → k ≤ piece.last → (range : Entry) → Contains has.ranges range → ¬ EntryCovers range k
+  uncovered : (k : ℕ) → piece.first ≤ k → k ≤ piece.last → (range : Entry) → Contains has.ranges range
+      → ¬ EntryCovers range k
   uncovered k from to range (j, inside, here) covers =
       elim (cases_order j end) [
         | inl same ↦ at_end (omega arith)
-        | inr (inl below) ↦ before_covers has.ranges n end k j range has.ordered.ordered (searches has.ranges has.ordered has.stand) (λ last is. beyond last is (omega arith)) (omega arith) below inside here covers
+        | inr (inl below) ↦ before_covers has.ranges n end k j range has.ordered.ordered
+            (searches has.ranges has.ordered has.stand) (λ last is. beyond last is (omega arith)) (omega arith) below
+            inside here covers
         | inr (inr above) ↦ at_end (omega arith)
       ] where
         at_end : end ≤ j → ⊥
-        at_end from' = after_covers has.ranges end k j range has.ordered.ordered (λ other is. let above : piece.last < first_of other = next other is in omega arith) from' inside here covers
+        at_end from' =
+            after_covers has.ranges end k j range has.ordered.ordered
+            (λ other is. let above : piece.last < first_of other = next other is in omega arith) from' inside here
+            covers
 
 -- the next range begins above the number
-pub next_above : (specs : List IdMap) (direction : Direction) (table : Table) (n end : ℕ) (range : Entry) (has : HasRanges specs direction table) → Searches table n end end → slice_get has.ranges end ≡ Some range → n < first_of range
+pub next_above : (specs : List IdMap) (direction : Direction) (table : Table) (n end : ℕ) (range : Entry)
+    (has : HasRanges specs direction table) → Searches table n end end → slice_get has.ranges end ≡ Some range
+    → n < first_of range
 next_above specs direction table n end range has searches here =
     let searched = searches has.ranges has.ordered has.stand in
-    rw (get_or_from_slice_get has.ranges end range range here) at (searched.above end range (omega arith) (slice_get_within has.ranges end range here))
+    rw (get_or_from_slice_get has.ranges end range range here) at (searched.above end range (omega arith)
+    (slice_get_within has.ranges end range here))
 
 -- there is none past the last one
-pub no_next : (specs : List IdMap) (direction : Direction) (table : Table) (end : ℕ) (range : Entry) (has : HasRanges specs direction table) → table.count ≤ end → slice_get has.ranges end ≢ Some range
+pub no_next : (specs : List IdMap) (direction : Direction) (table : Table) (end : ℕ) (range : Entry)
+    (has : HasRanges specs direction table) → table.count ≤ end → slice_get has.ranges end ≢ Some range
 no_next specs direction table end range has beyond here =
     let counted : length has.ranges ≡ table.count = has.stand.counted in
     let inside : end < length has.ranges = slice_get_within has.ranges end range here in

@@ -1,11 +1,13 @@
 -- Where a few names are decided, all names are.
-use Rattle.std.proofs.Common.{◌≡◌, zero, suc, ◌≢◌, ℕ, ◌+◌, ◌<◌, Bool, true, false, List, [], ◌∷◌, filter, Option, Some, None, is_some, inl, inr, refl, sym, ap, ◌∙◌, arith}
+use Rattle.std.proofs.Common.{◌≡◌, zero, suc, ◌≢◌, ℕ, ◌+◌, ◌<◌, Bool, true, false, List, [], ◌∷◌, filter, Option, Some}
+use Rattle.std.proofs.Common.{None, is_some, inl, inr, refl, sym, ap, ◌∙◌, arith}
 use Rattle.std.specs.List.{AllByRecursion, find, list_all, slice_split, onto_first}
 use Rattle.std.specs.Option.{option_map_or}
 use Rattle.std.proofs.lemmas.Bool.{and_from, cond_both, cases_Bool, cases_lt, false≢true, true≢false, eqb-false}
 use Rattle.std.proofs.lemmas.List.Elements.{All-head, All-tail, All-nil, All-cons}
 use Rattle.virtiofs_map.specs.Audit.{IsList, Terminated}
-use Rattle.virtiofs_map.specs.Names.{begins, fits, deciding, answer_by, IsUnterminated, IsUndecided, host_answer_by, host_answer, is_decided, names, server_answer}
+use Rattle.virtiofs_map.specs.Names.{begins, fits, deciding, answer_by, IsUnterminated, IsUndecided, host_answer_by}
+use Rattle.virtiofs_map.specs.Names.{host_answer, is_decided, names, server_answer}
 use Rattle.virtiofs_map.specs.Rule.{RuleType, Prefix, Okay, Bad, Unsupported, MappingRule}
 use Rattle.virtiofs_map.specs.declared.xattrmap.scopes.Side.{Side}
 use Rattle.virtiofs_map.specs.declared.xattrmap.scopes.Side.TheVariants.{Client, Server}
@@ -18,14 +20,21 @@ use Rattle.virtiofs_map.proofs.ServerListLemmas.{is_name, is_zero}
 
 -- ---- a rule that fits a name fits what begins with that name
 
-find_more : {X : Type 0} (p q : X → Bool) → ((x : X) → p x ≡ true → q x ≡ true) → (xs : List X) → is_some (find p xs) ≡ true → is_some (find q xs) ≡ true
+find_more : {X : Type 0} (p q : X → Bool) → ((x : X) → p x ≡ true → q x ≡ true) → (xs : List X)
+    → is_some (find p xs) ≡ true → is_some (find q xs) ≡ true
 find_more p q more [] e = e
 find_more p q more (x ∷ xs) e =
-    cond_both (q x) (Some x) (find q xs) (λ o. is_some o ≡ true) (λ _. refl) (λ fails. find_more p q more xs (cond_both (p x) (Some x) (find p xs) (λ o. is_some o ≡ true → is_some (find p xs) ≡ true) (λ holds _. absurd (false≢true (sym fails ∙ more x holds))) (λ _ k. k) e))
+    cond_both (q x) (Some x) (find q xs) (λ o. is_some o ≡ true) (λ _. refl)
+    (λ fails. find_more p q more xs
+    (cond_both (p x) (Some x) (find p xs) (λ o. is_some o ≡ true → is_some (find p xs) ≡ true)
+    (λ holds _. absurd (false≢true (sym fails ∙ more x holds))) (λ _ k. k) e))
 
-decided_more : (side : Side) (rules : List MappingRule) (front name : List ℕ) → begins front name ≡ true → is_some (deciding side rules front) ≡ true → is_some (deciding side rules name) ≡ true
+decided_more : (side : Side) (rules : List MappingRule) (front name : List ℕ) → begins front name ≡ true
+    → is_some (deciding side rules front) ≡ true → is_some (deciding side rules name) ≡ true
 decided_more side rules front name b e =
-    ap is_some (deciding-find side rules name) ∙ find_more (fits side front) (fits side name) (fits_more side front name b) rules (ap is_some (sym (deciding-find side rules front)) ∙ e)
+    ap is_some (deciding-find side rules name)
+    ∙ find_more (fits side front) (fits side name) (fits_more side front name b) rules
+    (ap is_some (sym (deciding-find side rules front)) ∙ e)
 
 -- ---- names of the guest
 
@@ -35,11 +44,13 @@ answered_by_kind Prefix prepend name e = cc
 answered_by_kind Bad prepend name e = cc
 answered_by_kind Unsupported prepend name e = cc
 
-answered_by : (o : Option MappingRule) (name : List ℕ) → is_some o ≡ true → option_map_or (λ rule. answer_by rule.kind rule.prepend name) o IsUnterminated ≢ IsUnterminated
+answered_by : (o : Option MappingRule) (name : List ℕ) → is_some o ≡ true
+    → option_map_or (λ rule. answer_by rule.kind rule.prepend name) o IsUnterminated ≢ IsUnterminated
 answered_by None name e k = false≢true e
 answered_by (Some rule) name e k = answered_by_kind rule.kind rule.prepend name k
 
-answered_from : (o : Option MappingRule) (name : List ℕ) → option_map_or (λ rule. answer_by rule.kind rule.prepend name) o IsUnterminated ≢ IsUnterminated → is_some o ≡ true
+answered_from : (o : Option MappingRule) (name : List ℕ)
+    → option_map_or (λ rule. answer_by rule.kind rule.prepend name) o IsUnterminated ≢ IsUnterminated → is_some o ≡ true
 answered_from None name fails = absurd (fails refl)
 answered_from (Some rule) name fails = refl
 
@@ -51,7 +62,8 @@ decided_by_kind Prefix prepend host = refl
 decided_by_kind Bad prepend host = refl
 decided_by_kind Unsupported prepend host = refl
 
-decided_by : (o : Option MappingRule) (host : List ℕ) → is_some o ≡ true → is_decided (option_map_or (λ rule. host_answer_by rule.kind rule.prepend host) o IsUndecided) ≡ true
+decided_by : (o : Option MappingRule) (host : List ℕ) → is_some o ≡ true
+    → is_decided (option_map_or (λ rule. host_answer_by rule.kind rule.prepend host) o IsUndecided) ≡ true
 decided_by None host e = absurd (false≢true e)
 decided_by (Some rule) host e = decided_by_kind rule.kind rule.prepend host
 
@@ -63,7 +75,8 @@ IsByteOfName byte = (0 < byte) × (byte < 256)
 abbrev IsPart : List ℕ → Type 0
 IsPart part = AllByRecursion IsByteOfName part
 
-parts_onto : (x : ℕ) → IsByteOfName x → (parts : List (List ℕ)) → AllByRecursion IsPart parts → AllByRecursion IsPart (onto_first x parts)
+parts_onto : (x : ℕ) → IsByteOfName x → (parts : List (List ℕ)) → AllByRecursion IsPart parts
+    → AllByRecursion IsPart (onto_first x parts)
 parts_onto x is [] all = ((is, tt), tt)
 parts_onto x is (part ∷ parts) all = ((is, all.0), all.1)
 
@@ -76,35 +89,46 @@ parts_are [] is = (tt, tt)
 parts_are (x ∷ xs) is =
     let more = parts_are xs (All-tail (λ byte. byte < 256) x xs is) in
     let below = All-head (λ byte. byte < 256) x xs is in
-    cond_both (is_zero x) ([] ∷ slice_split is_zero xs) (onto_first x (slice_split is_zero xs)) (AllByRecursion IsPart) (λ _. (tt, more)) (λ fails. parts_onto x (positive x (eqb-false x 0 fails), below) (slice_split is_zero xs) more)
+    cond_both (is_zero x) ([] ∷ slice_split is_zero xs) (onto_first x (slice_split is_zero xs)) (AllByRecursion IsPart)
+    (λ _. (tt, more))
+    (λ fails. parts_onto x (positive x (eqb-false x 0 fails), below) (slice_split is_zero xs) more)
 
 -- each name of one byte is decided
 abbrev pub BytesDecided : List MappingRule → ℕ → Type 0
 BytesDecided rules end =
     (byte : ℕ) → 0 < byte → byte < end → is_some (deciding Server rules (byte ∷ [])) ≡ true
 
-pub bytes_more : (rules : List MappingRule) (byte : ℕ) → BytesDecided rules byte → is_some (deciding Server rules (byte ∷ [])) ≡ true → BytesDecided rules (byte + 1)
+pub bytes_more : (rules : List MappingRule) (byte : ℕ) → BytesDecided rules byte
+    → is_some (deciding Server rules (byte ∷ [])) ≡ true → BytesDecided rules (byte + 1)
 bytes_more rules byte below here other low high =
     elim (cases_lt other byte) [
       | inl l ↦ below other low l
       | inr l ↦ let same : other ≡ byte = omega arith in rw same here
     ]
 
-all_decided : (rules : List MappingRule) → BytesDecided rules 256 → (parts : List (List ℕ)) → AllByRecursion IsPart parts → list_all (λ name. is_decided (host_answer rules name)) (filter is_name parts) ≡ true
+all_decided : (rules : List MappingRule) → BytesDecided rules 256 → (parts : List (List ℕ))
+    → AllByRecursion IsPart parts → list_all (λ name. is_decided (host_answer rules name)) (filter is_name parts) ≡ true
 all_decided rules bytes [] all = refl
 all_decided rules bytes ([] ∷ parts) all = all_decided rules bytes parts all.1
 all_decided rules bytes ((x ∷ xs) ∷ parts) all =
-    let some = decided_more Server rules (x ∷ []) (x ∷ xs) (begins_from (x ∷ []) (x ∷ xs) xs refl) (bytes x all.0.0.0 all.0.0.1) in
+    let some =
+    decided_more Server rules (x ∷ []) (x ∷ xs) (begins_from (x ∷ []) (x ∷ xs) xs refl)
+    (bytes x all.0.0.0 all.0.0.1) in
     let first = decided_by (deciding Server rules (x ∷ xs)) (x ∷ xs) some in
-    rw (some_name x xs) (and_from (is_decided (host_answer rules (x ∷ xs))) (list_all (λ name. is_decided (host_answer rules name)) (filter is_name parts)) first (all_decided rules bytes parts all.1))
+    rw (some_name x xs)
+    (and_from (is_decided (host_answer rules (x ∷ xs)))
+    (list_all (λ name. is_decided (host_answer rules name)) (filter is_name parts)) first
+    (all_decided rules bytes parts all.1))
 
-answered_list : (rules : List MappingRule) (list : List ℕ) → list_all (λ name. is_decided (host_answer rules name)) (names list) ≡ true → server_answer rules list ≢ None
+answered_list : (rules : List MappingRule) (list : List ℕ)
+    → list_all (λ name. is_decided (host_answer rules name)) (names list) ≡ true → server_answer rules list ≢ None
 answered_list rules list e k =
     let some = rw e at k in cc
 
 -- ---- terminated
 
-pub terminated_from : (rules : List MappingRule) → is_some (deciding Client rules []) ≡ true → BytesDecided rules 256 → Terminated rules
+pub terminated_from : (rules : List MappingRule) → is_some (deciding Client rules []) ≡ true → BytesDecided rules 256
+    → Terminated rules
 terminated_from rules empty bytes = record {
   client = λ name is. answered_by (deciding Client rules name) name (decided_more Client rules [] name refl empty);
   server = λ list is. answered_list rules list (all_decided rules bytes (slice_split is_zero list) (parts_are list is));
@@ -114,7 +138,8 @@ pub empty_from : (rules : List MappingRule) → Terminated rules → is_some (de
 empty_from rules terminated =
     answered_from (deciding Client rules []) [] (terminated.client [] (All-nil IsByteOfName))
 
-undecided_one : (rules : List MappingRule) (host : List ℕ) (o : Option MappingRule) → is_some o ≡ false → option_map_or (λ rule. host_answer_by rule.kind rule.prepend host) o IsUndecided ≡ IsUndecided
+undecided_one : (rules : List MappingRule) (host : List ℕ) (o : Option MappingRule) → is_some o ≡ false
+    → option_map_or (λ rule. host_answer_by rule.kind rule.prepend host) o IsUndecided ≡ IsUndecided
 undecided_one rules host None e = refl
 undecided_one rules host (Some rule) e = absurd (true≢false e)
 
@@ -127,5 +152,7 @@ byte_from rules terminated byte low high =
           let is = All-cons IsByteOfName byte [] (low, high) (All-nil IsByteOfName) in
           let none = undecided_one rules host (deciding Server rules host) fails in
           let answer = server_one rules host (λ e. cc) (not_zero_name host is) ∙ ap answer_to_one none in
-          absurd (terminated.server (byte ∷ 0 ∷ []) (All-cons (λ b. b < 256) byte (0 ∷ []) high (All-cons (λ b. b < 256) 0 [] (omega arith) (All-nil (λ b. b < 256)))) answer))
+          absurd (terminated.server (byte ∷ 0 ∷ [])
+          (All-cons (λ b. b < 256) byte (0 ∷ []) high
+          (All-cons (λ b. b < 256) 0 [] (omega arith) (All-nil (λ b. b < 256)))) answer))
     ]

@@ -1,12 +1,15 @@
 -- What trimming a text leaves, in characters.
-use Rattle.std.proofs.Common.{◌≡◌, ℕ, zero, suc, ◌<◌, Bool, true, false, cond, ◌&&◌, eqb, List, [], ◌∷◌, ◌++◌, length, take, drop, get_or, ◌⊎◌, inl, inr, refl, sym, ap, subst, ◌∙◌, arith}
+use Rattle.std.proofs.Common.{◌≡◌, ℕ, zero, suc, ◌<◌, Bool, true, false, cond, ◌&&◌, eqb, List, [], ◌∷◌, ◌++◌, length}
+use Rattle.std.proofs.Common.{take, drop, get_or, ◌⊎◌, inl, inr, refl, sym, ap, subst, ◌∙◌, arith}
 use Rattle.std.proofs.lemmas.Bool.{false≢true}
 use Rattle.std.proofs.lemmas.Bool.Decides.{nat_tests}
 use Rattle.std.proofs.lemmas.List.{take-append-drop}
-use Rattle.std.proofs.lemmas.Str.{chars-encodes, scalars-chars, encodes-chars, chars-append, chars-IsAscii, IsUtf8-from_ascii, byte_from_char, length-le-encodes}
+use Rattle.std.proofs.lemmas.Str.{chars-encodes, scalars-chars, encodes-chars, chars-append, chars-IsAscii}
+use Rattle.std.proofs.lemmas.Str.{IsUtf8-from_ascii, byte_from_char, length-le-encodes}
 use Rattle.std.specs.Char.{is_whitespace, is_ascii_whitespace}
 use Rattle.std.specs.List.{AllByRecursion}
-use Rattle.std.specs.Str.{chars, IsUtf8, IsAscii, trim, trim_start, trim_end, all_scalars, skip_leading_whitespace, drop_trailing_whitespace, IsTrimAsciiStart, encode_utf8_all}
+use Rattle.std.specs.Str.{chars, IsUtf8, IsAscii, trim, trim_start, trim_end, all_scalars, skip_leading_whitespace}
+use Rattle.std.specs.Str.{drop_trailing_whitespace, IsTrimAsciiStart, encode_utf8_all}
 use lib.Utf8.{scalar}
 use Rattle.virtiofs_map.specs.RuleText.{trimmed, IsBlank}
 use Rattle.virtiofs_map.specs.RuleParts.{IsOpened}
@@ -30,7 +33,8 @@ drop_scalars [] e = refl
 drop_scalars (c ∷ cs) e =
     let parts = and_parts (scalar c) (all_scalars cs) e in
     let rest = drop_scalars cs parts.1 in
-    elim (is_whitespace c && eqb (length (drop_trailing_whitespace cs)) 0) as (λ b. all_scalars (cond b [] (c ∷ drop_trailing_whitespace cs)) ≡ true) [
+    elim (is_whitespace c && eqb (length (drop_trailing_whitespace cs)) 0) as (λ b. all_scalars
+    (cond b [] (c ∷ drop_trailing_whitespace cs)) ≡ true) [
       | true ↦ refl
       | false ↦ rw (parts.0, rest) refl
     ]
@@ -41,7 +45,8 @@ unfolding trim_start trim_end
 chars-trim s utf8 =
     let front = skip_scalars (chars s) (scalars-chars s utf8) in
     let inner = chars-encodes (skip_leading_whitespace (chars s)) front in
-    ap (λ cs. chars (encode_utf8_all (drop_trailing_whitespace cs))) inner ∙ chars-encodes _ (drop_scalars (skip_leading_whitespace (chars s)) front)
+    ap (λ cs. chars (encode_utf8_all (drop_trailing_whitespace cs))) inner
+    ∙ chars-encodes _ (drop_scalars (skip_leading_whitespace (chars s)) front)
 
 -- ---- a trimmed text begins with no blank
 
@@ -56,15 +61,18 @@ pub otherwise_false : (b : Bool) → (b ≡ true → ⊥) → b ≡ false
 otherwise_false true h = absurd (h refl)
 otherwise_false false h = refl
 
-skip_head_by : (b : Bool) (x : ℕ) (xs zs ds : List ℕ) (c : ℕ) → is_whitespace x ≡ b → (zs ≡ c ∷ ds → is_whitespace c ≡ false) → cond b zs (x ∷ xs) ≡ c ∷ ds → is_whitespace c ≡ false
+skip_head_by : (b : Bool) (x : ℕ) (xs zs ds : List ℕ) (c : ℕ) → is_whitespace x ≡ b
+    → (zs ≡ c ∷ ds → is_whitespace c ≡ false) → cond b zs (x ∷ xs) ≡ c ∷ ds → is_whitespace c ≡ false
 skip_head_by true x xs zs ds c is_b later e = later e
 skip_head_by false x xs zs ds c is_b later e = let same : x ≡ c = (cc) in subst (λ y. is_whitespace y ≡ false) same is_b
 
 skip_head : (cs ds : List ℕ) (c : ℕ) → skip_leading_whitespace cs ≡ c ∷ ds → is_whitespace c ≡ false
 skip_head [] ds c e = absurd (cc)
-skip_head (x ∷ xs) ds c e = skip_head_by (is_whitespace x) x xs (skip_leading_whitespace xs) ds c refl (skip_head xs ds c) e
+skip_head (x ∷ xs) ds c e =
+    skip_head_by (is_whitespace x) x xs (skip_leading_whitespace xs) ds c refl (skip_head xs ds c) e
 
-drop_head_by : (b : Bool) (x : ℕ) (xs zs ds : List ℕ) (c : ℕ) → cond b [] (x ∷ zs) ≡ c ∷ ds → (es : List ℕ) × (x ∷ xs ≡ c ∷ es)
+drop_head_by : (b : Bool) (x : ℕ) (xs zs ds : List ℕ) (c : ℕ) → cond b [] (x ∷ zs) ≡ c ∷ ds
+    → (es : List ℕ) × (x ∷ xs ≡ c ∷ es)
 drop_head_by true x xs zs ds c e = absurd (cc)
 drop_head_by false x xs zs ds c e = let same : x ≡ c = (cc) in (xs, ap (λ y. y ∷ xs) same)
 
@@ -72,7 +80,8 @@ drop_head : (cs ds : List ℕ) (c : ℕ) → drop_trailing_whitespace cs ≡ c �
 drop_head [] ds c e = absurd (cc)
 drop_head (x ∷ xs) ds c e = drop_head_by _ x xs (drop_trailing_whitespace xs) ds c e
 
-pub opened_or_empty : (cs : List ℕ) → ((c : ℕ) (ds : List ℕ) → cs ≡ c ∷ ds → is_ascii_whitespace c ≡ true → ⊥) → (cs ≡ []) ⊎ IsOpened cs
+pub opened_or_empty : (cs : List ℕ) → ((c : ℕ) (ds : List ℕ) → cs ≡ c ∷ ds → is_ascii_whitespace c ≡ true → ⊥)
+    → (cs ≡ []) ⊎ IsOpened cs
 opened_or_empty [] h = inl refl
 opened_or_empty (c ∷ ds) h = inr (c, ds, (refl, otherwise_false _ (h c ds refl)))
 
@@ -83,7 +92,8 @@ trimmed_opened text = opened_or_empty (trimmed text) (λ c ds e blank.
 
 -- ---- a trimmed text ends with no blank
 
-drop_again_by : (b : Bool) (c : ℕ) (zs : List ℕ) → (is_whitespace c && eqb (length zs) 0) ≡ b → drop_trailing_whitespace zs ≡ zs
+drop_again_by : (b : Bool) (c : ℕ) (zs : List ℕ) → (is_whitespace c && eqb (length zs) 0) ≡ b
+    → drop_trailing_whitespace zs ≡ zs
     → drop_trailing_whitespace (cond b [] (c ∷ zs)) ≡ cond b [] (c ∷ zs)
 drop_again_by true c zs is_b again = refl
 drop_again_by false c zs is_b again = rw (again, is_b) refl
@@ -115,7 +125,8 @@ solid_blanks bs blank e = sym e ∙ blanks_drop bs blank
 
 -- ---- skipping blanks
 
-blank_front : (s : List ℕ) (n : ℕ) → ((i : ℕ) → i < n → is_ascii_whitespace (get_or s i 0) ≡ true) → AllByRecursion IsBlank (take n s)
+blank_front : (s : List ℕ) (n : ℕ) → ((i : ℕ) → i < n → is_ascii_whitespace (get_or s i 0) ≡ true)
+    → AllByRecursion IsBlank (take n s)
 blank_front [] zero h = tt
 blank_front [] (suc n) h = tt
 blank_front (x ∷ s) zero h = tt
@@ -145,7 +156,8 @@ skips s r utf8 (n, is_rest, lengths, below, stops) =
     let parts : take n s ++ r ≡ s = rw is_rest (take-append-drop n s) in
     record {
       blanks = take n s;
-      spells = sym (ap chars parts) ∙ chars-append (take n s) r (IsUtf8-from_ascii (take n s) ascii) ∙ ap (λ x. x ++ chars r) (chars-IsAscii (take n s) ascii);
+      spells = sym (ap chars parts) ∙ chars-append (take n s) r (IsUtf8-from_ascii (take n s) ascii)
+          ∙ ap (λ x. x ++ chars r) (chars-IsAscii (take n s) ascii);
       are_blank = blank;
       opened = opened_or_empty (chars r) (λ c ds e is_blank.
           let spelled : r ≡ encode_utf8_all (c ∷ ds) = sym (encodes-chars r utf8) ∙ ap encode_utf8_all e in

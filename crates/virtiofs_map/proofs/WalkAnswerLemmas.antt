@@ -1,5 +1,6 @@
 -- What the answer of a walk says of the first rule that fits.
-use Rattle.std.proofs.Common.{◌≡◌, ◌≢◌, ℕ, ◌+◌, ◌*◌, ◌/◌, ◌%◌, ◌<◌, Bool, true, false, cond, ltb, List, length, Option, Some, None, refl, sym, ap, ◌∙◌, arith}
+use Rattle.std.proofs.Common.{◌≡◌, ◌≢◌, ℕ, ◌+◌, ◌*◌, ◌/◌, ◌%◌, ◌<◌, Bool, true, false, cond, ltb, List, length, Option}
+use Rattle.std.proofs.Common.{Some, None, refl, sym, ap, ◌∙◌, arith}
 use Rattle.std.specs.List.{position_or_len, slice_get}
 use Rattle.std.specs.Option.{option_and_then, option_map_or}
 use Rattle.std.proofs.lemmas.Bool.{ltb-true}
@@ -11,11 +12,14 @@ use Rattle.virtiofs_map.specs.declared.xattrmap.scopes.Side.{Side}
 -- ---- answers
 
 -- the first rule that fits is one of the list
-pub first_within : (side : Side) (rules : List MappingRule) (name : List ℕ) (at : ℕ) → first side rules name ≡ Some at → at < length rules
-first_within side rules name at = through (ltb (position_or_len (fits side name) rules) (length rules)) (position_or_len (fits side name) rules) (λ b. ltb-true (position_or_len (fits side name) rules) (length rules) b) where
-  through : (b : Bool) (n : ℕ) → (b ≡ true → n < length rules) → cond b (Some n) None ≡ Some at → at < length rules
-  through true n below e = let same : n ≡ at = cc in let low = below refl in omega (arith, same, low)
-  through false n below e = cc
+pub first_within : (side : Side) (rules : List MappingRule) (name : List ℕ) (at : ℕ) → first side rules name ≡ Some at
+    → at < length rules
+first_within side rules name at =
+    through (ltb (position_or_len (fits side name) rules) (length rules)) (position_or_len (fits side name) rules)
+    (λ b. ltb-true (position_or_len (fits side name) rules) (length rules) b) where
+      through : (b : Bool) (n : ℕ) → (b ≡ true → n < length rules) → cond b (Some n) None ≡ Some at → at < length rules
+      through true n below e = let same : n ≡ at = cc in let low = below refl in omega (arith, same, low)
+      through false n below e = cc
 
 number_small : (kind : RuleType) → type_number kind < 4
 number_small Prefix = omega arith
@@ -39,7 +43,9 @@ module _ (side : Side) (rules : List MappingRule) (name : List ℕ) where
   answer_none few e = through (first side rules name) refl where
     through : (o : Option ℕ) → first side rules name ≡ o → first side rules name ≡ None
     through None same = same
-    through (Some at) same = absurd (let is = answer_at at same in let low = first_within side rules name at same in let small = type_small rules at in omega (arith, e, is, low, small, few))
+    through (Some at) same =
+        absurd (let is = answer_at at same in let low = first_within side rules name at same in let small =
+        type_small rules at in omega (arith, e, is, low, small, few))
 
   -- another one stands for the rule at a quarter of it
   pub answer_some : answer_of side rules name ≢ no_answer → first side rules name ≡ Some (answer_of side rules name / 4)
@@ -53,7 +59,8 @@ module _ (side : Side) (rules : List MappingRule) (name : List ℕ) where
         same ∙ ap Some quarter
 
   -- and what is left of it is the number of the type of the rule that decides
-  pub answer_type : (rule : MappingRule) → deciding side rules name ≡ Some rule → type_number rule.kind ≡ answer_of side rules name % 4
+  pub answer_type : (rule : MappingRule) → deciding side rules name ≡ Some rule
+      → type_number rule.kind ≡ answer_of side rules name % 4
   answer_type rule e = through (first side rules name) refl where
     through : (o : Option ℕ) → first side rules name ≡ o → type_number rule.kind ≡ answer_of side rules name % 4
     through None same = absurd (let none = ap (option_and_then (slice_get rules)) same in cc)
@@ -61,12 +68,14 @@ module _ (side : Side) (rules : List MappingRule) (name : List ℕ) where
         let is = answer_at at same in
         let small = type_small rules at in
         let there : slice_get rules at ≡ Some rule = sym (ap (option_and_then (slice_get rules)) same) ∙ e in
-        let kind : type_at rules at ≡ type_number rule.kind = ap (λ o. option_map_or (λ r. type_number r.kind) o 0) there in
+        let kind : type_at rules at ≡ type_number rule.kind =
+        ap (λ o. option_map_or (λ r. type_number r.kind) o 0) there in
         omega (arith, is, small, kind)
 
 -- ---- what a walk finds
 
-module _ (side : Side) (rules : List MappingRule) (rows bytes name : List ℕ) (answer : ℕ) (inside : IsTrieIn side rules rows bytes) (answers : answer ≡ answer_of side rules name) where
+module _ (side : Side) (rules : List MappingRule) (rows bytes name : List ℕ) (answer : ℕ)
+    (inside : IsTrieIn side rules rows bytes) (answers : answer ≡ answer_of side rules name) where
   pub place_none : answer ≡ no_answer → first side rules name ≡ None
   place_none e = answer_none side rules name inside.few (sym answers ∙ e)
 

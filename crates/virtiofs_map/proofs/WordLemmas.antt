@@ -1,5 +1,7 @@
 -- What the words of a map say of a number, by a search of its ranges.
-use Rattle.std.proofs.Common.{rules, [], ◌≡◌, inl, inr, ℕ, zero, suc, ◌+◌, ◌-◌, ◌/◌, ◌<◌, ◌≤◌, List, length, get_or, slice_index, AllPairs, All, Contains, Option, Some, None, slice_get, min, subst, refl, sym, ◌∙◌, arith, add-one}
+use Rattle.std.proofs.Common.{rules, [], ◌≡◌, inl, inr, ℕ, zero, suc, ◌+◌, ◌-◌, ◌/◌, ◌<◌, ◌≤◌, List, length, get_or}
+use Rattle.std.proofs.Common.{slice_index, AllPairs, All, Contains, Option, Some, None, slice_get, min, subst, refl}
+use Rattle.std.proofs.Common.{sym, ◌∙◌, arith, add-one}
 use Rattle.std.proofs.lemmas.Bool.{cases_order}
 use Rattle.std.proofs.lemmas.List.Elements.{All-contains, Contains-get_or}
 use Rattle.std.proofs.lemmas.Option.{same_Some, slice_get-get_or}
@@ -19,7 +21,8 @@ use Rattle.virtiofs_map.specs.declared.soft_idmap.entry.Entry.TheVariants.{Fail}
 use Rattle.virtiofs_map.specs.declared.soft_idmap.row.Answer.{Answer}
 use Rattle.virtiofs_map.specs.declared.soft_idmap.row.Answer.TheVariants as answers
 use Rattle.virtiofs_map.proofs.MappingLawLemmas.{HasOneValue-accepted, LeadsBack-mapped}
-use Rattle.virtiofs_map.proofs.SearchLemmas.{Searched-start, Searched-right, Searched-left, Searched-wider, Searched-finds}
+use Rattle.virtiofs_map.proofs.SearchLemmas.{Searched-start, Searched-right, Searched-left, Searched-wider}
+use Rattle.virtiofs_map.proofs.SearchLemmas.{Searched-finds}
 use Rattle.virtiofs_map.proofs.StoredLemmas.{Becomes-itself, Becomes-by_range}
 
 -- any range, where a list has none
@@ -32,7 +35,8 @@ before_next : (ranges : List Entry) (k : ℕ) → before ranges (k + 1) ≡ slic
 before_next ranges k = rw add-one refl
 
 searches_right : (table : Table) (n low high middle : ℕ)
-    → Searches table n low high → high ≤ table.count → middle < high → slice_index table.words (table.firsts + middle) ≤ n
+    → Searches table n low high → high ≤ table.count → middle < high
+    → slice_index table.words (table.firsts + middle) ≤ n
     → Searches table n (middle + 1) high
 searches_right table n low high middle searches within below begins ranges are stand =
     let counted : length ranges ≡ table.count = stand.counted in
@@ -40,10 +44,13 @@ searches_right table n low high middle searches within below begins ranges are s
     let here : slice_get ranges middle ≡ Some range = slice_get-get_or ranges middle no_range (omega arith) in
     let at : IsAt table middle range = stand.each middle range here in
     let first : slice_index table.words (table.firsts + middle) ≡ first_of range = at.first in
-    rw (before_next ranges middle, here) (Searched-right ranges n low high middle (before ranges low) range (searches ranges are stand) below here (omega arith))
+    rw (before_next ranges middle, here)
+    (Searched-right ranges n low high middle (before ranges low) range (searches ranges are stand) below here
+    (omega arith))
 
 searches_left : (table : Table) (n low high middle wider : ℕ)
-    → Searches table n low high → high ≤ table.count → low ≤ middle → middle < high → n < slice_index table.words (table.firsts + middle)
+    → Searches table n low high → high ≤ table.count → low ≤ middle → middle < high
+    → n < slice_index table.words (table.firsts + middle)
     → middle ≤ wider → wider ≤ table.count → Searches table n low wider
 searches_left table n low high middle wider searches within from below begins more within' ranges are stand =
     let counted : length ranges ≡ table.count = stand.counted in
@@ -51,7 +58,9 @@ searches_left table n low high middle wider searches within from below begins mo
     let here : slice_get ranges middle ≡ Some range = slice_get-get_or ranges middle no_range (omega arith) in
     let at : IsAt table middle range = stand.each middle range here in
     let first : slice_index table.words (table.firsts + middle) ≡ first_of range = at.first in
-    Searched-wider ranges n low middle wider (before ranges low) (Searched-left ranges n low high middle (before ranges low) range are.ordered (searches ranges are stand) from below here (omega arith)) more (omega arith)
+    Searched-wider ranges n low middle wider (before ranges low)
+    (Searched-left ranges n low high middle (before ranges low) range are.ordered (searches ranges are stand) from
+    below here (omega arith)) more (omega arith)
 
 pub Searches-start : (table : Table) (n low high : ℕ) → low ≡ 0 → high ≡ table.count → Searches table n low high
 Searches-start table n low high none whole ranges are stand =
@@ -59,8 +68,10 @@ Searches-start table n low high none whole ranges are stand =
 
 -- a turn of the search leaves half, on one side or on the other
 pub Searches-turn : (table : Table) (n low size half middle next : ℕ)
-    → Searches table n low (low + size) → low + size ≤ table.count → 1 ≤ size → half ≡ size / 2 → middle ≡ low + (size - half) - 1
-    → (slice_index table.words (table.firsts + middle) ≤ n → next ≡ middle + 1) → (n < slice_index table.words (table.firsts + middle) → next ≡ low)
+    → Searches table n low (low + size) → low + size ≤ table.count → 1 ≤ size → half ≡ size / 2
+    → middle ≡ low + (size - half) - 1
+    → (slice_index table.words (table.firsts + middle) ≤ n → next ≡ middle + 1)
+    → (n < slice_index table.words (table.firsts + middle) → next ≡ low)
     → Searches table n next (next + half)
 Searches-turn table n low size half middle next searches within some halved is right left =
     elim (cases_order (slice_index table.words (table.firsts + middle)) n) [
@@ -77,12 +88,15 @@ Searches-turn table n low size half middle next searches within some halved is r
       go_left : n < slice_index table.words (table.firsts + middle) → Searches table n next (next + half)
       go_left begins =
           let stays : next ≡ low = left begins in
-          rw stays (searches_left table n low (low + size) middle (low + half) searches within (omega arith) (omega arith) begins (omega arith) (omega arith))
+          rw stays
+          (searches_left table n low (low + size) middle (low + half) searches within (omega arith) (omega arith)
+          begins (omega arith) (omega arith))
 
 -- ---- what is said
 
 -- a range that covers the number is the one that was found
-found : (specs : List IdMap) (direction : Direction) (table : Table) (n below : ℕ) (has : HasRanges specs direction table)
+found : (specs : List IdMap) (direction : Direction) (table : Table) (n below : ℕ)
+    (has : HasRanges specs direction table)
     → Searches table n below below
     → (range : Entry) → Contains has.ranges range → EntryCovers range n → before has.ranges below ≡ Some range
 found specs direction table n below has searches range stored covers =
@@ -90,7 +104,8 @@ found specs direction table n below has searches range stored covers =
     (searches has.ranges has.ordered has.stand) (omega arith) stored covers
 
 -- the range before is the one there
-before_is : (ranges : List Entry) (below : ℕ) (range other : Entry) → slice_get ranges (below - 1) ≡ Some range → before ranges below ≡ Some other → range ≡ other
+before_is : (ranges : List Entry) (below : ℕ) (range other : Entry) → slice_get ranges (below - 1) ≡ Some range
+    → before ranges below ≡ Some other → range ≡ other
 before_is ranges zero range other here is = absurd (cc)
 before_is ranges (suc k) range other here is =
     let same : suc k - 1 ≡ k = omega arith in
@@ -99,17 +114,20 @@ before_is ranges (suc k) range other here is =
 -- there is no range
 pub SaysIn-none : (specs : List IdMap) (direction : Direction) (table : Table) (n : ℕ)
     → HasRanges specs direction table → table.count ≡ 0 → SaysIn specs direction n (answers.Becomes n)
-SaysIn-none specs direction table n has none = (Some n, Becomes-itself specs direction has.ranges n has.stores uncovered, refl) where
-  uncovered : (range : Entry) → Contains has.ranges range → ¬ EntryCovers range n
-  uncovered range (k, below, here) covers =
-      let counted : length has.ranges ≡ table.count = has.stand.counted in
-      absurd (omega arith)
+SaysIn-none specs direction table n has none =
+    (Some n, Becomes-itself specs direction has.ranges n has.stores uncovered, refl) where
+      uncovered : (range : Entry) → Contains has.ranges range → ¬ EntryCovers range n
+      uncovered range (k, below, here) covers =
+          let counted : length has.ranges ≡ table.count = has.stand.counted in
+          absurd (omega arith)
 
 -- the range at a place decides, where no other one covers the number
-says_by : (specs : List IdMap) (direction : Direction) (table : Table) (n at : ℕ) (answer : Answer) (has : HasRanges specs direction table)
+says_by : (specs : List IdMap) (direction : Direction) (table : Table) (n at : ℕ) (answer : Answer)
+    (has : HasRanges specs direction table)
     → at < table.count
     → ((range : Entry) → IsAt table at range → HasNumbers range → HasTarget range → SaysEntry range n answer)
-    → ((range other : Entry) → slice_get has.ranges at ≡ Some range → Contains has.ranges other → EntryCovers other n → range ≡ other)
+    → ((range other : Entry) → slice_get has.ranges at ≡ Some range → Contains has.ranges other → EntryCovers other n
+    → range ≡ other)
     → SaysIn specs direction n answer
 says_by specs direction table n at answer has inside says alone =
     let counted : length has.ranges ≡ table.count = has.stand.counted in
@@ -120,7 +138,11 @@ says_by specs direction table n at answer has inside says alone =
     let numbers : HasNumbers range = All-contains HasNumbers has.ranges range has.ordered.numbers stored in
     let target : HasTarget range = All-contains HasTarget has.ranges range has.ordered.target stored in
     elim (says range (has.stand.each at range here) numbers target) [
-      | inl (covers, value) ↦ (target_of range n, Becomes-by_range specs direction has.ranges n range has.stores stored covers, value)
+      | inl (covers, value) ↦ (
+        target_of range n,
+        Becomes-by_range specs direction has.ranges n range has.stores stored covers,
+        value,
+      )
       | inr (beyond, value) ↦ (
         Some n,
         Becomes-itself specs direction has.ranges n has.stores (λ other stored' covers.
@@ -146,11 +168,13 @@ pub SaysIn-only : (specs : List IdMap) (direction : Direction) (table : Table) (
     → SaysIn specs direction n answer
 SaysIn-only specs direction table n answer has one says =
     says_by specs direction table n 0 answer has (omega arith) says alone where
-      alone : (range other : Entry) → slice_get has.ranges 0 ≡ Some range → Contains has.ranges other → EntryCovers other n → range ≡ other
+      alone : (range other : Entry) → slice_get has.ranges 0 ≡ Some range → Contains has.ranges other
+          → EntryCovers other n → range ≡ other
       alone range other here (k, below, there) covers =
           let counted : length has.ranges ≡ table.count = has.stand.counted in
           let first : k ≡ 0 = omega arith in
-          let same : slice_get has.ranges k ≡ Some (get_or has.ranges k other) = slice_get-get_or has.ranges k other below in
+          let same : slice_get has.ranges k ≡ Some (get_or has.ranges k other) =
+          slice_get-get_or has.ranges k other below in
           same_Some _ _ (sym here ∙ rw first at same ∙ rw (← first, there) refl)
 
 -- ---- no specification
@@ -158,23 +182,38 @@ SaysIn-only specs direction table n answer has one says =
 no_ranges : (direction : Direction) (table : Table) → table.count ≡ 0 → HasRanges [] direction table
 no_ranges direction table none = record {
   ranges = [];
-  stores = record { from = search rules; each = λ spec range listed is some. absurd (let (k, below, at) = listed in omega arith); counted = refl };
-  ordered = record { numbers = search rules; target = search rules; ordered = λ i j d before below. absurd (omega arith) };
+  stores =
+      record {
+        from = search rules;
+        each =
+            λ spec range listed is some. absurd (let (k, below, at) = listed in omega arith);
+        counted = refl;
+      };
+  ordered =
+      record { numbers = search rules; target = search rules; ordered = λ i j d before below. absurd (omega arith) };
   stand = record { counted = sym none; each = λ k range here. absurd (cc) };
 }
 
 -- the ranges of a direction
-pub IsOfWords-ranges : (specs : List IdMap) (words : List ℕ) (direction : Direction) → IsOfWords specs words → HasRanges specs direction (table_in words direction)
+pub IsOfWords-ranges : (specs : List IdMap) (words : List ℕ) (direction : Direction) → IsOfWords specs words
+    → HasRanges specs direction (table_in words direction)
 IsOfWords-ranges specs words GuestToHost are = are.guests
 IsOfWords-ranges specs words HostToGuest are = are.hosts
 
 -- they are as many as specifications act
-pub HasRanges-count : (specs : List IdMap) (direction : Direction) (table : Table) → HasRanges specs direction table → table.count ≡ acting specs direction
+pub HasRanges-count : (specs : List IdMap) (direction : Direction) (table : Table) → HasRanges specs direction table
+    → table.count ≡ acting specs direction
 HasRanges-count specs direction table has = sym has.stand.counted ∙ has.stores.counted
 
 pub IsOfWords-empty : IsOfWords [] []
 IsOfWords-empty = record {
-  accepted = record { source = λ direction. search rules; target = λ direction. search rules; apart = λ direction i j d before below. absurd (omega arith) };
+  accepted =
+      record {
+        source = λ direction. search rules;
+        target = λ direction. search rules;
+        apart =
+            λ direction i j d before below. absurd (omega arith);
+      };
   room = λ some. absurd (omega arith);
   guests = no_ranges GuestToHost (table_in [] GuestToHost) refl;
   hosts = no_ranges HostToGuest (table_in [] HostToGuest) refl;
@@ -187,28 +226,38 @@ unfolding binary_digits halvings_within
 digits_of_one = refl
 
 -- no range is read where there is none, and one where there is one
-pub CountsBetween-none : (count before after : ℕ) → count ≡ 0 → after ≡ count_after before 0 → CountsBetween (min 1 count) (binary_digits count) before after
-CountsBetween-none count before after none counted = record { steps = 0; at_least = omega arith; at_most = omega arith; counted = counted }
+pub CountsBetween-none : (count before after : ℕ) → count ≡ 0 → after ≡ count_after before 0
+    → CountsBetween (min 1 count) (binary_digits count) before after
+CountsBetween-none count before after none counted =
+    record { steps = 0; at_least = omega arith; at_most = omega arith; counted = counted }
 
-pub CountsBetween-one : (count before after : ℕ) → count ≡ 1 → after ≡ count_after before 1 → CountsBetween (min 1 count) (binary_digits count) before after
-CountsBetween-one count before after one counted = record { steps = 1; at_least = omega arith; at_most = rw (one, digits_of_one) (omega arith); counted = counted }
+pub CountsBetween-one : (count before after : ℕ) → count ≡ 1 → after ≡ count_after before 1
+    → CountsBetween (min 1 count) (binary_digits count) before after
+CountsBetween-one count before after one counted =
+    record { steps = 1; at_least = omega arith; at_most = rw (one, digits_of_one) (omega arith); counted = counted }
 
 -- a range begins at its place or above it
-begins_above : (ranges : List Entry) (d : Entry) (k : ℕ) → All HasNumbers ranges → AllPairs Precedes ranges → k < length ranges → k ≤ first_of (get_or ranges k d)
+begins_above : (ranges : List Entry) (d : Entry) (k : ℕ) → All HasNumbers ranges → AllPairs Precedes ranges
+    → k < length ranges → k ≤ first_of (get_or ranges k d)
 begins_above ranges d zero numbers ordered below = omega arith
 begins_above ranges d (suc k) numbers ordered below =
     let earlier : k ≤ first_of (get_or ranges k d) = begins_above ranges d k numbers ordered (omega arith) in
-    let own : HasNumbers (get_or ranges k d) = All-contains HasNumbers ranges (get_or ranges k d) numbers (Contains-get_or ranges k d (omega arith)) in
+    let own : HasNumbers (get_or ranges k d) =
+    All-contains HasNumbers ranges (get_or ranges k d) numbers (Contains-get_or ranges k d (omega arith)) in
     let some : 1 ≤ count_of (get_or ranges k d) = own.some in
-    let precedes : first_of (get_or ranges k d) + count_of (get_or ranges k d) ≤ first_of (get_or ranges (suc k) d) = ordered k (suc k) d (omega arith) below in
+    let precedes : first_of (get_or ranges k d) + count_of (get_or ranges k d) ≤ first_of (get_or ranges (suc k) d) =
+    ordered k (suc k) d (omega arith) below in
     omega arith
 
 count_below : (ranges : List Entry) (count : ℕ) → AreRanges ranges → length ranges ≡ count → count < 4294967296
 count_below ranges zero are counted = omega arith
 count_below ranges (suc k) are counted =
     let below : k < length ranges = omega arith in
-    let begins : k ≤ first_of (get_or ranges k no_range) = begins_above ranges no_range k are.numbers are.ordered below in
-    let own : HasNumbers (get_or ranges k no_range) = All-contains HasNumbers ranges (get_or ranges k no_range) are.numbers (Contains-get_or ranges k no_range below) in
+    let begins : k ≤ first_of (get_or ranges k no_range) =
+    begins_above ranges no_range k are.numbers are.ordered below in
+    let own : HasNumbers (get_or ranges k no_range) =
+    All-contains HasNumbers ranges (get_or ranges k no_range) are.numbers
+    (Contains-get_or ranges k no_range below) in
     let some : 1 ≤ count_of (get_or ranges k no_range) = own.some in
     let source : first_of (get_or ranges k no_range) + count_of (get_or ranges k no_range) ≤ 4294967295 = own.source in
     omega arith
@@ -219,21 +268,26 @@ AreRanges-count ranges are = count_below ranges (length ranges) are refl
 
 -- ---- what an answer says
 
-pub SaysIn-becomes : (specs : List IdMap) (direction : Direction) (n m : ℕ) → SaysIn specs direction n (answers.Becomes m) → Becomes specs direction n (Some m)
+pub SaysIn-becomes : (specs : List IdMap) (direction : Direction) (n m : ℕ)
+    → SaysIn specs direction n (answers.Becomes m) → Becomes specs direction n (Some m)
 SaysIn-becomes specs direction n m (value, becomes, is) = rw is at becomes
 
-pub SaysIn-fails : (specs : List IdMap) (direction : Direction) (n : ℕ) → SaysIn specs direction n answers.Fails → Becomes specs direction n None
+pub SaysIn-fails : (specs : List IdMap) (direction : Direction) (n : ℕ) → SaysIn specs direction n answers.Fails
+    → Becomes specs direction n None
 SaysIn-fails specs direction n (value, becomes, is) = rw is at becomes
 
 pub SaysIn-no_image : (specs : List IdMap) (direction : Direction) (n : ℕ) → ¬ SaysIn specs direction n answers.NoImage
 SaysIn-no_image specs direction n (value, becomes, is) = is
 
 -- an accepted list makes one thing of a number, so the answer says that
-pub SaysIn-exact : (specs : List IdMap) (direction : Direction) (n : ℕ) (value : Option ℕ) (answer : Answer) → Accepted specs → SaysIn specs direction n answer → Becomes specs direction n value → SaysValue value answer
+pub SaysIn-exact : (specs : List IdMap) (direction : Direction) (n : ℕ) (value : Option ℕ) (answer : Answer)
+    → Accepted specs → SaysIn specs direction n answer → Becomes specs direction n value → SaysValue value answer
 SaysIn-exact specs direction n value answer accepted (own, becomes, says) other =
-    subst (λ (v : Option ℕ). SaysValue v answer) (HasOneValue-accepted specs accepted direction n own value becomes other) says
+    subst (λ (v : Option ℕ). SaysValue v answer)
+    (HasOneValue-accepted specs accepted direction n own value becomes other) says
 
-pub SaysIn-leads_back : (specs : List IdMap) (direction : Direction) (n : ℕ) (answer : Answer) → Accepted specs → IsMappedBothWays specs direction n → SaysIn specs direction n answer → SaysLeadsBack specs direction n answer
+pub SaysIn-leads_back : (specs : List IdMap) (direction : Direction) (n : ℕ) (answer : Answer) → Accepted specs
+    → IsMappedBothWays specs direction n → SaysIn specs direction n answer → SaysLeadsBack specs direction n answer
 SaysIn-leads_back specs direction n (answers.Becomes m) accepted mapped (value, becomes, is) =
     rw is at (LeadsBack-mapped specs direction n value accepted mapped becomes)
 SaysIn-leads_back specs direction n answers.Fails accepted mapped (value, becomes, is) =

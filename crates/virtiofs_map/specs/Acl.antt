@@ -1,11 +1,13 @@
 -- Access control lists as Linux keeps them in a value, and what becomes of their ids. A value is a list of bytes.
-use Rattle.std.specs.Prelude.{◌≡◌, ◌≢◌, ◌⊎◌, ◌==◌, if◌then◌else◌, ℕ, ◌+◌, ◌-◌, ◌*◌, ◌/◌, ◌<◌, ◌≤◌, List, length, slice_index, Some, None}
+use Rattle.std.specs.Prelude.{◌≡◌, ◌≢◌, ◌⊎◌, ◌==◌, if◌then◌else◌, ℕ, ◌+◌, ◌-◌, ◌*◌, ◌/◌, ◌<◌, ◌≤◌, List, length}
+use Rattle.std.specs.Prelude.{slice_index, Some, None}
 use Rattle.virtiofs_map.specs.LittleEndian.{two_bytes, four_bytes}
 use Rattle.virtiofs_map.specs.Mapping.{Becomes}
 use Rattle.virtiofs_map.specs.declared.acl.errors.AclError.{AclError}
 use Rattle.virtiofs_map.specs.declared.acl.errors.AclError.TheVariants.{TooShort, Version, Length, Room, Entry}
 use Rattle.virtiofs_map.specs.declared.acl.errors.EntryFault.{EntryFault}
-use Rattle.virtiofs_map.specs.declared.acl.errors.EntryFault.TheVariants.{UnknownTag, Permission, NoId, Forbidden, Merges}
+use Rattle.virtiofs_map.specs.declared.acl.errors.EntryFault.TheVariants.{UnknownTag, Permission, NoId, Forbidden}
+use Rattle.virtiofs_map.specs.declared.acl.errors.EntryFault.TheVariants.{Merges}
 use Rattle.virtiofs_map.specs.declared.cmdline.IdMap.{IdMap}
 use Rattle.virtiofs_map.specs.declared.soft_idmap.entry.Direction.{Direction}
 
@@ -43,7 +45,8 @@ specs_for users groups tag = if tag == 2 then users else groups
 
 -- each id of the entries with that tag becomes what the specifications make of it
 abbrev pub IdsBecome : ℕ → List IdMap → Direction → List ℕ → List ℕ → Type 0
-IdsBecome tag specs direction old new = (k : ℕ) → k < entry_count old → tag_of old k ≡ tag → Becomes specs direction (id_of old k) (Some (id_of new k))
+IdsBecome tag specs direction old new = (k : ℕ) → k < entry_count old → tag_of old k ≡ tag
+    → Becomes specs direction (id_of old k) (Some (id_of new k))
 
 -- the byte at that place belongs to the id of one of the first `count` entries
 pub record IsIdByte (value : List ℕ) (count place : ℕ) : Type 0 where
@@ -71,7 +74,8 @@ pub record IsSound (users groups : List IdMap) (direction : Direction) (value : 
   pub known : IsTag (tag_of value k)
   pub permitted : permissions_of value k ≤ 7
   pub is_id : HasId (tag_of value k) → id_of value k ≢ 4294967295
-  pub goes : HasId (tag_of value k) → (n : ℕ) × Becomes (specs_for users groups (tag_of value k)) direction (id_of value k) (Some n)
+  pub goes : HasId (tag_of value k)
+      → (n : ℕ) × Becomes (specs_for users groups (tag_of value k)) direction (id_of value k) (Some n)
 
 -- an earlier entry with the same tag has another id, and both ids would become the same id
 pub record MergesEarlier (users groups : List IdMap) (direction : Direction) (value : List ℕ) (k : ℕ) : Type 0 where
@@ -109,7 +113,8 @@ IsEntryFault users groups direction value k Forbidden =
 IsEntryFault users groups direction value k Merges = ⊥
 
 -- the first entry that is not sound, with what is wrong with it
-pub record IsFirstUnsound (users groups : List IdMap) (direction : Direction) (room : ℕ) (value : List ℕ) (k : ℕ) (fault : EntryFault) : Type 0 where
+pub record IsFirstUnsound (users groups : List IdMap) (direction : Direction) (room : ℕ) (value : List ℕ) (k : ℕ)
+    (fault : EntryFault) : Type 0 where
   pub whole : IsWhole value
   pub fits : entry_count value ≤ room
   pub is_entry : k < entry_count value
@@ -117,7 +122,8 @@ pub record IsFirstUnsound (users groups : List IdMap) (direction : Direction) (r
   pub wrong : IsEntryFault users groups direction value k fault
 
 -- every entry is sound by itself, and this is the first whose id would merge with an earlier one
-pub record IsFirstMerged (users groups : List IdMap) (direction : Direction) (room : ℕ) (value : List ℕ) (k : ℕ) : Type 0 where
+pub record IsFirstMerged (users groups : List IdMap) (direction : Direction) (room : ℕ) (value : List ℕ) (k : ℕ) : Type
+    0 where
   pub all_sound : AllSound users groups direction room value
   pub is_entry : k < entry_count value
   pub before : (j : ℕ) → j < k → ¬ MergesEarlier users groups direction value j

@@ -14,7 +14,8 @@ pub record IsTranslated (users groups : List IdMap) (direction : Direction) (old
 -- a `map` specification covers each id of the value
 abbrev pub AllMapped : List IdMap → List IdMap → Direction → List ℕ → Type 0
 AllMapped users groups direction value =
-    (k : ℕ) → k < entry_count value → HasId (tag_of value k) → IsMappedBothWays (specs_for users groups (tag_of value k)) direction (id_of value k)
+    (k : ℕ) → k < entry_count value → HasId (tag_of value k)
+    → IsMappedBothWays (specs_for users groups (tag_of value k)) direction (id_of value k)
 
 -- each element is a byte
 abbrev pub AreBytes : List ℕ → Type 0

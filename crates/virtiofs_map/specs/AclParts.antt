@@ -1,6 +1,8 @@
 -- What the parts of the calls on access control lists return. Only private functions cite these definitions.
-use Rattle.std.specs.Prelude.{◌≡◌, ◌≢◌, ◌⊎◌, ℕ, ◌<◌, ◌≤◌, List, length, All, Contains, slice_index, slice_index_or, Option, Some, IsSomeAnd}
-use Rattle.virtiofs_map.specs.Acl.{tag_of, id_of, HasId, specs_for, IsSound, IsEntryFault, HasAclFault, MergesEarlier, IsIdByte}
+use Rattle.std.specs.Prelude.{◌≡◌, ◌≢◌, ◌⊎◌, ℕ, ◌<◌, ◌≤◌, List, length, All, Contains, slice_index, slice_index_or}
+use Rattle.std.specs.Prelude.{Option, Some, IsSomeAnd}
+use Rattle.virtiofs_map.specs.Acl.{tag_of, id_of, HasId, specs_for, IsSound, IsEntryFault, HasAclFault, MergesEarlier}
+use Rattle.virtiofs_map.specs.Acl.{IsIdByte}
 use Rattle.virtiofs_map.specs.Build.{Accepted}
 use Rattle.virtiofs_map.specs.Mapping.{Becomes}
 use Rattle.virtiofs_map.specs.WordParts.{Table, HasRanges}
@@ -14,7 +16,8 @@ use Rattle.virtiofs_map.specs.declared.soft_idmap.entry.Direction.{Direction}
 
 -- `says` holds for each list of specifications and each direction of which these are the ranges
 abbrev pub OfRanges : Table → (List IdMap → Direction → Type 0) → Type 0
-OfRanges table says = (specs : List IdMap) (direction : Direction) → Accepted specs → HasRanges specs direction table → says specs direction
+OfRanges table says = (specs : List IdMap) (direction : Direction) → Accepted specs → HasRanges specs direction table
+    → says specs direction
 
 -- these are the ranges of users and of groups in a direction
 pub record AreWays (users groups : List IdMap) (direction : Direction) (user_ranges group_ranges : Table) : Type 0 where
@@ -26,14 +29,16 @@ pub record AreWays (users groups : List IdMap) (direction : Direction) (user_ran
 -- `says` holds for each two lists and each direction of which these are the ranges
 abbrev pub OfWays : Table → Table → (List IdMap → List IdMap → Direction → Type 0) → Type 0
 OfWays user_ranges group_ranges says =
-    (users groups : List IdMap) (direction : Direction) → AreWays users groups direction user_ranges group_ranges → says users groups direction
+    (users groups : List IdMap) (direction : Direction) → AreWays users groups direction user_ranges group_ranges
+    → says users groups direction
 
 -- ---- the tests
 
 -- a fault of the header, of the length or of the room: no id has to do with it
 abbrev pub IsSizeFault : ℕ → List ℕ → AclError → Type 0
 IsSizeFault room value (Entry k fault) = ⊥
-IsSizeFault room value error = (users groups : List IdMap) (direction : Direction) → HasAclFault users groups direction room value error
+IsSizeFault room value error = (users groups : List IdMap) (direction : Direction)
+    → HasAclFault users groups direction room value error
 
 -- the first `count` entries are sound
 abbrev pub AllSoundBelow : List IdMap → List IdMap → Direction → List ℕ → ℕ → Type 0
@@ -48,14 +53,17 @@ IsUnsoundBelow users groups direction value count error = ⊥
 -- ---- entries that merge
 
 -- what stands in the room is an entry below count that has an id, with its tag and what its id becomes
-pub record IsPlaced (users groups : List IdMap) (direction : Direction) (value : List ℕ) (count : ℕ) (one : EntryRoom) : Type 0 where
+pub record IsPlaced (users groups : List IdMap) (direction : Direction) (value : List ℕ) (count : ℕ)
+    (one : EntryRoom) : Type 0 where
   pub is_entry : one.entry < count
   pub has_id : HasId one.tag
   pub tag : one.tag ≡ tag_of value one.entry
-  pub becomes : Becomes (specs_for users groups (tag_of value one.entry)) direction (id_of value one.entry) (Some one.id)
+  pub becomes : Becomes (specs_for users groups (tag_of value one.entry)) direction (id_of value one.entry)
+      (Some one.id)
 
 -- the room holds only such entries, and each of them
-pub record Places (users groups : List IdMap) (direction : Direction) (value : List ℕ) (count : ℕ) (placed : List EntryRoom) : Type 0 where
+pub record Places (users groups : List IdMap) (direction : Direction) (value : List ℕ) (count : ℕ)
+    (placed : List EntryRoom) : Type 0 where
   pub right : All (IsPlaced users groups direction value count) placed
   pub each : (k : ℕ) → k < count → HasId (tag_of value k) → (one : EntryRoom) × Contains placed one × (one.entry ≡ k)
 
@@ -68,7 +76,8 @@ IsNotAfter one other =
 
 -- the entries are in this order
 abbrev pub AreInOrder : List EntryRoom → Type 0
-AreInOrder placed = (i j : ℕ) (d : EntryRoom) → i ≤ j → j < length placed → IsNotAfter (slice_index_or placed i d) (slice_index_or placed j d)
+AreInOrder placed = (i j : ℕ) (d : EntryRoom) → i ≤ j → j < length placed
+    → IsNotAfter (slice_index_or placed i d) (slice_index_or placed j d)
 
 -- two entries with the same tag have different ids that become the same id
 pub record Clashes (value : List ℕ) (one other : EntryRoom) : Type 0 where
@@ -90,7 +99,8 @@ pub record HasClash (value : List ℕ) (placed : List EntryRoom) (k : ℕ) : Typ
 -- is at least that number
 abbrev pub MeetsClashes : List ℕ → List EntryRoom → ℕ → Option ℕ → Type 0
 MeetsClashes value placed high found =
-    (i j : ℕ) (d : EntryRoom) → i < j → j < high → j < length placed → Clashes value (slice_index_or placed i d) (slice_index_or placed j d)
+    (i j : ℕ) (d : EntryRoom) → i < j → j < high → j < length placed
+    → Clashes value (slice_index_or placed i d) (slice_index_or placed j d)
     → IsSomeAnd found (λ k. k ≤ (slice_index_or placed j d).entry)
 
 -- none of the first `count` entries merges with an earlier one
@@ -98,7 +108,8 @@ abbrev pub NoneMerges : List IdMap → List IdMap → Direction → List ℕ →
 NoneMerges users groups direction value count = (k : ℕ) → k < count → ¬ MergesEarlier users groups direction value k
 
 -- entry k is one of the first `count` entries, and the first entry that merges with an earlier one
-pub record IsFirstToMerge (users groups : List IdMap) (direction : Direction) (value : List ℕ) (count k : ℕ) : Type 0 where
+pub record IsFirstToMerge (users groups : List IdMap) (direction : Direction) (value : List ℕ) (count k : ℕ) : Type
+    0 where
   pub is_entry : k < count
   pub merges : MergesEarlier users groups direction value k
   pub before : NoneMerges users groups direction value k
@@ -108,5 +119,6 @@ pub record IsFirstToMerge (users groups : List IdMap) (direction : Direction) (v
 -- the ids of the first `count` entries have become what they are to be, and no other byte has changed
 pub record IsWritten (users groups : List IdMap) (direction : Direction) (old new : List ℕ) (count : ℕ) : Type 0 where
   pub size : length new ≡ length old
-  pub written : (k : ℕ) → k < count → HasId (tag_of old k) → Becomes (specs_for users groups (tag_of old k)) direction (id_of old k) (Some (id_of new k))
+  pub written : (k : ℕ) → k < count → HasId (tag_of old k)
+      → Becomes (specs_for users groups (tag_of old k)) direction (id_of old k) (Some (id_of new k))
   pub rest : (place : ℕ) → ¬ IsIdByte old count place → slice_index new place ≡ slice_index old place

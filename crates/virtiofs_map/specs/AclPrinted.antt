@@ -6,7 +6,8 @@ use Rattle.virtiofs_map.specs.declared.acl.errors.AclError.TheVariants as acl
 use Rattle.virtiofs_map.specs.declared.acl.errors.CapabilityError.{CapabilityError}
 use Rattle.virtiofs_map.specs.declared.acl.errors.CapabilityError.TheVariants as capability
 use Rattle.virtiofs_map.specs.declared.acl.errors.EntryFault.{EntryFault}
-use Rattle.virtiofs_map.specs.declared.acl.errors.EntryFault.TheVariants.{UnknownTag, Permission, NoId, Forbidden, Merges}
+use Rattle.virtiofs_map.specs.declared.acl.errors.EntryFault.TheVariants.{UnknownTag, Permission, NoId, Forbidden}
+use Rattle.virtiofs_map.specs.declared.acl.errors.EntryFault.TheVariants.{Merges}
 
 -- what is wrong with an entry
 abbrev pub entry_fault_text : EntryFault → List ℕ

@@ -1,11 +1,13 @@
 -- What an audit decides of a map, for all names.
-use Rattle.std.specs.Prelude.{◌≡◌, ◌≢◌, ◌⊎◌, ℕ, ◌+◌, ◌*◌, ◌<◌, true, List, [], ◌∷◌, All, count_by, slice_get, Some, None}
+use Rattle.std.specs.Prelude.{◌≡◌, ◌≢◌, ◌⊎◌, ℕ, ◌+◌, ◌*◌, ◌<◌, true, List, [], ◌∷◌, All, count_by, slice_get, Some}
+use Rattle.std.specs.Prelude.{None}
 use Rattle.std.specs.Ordering.{nat_cmp}
 use Rattle.std.specs.declared.cmp.Ordering.TheVariants.{Less}
 use Rattle.std.specs.Cmp.Lexicographic.{slice_cmp}
 use Rattle.virtiofs_map.specs.FirstRule.{acts, pattern}
 use Rattle.virtiofs_map.specs.MapRule.{IsName}
-use Rattle.virtiofs_map.specs.Names.{begins, first, Passes, IsUnterminated, client_answer, IsListed, IsHidden, host_answer, names, server_answer, ListsBack}
+use Rattle.virtiofs_map.specs.Names.{begins, first, Passes, IsUnterminated, client_answer, IsListed, IsHidden}
+use Rattle.virtiofs_map.specs.Names.{host_answer, names, server_answer, ListsBack}
 use Rattle.virtiofs_map.specs.Rule.{MappingRule}
 use Rattle.virtiofs_map.specs.declared.audit.answer.Audit.{Audit}
 use Rattle.virtiofs_map.specs.declared.audit.answer.Audit.TheVariants.{Yes, No}
@@ -36,7 +38,8 @@ pub record Within (beginning : List ℕ) (bad : List ℕ → Type 0) (name : Lis
 
 -- each non-empty name that passes is listed back
 abbrev pub Sound : List MappingRule → Type 0
-Sound rules = (name host : List ℕ) → IsName name → name ≢ [] → client_answer rules name ≡ Passes host → ListsBack rules name
+Sound rules = (name host : List ℕ) → IsName name → name ≢ [] → client_answer rules name ≡ Passes host
+    → ListsBack rules name
 
 -- a non-empty name that passes and is not listed back
 pub record IsLost (rules : List MappingRule) (name : List ℕ) : Type 0 where
@@ -46,15 +49,19 @@ pub record IsLost (rules : List MappingRule) (name : List ℕ) : Type 0 where
   pub passes : client_answer rules name ≡ Passes host
   pub not_back : ¬ ListsBack rules name
 
--- the most names that are tried: those of one byte, one for each rule of the client's side, and one for each of these with each rule of the server's side
+-- the most names that are tried: those of one byte, one for each rule of the client's side, and one for each of these
+-- with each rule of the server's side
 abbrev pub most_tried : List MappingRule → ℕ
-most_tried rules = 255 + count_by (λ rule. rule.client) rules + count_by (λ rule. rule.client) rules * count_by (λ rule. rule.server) rules
+most_tried rules =
+    255 + count_by (λ rule. rule.client) rules + count_by (λ rule. rule.client) rules * count_by (λ rule. rule.server)
+    rules
 
 -- ---- does a listed name open its host name
 
 -- for each non-empty host name that is listed: the name under which it is listed passes, and becomes that host name
 abbrev pub OpensListed : List MappingRule → Type 0
-OpensListed rules = (host name : List ℕ) → IsName host → host ≢ [] → host_answer rules host ≡ IsListed name → client_answer rules name ≡ Passes host
+OpensListed rules = (host name : List ℕ) → IsName host → host ≢ [] → host_answer rules host ≡ IsListed name
+    → client_answer rules name ≡ Passes host
 
 -- a non-empty host name that is listed under a name that does not pass, or becomes another host name
 pub record IsStray (rules : List MappingRule) (host : List ℕ) : Type 0 where
@@ -91,7 +98,8 @@ pub record IsSeen (rules others : List MappingRule) (name : List ℕ) : Type 0 w
 abbrev pub Leaves : (List ℕ → Type 0) → List (List ℕ) → List (List ℕ) → Type 0
 Leaves set [] rest = rest ≡ []
 Leaves set (name ∷ names) rest =
-    (set name × Leaves set names rest) ⊎ ((¬ set name) × (more : List (List ℕ)) × (rest ≡ name ∷ more) × Leaves set names more)
+    (set name × Leaves set names rest)
+    ⊎ ((¬ set name) × (more : List (List ℕ)) × (rest ≡ name ∷ more) × Leaves set names more)
 
 -- the two lists hold the same names in the same order, once those of the set are left out of both
 abbrev pub AgreeOutside : (List ℕ → Type 0) → List ℕ → List ℕ → Type 0
@@ -104,7 +112,8 @@ IsList list = All (λ byte. byte < 256) list
 -- names that the first map reaches make no difference to what the second map answers for a list
 abbrev pub Isolated : List MappingRule → List MappingRule → Type 0
 Isolated rules others =
-    (list other : List ℕ) → IsList list → IsList other → AgreeOutside (Reached rules) list other → server_answer others list ≡ server_answer others other
+    (list other : List ℕ) → IsList list → IsList other → AgreeOutside (Reached rules) list other
+    → server_answer others list ≡ server_answer others other
 
 -- ---- do two guests reach one host name
 
@@ -138,7 +147,8 @@ pub record DecidesOn (side : Side) (rules : List MappingRule) (place : ℕ) : Ty
 abbrev pub Decides : List MappingRule → ℕ → Type 0
 Decides rules place = (side : Side) × DecidesOn side rules place
 
--- before that place stands a rule for that side whose pattern begins this one, so that it takes each name that begins with this one
+-- before that place stands a rule for that side whose pattern begins this one, so that it takes each name that begins
+-- with this one
 pub record IsTaken (side : Side) (rules : List MappingRule) (place : ℕ) (taken : List ℕ) : Type 0 where
   pub earlier : ℕ
   pub before : earlier < place

@@ -1,6 +1,8 @@
 -- What the private functions of an audit say: what is asked about a name, which names are tried, and what was found.
 -- Only they cite these definitions.
-use Rattle.std.specs.Prelude.{◌≡◌, All, option_to_list, ℕ, Bool, true, false, ◌&&◌, not, ◌==◌, nat_eq, nat_lt, if◌then◌else◌, List, [], ◌∷◌, ◌++◌, map, length, drop, Option, Some, None, is_none, option_map, option_and_then}
+use Rattle.std.specs.Prelude.{◌≡◌, All, option_to_list, ℕ, Bool, true, false, ◌&&◌, not, ◌==◌, nat_eq, nat_lt}
+use Rattle.std.specs.Prelude.{if◌then◌else◌, List, [], ◌∷◌, ◌++◌, map, length, drop, Option, Some, None, is_none}
+use Rattle.std.specs.Prelude.{option_map, option_and_then}
 use Rattle.std.specs.Cmp.Lexicographic.{pointwise, slice_cmp}
 use Rattle.std.specs.List.{list_all, list_any, filter_map, flat_map, range_with_len}
 use Rattle.std.specs.Option.{option_map_or}
@@ -47,7 +49,8 @@ cuts added (Some cut) = length cut == length added
 -- the name passes and is not listed back
 abbrev pub is_lost : List MappingRule → List ℕ → Bool
 is_lost rules name =
-    some_byte name && option_map_or (λ added. not (cuts added (front Server rules (added ++ name)))) (front Client rules name) false
+    some_byte name && option_map_or (λ added. not (cuts added (front Server rules (added ++ name))))
+    (front Client rules name) false
 
 -- a rule decides the host name, and hides it
 abbrev pub is_hidden : List MappingRule → List ℕ → Bool
@@ -59,7 +62,8 @@ all_bytes name = list_all (λ byte. nat_lt byte 256) name
 -- the name passes and becomes a non-empty host name for which the test is true
 abbrev pub passes_where : (List ℕ → Bool) → List MappingRule → List ℕ → Bool
 passes_where test rules name =
-    option_map_or (λ added. some_byte (added ++ name) && (all_bytes (added ++ name) && test (added ++ name))) (front Client rules name) false
+    option_map_or (λ added. some_byte (added ++ name) && (all_bytes (added ++ name) && test (added ++ name)))
+    (front Client rules name) false
 
 -- the name passes and becomes a non-empty host name that the others do not hide
 abbrev pub is_seen : List MappingRule → List MappingRule → List ℕ → Bool
@@ -73,12 +77,16 @@ adds cut (Some added) = pointwise nat_eq added cut
 -- the host name is listed under a name that does not pass, or becomes another host name
 abbrev pub is_stray : List MappingRule → List ℕ → Bool
 is_stray rules host =
-    some_byte host && option_map_or (λ cut. not (adds cut (front Client rules (drop (length cut) host)))) (front Server rules host) false
+    some_byte host && option_map_or (λ cut. not (adds cut (front Client rules (drop (length cut) host))))
+    (front Server rules host) false
 
 -- a name that starts with the rule's key passes and becomes the host name, with what the rule puts before it
 abbrev pub passes_as : List MappingRule → List ℕ → MappingRule → Bool
 passes_as rules host rule =
-    rule.client && option_map_or (λ added. begins added host && (begins rule.key (drop (length added) host) && adds added (front Client rules (drop (length added) host)))) (front_of rule) false
+    rule.client && option_map_or
+    (λ added. begins added host &&
+    (begins rule.key (drop (length added) host) && adds added (front Client rules (drop (length added) host))))
+    (front_of rule) false
 
 -- some name passes and becomes the host name
 abbrev pub is_reached : List MappingRule → List ℕ → Bool

@@ -1,6 +1,7 @@
 -- A trie of patterns whose pieces have labels. Only private functions, the invariant of `XattrMap` and `NamesImage`
 -- cite these definitions.
-use Rattle.std.specs.Prelude.{◌≡◌, ◌≢◌, ◌⊎◌, ℕ, ◌+◌, ◌-◌, ◌*◌, ◌<◌, ◌≤◌, Bool, true, false, if◌then◌else◌, List, [], ◌∷◌, ◌++◌, length, take, drop, Contains, All, Option, Some, slice_get, slice_index}
+use Rattle.std.specs.Prelude.{◌≡◌, ◌≢◌, ◌⊎◌, ℕ, ◌+◌, ◌-◌, ◌*◌, ◌<◌, ◌≤◌, Bool, true, false, if◌then◌else◌, List, []}
+use Rattle.std.specs.Prelude.{◌∷◌, ◌++◌, length, take, drop, Contains, All, Option, Some, slice_get, slice_index}
 use Rattle.std.specs.List.{flat_map}
 use Rattle.std.specs.Option.{option_map_or}
 use Rattle.virtiofs_map.specs.FirstRule.{CountsFronts, acts, pattern, longest, deciding_length, shared}
@@ -53,11 +54,13 @@ pub record IsChild (branches : List Branch) (parent : Branch) (byte at : ℕ) (c
   pub head : child.head ≡ byte
   pub real : byte ≢ 0
 
--- children that are not scattered stand as far behind the first place as their bytes behind the lowest byte; between them are holes
+-- children that are not scattered stand as far behind the first place as their bytes behind the lowest byte; between
+-- them are holes
 pub record AreInSlots (branches : List Branch) (parent : Branch) : Type 0 where
   pub low : 1 ≤ parent.low
   pub high : parent.low + parent.width ≤ 256
-  pub slots : (k : ℕ) (child : Branch) → k < parent.width → slice_get branches (parent.first + k) ≡ Some child → child.head ≢ 0 → child.head ≡ parent.low + k
+  pub slots : (k : ℕ) (child : Branch) → k < parent.width → slice_get branches (parent.first + k) ≡ Some child
+      → child.head ≢ 0 → child.head ≡ parent.low + k
 
 -- the bytes begin the pattern of a rule that acts on the side
 pub record BeginsPattern (side : Side) (rules : List MappingRule) (front : List ℕ) : Type 0 where
@@ -67,7 +70,8 @@ pub record BeginsPattern (side : Side) (rules : List MappingRule) (front : List 
   pub starts : begins front (pattern side rule) ≡ true
 
 -- a branch stands for its way: the path of bytes that lead to it from the root
-pub record IsBranch (side : Side) (rules : List MappingRule) (branches : List Branch) (bytes : List ℕ) (way : ℕ → List ℕ) (at : ℕ) (branch : Branch) : Type 0 where
+pub record IsBranch (side : Side) (rules : List MappingRule) (branches : List Branch) (bytes : List ℕ)
+    (way : ℕ → List ℕ) (at : ℕ) (branch : Branch) : Type 0 where
   pub answers : branch.answer ≡ answer_of side rules (way at)
   -- the places of its children are places of branches, and its label stands among the bytes
   pub within : branch.first + branch.width ≤ length branches
@@ -118,11 +122,14 @@ pub record IsSpan (bytes : List ℕ) (rule : MappingRule) (span : Span) : Type 0
 -- each rule has its span
 pub record AreSpans (bytes : List ℕ) (rules : List MappingRule) (spans : List Span) : Type 0 where
   pub counted : length spans ≡ length rules
-  pub each : (place : ℕ) (rule : MappingRule) (span : Span) → slice_get rules place ≡ Some rule → slice_get spans place ≡ Some span
+  pub each : (place : ℕ) (rule : MappingRule) (span : Span) → slice_get rules place ≡ Some rule
+      → slice_get spans place ≡ Some span
       → IsSpan bytes rule span
 
--- a pattern of the rule at a place, which acts on the side: it stands among the bytes, and its answer stands for the rule
-pub record IsPatternAt (side : Side) (rules : List MappingRule) (bytes : List ℕ) (place : ℕ) (one : Pattern) : Type 0 where
+-- a pattern of the rule at a place, which acts on the side: it stands among the bytes, and its answer stands for the
+-- rule
+pub record IsPatternAt (side : Side) (rules : List MappingRule) (bytes : List ℕ) (place : ℕ) (one : Pattern) : Type
+    0 where
   pub rule : MappingRule
   pub here : slice_get rules place ≡ Some rule
   pub acting : acts side rule ≡ true
@@ -137,16 +144,20 @@ pub record IsPattern (side : Side) (rules : List MappingRule) (bytes : List ℕ)
   pub is : IsPatternAt side rules bytes place one
 
 -- the patterns of the rules that act on the side, one for each rule
-pub record ArePatterns (side : Side) (rules : List MappingRule) (bytes : List ℕ) (patterns : List Pattern) : Type 0 where
+pub record ArePatterns (side : Side) (rules : List MappingRule) (bytes : List ℕ) (patterns : List Pattern) : Type
+    0 where
   pub each : All (IsPattern side rules bytes) patterns
   pub every : (place : ℕ) (rule : MappingRule) → slice_get rules place ≡ Some rule → acts side rule ≡ true
-      → (one : Pattern) × Contains patterns one × (one.bytes.now ≡ pattern side rule) × (one.answer ≡ 4 * place + type_number rule.kind)
+      → (one : Pattern) × Contains patterns one × (one.bytes.now ≡ pattern side rule)
+      × (one.answer ≡ 4 * place + type_number rule.kind)
 
 -- the patterns of the rules before a place that act on the side, one for each rule
-pub record ArePatternsBelow (side : Side) (rules : List MappingRule) (bytes : List ℕ) (end : ℕ) (patterns : List Pattern) : Type 0 where
+pub record ArePatternsBelow (side : Side) (rules : List MappingRule) (bytes : List ℕ) (end : ℕ)
+    (patterns : List Pattern) : Type 0 where
   pub each : All (IsPattern side rules bytes) patterns
   pub every : (place : ℕ) (rule : MappingRule) → place < end → slice_get rules place ≡ Some rule → acts side rule ≡ true
-      → (one : Pattern) × Contains patterns one × (one.bytes.now ≡ pattern side rule) × (one.answer ≡ 4 * place + type_number rule.kind)
+      → (one : Pattern) × Contains patterns one × (one.bytes.now ≡ pattern side rule)
+      × (one.answer ≡ 4 * place + type_number rule.kind)
 
 -- the byte of a pattern at a depth; 0 where the pattern has ended
 abbrev pub byte_at : ℕ → Pattern → ℕ
@@ -154,7 +165,8 @@ byte_at depth one = slice_index one.bytes.now depth
 
 -- patterns that share a front stand in the order of their next bytes, those that have ended first
 pub record AreInOrder (patterns : List Pattern) : Type 0 where
-  pub rising : (i j depth : ℕ) (one other : Pattern) → i < j → slice_get patterns i ≡ Some one → slice_get patterns j ≡ Some other
+  pub rising : (i j depth : ℕ) (one other : Pattern) → i < j → slice_get patterns i ≡ Some one
+      → slice_get patterns j ≡ Some other
       → take depth one.bytes.now ≡ take depth other.bytes.now → byte_at depth one ≤ byte_at depth other
 
 -- ---- branches as rows of bytes
@@ -202,7 +214,8 @@ pub record IsTrieIn (side : Side) (rules : List MappingRule) (rows bytes : List 
 
 -- ---- what a walk promises
 
--- a walk found the answer of a name, and the bytes that it passed hold no zero where the patterns of the rules hold none
+-- a walk found the answer of a name, and the bytes that it passed hold no zero where the patterns of the rules hold
+-- none
 pub record Passes (side : Side) (rules : List MappingRule) (name : List ℕ) (answer passed : ℕ) : Type 0 where
   pub walks : Walks side rules name answer passed
   pub no_zero : All HasNoZero rules → All (λ byte. byte ≢ 0) (take passed name)
@@ -218,7 +231,8 @@ pub record CountsWalk (side : Side) (rules : List MappingRule) (name : List ℕ)
 pub record IsReadable (branches : List Branch) (bytes : List ℕ) (parent : Branch) : Type 0 where
   pub small : IsSmall parent
   pub placed : parent.scattered ≡ false → 1 ≤ parent.width → AreInSlots branches parent
-  pub labels : (byte at : ℕ) (child : Branch) → IsChild branches parent byte at child → child.label + child.length ≤ length bytes
+  pub labels : (byte at : ℕ) (child : Branch) → IsChild branches parent byte at child
+      → child.label + child.length ≤ length bytes
 
 -- the byte leads to a child of the branch
 pub record LeadsTo (branches : List Branch) (parent : Branch) (byte : ℕ) (child : Branch) : Type 0 where
@@ -230,7 +244,8 @@ abbrev pub LeadsNowhere : List Branch → Branch → ℕ → Type 0
 LeadsNowhere branches parent byte = (at : ℕ) (child : Branch) → ¬ IsChild branches parent byte at child
 
 -- the first byte of the rest and the label of a child were passed, and counted
-pub record StepsTo (branches : List Branch) (bytes : List ℕ) (parent : Branch) (rest : List ℕ) (child : Branch) (left : List ℕ) (before after : ℕ) : Type 0 where
+pub record StepsTo (branches : List Branch) (bytes : List ℕ) (parent : Branch) (rest : List ℕ) (child : Branch)
+    (left : List ℕ) (before after : ℕ) : Type 0 where
   pub byte : ℕ
   pub to : LeadsTo branches parent byte child
   pub passed : rest ≡ byte ∷ label_of bytes child ++ left
@@ -241,8 +256,10 @@ pub record Ends (branches : List Branch) (parent : Branch) (rest : List ℕ) (be
   pub nowhere : (byte : ℕ) (left : List ℕ) → rest ≡ byte ∷ left → LeadsNowhere branches parent byte
   pub counted : after ≡ before
 
--- the first byte of the rest leads to a child whose label does not begin what is left; where the count is whole, that byte was counted and those that the label shares with what is left
-pub record Misses (branches : List Branch) (bytes : List ℕ) (parent : Branch) (rest : List ℕ) (whole : Bool) (before after : ℕ) : Type 0 where
+-- the first byte of the rest leads to a child whose label does not begin what is left; where the count is whole, that
+-- byte was counted and those that the label shares with what is left
+pub record Misses (branches : List Branch) (bytes : List ℕ) (parent : Branch) (rest : List ℕ) (whole : Bool)
+    (before after : ℕ) : Type 0 where
   pub byte : ℕ
   pub left : List ℕ
   pub split : rest ≡ byte ∷ left
@@ -253,10 +270,13 @@ pub record Misses (branches : List Branch) (bytes : List ℕ) (parent : Branch) 
 
 -- no child can be passed: none is there, or the label of one does not fit
 abbrev pub StaysAt : List Branch → List ℕ → Branch → List ℕ → Bool → ℕ → ℕ → Type 0
-StaysAt branches bytes parent rest whole before after = Ends branches parent rest before after ⊎ Misses branches bytes parent rest whole before after
+StaysAt branches bytes parent rest whole before after =
+    Ends branches parent rest before after ⊎ Misses branches bytes parent rest whole before after
 
 -- a walk stands at a branch: its way was passed, each byte of it was counted, and the rest of the name is left
-pub record StandsAt (side : Side) (rules : List MappingRule) (branches : List Branch) (bytes : List ℕ) (trie : IsTrie side rules branches bytes) (name : List ℕ) (branch : Branch) (rest : List ℕ) (before count : ℕ) : Type 0 where
+pub record StandsAt (side : Side) (rules : List MappingRule) (branches : List Branch) (bytes : List ℕ)
+    (trie : IsTrie side rules branches bytes) (name : List ℕ) (branch : Branch) (rest : List ℕ)
+    (before count : ℕ) : Type 0 where
   pub at : ℕ
   pub here : slice_get branches at ≡ Some branch
   pub real : IsReal at branch

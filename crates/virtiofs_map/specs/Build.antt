@@ -1,5 +1,6 @@
 -- From which lists of specifications a map is made, and what is wrong with the others.
-use Rattle.std.specs.Prelude.{◌≡◌, ℕ, ◌+◌, ◌-◌, ◌≤◌, List, take, All, AllPairs, Contains, Option, Some, None, IsSomeAnd, IfSome, slice_get, ⊤}
+use Rattle.std.specs.Prelude.{◌≡◌, ℕ, ◌+◌, ◌-◌, ◌≤◌, List, take, All, AllPairs, Contains, Option, Some, None, IsSomeAnd}
+use Rattle.std.specs.Prelude.{IfSome, slice_get, ⊤}
 use Rattle.virtiofs_map.specs.Mapping.{entry_of, first_of, count_of, Covers}
 use Rattle.virtiofs_map.specs.declared.cmdline.IdMap.{IdMap}
 use Rattle.virtiofs_map.specs.declared.soft_idmap.entry.Direction.{Direction}

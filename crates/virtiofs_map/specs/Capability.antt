@@ -1,11 +1,13 @@
--- Capabilities of files as Linux keeps them in a value, and what becomes of the id of root in them. A value is a list of bytes.
+-- Capabilities of files as Linux keeps them in a value, and what becomes of the id of root in them. A value is a list
+-- of bytes.
 use Rattle.std.specs.Prelude.{◌≡◌, ◌≢◌, ◌⊎◌, ℕ, ◌<◌, ◌≤◌, List, length, slice_index, Some, None}
 use Rattle.virtiofs_map.specs.AclLaws.{AreBytes}
 use Rattle.virtiofs_map.specs.LittleEndian.{four_bytes}
 use Rattle.virtiofs_map.specs.Mapping.{Becomes}
 use Rattle.virtiofs_map.specs.MappingLaws.{opposite}
 use Rattle.virtiofs_map.specs.declared.acl.errors.CapabilityError.{CapabilityError}
-use Rattle.virtiofs_map.specs.declared.acl.errors.CapabilityError.TheVariants.{TooShort, Revision, Length, NoId, Forbidden, RootMoves}
+use Rattle.virtiofs_map.specs.declared.acl.errors.CapabilityError.TheVariants.{TooShort, Revision, Length, NoId}
+use Rattle.virtiofs_map.specs.declared.acl.errors.CapabilityError.TheVariants.{Forbidden, RootMoves}
 use Rattle.virtiofs_map.specs.declared.cmdline.IdMap.{IdMap}
 use Rattle.virtiofs_map.specs.declared.soft_idmap.entry.Direction.{Direction}
 
@@ -94,4 +96,5 @@ HasCapabilityFault users direction value fault = HasRootFault users direction va
 -- the new value goes across the other way, and what it becomes is the old one
 pub record RootComesBack (users : List IdMap) (direction : Direction) (old new : List ℕ) : Type 0 where
   pub goes : RootGoesAcross users (opposite direction) new
-  pub same : (back : List ℕ) → AreBytes back → RootBecomes users (opposite direction) new back → KeepsFront new back → back ≡ old
+  pub same : (back : List ℕ) → AreBytes back → RootBecomes users (opposite direction) new back → KeepsFront new back
+      → back ≡ old

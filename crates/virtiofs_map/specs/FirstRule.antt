@@ -21,7 +21,8 @@ pattern Server rule = rule.prepend
 -- the length of the longest pattern of that side; 0 where no rule acts on it
 abbrev pub longest : Side → List MappingRule → ℕ
 longest side [] = 0
-longest side (rule ∷ rules) = if acts side rule then max (length (pattern side rule)) (longest side rules) else longest side rules
+longest side (rule ∷ rules) =
+    if acts side rule then max (length (pattern side rule)) (longest side rules) else longest side rules
 
 -- the length of the pattern that decides the name; 0 where none does
 abbrev pub deciding_length : Side → List MappingRule → List ℕ → ℕ
@@ -30,7 +31,8 @@ deciding_length side rules name = option_map_or (λ rule. length (pattern side r
 -- a lookup counted at least 1 + the length of the deciding pattern (0 if there is none) steps, and at most 1 + the
 -- smaller of the length of the name and that of the longest pattern
 abbrev pub CountsLookup : Side → List MappingRule → List ℕ → ℕ → ℕ → Type 0
-CountsLookup side rules name = CountsBetween (deciding_length side rules name + 1) (min (length name) (longest side rules) + 1)
+CountsLookup side rules name =
+    CountsBetween (deciding_length side rules name + 1) (min (length name) (longest side rules) + 1)
 
 -- how many bytes two rows of bytes share at their beginning
 abbrev pub shared : List ℕ → List ℕ → ℕ
@@ -39,7 +41,9 @@ shared one other = common_prefix_len nat_eq one other
 -- the most bytes that the name shares with a pattern of that side; 0 where no rule acts on it
 abbrev pub most_shared : Side → List MappingRule → List ℕ → ℕ
 most_shared side [] name = 0
-most_shared side (rule ∷ rules) name = if acts side rule then max (shared (pattern side rule) name) (most_shared side rules name) else most_shared side rules name
+most_shared side (rule ∷ rules) name =
+    if acts side rule then max (shared (pattern side rule) name) (most_shared side rules name) else most_shared side
+    rules name
 
 -- a lookup counted one step more than that; the counter saturates
 abbrev pub CountsFronts : Side → List MappingRule → List ℕ → ℕ → ℕ → Type 0

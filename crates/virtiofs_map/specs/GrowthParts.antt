@@ -1,5 +1,6 @@
 -- What holds while a trie of patterns grows. Only private functions cite these definitions.
-use Rattle.std.specs.Prelude.{◌≡◌, ◌≢◌, ◌⊎◌, ℕ, ◌+◌, ◌-◌, ◌<◌, ◌≤◌, Bool, false, List, [], length, take, drop, All, Some, slice_get, slice_index}
+use Rattle.std.specs.Prelude.{◌≡◌, ◌≢◌, ◌⊎◌, ℕ, ◌+◌, ◌-◌, ◌<◌, ◌≤◌, Bool, false, List, [], length, take, drop, All}
+use Rattle.std.specs.Prelude.{Some, slice_get, slice_index}
 use Rattle.std.specs.Option.{option_map_or}
 use Rattle.virtiofs_map.specs.BranchParts.{no_answer, AreInOrder}
 use Rattle.virtiofs_map.specs.declared.xattrmap.branches.Branch.{Branch}
@@ -71,8 +72,10 @@ pub record IsPart (patterns : List Pattern) (part : Part) : Type 0 where
   pub rising : part.low ≤ part.high
   pub within : part.high ≤ length patterns
   pub long : (i : ℕ) → part.low ≤ i → i < part.high → part.depth ≤ length (text patterns i)
-  pub same : (i : ℕ) → part.low ≤ i → i < part.high → take part.depth (text patterns i) ≡ take part.depth (text patterns part.low)
-  pub whole : (i : ℕ) → i < length patterns → take part.depth (text patterns i) ≡ take part.depth (text patterns part.low) → (part.low ≤ i) × (i < part.high)
+  pub same : (i : ℕ) → part.low ≤ i → i < part.high
+      → take part.depth (text patterns i) ≡ take part.depth (text patterns part.low)
+  pub whole : (i : ℕ) → i < length patterns
+      → take part.depth (text patterns i) ≡ take part.depth (text patterns part.low) → (part.low ≤ i) × (i < part.high)
   pub least : IsLeast patterns (IsInside patterns part) part.answer
 
 -- a hole: an unused place between children, for a byte that leads nowhere
@@ -116,7 +119,8 @@ pub record IsKid (patterns : List Pattern) (part kid : Part) : Type 0 where
   pub upto : kid.high ≤ part.high
   pub depth : kid.depth ≡ part.depth + 1 + kid.length
   pub head : slice_index (text patterns kid.low) part.depth ≡ kid.head
-  pub group : (i : ℕ) → part.low ≤ i → i < part.high → slice_index (text patterns i) part.depth ≡ kid.head → (kid.low ≤ i) × (i < kid.high)
+  pub group : (i : ℕ) → part.low ≤ i → i < part.high → slice_index (text patterns i) part.depth ≡ kid.head
+      → (kid.low ≤ i) × (i < kid.high)
 
 -- the byte with which the pattern at the place goes on leads to one of the places between the two
 pub record HasKid (patterns : List Pattern) (parts : List Part) (part : Part) (first last i : ℕ) : Type 0 where
@@ -127,27 +131,46 @@ pub record HasKid (patterns : List Pattern) (parts : List Part) (part : Part) (f
   pub here : slice_get parts at ≡ Some kid
   pub head : kid.head ≡ slice_index (text patterns i) part.depth
 
--- the places between the two are the children of a part, as far as the pattern at that place; where they do not stand side by side, each stands as far behind the first place as its byte behind the lowest byte
-pub record AreKids (patterns : List Pattern) (parts : List Part) (part : Part) (first last low : ℕ) (scattered : Bool) (upto : ℕ) : Type 0 where
-  pub kids : (at : ℕ) (kid : Part) → first ≤ at → at < last → slice_get parts at ≡ Some kid → kid.head ≢ 0 → IsKid patterns part kid
-  pub complete : (i : ℕ) → part.low ≤ i → i < upto → part.depth < length (text patterns i) → HasKid patterns parts part first last i
-  pub placed : scattered ≡ false → (k : ℕ) (kid : Part) → first + k < last → slice_get parts (first + k) ≡ Some kid → kid.head ≢ 0 → kid.head ≡ low + k
+-- the places between the two are the children of a part, as far as the pattern at that place; where they do not stand
+-- side by side, each stands as far behind the first place as its byte behind the lowest byte
+pub record AreKids (patterns : List Pattern) (parts : List Part) (part : Part) (first last low : ℕ) (scattered : Bool)
+    (upto : ℕ) : Type 0 where
+  pub kids : (at : ℕ) (kid : Part) → first ≤ at → at < last → slice_get parts at ≡ Some kid → kid.head ≢ 0
+      → IsKid patterns part kid
+  pub complete : (i : ℕ) → part.low ≤ i → i < upto → part.depth < length (text patterns i)
+      → HasKid patterns parts part first last i
+  pub placed : scattered ≡ false → (k : ℕ) (kid : Part) → first + k < last → slice_get parts (first + k) ≡ Some kid
+      → kid.head ≢ 0 → kid.head ≡ low + k
 
 -- the children of a part were appended to the places, as far as the pattern at that place
-pub record AreAdded (patterns : List Pattern) (old new : List Part) (part : Part) (low : ℕ) (scattered : Bool) (upto : ℕ) : Type 0 where
+pub record AreAdded (patterns : List Pattern) (old new : List Part) (part : Part) (low : ℕ) (scattered : Bool)
+    (upto : ℕ) : Type 0 where
   pub longer : IsLonger old new
   pub places : (at : ℕ) (kid : Part) → length old ≤ at → slice_get new at ≡ Some kid → IsPlace patterns at kid
   pub deeper : (at : ℕ) (kid : Part) → length old ≤ at → slice_get new at ≡ Some kid → part.depth < kid.depth
   pub kids : AreKids patterns new part (length old) (length new) low scattered upto
   pub few : low + length new ≤ 256 + length old
-  pub next : (i : ℕ) → upto ≤ i → i < part.high → low + length new ≤ slice_index (text patterns i) part.depth + length old
-  pub apart : (i j : ℕ) → part.low ≤ i → i < upto → upto ≤ j → j < part.high → slice_index (text patterns i) part.depth < slice_index (text patterns j) part.depth
+  pub next : (i : ℕ) → upto ≤ i → i < part.high
+      → low + length new ≤ slice_index (text patterns i) part.depth + length old
+  pub apart : (i j : ℕ) → part.low ≤ i → i < upto → upto ≤ j → j < part.high
+      → slice_index (text patterns i) part.depth < slice_index (text patterns j) part.depth
 
 -- ---- branches
 
 -- the branch of a part that has no child
 abbrev pub childless_of : Part → ℕ → ℕ → ℕ → Branch
-childless_of part first answer label = record { answer = answer; label = label; length = part.length; first = first; width = 0; low = 1; head = part.head; scattered = false }
+childless_of part first answer label =
+    record {
+      answer = answer;
+      label = label;
+      length = part.length;
+      first = first;
+      width = 0;
+      low = 1;
+      head =
+          part.head;
+      scattered = false;
+    }
 
 -- the branch of a part, whose children stand among the places
 pub record IsGrown (patterns : List Pattern) (parts : List Part) (at : ℕ) (part : Part) (branch : Branch) : Type 0 where
@@ -160,12 +183,14 @@ pub record IsGrown (patterns : List Pattern) (parts : List Part) (at : ℕ) (par
   pub low : 1 ≤ branch.low
   pub high : branch.low + branch.width ≤ 256
   pub least : IsPart patterns part → IsLeast patterns (IsUpto patterns part) branch.answer
-  pub kids : IsPart patterns part → AreKids patterns parts part branch.first (branch.first + branch.width) branch.low branch.scattered part.high
+  pub kids : IsPart patterns part
+      → AreKids patterns parts part branch.first (branch.first + branch.width) branch.low branch.scattered part.high
 
 -- the first places have branches
 pub record AreGrown (patterns : List Pattern) (parts : List Part) (branches : List Branch) : Type 0 where
   pub counted : length branches ≤ length parts
-  pub each : (at : ℕ) (part : Part) (branch : Branch) → slice_get parts at ≡ Some part → slice_get branches at ≡ Some branch → IsGrown patterns parts at part branch
+  pub each : (at : ℕ) (part : Part) (branch : Branch) → slice_get parts at ≡ Some part
+      → slice_get branches at ≡ Some branch → IsGrown patterns parts at part branch
 
 -- the places from there on are at least so deep
 pub record AreDeep (parts : List Part) (from depth : ℕ) : Type 0 where

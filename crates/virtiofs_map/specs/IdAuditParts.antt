@@ -1,5 +1,6 @@
 -- What the parts of the audits of ids say. Only private functions cite these definitions.
-use Rattle.std.specs.Prelude.{◌≡◌, ◌≢◌, ◌⊎◌, ◌↔◌, ◌&&◌, if◌then◌else◌, ℕ, ◌+◌, ◌-◌, ◌<◌, ◌≤◌, nat_le, nat_lt, List, All, Contains, Option, Some, None, sum_by}
+use Rattle.std.specs.Prelude.{◌≡◌, ◌≢◌, ◌⊎◌, ◌↔◌, ◌&&◌, if◌then◌else◌, ℕ, ◌+◌, ◌-◌, ◌<◌, ◌≤◌, nat_le, nat_lt, List, All}
+use Rattle.std.specs.Prelude.{Contains, Option, Some, None, sum_by}
 use Rattle.std.specs.List.Sorted.{IsNonDecreasingBy}
 use Rattle.virtiofs_map.specs.IdAudit.{GoesTo}
 use Rattle.virtiofs_map.specs.Mapping.{Becomes}
@@ -15,7 +16,8 @@ use Rattle.virtiofs_map.specs.declared.soft_idmap.piece.Piece.{Piece}
 -- what becomes of an id there and back: nothing where it is forbidden, and else what its id of the host becomes
 abbrev pub ComesBackAs : List IdMap → ℕ → Option ℕ → Type 0
 ComesBackAs specs n value =
-    (Becomes specs GuestToHost n None × (value ≡ None)) ⊎ ((host : ℕ) × Becomes specs GuestToHost n (Some host) × Becomes specs HostToGuest host value)
+    (Becomes specs GuestToHost n None × (value ≡ None))
+    ⊎ ((host : ℕ) × Becomes specs GuestToHost n (Some host) × Becomes specs HostToGuest host value)
 
 -- the piece says what each of its numbers comes back as
 abbrev pub ReturnsBy : List IdMap → Piece → Type 0
@@ -64,8 +66,11 @@ times spans id = sum_by (has_times id) spans
 
 -- the numbers of the piece become all ids from to up to that far above it, in order, or all one id
 pub record HasImage (piece : Piece) (to above : ℕ) : Type 0 where
-  pub each : (n : ℕ) → piece.first ≤ n → n ≤ piece.last → (host : ℕ) × (value_in piece n ≡ Some host) × (to ≤ host) × (host ≤ to + above) × (host ≤ to + (n - piece.first))
-  pub some : (host : ℕ) → to ≤ host → host ≤ to + above → (piece.first + (host - to) ≤ piece.last) × (value_in piece (piece.first + (host - to)) ≡ Some host)
+  pub each : (n : ℕ) → piece.first ≤ n → n ≤ piece.last
+      → (host : ℕ) × (value_in piece n ≡ Some host) × (to ≤ host) × (host ≤ to + above)
+      × (host ≤ to + (n - piece.first))
+  pub some : (host : ℕ) → to ≤ host → host ≤ to + above
+      → (piece.first + (host - to) ≤ piece.last) × (value_in piece (piece.first + (host - to)) ≡ Some host)
 
 -- a number of the piece, not 4294967295, that becomes one of the ids
 pub record ComesInto (piece : Piece) (hosts : ℕ → Type 0) (n : ℕ) : Type 0 where
@@ -76,12 +81,14 @@ pub record ComesInto (piece : Piece) (hosts : ℕ → Type 0) (n : ℕ) : Type 0
   pub becomes : value_in piece n ≡ Some host
   pub is_one : hosts host
 
--- the number is 1 at least where an id of the guest from low up to high becomes the id of the host, and 2 at least where two do
+-- the number is 1 at least where an id of the guest from low up to high becomes the id of the host, and 2 at least
+-- where two do
 pub record CountsGuests (specs : List IdMap) (low high host number : ℕ) : Type 0 where
   pub one : (1 ≤ number) ↔ ((n : ℕ) × (low ≤ n) × (n < high) × GoesTo specs n host)
   pub two : (2 ≤ number) ↔ ((n m : ℕ) × (low ≤ n) × (n < m) × (m < high) × GoesTo specs n host × GoesTo specs m host)
 
--- the spans are those of the ids of the host that the guest reaches, as often as it reaches each, up to twice; they are in the order of their first ids
+-- the spans are those of the ids of the host that the guest reaches, as often as it reaches each, up to twice; they are
+-- in the order of their first ids
 pub record AreImages (specs : List IdMap) (images : List Span) : Type 0 where
   pub spans : All IsSpan images
   pub firsts : IsNonDecreasingBy (λ image. image.first) images

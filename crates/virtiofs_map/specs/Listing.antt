@@ -34,4 +34,5 @@ item_bytes item = result_map_both (λ name. name.now) (λ error. error) item
 
 -- the list that the items make: none where one of them is an error
 abbrev pub list_of : {A : Type 0} → List (Result (List ℕ) (Error A)) → Option (List ℕ)
-list_of items = if list_all (λ item. is_ok item) items then Some (as_list (filter_map (λ item. result_ok item) items)) else None
+list_of items =
+    if list_all (λ item. is_ok item) items then Some (as_list (filter_map (λ item. result_ok item) items)) else None

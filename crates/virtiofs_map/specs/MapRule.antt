@@ -1,9 +1,12 @@
 -- What a single map rule means, stated by its key and its prepend alone, in bytes.
-use Rattle.std.specs.Prelude.{◌≡◌, ◌≢◌, ◌⊎◌, ℕ, ◌<◌, Bool, true, false, not, if◌then◌else◌, List, [], ◌∷◌, ◌++◌, length, drop, filter, encode_utf8_all, All, Some, None}
+use Rattle.std.specs.Prelude.{◌≡◌, ◌≢◌, ◌⊎◌, ℕ, ◌<◌, Bool, true, false, not, if◌then◌else◌, List, [], ◌∷◌, ◌++◌, length}
+use Rattle.std.specs.Prelude.{drop, filter, encode_utf8_all, All, Some, None}
 use Rattle.std.specs.List.{filter_map}
 use Rattle.virtiofs_map.specs.Rule.{MappingRule}
 use Rattle.virtiofs_map.specs.RuleText.{RuleAsWritten, Map, RuleText, expanded}
-use Rattle.virtiofs_map.specs.Names.{begins, ClientAnswer, Passes, IsDenied, IsUnterminated, client_answer, HostAnswer, IsListed, IsHidden, host_answer, listed_name, names, as_list, server_answer, ListsBack}
+use Rattle.virtiofs_map.specs.Names.{begins, ClientAnswer, Passes, IsDenied, IsUnterminated, client_answer, HostAnswer}
+use Rattle.virtiofs_map.specs.Names.{IsListed, IsHidden, host_answer, listed_name, names, as_list, server_answer}
+use Rattle.virtiofs_map.specs.Names.{ListsBack}
 
 -- a name that starts with the key passes with the prepend before it; any other name that starts with the prepend is
 -- denied
@@ -43,7 +46,8 @@ pub record IsMapRule (key prepend : List ℕ) (rules : List MappingRule) : Type 
   pub fronts : (name host : List ℕ) → key ≢ [] → client_answer rules name ≡ Passes host
       → (begins (prepend ++ key) host ≡ true) ⊎ ((begins key host ≡ false) × (begins prepend host ≡ false))
   -- if the key is empty, a name under which a host name is listed passes, and becomes that host name
-  pub way_back : (name host : List ℕ) → key ≡ [] → host_answer rules host ≡ IsListed name → client_answer rules name ≡ Passes host
+  pub way_back : (name host : List ℕ) → key ≡ [] → host_answer rules host ≡ IsListed name
+      → client_answer rules name ≡ Passes host
 
 -- one map rule, as it is written, in characters
 abbrev pub map_rule : List ℕ → List ℕ → RuleAsWritten
@@ -51,7 +55,8 @@ map_rule key prepend = record { head = Map; key = key; prepend = prepend }
 
 -- if the text is one map rule, the rules mean what it means
 abbrev pub ReadsMapRule : List ℕ → List MappingRule → Type 0
-ReadsMapRule text rules = (key prepend : List ℕ) → RuleText text (map_rule key prepend ∷ []) → IsMapRule (encode_utf8_all key) (encode_utf8_all prepend) rules
+ReadsMapRule text rules = (key prepend : List ℕ) → RuleText text (map_rule key prepend ∷ [])
+    → IsMapRule (encode_utf8_all key) (encode_utf8_all prepend) rules
 
 -- ---- two guests on one host
 

@@ -1,5 +1,6 @@
 -- What a map makes of the names of attributes. A name is a list of bytes, none of them zero.
-use Rattle.std.specs.Prelude.{◌≡◌, ℕ, Bool, true, false, ◌&&◌, not, if◌then◌else◌, ◌==◌, nat_eq, List, [], ◌∷◌, ◌++◌, length, drop, filter, position, Option, Some, None, option_and_then}
+use Rattle.std.specs.Prelude.{◌≡◌, ℕ, Bool, true, false, ◌&&◌, not, if◌then◌else◌, ◌==◌, nat_eq, List, [], ◌∷◌, ◌++◌}
+use Rattle.std.specs.Prelude.{length, drop, filter, position, Option, Some, None, option_and_then}
 use Rattle.std.specs.List.{starts_with, slice_get, slice_split, list_all, filter_map, flat_map}
 use Rattle.std.specs.Option.{option_map_or}
 use Rattle.virtiofs_map.specs.Rule.{RuleType, Prefix, Okay, Bad, Unsupported, MappingRule}
@@ -41,7 +42,8 @@ answer_by Unsupported prepend name = IsUnsupported
 
 -- what the first rule that fits makes of a name that the guest asks for
 abbrev pub client_answer : List MappingRule → List ℕ → ClientAnswer
-client_answer rules name = option_map_or (λ rule. answer_by rule.kind rule.prepend name) (deciding Client rules name) IsUnterminated
+client_answer rules name =
+    option_map_or (λ rule. answer_by rule.kind rule.prepend name) (deciding Client rules name) IsUnterminated
 
 -- ---- a name of the host
 
@@ -60,7 +62,8 @@ host_answer_by Unsupported prepend name = IsHidden
 
 -- what the first rule that fits makes of a name of the host
 abbrev pub host_answer : List MappingRule → List ℕ → HostAnswer
-host_answer rules name = option_map_or (λ rule. host_answer_by rule.kind rule.prepend name) (deciding Server rules name) IsUndecided
+host_answer rules name =
+    option_map_or (λ rule. host_answer_by rule.kind rule.prepend name) (deciding Server rules name) IsUndecided
 
 -- some rule decides the name
 abbrev pub is_decided : HostAnswer → Bool

@@ -1,5 +1,6 @@
 -- An image of a map of names: bytes that are written once, and then only read.
-use Rattle.std.specs.Prelude.{◌≡◌, ◌≢◌, ◌⊎◌, ℕ, ◌+◌, ◌-◌, ◌*◌, ◌<◌, ◌≤◌, if◌then◌else◌, List, [], ◌∷◌, ◌++◌, length, take, drop, All, Option, Some, None, IsSomeAnd}
+use Rattle.std.specs.Prelude.{◌≡◌, ◌≢◌, ◌⊎◌, ℕ, ◌+◌, ◌-◌, ◌*◌, ◌<◌, ◌≤◌, if◌then◌else◌, List, [], ◌∷◌, ◌++◌, length}
+use Rattle.std.specs.Prelude.{take, drop, All, Option, Some, None, IsSomeAnd}
 use Rattle.virtiofs_map.specs.BranchParts.{AreSpans, IsTrieIn}
 use Rattle.virtiofs_map.specs.ByteWordParts.{word_at, word_bytes}
 use Rattle.virtiofs_map.specs.Names.{deciding}
@@ -29,7 +30,8 @@ part_start image which = word_at image (8 * which + 8)
 abbrev pub part_end : List ℕ → ℕ → ℕ
 part_end image which = word_at image (8 * which + 16)
 
--- the part of that number: 0 has the rows of the client's trie, 1 those of the server's, 2 the rows of the rules, and 3 the bytes of all patterns
+-- the part of that number: 0 has the rows of the client's trie, 1 those of the server's, 2 the rows of the rules, and 3
+-- the bytes of all patterns
 abbrev pub part : List ℕ → ℕ → List ℕ
 part image which = take (part_end image which - part_start image which) (drop (part_start image which) image)
 
@@ -46,7 +48,8 @@ acts_number rule = type_number rule.kind + 4 * (if rule.client then 1 else 0) + 
 
 -- the 24 bytes of a rule whose patterns stand there
 unfoldable pub rule_row : MappingRule → Span → List ℕ
-rule_row rule span = word_bytes (span.key + 281474976710656 * acts_number rule) ++ word_bytes span.prepend ++ word_bytes span.end
+rule_row rule span =
+    word_bytes (span.key + 281474976710656 * acts_number rule) ++ word_bytes span.prepend ++ word_bytes span.end
 
 -- the rows of rules
 abbrev pub rule_rows : List MappingRule → List Span → List ℕ
@@ -90,7 +93,8 @@ HasImage rules count = (image : List ℕ) × (length image ≡ count) × IsImage
 
 -- what came of writing an image into bytes that were old and are new
 abbrev pub WritesImage : List MappingRule → List ℕ → List ℕ → ImageWritten → Type 0
-WritesImage rules old new (images.Written count) = (count ≤ length old) × IsImage rules (take count new) × (drop count new ≡ drop count old)
+WritesImage rules old new (images.Written count) =
+    (count ≤ length old) × IsImage rules (take count new) × (drop count new ≡ drop count old)
 WritesImage rules old new (images.NoRoom count) = (length old < count) × HasImage rules count × (new ≡ old)
 WritesImage rules old new images.TooLong = new ≡ old
 
@@ -99,13 +103,17 @@ abbrev pub Says : Side → List MappingRule → List ℕ → Decision → Type 0
 Says side rules name decisions.NoMap = ⊥
 Says side rules name decisions.Undecided = deciding side rules name ≡ None
 Says side rules name decisions.Okay = IsSomeAnd (deciding side rules name) (λ rule. rule.kind ≡ types.Okay)
-Says side rules name (decisions.Prefix prepend) = IsSomeAnd (deciding side rules name) (λ rule. (rule.kind ≡ types.Prefix) × (rule.prepend ≡ prepend.now))
+Says side rules name (decisions.Prefix prepend) =
+    IsSomeAnd (deciding side rules name) (λ rule. (rule.kind ≡ types.Prefix) × (rule.prepend ≡ prepend.now))
 Says side rules name decisions.Bad = IsSomeAnd (deciding side rules name) (λ rule. rule.kind ≡ types.Bad)
-Says side rules name decisions.Unsupported = IsSomeAnd (deciding side rules name) (λ rule. rule.kind ≡ types.Unsupported)
+Says side rules name decisions.Unsupported =
+    IsSomeAnd (deciding side rules name) (λ rule. rule.kind ≡ types.Unsupported)
 
 -- what came of writing a list, if there is one, into bytes that were old and are new
 abbrev pub WritesList : Option (List ℕ) → List ℕ → List ℕ → ListWritten → Type 0
 WritesList answer old new lists.NoMap = ⊥
 WritesList answer old new lists.Undecided = answer ≡ None
-WritesList answer old new (lists.Written count) = (list : List ℕ) × (answer ≡ Some list) × (count ≡ length list) × (new ≡ list ++ drop count old)
-WritesList answer old new (lists.NoRoom count) = (list : List ℕ) × (answer ≡ Some list) × (count ≡ length list) × (length old < count)
+WritesList answer old new (lists.Written count) =
+    (list : List ℕ) × (answer ≡ Some list) × (count ≡ length list) × (new ≡ list ++ drop count old)
+WritesList answer old new (lists.NoRoom count) =
+    (list : List ℕ) × (answer ≡ Some list) × (count ≡ length list) × (length old < count)

@@ -11,7 +11,8 @@ use Rattle.virtiofs_map.specs.declared.soft_idmap.piece.Piece.{Piece}
 
 -- ---- one piece
 
--- what a number becomes by an outcome, of numbers from first on: itself, the one as far above the target, the target, or nothing where its use fails
+-- what a number becomes by an outcome, of numbers from first on: itself, the one as far above the target, the target,
+-- or nothing where its use fails
 abbrev pub value_by : Outcome → ℕ → ℕ → Option ℕ
 value_by Kept first n = Some n
 value_by (OneToOne to) first n = Some (to + (n - first))
@@ -24,13 +25,15 @@ value_in piece n = value_by piece.becomes piece.first n
 
 -- each number from first to last becomes what the outcome says
 abbrev pub BecomeBy : List IdMap → Direction → ℕ → ℕ → Outcome → Type 0
-BecomeBy specs direction first last outcome = (n : ℕ) → first ≤ n → n ≤ last → Becomes specs direction n (value_by outcome first n)
+BecomeBy specs direction first last outcome = (n : ℕ) → first ≤ n → n ≤ last
+    → Becomes specs direction n (value_by outcome first n)
 
 -- the numbers from first to last are one piece: some outcome says what each becomes
 abbrev pub AreOne : List IdMap → Direction → ℕ → ℕ → Type 0
 AreOne specs direction first last = (outcome : Outcome) × BecomeBy specs direction first last outcome
 
--- the outcome is named for what becomes of the numbers: one number that becomes itself is kept, and all to one are two numbers or more; and what they become are ids
+-- the outcome is named for what becomes of the numbers: one number that becomes itself is kept, and all to one are two
+-- numbers or more; and what they become are ids
 abbrev pub IsNamed : Outcome → ℕ → ℕ → Type 0
 IsNamed Kept first last = ⊤
 IsNamed (OneToOne to) first last = (to ≢ first) × (to + (last - first) ≤ 4294967295)
@@ -66,11 +69,13 @@ pub record PiecesLeft : Type 0 where
   pub direction : Direction
   pub next : ℕ
 
--- a call gives the piece that begins at the first number that is left, and leaves the numbers after it; where none is left, it gives nothing, and leaves nothing
+-- a call gives the piece that begins at the first number that is left, and leaves the numbers after it; where none is
+-- left, it gives nothing, and leaves nothing
 abbrev pub GivesPiece : PiecesLeft → Option Piece → PiecesLeft → Type 0
 GivesPiece left None after = (left.next ≡ 4294967296) × (after ≡ left)
 GivesPiece left (Some piece) after =
-    IsPiece left.specs left.direction piece × (piece.first ≡ left.next) × (after ≡ record left { next = piece.last + 1 })
+    IsPiece left.specs left.direction piece × (piece.first ≡ left.next)
+    × (after ≡ record left { next = piece.last + 1 })
 
 -- there are no more pieces than numbers
 abbrev pub numbers_left : PiecesLeft → Count

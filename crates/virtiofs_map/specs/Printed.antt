@@ -12,7 +12,8 @@ use Rattle.virtiofs_map.specs.declared.soft_idmap.entry.Entry.TheVariants.{Map, 
 use Rattle.virtiofs_map.specs.declared.soft_idmap.errors.MapError.{MapError}
 use Rattle.virtiofs_map.specs.declared.soft_idmap.errors.MapError.TheVariants.{ExplicitFailMapping}
 use Rattle.virtiofs_map.specs.declared.soft_idmap.errors.IdMapBuildError.{IdMapBuildError}
-use Rattle.virtiofs_map.specs.declared.soft_idmap.errors.IdMapBuildError.TheVariants.{RangeOverflow, Intersects, OutOfMemory}
+use Rattle.virtiofs_map.specs.declared.soft_idmap.errors.IdMapBuildError.TheVariants.{RangeOverflow, Intersects}
+use Rattle.virtiofs_map.specs.declared.soft_idmap.errors.IdMapBuildError.TheVariants.{OutOfMemory}
 use Rattle.virtiofs_map.specs.declared.xattrmap.errors.Error.{Error}
 use Rattle.virtiofs_map.specs.declared.xattrmap.errors.ErrorKind.{ErrorKind}
 use Rattle.virtiofs_map.specs.declared.xattrmap.errors.ErrorKind.TheVariants as kinds
@@ -59,7 +60,8 @@ abbrev pub build_error_text : IdMapBuildError → List ℕ
 build_error_text (RangeOverflow spec index direction range_end) =
     codes "Parameter " ++ specification_text spec ++ codes ": Range overflow"
 build_error_text (Intersects spec index direction) =
-    direction_text direction ++ codes " mapping '" ++ set_up_text (entry_of spec direction) ++ codes "' intersects previously added entry"
+    direction_text direction ++ codes " mapping '" ++ set_up_text (entry_of spec direction)
+    ++ codes "' intersects previously added entry"
 build_error_text OutOfMemory = codes "Out of memory"
 
 -- Ranges of a namespace.
@@ -82,7 +84,8 @@ unexpected_text got expected = got ++ (codes "', expected one of: " ++ expected)
 
 -- what is wrong
 abbrev pub cause_text : {A : Type 0} → ErrorKind A → List ℕ
-cause_text (kinds.InvalidScope got expected) = codes "invalid scope '" ++ unexpected_text (string_bytes got) expected.now
+cause_text (kinds.InvalidScope got expected) =
+    codes "invalid scope '" ++ unexpected_text (string_bytes got) expected.now
 cause_text (kinds.InvalidType got expected) = codes "invalid type '" ++ unexpected_text (string_bytes got) expected.now
 cause_text kinds.InvalidDelimiter = codes "the delimiter is not the rule's first"
 cause_text kinds.IncompleteRule = codes "the rule is incomplete"

@@ -1,5 +1,6 @@
 -- What the ranges of a map stand for, and how they are found. Only private functions cite these definitions.
-use Rattle.std.specs.Prelude.{◌≡◌, ◌≢◌, ◌⊎◌, ℕ, ◌+◌, ◌-◌, ◌^◌, ◌<◌, ◌≤◌, List, length, take, slice_index_or, All, AllPairs, Contains, Option, Some, IfSome, MatchOption}
+use Rattle.std.specs.Prelude.{◌≡◌, ◌≢◌, ◌⊎◌, ℕ, ◌+◌, ◌-◌, ◌^◌, ◌<◌, ◌≤◌, List, length, take, slice_index_or, All}
+use Rattle.std.specs.Prelude.{AllPairs, Contains, Option, Some, IfSome, MatchOption}
 use Rattle.std.specs.List.Sorted.{IsNonDecreasingBy}
 use Rattle.virtiofs_map.specs.Mapping.{entry_of, first_of, count_of}
 use Rattle.virtiofs_map.specs.Build.{HasSource, HasTarget, Accepted}
@@ -34,7 +35,8 @@ IsOfOne specs direction range = (spec : IdMap) × Contains specs spec × (entry_
 -- the ranges are those of the specifications in that direction, but for those that cover no number
 pub record Stores (specs : List IdMap) (direction : Direction) (ranges : List Entry) : Type 0 where
   pub from : All (IsOfOne specs direction) ranges
-  pub each : (spec : IdMap) (range : Entry) → Contains specs spec → entry_of spec direction ≡ Some range → 1 ≤ count_of range → Contains ranges range
+  pub each : (spec : IdMap) (range : Entry) → Contains specs spec → entry_of spec direction ≡ Some range
+      → 1 ≤ count_of range → Contains ranges range
   pub counted : length ranges ≡ acting specs direction
 
 -- ---- a search
@@ -75,7 +77,9 @@ pub record IsPlaced (specs : List IdMap) (direction : Direction) (placed : Place
 -- each entry once, with the index of its specification
 pub record Places (specs : List IdMap) (direction : Direction) (count : ℕ) (placed : List Placed) : Type 0 where
   pub from : All (λ one. IsPlaced specs direction one × (one.index < count)) placed
-  pub each : (index : ℕ) (spec : IdMap) (entry : Entry) → index < count → StandsAt specs index spec → entry_of spec direction ≡ Some entry → 1 ≤ count_of entry → Contains placed (record { entry = entry; index = index })
+  pub each : (index : ℕ) (spec : IdMap) (entry : Entry) → index < count → StandsAt specs index spec
+      → entry_of spec direction ≡ Some entry → 1 ≤ count_of entry
+      → Contains placed (record { entry = entry; index = index })
   pub once : AllPairs (λ one other. one.index ≢ other.index) placed
   pub counted : length placed ≡ acting (take count specs) direction
 
@@ -101,7 +105,8 @@ ArePrecedingBelow count placed =
 pub record KeepsApartTo (count end : ℕ) (placed : List Placed) : Type 0 where
   pub preceding : ArePrecedingBelow count placed
   pub before : All (λ one. one.index < count → first_of one.entry + count_of one.entry ≤ end) placed
-  pub reached : (end ≡ 0) ⊎ ((one : Placed) × Contains placed one × (one.index < count) × (first_of one.entry + count_of one.entry ≡ end))
+  pub reached : (end ≡ 0)
+      ⊎ ((one : Placed) × Contains placed one × (one.index < count) × (first_of one.entry + count_of one.entry ≡ end))
 
 -- the ranges of the specification are not too long in that direction
 pub record HasRoom (spec : IdMap) (direction : Direction) : Type 0 where

@@ -10,7 +10,8 @@ pub data RuleType : Type 0 where
   Bad : RuleType
   Unsupported : RuleType
 
--- What a rule does, whether it acts on the client's side and on the server's, and what names are compared with, in bytes.
+-- What a rule does, whether it acts on the client's side and on the server's, and what names are compared with, in
+-- bytes.
 pub record MappingRule : Type 0 where
   pub kind : RuleType
   pub client : Bool

@@ -111,7 +111,9 @@ BeginsWithFault text fault = (d : ℕ) × (body : List ℕ) × Opens text d body
 -- contains U+0000
 abbrev pub HasPatternFault : ℕ → List ℕ → PatternField → RuleFault → Type 0
 HasPatternFault d text which fault =
-    ((fault ≡ IncompleteRule) × Lacks d text) ⊎ ((fault ≡ NulInPattern which) × (field : List ℕ) × (rest : List ℕ) × Fields d text (field ∷ []) rest × Contains field 0)
+    ((fault ≡ IncompleteRule) × Lacks d text)
+    ⊎ ((fault ≡ NulInPattern which) × (field : List ℕ) × (rest : List ℕ) × Fields d text (field ∷ []) rest
+    × Contains field 0)
 
 -- the error tells out of memory, or a fault of a rule of which this holds
 abbrev pub TellsFault : {A : Type 0} → (RuleFault → Type 0) → ErrorKind A → Type 0

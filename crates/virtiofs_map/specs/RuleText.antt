@@ -63,7 +63,8 @@ Opens text d body = (text ≡ d ∷ body) × (is_ascii_whitespace d ≡ false)
 -- the text is these fields, each followed by d, which no field holds, and then rest
 abbrev pub Fields : ℕ → List ℕ → List (List ℕ) → List ℕ → Type 0
 Fields d text [] rest = text ≡ rest
-Fields d text (field ∷ fields) rest = (after : List ℕ) × (text ≡ field ++ d ∷ after) × Lacks d field × Fields d after fields rest
+Fields d text (field ∷ fields) rest =
+    (after : List ℕ) × (text ≡ field ++ d ∷ after) × Lacks d field × Fields d after fields rest
 
 -- the text is a whole rule, and then after
 pub record RuleThen (text : List ℕ) (rule : RuleAsWritten) (after : List ℕ) : Type 0 where
@@ -77,9 +78,11 @@ pub record RuleThen (text : List ℕ) (rule : RuleAsWritten) (after : List ℕ) 
 abbrev pub RulesThen : List ℕ → List RuleAsWritten → List ℕ → Type 0
 RulesThen text [] rest = text ≡ rest
 RulesThen text (rule ∷ rules) rest =
-    (blanks : List ℕ) × (next : List ℕ) × RuleThen text rule (blanks ++ next) × (rule.head ≢ Map) × AllByRecursion IsBlank blanks × RulesThen next rules rest
+    (blanks : List ℕ) × (next : List ℕ) × RuleThen text rule (blanks ++ next) × (rule.head ≢ Map)
+    × AllByRecursion IsBlank blanks × RulesThen next rules rest
 
--- Without its white space at the ends, the text is these rules, at least one, with blanks or nothing between two of them. Only the last may be a map rule.
+-- Without its white space at the ends, the text is these rules, at least one, with blanks or nothing between two of
+-- them. Only the last may be a map rule.
 pub record RuleText (text : List ℕ) (rules : List RuleAsWritten) : Type 0 where
   pub front : List RuleAsWritten
   pub last : RuleAsWritten
@@ -102,13 +105,24 @@ on_server Server = true
 
 -- a rule of that type for these sides, its patterns in UTF-8
 abbrev pub rule_of : RuleType → ScopeName → List ℕ → List ℕ → MappingRule
-rule_of kind scope key prepend = record { kind = kind; client = on_client scope; server = on_server scope; key = encode_utf8_all key; prepend = encode_utf8_all prepend }
+rule_of kind scope key prepend =
+    record {
+      kind = kind;
+      client = on_client scope;
+      server = on_server scope;
+      key = encode_utf8_all key;
+      prepend =
+          encode_utf8_all prepend;
+    }
 
--- The rules that a written one stands for. A map rule with an empty key gives each name of the guest the prepend, and shows the guest no other names. With a key it does so for the names that begin with the key, and lets other names cross as they are.
+-- The rules that a written one stands for. A map rule with an empty key gives each name of the guest the prepend, and
+-- shows the guest no other names. With a key it does so for the names that begin with the key, and lets other names
+-- cross as they are.
 abbrev pub rules_of : RuleHead → List ℕ → List ℕ → List MappingRule
 rules_of (Typed kind scope) key prepend = rule_of kind scope key prepend ∷ []
 rules_of Map [] prepend = rule_of Prefix All [] prepend ∷ rule_of Bad All [] [] ∷ []
-rules_of Map (c ∷ cs) prepend = rule_of Prefix All (c ∷ cs) prepend ∷ rule_of Bad All prepend (c ∷ cs) ∷ rule_of Okay All [] [] ∷ []
+rules_of Map (c ∷ cs) prepend =
+    rule_of Prefix All (c ∷ cs) prepend ∷ rule_of Bad All prepend (c ∷ cs) ∷ rule_of Okay All [] [] ∷ []
 
 -- what the written rules stand for, in order
 abbrev pub expanded : List RuleAsWritten → List MappingRule

@@ -4,7 +4,8 @@ use Rattle.std.specs.Option.{option_map_or}
 use Rattle.std.specs.Str.{chars}
 use Rattle.std.specs.String.{string_bytes}
 use Rattle.virtiofs_map.specs.Rule.{RuleType}
-use Rattle.virtiofs_map.specs.RuleText.{ScopeName, RuleHead, Map, RuleAsWritten, trimmed, type_word, scope_word, head_fields, rule_fields, HasNoNul, Opens, Fields, RulesThen}
+use Rattle.virtiofs_map.specs.RuleText.{ScopeName, RuleHead, Map, RuleAsWritten, trimmed, type_word, scope_word}
+use Rattle.virtiofs_map.specs.RuleText.{head_fields, rule_fields, HasNoNul, Opens, Fields, RulesThen}
 use Rattle.virtiofs_map.specs.Separator.{Lacks}
 use Rattle.virtiofs_map.specs.declared.xattrmap.errors.PatternField.{PatternField}
 use Rattle.virtiofs_map.specs.declared.xattrmap.errors.PatternField.TheVariants.{Key, Prepend}
@@ -63,18 +64,26 @@ pub record IsUnfinished (fields : List (List ℕ)) : Type 0 where
   pub are : fields ++ missing ≡ rule_fields rule
   pub no_nul : HasNoNul rule
 
--- what is wrong with a rule that begins with the delimiter d, where body follows: the first of its fields that is at fault, or that something follows a map rule
+-- what is wrong with a rule that begins with the delimiter d, where body follows: the first of its fields that is at
+-- fault, or that something follows a map rule
 abbrev pub HasRuleFault : ℕ → List ℕ → RuleFault → Type 0
-HasRuleFault d body IncompleteRule = (fields : List (List ℕ)) × (rest : List ℕ) × Fields d body fields rest × IsUnfinished fields × Lacks d rest
+HasRuleFault d body IncompleteRule =
+    (fields : List (List ℕ)) × (rest : List ℕ) × Fields d body fields rest × IsUnfinished fields × Lacks d rest
 HasRuleFault d body (InvalidType got expected) =
-    (rest : List ℕ) × Fields d body (got ∷ []) rest × ((kind : RuleType) → got ≢ type_word kind) × (got ≢ codes "map") × (expected ≡ codes "prefix, ok, bad, map")
+    (rest : List ℕ) × Fields d body (got ∷ []) rest × ((kind : RuleType) → got ≢ type_word kind) × (got ≢ codes "map")
+    × (expected ≡ codes "prefix, ok, bad, map")
 HasRuleFault d body (InvalidScope got expected) =
-    (kind : RuleType) × (rest : List ℕ) × Fields d body (type_word kind ∷ got ∷ []) rest × ((scope : ScopeName) → got ≢ scope_word scope) × (expected ≡ codes "all, client, server")
-HasRuleFault d body (NulInPattern Key) = (head : RuleHead) × (key : List ℕ) × (rest : List ℕ) × Fields d body (head_fields head ++ key ∷ []) rest × Contains key 0
+    (kind : RuleType) × (rest : List ℕ) × Fields d body (type_word kind ∷ got ∷ []) rest
+    × ((scope : ScopeName) → got ≢ scope_word scope) × (expected ≡ codes "all, client, server")
+HasRuleFault d body (NulInPattern Key) =
+    (head : RuleHead) × (key : List ℕ) × (rest : List ℕ) × Fields d body (head_fields head ++ key ∷ []) rest
+    × Contains key 0
 HasRuleFault d body (NulInPattern Prepend) =
-    (head : RuleHead) × (key : List ℕ) × (prepend : List ℕ) × (rest : List ℕ) × Fields d body (head_fields head ++ key ∷ prepend ∷ []) rest × Lacks 0 key × Contains prepend 0
+    (head : RuleHead) × (key : List ℕ) × (prepend : List ℕ) × (rest : List ℕ)
+    × Fields d body (head_fields head ++ key ∷ prepend ∷ []) rest × Lacks 0 key × Contains prepend 0
 HasRuleFault d body MapRuleViolation =
-    (rule : RuleAsWritten) × (rest : List ℕ) × (rule.head ≡ Map) × Fields d body (rule_fields rule) rest × HasNoNul rule × (rest ≢ [])
+    (rule : RuleAsWritten) × (rest : List ℕ) × (rule.head ≡ Map) × Fields d body (rule_fields rule) rest × HasNoNul rule
+    × (rest ≢ [])
 
 -- ---- the first fault of a text
 

@@ -2,7 +2,8 @@
 use Rattle.std.specs.Prelude.{◌≡◌, ◌≢◌, ◌⊎◌, ℕ, List, length}
 use Rattle.std.specs.Str.{chars}
 use Rattle.virtiofs_map.specs.Numeral.{IsNumeral}
-use Rattle.virtiofs_map.specs.SpecificationText.{IsCut, lowered, word_of, numbers_of, IsFirstNonNumeral, SpecificationFault, InvalidPrefix, InvalidLength, InvalidValue}
+use Rattle.virtiofs_map.specs.SpecificationText.{IsCut, lowered, word_of, numbers_of, IsFirstNonNumeral}
+use Rattle.virtiofs_map.specs.SpecificationText.{SpecificationFault, InvalidPrefix, InvalidLength, InvalidValue}
 use Rattle.virtiofs_map.specs.declared.cmdline.IdMap.{IdMap}
 
 -- the text is cut, and the word is its prefix in lower case

@@ -4,7 +4,8 @@ use Rattle.std.specs.Borrow.{Bor}
 use Rattle.std.specs.List.{AllZip}
 use Rattle.std.specs.Option.{option_map}
 use Rattle.std.specs.Str.{chars}
-use Rattle.virtiofs_map.specs.SpecificationText.{Says, SpecificationFault, HasSpecificationFault, specification_fault_of}
+use Rattle.virtiofs_map.specs.SpecificationText.{Says, SpecificationFault, HasSpecificationFault}
+use Rattle.virtiofs_map.specs.SpecificationText.{specification_fault_of}
 use Rattle.virtiofs_map.specs.Build.{BuildFault, HasFirstFault, build_fault_of}
 use Rattle.virtiofs_map.specs.declared.cmdline.IdMap.{IdMap}
 use Rattle.virtiofs_map.specs.declared.soft_idmap.errors.SpecsError.{SpecsError}

@@ -1,6 +1,7 @@
 -- What the words of a map stand for, and how they are searched. Only private functions, the invariant of a map and
 -- `Image` cite these definitions.
-use Rattle.std.specs.Prelude.{◌≡◌, ◌⊎◌, ℕ, zero, suc, ◌+◌, ◌*◌, ◌<◌, ◌≤◌, List, length, slice_index, slice_get, Option, Some, None}
+use Rattle.std.specs.Prelude.{◌≡◌, ◌⊎◌, ℕ, zero, suc, ◌+◌, ◌*◌, ◌<◌, ◌≤◌, List, length, slice_index, slice_get, Option}
+use Rattle.std.specs.Prelude.{Some, None}
 use Rattle.virtiofs_map.specs.Build.{Accepted}
 use Rattle.virtiofs_map.specs.ImageAnswer.{SaysValue}
 use Rattle.virtiofs_map.specs.Mapping.{first_of, EntryCovers, target_of}
@@ -23,13 +24,15 @@ IsRow count to kind (Fail first many) = (count ≡ many) × (kind ≡ 1)
 -- the words from start on are the first numbers of the ranges, up to that many of them
 abbrev pub AreFirstsBelow : List ℕ → ℕ → List Entry → ℕ → Type 0
 AreFirstsBelow words start ranges count =
-    (k : ℕ) (range : Entry) → k < count → slice_get ranges k ≡ Some range → slice_index words (start + k) ≡ first_of range
+    (k : ℕ) (range : Entry) → k < count → slice_get ranges k ≡ Some range
+    → slice_index words (start + k) ≡ first_of range
 
 -- the words from start on are the rows of the ranges, up to that many of them
 abbrev pub AreRowsBelow : List ℕ → ℕ → List Entry → ℕ → Type 0
 AreRowsBelow words start ranges count =
     (k : ℕ) (range : Entry) → k < count → slice_get ranges k ≡ Some range
-    → IsRow (slice_index words (start + 3 * k)) (slice_index words (start + 3 * k + 1)) (slice_index words (start + 3 * k + 2)) range
+    → IsRow (slice_index words (start + 3 * k)) (slice_index words (start + 3 * k + 1))
+    (slice_index words (start + 3 * k + 2)) range
 
 -- the words before that place are as they were
 abbrev pub KeepsBefore : ℕ → List ℕ → List ℕ → Type 0
@@ -82,7 +85,13 @@ abbrev pub table_in : List ℕ → Direction → Table
 table_in words GuestToHost =
     record { words = words; firsts = 3; rows = rows_start words; count = guest_count words }
 table_in words HostToGuest =
-    record { words = words; firsts = 3 + guest_count words; rows = rows_start words + 3 * guest_count words; count = host_count words }
+    record {
+      words = words;
+      firsts = 3 + guest_count words;
+      rows = rows_start words + 3 * guest_count words;
+      count =
+          host_count words;
+    }
 
 -- there is no word, or there are words for the ranges of both directions
 abbrev pub HasWords : List ℕ → Type 0

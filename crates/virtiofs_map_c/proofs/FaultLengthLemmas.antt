@@ -1,14 +1,19 @@
 -- A sentence is a few hundred bytes longer than what is quoted in it.
-use Rattle.std.proofs.Common.{◌≡◌, ◌+◌, ◌/◌, ◌%◌, ◌≤◌, ◌==◌, ℕ, zero, suc, Bool, true, false, if◌then◌else◌, List, [], ◌∷◌, ◌++◌, length, codes, Option, Some, None, decimal, refl, arith, leb, le_refl, leb-true, length-append}
+use Rattle.std.proofs.Common.{◌≡◌, ◌+◌, ◌/◌, ◌%◌, ◌≤◌, ◌==◌, ℕ, zero, suc, Bool, true, false, if◌then◌else◌, List, []}
+use Rattle.std.proofs.Common.{◌∷◌, ◌++◌, length, codes, Option, Some, None, decimal, refl, arith, leb, le_refl}
+use Rattle.std.proofs.Common.{leb-true, length-append}
 use Rattle.std.specs.Fmt.{digits, digits_onto, digit_glyph}
 use Rattle.virtiofs_map.specs.Mapping.{entry_of}
 use Rattle.virtiofs_map.specs.Printed.{specification_text, set_up_text, direction_text, range_text, unexpected_text}
 use Rattle.virtiofs_map.specs.declared.cmdline.IdMap.{IdMap as Specification}
-use Rattle.virtiofs_map.specs.declared.cmdline.IdMap.TheVariants.{Guest, Host, SquashGuest, SquashHost, Bidirectional, ForbidGuest}
+use Rattle.virtiofs_map.specs.declared.cmdline.IdMap.TheVariants.{Guest, Host, SquashGuest, SquashHost, Bidirectional}
+use Rattle.virtiofs_map.specs.declared.cmdline.IdMap.TheVariants.{ForbidGuest}
 use Rattle.virtiofs_map.specs.declared.soft_idmap.entry.Direction.{Direction}
 use Rattle.virtiofs_map.specs.declared.soft_idmap.entry.Direction.TheVariants.{GuestToHost, HostToGuest}
 use Rattle.virtiofs_map_c.specs.Arrays.{said}
-use Rattle.virtiofs_map_c.specs.FaultText.{place_text, direction_of, said_text, said_entry_text, overflow_text, intersects_text, length_text, number_text, version_text, room_text, fixed_text, cause_text}
+use Rattle.virtiofs_map_c.specs.FaultText.{place_text, direction_of, said_text, said_entry_text, overflow_text}
+use Rattle.virtiofs_map_c.specs.FaultText.{intersects_text, length_text, number_text, version_text, room_text}
+use Rattle.virtiofs_map_c.specs.FaultText.{fixed_text, cause_text}
 use Rattle.virtiofs_map_c.specs.declared.arrays.spec.Spec.{Spec}
 use Rattle.virtiofs_map_c.specs.declared.fault.Fault.{Fault}
 

@@ -1,5 +1,7 @@
 -- The sentence of a fault is what the library prints of the error that tells it.
-use Rattle.std.proofs.Common.{◌≡◌, ◌+◌, ◌∙◌, ℕ, Bool, if◌then◌else◌, List, [], ◌++◌, length, take, codes, Option, Some, None, IsUtf8, encode_utf8_all, string_bytes, decimal, nat_lt, refl, sym, ap, arith, le_refl, le-ltb, ne_eqb}
+use Rattle.std.proofs.Common.{◌≡◌, ◌+◌, ◌∙◌, ℕ, Bool, if◌then◌else◌, List, [], ◌++◌, length, take, codes, Option, Some}
+use Rattle.std.proofs.Common.{None, IsUtf8, encode_utf8_all, string_bytes, decimal, nat_lt, refl, sym, ap, arith}
+use Rattle.std.proofs.Common.{le_refl, le-ltb, ne_eqb}
 use Rattle.std.proofs.lemmas.Str.{encodes-chars}
 use Rattle.std.specs.Option.{option_map}
 use Rattle.std.specs.Str.{chars}
@@ -13,9 +15,11 @@ use Rattle.virtiofs_map.specs.declared.acl.errors.AclError.{AclError}
 use Rattle.virtiofs_map.specs.declared.acl.errors.AclError.TheVariants as lists
 use Rattle.virtiofs_map.specs.declared.acl.errors.CapabilityError.{CapabilityError}
 use Rattle.virtiofs_map.specs.declared.acl.errors.CapabilityError.TheVariants as capabilities
-use Rattle.virtiofs_map.specs.declared.acl.errors.EntryFault.TheVariants.{UnknownTag, Permission, NoId, Forbidden, Merges}
+use Rattle.virtiofs_map.specs.declared.acl.errors.EntryFault.TheVariants.{UnknownTag, Permission, NoId, Forbidden}
+use Rattle.virtiofs_map.specs.declared.acl.errors.EntryFault.TheVariants.{Merges}
 use Rattle.virtiofs_map.specs.declared.cmdline.IdMap.{IdMap as Specification}
-use Rattle.virtiofs_map.specs.declared.cmdline.IdMap.TheVariants.{Guest, Host, SquashGuest, SquashHost, Bidirectional, ForbidGuest}
+use Rattle.virtiofs_map.specs.declared.cmdline.IdMap.TheVariants.{Guest, Host, SquashGuest, SquashHost, Bidirectional}
+use Rattle.virtiofs_map.specs.declared.cmdline.IdMap.TheVariants.{ForbidGuest}
 use Rattle.virtiofs_map.specs.declared.soft_idmap.entry.Direction.{Direction}
 use Rattle.virtiofs_map.specs.declared.soft_idmap.entry.Direction.TheVariants.{GuestToHost, HostToGuest}
 use Rattle.virtiofs_map.specs.declared.xattrmap.errors.Error.{Error}
@@ -23,7 +27,8 @@ use Rattle.virtiofs_map.specs.declared.xattrmap.errors.ErrorKind.{ErrorKind}
 use Rattle.virtiofs_map.specs.declared.xattrmap.errors.ErrorKind.TheVariants as kinds
 use Rattle.virtiofs_map.specs.declared.xattrmap.errors.PatternField.TheVariants.{Key, Prepend}
 use Rattle.virtiofs_map_c.specs.Arrays.{said, spec_as_c}
-use Rattle.virtiofs_map_c.specs.FaultText.{place_text, direction_of, said_text, said_entry_text, fault_text, build_fault_text, HoldsText, IsToldWhole}
+use Rattle.virtiofs_map_c.specs.FaultText.{place_text, direction_of, said_text, said_entry_text, fault_text}
+use Rattle.virtiofs_map_c.specs.FaultText.{build_fault_text, HoldsText, IsToldWhole}
 use Rattle.virtiofs_map_c.specs.Faults.{build_told, direction_number}
 use Rattle.virtiofs_map_c.specs.Replies.{fitting}
 use Rattle.virtiofs_map_c.specs.Rules.{OfRules}

@@ -12,7 +12,8 @@ module _ {X Y : Type 0} (R : X → Y → Type 0) (Bad : X → Type 0) (never : (
   none_bad (x ∷ xs) (y ∷ ys) (suc i) all here = none_bad xs ys i all.1 here
 
   -- where each of a front does, none of that front is
-  pub none_earlier : (xs : List X) (ys : List Y) (i j : ℕ) → i < j → AllZip R (take j xs) ys → ¬ IsSomeAnd (slice_get xs i) Bad
+  pub none_earlier : (xs : List X) (ys : List Y) (i j : ℕ) → i < j → AllZip R (take j xs) ys
+      → ¬ IsSomeAnd (slice_get xs i) Bad
   none_earlier [] ys i j before all here = absurd here
   none_earlier (x ∷ xs) ys i zero before all here = absurd (omega arith)
   none_earlier (x ∷ xs) [] i (suc j) before all here = absurd all
@@ -23,7 +24,8 @@ module _ {X Y : Type 0} (R : X → Y → Type 0) (Bad : X → Type 0) (never : (
 pub one_place : {X Y : Type 0} (R : X → Y → Type 0) (Bad Worse : X → Type 0)
     → ((x : X) (y : Y) → R x y → ¬ Bad x) → ((x : X) (y : Y) → R x y → ¬ Worse x)
     → (xs : List X) (ys zs : List Y) (i j : ℕ)
-    → AllZip R (take i xs) ys → IsSomeAnd (slice_get xs i) Bad → AllZip R (take j xs) zs → IsSomeAnd (slice_get xs j) Worse → i ≡ j
+    → AllZip R (take i xs) ys → IsSomeAnd (slice_get xs i) Bad → AllZip R (take j xs) zs
+    → IsSomeAnd (slice_get xs j) Worse → i ≡ j
 one_place R Bad Worse never nor xs ys zs i j first bad second worse =
     elim (cases_order i j) [
       | inl same ↦ same

@@ -1,5 +1,7 @@
 -- What is written piece by piece, as far as there is room, is one text.
-use Rattle.std.proofs.Common.{◌≡◌, ◌+◌, ◌-◌, ◌<◌, ◌≤◌, ◌∙◌, inl, inr, ℕ, min, List, [], ◌++◌, length, take, drop, refl, sym, ap, subst, arith, le_refl, append_assoc, append-nil, take_all, take_at, drop_at, take-add, drop-drop, length-append, length-take, length-drop, drop_of_length-le}
+use Rattle.std.proofs.Common.{◌≡◌, ◌+◌, ◌-◌, ◌<◌, ◌≤◌, ◌∙◌, inl, inr, ℕ, min, List, [], ◌++◌, length, take, drop, refl}
+use Rattle.std.proofs.Common.{sym, ap, subst, arith, le_refl, append_assoc, append-nil, take_all, take_at, drop_at}
+use Rattle.std.proofs.Common.{take-add, drop-drop, length-append, length-take, length-drop, drop_of_length-le}
 use Rattle.std.proofs.lemmas.List.{take-append-le}
 use Rattle.std.proofs.lemmas.Bool.{cases_lt}
 use Rattle.virtiofs_map_c.specs.Codes.{ok, no_room}

@@ -1,5 +1,6 @@
 -- What is decided of the ids of arrays is told of each list that the arrays say; and two arrays have one fault at most.
-use Rattle.std.proofs.Common.{◌≡◌, ◌↔◌, inl, inr, ℕ, ◌<◌, Bool, not, IsTrue, List, length, Option, Some, None, IfSome, IsSomeAnd, refl, sym, ap, subst, ◌∙◌, arith}
+use Rattle.std.proofs.Common.{◌≡◌, ◌↔◌, inl, inr, ℕ, ◌<◌, Bool, not, IsTrue, List, length, Option, Some, None, IfSome}
+use Rattle.std.proofs.Common.{IsSomeAnd, refl, sym, ap, subst, ◌∙◌, arith}
 use Rattle.std.proofs.lemmas.Option.{slice_get_within}
 use Rattle.std.specs.List.{slice_get}
 use Rattle.std.specs.Option.{option_map}
@@ -8,8 +9,10 @@ use Rattle.virtiofs_map.specs.IdAudit.{IsLeastId, GoesTo, GoesInto, Between}
 use Rattle.virtiofs_map.specs.Refusal.{OutOfMemoryOr}
 use Rattle.virtiofs_map.specs.declared.cmdline.IdMap.{IdMap as Specification}
 use Rattle.virtiofs_map.specs.declared.soft_idmap.errors.RangeEnd.TheVariants.{Source, Target}
-use Rattle.virtiofs_map_c.specs.Arrays.{said, AreSaid, ArrayFault, UnknownKind, UnbuiltArray, HasArrayFault, place_of, counted_on}
-use Rattle.virtiofs_map_c.specs.IdsFound.{FindsLeast, OfArray, OfArrays, TellsAudit, TellsReach, HasFaultAfter, HasPairFault, IsWritten}
+use Rattle.virtiofs_map_c.specs.Arrays.{said, AreSaid, ArrayFault, UnknownKind, UnbuiltArray, HasArrayFault, place_of}
+use Rattle.virtiofs_map_c.specs.Arrays.{counted_on}
+use Rattle.virtiofs_map_c.specs.IdsFound.{FindsLeast, OfArray, OfArrays, TellsAudit, TellsReach, HasFaultAfter}
+use Rattle.virtiofs_map_c.specs.IdsFound.{HasPairFault, IsWritten}
 use Rattle.virtiofs_map_c.specs.Makes.{TellsFault, MakesOrTells, TellsThis, IsArrayTold, IsAccepted}
 use Rattle.virtiofs_map_c.specs.declared.arrays.spec.Spec.{Spec}
 use Rattle.virtiofs_map_c.specs.declared.fault.Fault.{Fault}

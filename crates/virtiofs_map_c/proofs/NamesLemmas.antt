@@ -1,5 +1,6 @@
 -- What is decided of a name is what becomes of it.
-use Rattle.std.proofs.Common.{◌≡◌, ◌≢◌, inl, inr, ℕ, Bool, List, ◌++◌, length, Option, Some, None, IsSomeAnd, IfOk, MatchResult, Result, Ok, Err, refl, sym, subst, arith}
+use Rattle.std.proofs.Common.{◌≡◌, ◌≢◌, inl, inr, ℕ, Bool, List, ◌++◌, length, Option, Some, None, IsSomeAnd, IfOk}
+use Rattle.std.proofs.Common.{MatchResult, Result, Ok, Err, refl, sym, subst, arith}
 use Rattle.std.proofs.lemmas.Bool.{cases_lt}
 use Rattle.std.specs.Global.{Global}
 use Rattle.std.specs.Option.{option_map, option_map_or}
@@ -21,13 +22,17 @@ abbrev made : Option MappingRule → List ℕ → ClientAnswer
 made rule name = option_map_or (λ one. answer_by one.kind one.prepend name) rule IsUnterminated
 
 -- a rule of that type is there
-with_kind : (rule : Option MappingRule) (kind : RuleType) (name old : List ℕ) (code len : ℕ) (new : List ℕ) → IsSomeAnd rule (λ one. one.kind ≡ kind)
-    → ((prepend : List ℕ) → TellsClient (answer_by kind prepend name) name old code len new) → TellsClient (made rule name) name old code len new
+with_kind : (rule : Option MappingRule) (kind : RuleType) (name old : List ℕ) (code len : ℕ) (new : List ℕ)
+    → IsSomeAnd rule (λ one. one.kind ≡ kind)
+    → ((prepend : List ℕ) → TellsClient (answer_by kind prepend name) name old code len new)
+    → TellsClient (made rule name) name old code len new
 with_kind None kind name old code len new is tells = absurd is
 with_kind (Some rule) kind name old code len new is tells =
-    subst (λ (k : RuleType). TellsClient (answer_by k rule.prepend name) name old code len new) (sym is) (tells rule.prepend)
+    subst (λ (k : RuleType). TellsClient (answer_by k rule.prepend name) name old code len new) (sym is)
+    (tells rule.prepend)
 
-with_prepend : (rule : Option MappingRule) (prepend name old : List ℕ) (code len : ℕ) (new : List ℕ) → IsSomeAnd rule (λ one. (one.kind ≡ Prefix) × (one.prepend ≡ prepend))
+with_prepend : (rule : Option MappingRule) (prepend name old : List ℕ) (code len : ℕ) (new : List ℕ)
+    → IsSomeAnd rule (λ one. (one.kind ≡ Prefix) × (one.prepend ≡ prepend))
     → TellsBytes (prepend ++ name) ok old code len new → TellsClient (made rule name) name old code len new
 with_prepend None prepend name old code len new is tells = absurd is
 with_prepend (Some rule) prepend name old code len new (is, same) tells =
@@ -35,34 +40,47 @@ with_prepend (Some rule) prepend name old code len new (is, same) tells =
     (inr (subst (λ (bytes : List ℕ). TellsBytes (bytes ++ name) ok old code len new) (sym same) tells))
 
 pub client_told : (rules : List MappingRule) (decision : Decision) (name old : List ℕ) (code len : ℕ) (new : List ℕ)
-    → Says Client rules name decision → TellsDecision decision name old code len new → TellsClient (client_answer rules name) name old code len new
+    → Says Client rules name decision → TellsDecision decision name old code len new
+    → TellsClient (client_answer rules name) name old code len new
 client_told rules decisions.NoMap name old code len new says tells = absurd says
 client_told rules decisions.Undecided name old code len new says tells =
     subst (λ (rule : Option MappingRule). TellsClient (made rule name) name old code len new) (sym says) tells
-client_told rules decisions.Okay name old code len new says tells = with_kind (deciding Client rules name) Okay name old code len new says (λ prepend. inl (refl, tells))
-client_told rules (decisions.Prefix prepend) name old code len new says tells = with_prepend (deciding Client rules name) prepend.now name old code len new says tells
-client_told rules decisions.Bad name old code len new says tells = with_kind (deciding Client rules name) Bad name old code len new says (λ prepend. tells)
-client_told rules decisions.Unsupported name old code len new says tells = with_kind (deciding Client rules name) Unsupported name old code len new says (λ prepend. tells)
+client_told rules decisions.Okay name old code len new says tells =
+    with_kind (deciding Client rules name) Okay name old code len new says (λ prepend. inl (refl, tells))
+client_told rules (decisions.Prefix prepend) name old code len new says tells =
+    with_prepend (deciding Client rules name) prepend.now name old code len new says tells
+client_told rules decisions.Bad name old code len new says tells =
+    with_kind (deciding Client rules name) Bad name old code len new says (λ prepend. tells)
+client_told rules decisions.Unsupported name old code len new says tells =
+    with_kind (deciding Client rules name) Unsupported name old code len new says (λ prepend. tells)
 
 -- ---- names that pass as they are, and with a prepend
 
 -- a rule has one type
-one_kind : (rule : Option MappingRule) (kind other : RuleType) → IsSomeAnd rule (λ one. one.kind ≡ kind) → option_map (λ one. one.kind) rule ≡ Some other → kind ≡ other
+one_kind : (rule : Option MappingRule) (kind other : RuleType) → IsSomeAnd rule (λ one. one.kind ≡ kind)
+    → option_map (λ one. one.kind) rule ≡ Some other → kind ≡ other
 one_kind None kind other is are = absurd is
 one_kind (Some rule) kind other is are = cc
 
-of_prefix : (rule : Option MappingRule) (prepend : List ℕ) → IsSomeAnd rule (λ one. (one.kind ≡ Prefix) × (one.prepend ≡ prepend)) → IsSomeAnd rule (λ one. one.kind ≡ Prefix)
+of_prefix : (rule : Option MappingRule) (prepend : List ℕ)
+    → IsSomeAnd rule (λ one. (one.kind ≡ Prefix) × (one.prepend ≡ prepend)) → IsSomeAnd rule (λ one. one.kind ≡ Prefix)
 of_prefix None prepend is = is
 of_prefix (Some rule) prepend is = is.0
 
 pub okay_told : (rules : List MappingRule) (decision : Decision) (name old : List ℕ) (code len : ℕ) (new : List ℕ)
-    → Says Client rules name decision → TellsDecision decision name old code len new → IsDecidedBy Okay rules name → code ≡ as_it_is
+    → Says Client rules name decision → TellsDecision decision name old code len new → IsDecidedBy Okay rules name
+    → code ≡ as_it_is
 okay_told rules decisions.NoMap name old code len new says tells okay = absurd says
 okay_told rules decisions.Undecided name old code len new says tells okay = absurd (cc)
 okay_told rules decisions.Okay name old code len new says tells okay = tells.code_told
-okay_told rules (decisions.Prefix prepend) name old code len new says tells okay = absurd (let same = one_kind (deciding Client rules name) Prefix Okay (of_prefix (deciding Client rules name) prepend.now says) okay in cc)
-okay_told rules decisions.Bad name old code len new says tells okay = absurd (let same = one_kind (deciding Client rules name) Bad Okay says okay in cc)
-okay_told rules decisions.Unsupported name old code len new says tells okay = absurd (let same = one_kind (deciding Client rules name) Unsupported Okay says okay in cc)
+okay_told rules (decisions.Prefix prepend) name old code len new says tells okay =
+    absurd (let same =
+    one_kind (deciding Client rules name) Prefix Okay (of_prefix (deciding Client rules name) prepend.now says) okay in
+    cc)
+okay_told rules decisions.Bad name old code len new says tells okay =
+    absurd (let same = one_kind (deciding Client rules name) Bad Okay says okay in cc)
+okay_told rules decisions.Unsupported name old code len new says tells okay =
+    absurd (let same = one_kind (deciding Client rules name) Unsupported Okay says okay in cc)
 
 -- bytes that are told are not told as a name that passes as it is
 bytes_told : (bytes old : List ℕ) (code len : ℕ) (new : List ℕ) → TellsBytes bytes ok old code len new → code ≢ as_it_is
@@ -72,35 +90,44 @@ bytes_told bytes old code len new tells is = elim (cases_lt (length old) (length
 ]
 
 pub prefix_told : (rules : List MappingRule) (decision : Decision) (name old : List ℕ) (code len : ℕ) (new : List ℕ)
-    → Says Client rules name decision → TellsDecision decision name old code len new → IsDecidedBy Prefix rules name → code ≢ as_it_is
+    → Says Client rules name decision → TellsDecision decision name old code len new → IsDecidedBy Prefix rules name
+    → code ≢ as_it_is
 prefix_told rules decisions.NoMap name old code len new says tells prefix = absurd says
 prefix_told rules decisions.Undecided name old code len new says tells prefix = absurd (cc)
-prefix_told rules decisions.Okay name old code len new says tells prefix = absurd (let same = one_kind (deciding Client rules name) Okay Prefix says prefix in cc)
-prefix_told rules (decisions.Prefix prepend) name old code len new says tells prefix = bytes_told (prepend.now ++ name) old code len new tells
-prefix_told rules decisions.Bad name old code len new says tells prefix = absurd (let same = one_kind (deciding Client rules name) Bad Prefix says prefix in cc)
-prefix_told rules decisions.Unsupported name old code len new says tells prefix = absurd (let same = one_kind (deciding Client rules name) Unsupported Prefix says prefix in cc)
+prefix_told rules decisions.Okay name old code len new says tells prefix =
+    absurd (let same = one_kind (deciding Client rules name) Okay Prefix says prefix in cc)
+prefix_told rules (decisions.Prefix prepend) name old code len new says tells prefix =
+    bytes_told (prepend.now ++ name) old code len new tells
+prefix_told rules decisions.Bad name old code len new says tells prefix =
+    absurd (let same = one_kind (deciding Client rules name) Bad Prefix says prefix in cc)
+prefix_told rules decisions.Unsupported name old code len new says tells prefix =
+    absurd (let same = one_kind (deciding Client rules name) Unsupported Prefix says prefix in cc)
 
 -- ---- the codes of names
 
-pub decision_code : (decision : Decision) (name old : List ℕ) (code len : ℕ) (new : List ℕ) → TellsDecision decision name old code len new → IsClientCode code
+pub decision_code : (decision : Decision) (name old : List ℕ) (code len : ℕ) (new : List ℕ)
+    → TellsDecision decision name old code len new → IsClientCode code
 decision_code decisions.NoMap name old code len new tells = inr (inr (inr (inr (inr (inr (inr tells.code_told))))))
 decision_code decisions.Undecided name old code len new tells = inr (inr (inr (inr (inl tells.code_told))))
 decision_code decisions.Okay name old code len new tells = inr (inl tells.code_told)
-decision_code (decisions.Prefix prepend) name old code len new tells = elim (cases_lt (length old) (length (prepend.now ++ name))) [
-  | inl short ↦ inr (inr (inr (inr (inr (inl (tells.does_not_fit short).0)))))
-  | inr fits ↦ inl (tells.fits fits).0
-]
+decision_code (decisions.Prefix prepend) name old code len new tells =
+    elim (cases_lt (length old) (length (prepend.now ++ name))) [
+      | inl short ↦ inr (inr (inr (inr (inr (inl (tells.does_not_fit short).0)))))
+      | inr fits ↦ inl (tells.fits fits).0
+    ]
 decision_code decisions.Bad name old code len new tells = inr (inr (inl tells.code_told))
 decision_code decisions.Unsupported name old code len new tells = inr (inr (inr (inl tells.code_told)))
 
-pub decision_none : (decision : Decision) (name old : List ℕ) (code len : ℕ) (new : List ℕ) → TellsDecision decision name old code len new → decision ≡ decisions.NoMap → code ≡ no_map
+pub decision_none : (decision : Decision) (name old : List ℕ) (code len : ℕ) (new : List ℕ)
+    → TellsDecision decision name old code len new → decision ≡ decisions.NoMap → code ≡ no_map
 decision_none decision name old code len new tells is =
     (subst (λ (d : Decision). TellsDecision d name old code len new) is tells).code_told
 
 -- ---- audits
 
 -- what an audit found is the least name that is bad
-pub audit_told : {E : Type 0} (bad : List ℕ → Type 0) (found : Result (Audit Global) E) (old : List ℕ) (code : ℕ) (all : Bool) (len : ℕ) (new : List ℕ)
+pub audit_told : {E : Type 0} (bad : List ℕ → Type 0) (found : Result (Audit Global) E) (old : List ℕ) (code : ℕ)
+    (all : Bool) (len : ℕ) (new : List ℕ)
     → IfOk found (AnswersLeast bad)
     → MatchResult found (λ audit. TellsFound audit old code all len new) (λ _. TellsNo no_memory old code all len new)
     → TellsLeast bad old code all len new

@@ -7,7 +7,8 @@ use Rattle.virtiofs_map.specs.NamespaceText.{NamespaceFault, HasNamespaceFault}
 use Rattle.virtiofs_map_c.specs.Ranges.{SaysRange, RangeFault, OfRange, HasRangeFault, range_told, IsRangeTold}
 use Rattle.virtiofs_map_c.specs.declared.fault.Fault.{Fault}
 
-module _ (bytes text : List ℕ) (fault : NamespaceFault) (is : (text ≡ bytes) × IsUtf8 bytes) (has : HasNamespaceFault (chars text) fault) where
+module _ (bytes text : List ℕ) (fault : NamespaceFault) (is : (text ≡ bytes) × IsUtf8 bytes)
+    (has : HasNamespaceFault (chars text) fault) where
   of_bytes : HasNamespaceFault (chars bytes) fault
   of_bytes = subst (λ (it : List ℕ). HasNamespaceFault (chars it) fault) is.0 has
 

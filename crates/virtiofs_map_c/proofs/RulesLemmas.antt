@@ -8,20 +8,29 @@ use Rattle.virtiofs_map_c.specs.Rules.{BytesSayRules, BytesFault, NotUtf8, OfRul
 use Rattle.virtiofs_map_c.specs.declared.fault.Fault.{Fault}
 use Rattle.virtiofs_map_c.proofs.MakesLemmas.{refused_complete, refused_faulty}
 
-pub BytesSayRules-no_fault : (bytes : List ℕ) (rules : List MappingRule) (fault : BytesFault) → BytesSayRules bytes rules → ¬ HasBytesFault bytes fault
+pub BytesSayRules-no_fault : (bytes : List ℕ) (rules : List MappingRule) (fault : BytesFault)
+    → BytesSayRules bytes rules → ¬ HasBytesFault bytes fault
 BytesSayRules-no_fault bytes rules NotUtf8 says wrong = wrong says.0
 BytesSayRules-no_fault bytes rules (OfRules fault) says wrong = rules_no_fault (chars bytes) rules fault says.1 wrong.1
 
-HasBytesFault-one : (bytes : List ℕ) (fault other : BytesFault) → HasBytesFault bytes fault → HasBytesFault bytes other → fault ≡ other
+HasBytesFault-one : (bytes : List ℕ) (fault other : BytesFault) → HasBytesFault bytes fault → HasBytesFault bytes other
+    → fault ≡ other
 HasBytesFault-one bytes NotUtf8 NotUtf8 first second = refl
 HasBytesFault-one bytes NotUtf8 (OfRules other) first second = absurd (first second.0)
 HasBytesFault-one bytes (OfRules fault) NotUtf8 first second = absurd (second first.0)
-HasBytesFault-one bytes (OfRules fault) (OfRules other) first second = ap OfRules (rules_one_fault (chars bytes) fault other first.1 second.1)
+HasBytesFault-one bytes (OfRules fault) (OfRules other) first second =
+    ap OfRules (rules_one_fault (chars bytes) fault other first.1 second.1)
 
-pub rules_complete : (bytes : List ℕ) (made : Type 0) (code : ℕ) (told : Fault) (old new : List ℕ) → TellsFault (HasBytesFault bytes) (IsBytesTold code told old new) → (rules : List MappingRule) → BytesSayRules bytes rules → MakesOrTells made (IsBytesTold code told old new)
+pub rules_complete : (bytes : List ℕ) (made : Type 0) (code : ℕ) (told : Fault) (old new : List ℕ)
+    → TellsFault (HasBytesFault bytes) (IsBytesTold code told old new) → (rules : List MappingRule)
+    → BytesSayRules bytes rules → MakesOrTells made (IsBytesTold code told old new)
 rules_complete bytes made code told old new tells rules says =
-    refused_complete made (HasBytesFault bytes) (IsBytesTold code told old new) tells (λ fault. BytesSayRules-no_fault bytes rules fault says)
+    refused_complete made (HasBytesFault bytes) (IsBytesTold code told old new) tells
+    (λ fault. BytesSayRules-no_fault bytes rules fault says)
 
-pub rules_faulty : (bytes : List ℕ) (code : ℕ) (told : Fault) (old new : List ℕ) → TellsFault (HasBytesFault bytes) (IsBytesTold code told old new) → (wrong : BytesFault) → HasBytesFault bytes wrong → TellsThis (IsBytesTold code told old new) wrong
+pub rules_faulty : (bytes : List ℕ) (code : ℕ) (told : Fault) (old new : List ℕ)
+    → TellsFault (HasBytesFault bytes) (IsBytesTold code told old new) → (wrong : BytesFault)
+    → HasBytesFault bytes wrong → TellsThis (IsBytesTold code told old new) wrong
 rules_faulty bytes code told old new tells wrong has =
-    refused_faulty (HasBytesFault bytes) (IsBytesTold code told old new) tells wrong (λ other it. HasBytesFault-one bytes other wrong it has)
+    refused_faulty (HasBytesFault bytes) (IsBytesTold code told old new) tells wrong
+    (λ other it. HasBytesFault-one bytes other wrong it has)

@@ -1,34 +1,42 @@
 -- Texts are read one after the other; they say one list at most, and have one fault at most.
-use Rattle.std.proofs.Common.{◌≡◌, ℕ, ◌+◌, ◌<◌, List, [], ◌∷◌, ◌++◌, length, take, get_or, slice_get, Option, Some, None, IsSomeAnd, Bor, refl, sym, ap, subst}
+use Rattle.std.proofs.Common.{◌≡◌, ℕ, ◌+◌, ◌<◌, List, [], ◌∷◌, ◌++◌, length, take, get_or, slice_get, Option, Some}
+use Rattle.std.proofs.Common.{None, IsSomeAnd, Bor, refl, sym, ap, subst}
 use Rattle.std.proofs.lemmas.List.{take_more}
 use Rattle.std.proofs.lemmas.Option.{slice_get-get_or}
 use Rattle.std.proofs.lemmas.Slice.Zip.{AllZip-long}
 use Rattle.std.specs.Option.{option_map}
 use Rattle.std.specs.Str.{chars}
-use Rattle.virtiofs_map.proofs.ForCallers.{AllZip-push, AllZip-one, specification_one_value, specification_no_fault, specification_one_fault, build_no_fault, build_one_fault}
+use Rattle.virtiofs_map.proofs.ForCallers.{AllZip-push, AllZip-one, specification_one_value, specification_no_fault}
+use Rattle.virtiofs_map.proofs.ForCallers.{specification_one_fault, build_no_fault, build_one_fault}
 use Rattle.virtiofs_map.specs.Build.{BuildFault, HasFirstFault}
 use Rattle.virtiofs_map.specs.Refusal.{OutOfMemoryOr}
 use Rattle.virtiofs_map.specs.declared.cmdline.IdMap.{IdMap as Specification}
 use Rattle.virtiofs_map_c.specs.Makes.{TellsFault, MakesOrTells, TellsThis}
 use Rattle.virtiofs_map_c.specs.declared.fault.Fault.{Fault}
-use Rattle.virtiofs_map_c.specs.Texts.{SaysSpec, TextFault, NotUtf8, OfText, HasTextFault, IsTextTold, AllSaySpecs, AreAccepted, HasUnreadText, TextsFault, UnreadText, UnbuiltTexts, HasTextsFault, AreTextsTold}
+use Rattle.virtiofs_map_c.specs.Texts.{SaysSpec, TextFault, NotUtf8, OfText, HasTextFault, IsTextTold, AllSaySpecs}
+use Rattle.virtiofs_map_c.specs.Texts.{AreAccepted, HasUnreadText, TextsFault, UnreadText, UnbuiltTexts, HasTextsFault}
+use Rattle.virtiofs_map_c.specs.Texts.{AreTextsTold}
 use Rattle.virtiofs_map_c.proofs.FirstLemmas.{none_bad, one_place}
 use Rattle.virtiofs_map_c.proofs.MakesLemmas.{refused_complete, refused_faulty}
 
 -- ---- one text
 
-pub SaysSpec-one : (bytes : List ℕ) (spec other : Specification) → SaysSpec bytes spec → SaysSpec bytes other → spec ≡ other
+pub SaysSpec-one : (bytes : List ℕ) (spec other : Specification) → SaysSpec bytes spec → SaysSpec bytes other
+    → spec ≡ other
 SaysSpec-one bytes spec other first second = specification_one_value (chars bytes) spec other first.1 second.1
 
-pub SaysSpec-no_fault : (bytes : List ℕ) (spec : Specification) (fault : TextFault) → SaysSpec bytes spec → ¬ HasTextFault bytes fault
+pub SaysSpec-no_fault : (bytes : List ℕ) (spec : Specification) (fault : TextFault) → SaysSpec bytes spec
+    → ¬ HasTextFault bytes fault
 SaysSpec-no_fault bytes spec NotUtf8 says wrong = wrong says.0
 SaysSpec-no_fault bytes spec (OfText fault) says wrong = specification_no_fault (chars bytes) spec fault says.1 wrong.1
 
-pub HasTextFault-one : (bytes : List ℕ) (fault other : TextFault) → HasTextFault bytes fault → HasTextFault bytes other → fault ≡ other
+pub HasTextFault-one : (bytes : List ℕ) (fault other : TextFault) → HasTextFault bytes fault → HasTextFault bytes other
+    → fault ≡ other
 HasTextFault-one bytes NotUtf8 NotUtf8 first second = refl
 HasTextFault-one bytes NotUtf8 (OfText other) first second = absurd (first second.0)
 HasTextFault-one bytes (OfText fault) NotUtf8 first second = absurd (second first.0)
-HasTextFault-one bytes (OfText fault) (OfText other) first second = ap OfText (specification_one_fault (chars bytes) fault other first.1 second.1)
+HasTextFault-one bytes (OfText fault) (OfText other) first second =
+    ap OfText (specification_one_fault (chars bytes) fault other first.1 second.1)
 
 -- ---- an array of texts
 
@@ -42,75 +50,107 @@ never : (fault : TextFault) (text : Bor (List ℕ)) (spec : Specification) → G
 never fault text spec says = SaysSpec-no_fault text.now spec fault says
 
 -- one more
-pub AllSaySpecs-more : (texts : List (Bor (List ℕ))) (list : List Specification) (i : ℕ) (d : Bor (List ℕ)) (spec : Specification)
+pub AllSaySpecs-more : (texts : List (Bor (List ℕ))) (list : List Specification) (i : ℕ) (d : Bor (List ℕ))
+    (spec : Specification)
     → i < length texts → AllSaySpecs (take i texts) list → SaysSpec (get_or texts i d).now spec
     → AllSaySpecs (take (i + 1) texts) (list ++ spec ∷ [])
 AllSaySpecs-more texts list i d spec below say here =
     rw (take_more texts i d below) (AllZip-push Goes (take i texts) list (get_or texts i d) spec say here)
 
 -- the list is as long as the array
-pub AllSaySpecs-long : (texts : List (Bor (List ℕ))) (list : List Specification) → AllSaySpecs texts list → length list ≡ length texts
+pub AllSaySpecs-long : (texts : List (Bor (List ℕ))) (list : List Specification) → AllSaySpecs texts list
+    → length list ≡ length texts
 AllSaySpecs-long texts list say = AllZip-long Goes texts list say
 
-pub AllSaySpecs-one : (texts : List (Bor (List ℕ))) (list others : List Specification) → AllSaySpecs texts list → AllSaySpecs texts others → list ≡ others
+pub AllSaySpecs-one : (texts : List (Bor (List ℕ))) (list others : List Specification) → AllSaySpecs texts list
+    → AllSaySpecs texts others → list ≡ others
 AllSaySpecs-one = AllZip-one Goes (λ text. SaysSpec-one text.now)
 
 -- one that is not read, after those that are
-pub unread-here : (texts : List (Bor (List ℕ))) (list : List Specification) (i : ℕ) (d : Bor (List ℕ)) (told : Option TextFault)
+pub unread-here : (texts : List (Bor (List ℕ))) (list : List Specification) (i : ℕ) (d : Bor (List ℕ))
+    (told : Option TextFault)
     → i < length texts → AllSaySpecs (take i texts) list → OutOfMemoryOr told (HasTextFault (get_or texts i d).now)
     → OutOfMemoryOr (option_map (UnreadText i) told) (HasTextsFault texts)
 unread-here texts list i d None below say wrong = tt
 unread-here texts list i d (Some fault) below say wrong = record {
   before = list;
   say = say;
-  here = subst (λ (text : Option (Bor (List ℕ))). IsSomeAnd text (Has fault)) (sym (slice_get-get_or texts i d below)) wrong;
+  here = subst (λ (text : Option (Bor (List ℕ))). IsSomeAnd text (Has fault)) (sym (slice_get-get_or texts i d below))
+      wrong;
 }
 
 -- texts that say a list of which no map is made
 pub refused-build : (texts : List (Bor (List ℕ))) (list : List Specification) (told : Option BuildFault)
-    → AllSaySpecs texts list → OutOfMemoryOr told (HasFirstFault list) → OutOfMemoryOr (option_map UnbuiltTexts told) (HasTextsFault texts)
+    → AllSaySpecs texts list → OutOfMemoryOr told (HasFirstFault list)
+    → OutOfMemoryOr (option_map UnbuiltTexts told) (HasTextsFault texts)
 refused-build texts list None say refused = tt
 refused-build texts list (Some fault) say refused = record { list = list; say = say; first = refused }
 
 -- texts that say an accepted list have no fault
-pub AreAccepted-no_fault : (texts : List (Bor (List ℕ))) → AreAccepted texts → (fault : TextsFault) → ¬ HasTextsFault texts fault
-AreAccepted-no_fault texts are (UnreadText i fault) wrong = none_bad Goes (Has fault) (never fault) texts are.list i are.say wrong.here
+pub AreAccepted-no_fault : (texts : List (Bor (List ℕ))) → AreAccepted texts → (fault : TextsFault)
+    → ¬ HasTextsFault texts fault
+AreAccepted-no_fault texts are (UnreadText i fault) wrong =
+    none_bad Goes (Has fault) (never fault) texts are.list i are.say wrong.here
 AreAccepted-no_fault texts are (UnbuiltTexts fault) wrong =
-    build_no_fault are.list fault are.accepted (subst (λ (list : List Specification). HasFirstFault list fault) (AllSaySpecs-one texts wrong.list are.list wrong.say are.say) wrong.first)
+    build_no_fault are.list fault are.accepted
+    (subst (λ (list : List Specification). HasFirstFault list fault)
+    (AllSaySpecs-one texts wrong.list are.list wrong.say are.say) wrong.first)
 
-one_here : (text : Option (Bor (List ℕ))) (fault other : TextFault) → IsSomeAnd text (Has fault) → IsSomeAnd text (Has other) → fault ≡ other
+one_here : (text : Option (Bor (List ℕ))) (fault other : TextFault) → IsSomeAnd text (Has fault)
+    → IsSomeAnd text (Has other) → fault ≡ other
 one_here None fault other first second = absurd first
 one_here (Some text) fault other first second = HasTextFault-one text.now fault other first second
 
-one_unread : (texts : List (Bor (List ℕ))) (i j : ℕ) (fault other : TextFault) → HasUnreadText texts i fault → HasUnreadText texts j other → UnreadText i fault ≡ UnreadText j other
+one_unread : (texts : List (Bor (List ℕ))) (i j : ℕ) (fault other : TextFault) → HasUnreadText texts i fault
+    → HasUnreadText texts j other → UnreadText i fault ≡ UnreadText j other
 one_unread texts i j fault other first second =
-    let same : i ≡ j = one_place Goes (Has fault) (Has other) (never fault) (never other) texts first.before second.before i j first.say first.here second.say second.here in
+    let same : i ≡ j =
+    one_place Goes (Has fault) (Has other) (never fault) (never other) texts first.before second.before i j
+    first.say first.here second.say second.here in
     let there : IsSomeAnd (slice_get texts i) (Has other) = rw same second.here in
     let one : fault ≡ other = one_here (slice_get texts i) fault other first.here there in
     cc
 
 -- an array of texts has at most one fault
-pub HasTextsFault-one : (texts : List (Bor (List ℕ))) (fault other : TextsFault) → HasTextsFault texts fault → HasTextsFault texts other → fault ≡ other
-HasTextsFault-one texts (UnreadText i fault) (UnreadText j other) first second = one_unread texts i j fault other first second
-HasTextsFault-one texts (UnreadText i fault) (UnbuiltTexts other) first second = absurd (none_bad Goes (Has fault) (never fault) texts second.list i second.say first.here)
-HasTextsFault-one texts (UnbuiltTexts fault) (UnreadText j other) first second = absurd (none_bad Goes (Has other) (never other) texts first.list j first.say second.here)
+pub HasTextsFault-one : (texts : List (Bor (List ℕ))) (fault other : TextsFault) → HasTextsFault texts fault
+    → HasTextsFault texts other → fault ≡ other
+HasTextsFault-one texts (UnreadText i fault) (UnreadText j other) first second =
+    one_unread texts i j fault other first second
+HasTextsFault-one texts (UnreadText i fault) (UnbuiltTexts other) first second =
+    absurd (none_bad Goes (Has fault) (never fault) texts second.list i second.say first.here)
+HasTextsFault-one texts (UnbuiltTexts fault) (UnreadText j other) first second =
+    absurd (none_bad Goes (Has other) (never other) texts first.list j first.say second.here)
 HasTextsFault-one texts (UnbuiltTexts fault) (UnbuiltTexts other) first second =
-    ap UnbuiltTexts (build_one_fault second.list fault other (subst (λ (list : List Specification). HasFirstFault list fault) (AllSaySpecs-one texts first.list second.list first.say second.say) first.first) second.first)
+    ap UnbuiltTexts
+    (build_one_fault second.list fault other
+    (subst (λ (list : List Specification). HasFirstFault list fault)
+    (AllSaySpecs-one texts first.list second.list first.say second.say) first.first) second.first)
 
 -- ---- what a call tells of texts
 
-pub texts_complete : (texts : List (Bor (List ℕ))) (made : Type 0) (code : ℕ) (told : Fault) (old new : List ℕ) → TellsFault (HasTextsFault texts) (AreTextsTold code told old new) → AreAccepted texts → MakesOrTells made (AreTextsTold code told old new)
+pub texts_complete : (texts : List (Bor (List ℕ))) (made : Type 0) (code : ℕ) (told : Fault) (old new : List ℕ)
+    → TellsFault (HasTextsFault texts) (AreTextsTold code told old new) → AreAccepted texts
+    → MakesOrTells made (AreTextsTold code told old new)
 texts_complete texts made code told old new tells are =
     refused_complete made (HasTextsFault texts) (AreTextsTold code told old new) tells (AreAccepted-no_fault texts are)
 
-pub texts_faulty : (texts : List (Bor (List ℕ))) (code : ℕ) (told : Fault) (old new : List ℕ) → TellsFault (HasTextsFault texts) (AreTextsTold code told old new) → (wrong : TextsFault) → HasTextsFault texts wrong → TellsThis (AreTextsTold code told old new) wrong
+pub texts_faulty : (texts : List (Bor (List ℕ))) (code : ℕ) (told : Fault) (old new : List ℕ)
+    → TellsFault (HasTextsFault texts) (AreTextsTold code told old new) → (wrong : TextsFault)
+    → HasTextsFault texts wrong → TellsThis (AreTextsTold code told old new) wrong
 texts_faulty texts code told old new tells wrong has =
-    refused_faulty (HasTextsFault texts) (AreTextsTold code told old new) tells wrong (λ other it. HasTextsFault-one texts other wrong it has)
+    refused_faulty (HasTextsFault texts) (AreTextsTold code told old new) tells wrong
+    (λ other it. HasTextsFault-one texts other wrong it has)
 
-pub text_complete : (bytes : List ℕ) (made : Type 0) (code : ℕ) (told : Fault) (old new : List ℕ) → TellsFault (HasTextFault bytes) (IsTextTold code told old new) → (one : Specification) → SaysSpec bytes one → MakesOrTells made (IsTextTold code told old new)
+pub text_complete : (bytes : List ℕ) (made : Type 0) (code : ℕ) (told : Fault) (old new : List ℕ)
+    → TellsFault (HasTextFault bytes) (IsTextTold code told old new) → (one : Specification) → SaysSpec bytes one
+    → MakesOrTells made (IsTextTold code told old new)
 text_complete bytes made code told old new tells one says =
-    refused_complete made (HasTextFault bytes) (IsTextTold code told old new) tells (λ fault. SaysSpec-no_fault bytes one fault says)
+    refused_complete made (HasTextFault bytes) (IsTextTold code told old new) tells
+    (λ fault. SaysSpec-no_fault bytes one fault says)
 
-pub text_faulty : (bytes : List ℕ) (code : ℕ) (told : Fault) (old new : List ℕ) → TellsFault (HasTextFault bytes) (IsTextTold code told old new) → (wrong : TextFault) → HasTextFault bytes wrong → TellsThis (IsTextTold code told old new) wrong
+pub text_faulty : (bytes : List ℕ) (code : ℕ) (told : Fault) (old new : List ℕ)
+    → TellsFault (HasTextFault bytes) (IsTextTold code told old new) → (wrong : TextFault) → HasTextFault bytes wrong
+    → TellsThis (IsTextTold code told old new) wrong
 text_faulty bytes code told old new tells wrong has =
-    refused_faulty (HasTextFault bytes) (IsTextTold code told old new) tells wrong (λ other it. HasTextFault-one bytes other wrong it has)
+    refused_faulty (HasTextFault bytes) (IsTextTold code told old new) tells wrong
+    (λ other it. HasTextFault-one bytes other wrong it has)

@@ -7,32 +7,41 @@ use Rattle.virtiofs_map.specs.declared.acl.errors.AclError.{AclError}
 use Rattle.virtiofs_map.specs.declared.acl.errors.AclError.TheVariants as lists
 use Rattle.virtiofs_map.specs.declared.acl.errors.CapabilityError.{CapabilityError}
 use Rattle.virtiofs_map.specs.declared.acl.errors.CapabilityError.TheVariants as capabilities
-use Rattle.virtiofs_map.specs.declared.acl.errors.EntryFault.TheVariants.{UnknownTag, Permission, NoId, Forbidden, Merges}
+use Rattle.virtiofs_map.specs.declared.acl.errors.EntryFault.TheVariants.{UnknownTag, Permission, NoId, Forbidden}
+use Rattle.virtiofs_map.specs.declared.acl.errors.EntryFault.TheVariants.{Merges}
 use Rattle.virtiofs_map.specs.declared.cmdline.IdMap.{IdMap as Specification}
 use Rattle.virtiofs_map.specs.declared.soft_idmap.entry.Direction.{Direction}
 use Rattle.virtiofs_map_c.specs.Codes.{ok, no_map}
 use Rattle.virtiofs_map_c.specs.Faults.{no_fault}
-use Rattle.virtiofs_map_c.specs.Values.{acl_code, capability_code, IsAclTold, IsCapabilityTold, IsAnswerTold, ChangesAcl, ChangesCapability, WritesCapability, IsAclCode, IsRootCode, IsCapabilityCode}
+use Rattle.virtiofs_map_c.specs.Values.{acl_code, capability_code, IsAclTold, IsCapabilityTold, IsAnswerTold}
+use Rattle.virtiofs_map_c.specs.Values.{ChangesAcl, ChangesCapability, WritesCapability, IsAclCode, IsRootCode}
+use Rattle.virtiofs_map_c.specs.Values.{IsCapabilityCode}
 use Rattle.virtiofs_map_c.specs.declared.fault.Fault.{Fault}
 
 -- ---- whatever the maps are
 
 -- but where it is done, nothing has changed
-pub told_unchanged : {E : Type 0} (is_told : ℕ → Fault → E → Type 0) (answer : Option (Result (Unit {0}) E)) (code : ℕ) (told : Fault) (old new : List ℕ) → IsAnswerTold is_told answer code told → MatchOption answer (new ≡ old) (λ r. OnErr r (new ≡ old)) → code ≢ ok → new ≡ old
+pub told_unchanged : {E : Type 0} (is_told : ℕ → Fault → E → Type 0) (answer : Option (Result (Unit {0}) E)) (code : ℕ)
+    (told : Fault) (old new : List ℕ) → IsAnswerTold is_told answer code told
+    → MatchOption answer (new ≡ old) (λ r. OnErr r (new ≡ old)) → code ≢ ok → new ≡ old
 told_unchanged is_told None code told old new is same failed = same
 told_unchanged is_told (Some (Ok done)) code told old new is same failed = absurd (failed is.0)
 told_unchanged is_told (Some (Err error)) code told old new is same failed = same
 
 -- what is no map is told so
-pub told_no_map : {E : Type 0} (is_told : ℕ → Fault → E → Type 0) (answer : Option (Result (Unit {0}) E)) (code : ℕ) (told : Fault) → IsAnswerTold is_told answer code told → answer ≡ None → code ≡ no_map
+pub told_no_map : {E : Type 0} (is_told : ℕ → Fault → E → Type 0) (answer : Option (Result (Unit {0}) E)) (code : ℕ)
+    (told : Fault) → IsAnswerTold is_told answer code told → answer ≡ None → code ≡ no_map
 told_no_map is_told None code told is none = is.0
 told_no_map is_told (Some r) code told is none = absurd (cc)
 
 -- an error has a code of its own
 abbrev pub FailsOtherwise : {E : Type 0} → (ℕ → Fault → E → Type 0) → Type 0
-FailsOtherwise {E} is_told = (code : ℕ) (told : Fault) (error : E) → is_told code told error → (code ≢ ok) × (code ≢ no_map)
+FailsOtherwise {E} is_told = (code : ℕ) (told : Fault) (error : E) → is_told code told error
+    → (code ≢ ok) × (code ≢ no_map)
 
-pub told_no_fault : {E : Type 0} (is_told : ℕ → Fault → E → Type 0) (answer : Option (Result (Unit {0}) E)) (code : ℕ) (told : Fault) → FailsOtherwise is_told → IsAnswerTold is_told answer code told → (code ≡ ok) ⊎ (code ≡ no_map) → told ≡ no_fault
+pub told_no_fault : {E : Type 0} (is_told : ℕ → Fault → E → Type 0) (answer : Option (Result (Unit {0}) E)) (code : ℕ)
+    (told : Fault) → FailsOtherwise is_told → IsAnswerTold is_told answer code told → (code ≡ ok) ⊎ (code ≡ no_map)
+    → told ≡ no_fault
 told_no_fault is_told None code told fails is without = is.1
 told_no_fault is_told (Some (Ok done)) code told fails is without = is.1
 told_no_fault is_told (Some (Err error)) code told fails is (inl done) = absurd ((fails code told error is).0 done)
@@ -51,9 +60,11 @@ acl_error_code (lists.Entry k NoId) = (inr (inr (inl refl)), (λ e. omega arith)
 acl_error_code (lists.Entry k Forbidden) = (inr (inl refl), (λ e. omega arith), (λ e. omega arith))
 acl_error_code (lists.Entry k Merges) = (inr (inr (inr (inr (inr refl)))), (λ e. omega arith), (λ e. omega arith))
 
-capability_error_code : (error : CapabilityError) → IsCapabilityCode (capability_code error) × (capability_code error ≢ ok) × (capability_code error ≢ no_map)
+capability_error_code : (error : CapabilityError)
+    → IsCapabilityCode (capability_code error) × (capability_code error ≢ ok) × (capability_code error ≢ no_map)
 capability_error_code capabilities.TooShort = (inl (inr (inr (inl refl))), (λ e. omega arith), (λ e. omega arith))
-capability_error_code (capabilities.Revision revision) = (inl (inr (inr (inl refl))), (λ e. omega arith), (λ e. omega arith))
+capability_error_code (capabilities.Revision revision) =
+    (inl (inr (inr (inl refl))), (λ e. omega arith), (λ e. omega arith))
 capability_error_code capabilities.Length = (inl (inr (inr (inl refl))), (λ e. omega arith), (λ e. omega arith))
 capability_error_code capabilities.NoId = (inl (inr (inr (inl refl))), (λ e. omega arith), (λ e. omega arith))
 capability_error_code capabilities.Forbidden = (inl (inr (inl refl)), (λ e. omega arith), (λ e. omega arith))
@@ -71,26 +82,35 @@ pub acl_fails_otherwise : (room : ℕ) → FailsOtherwise (IsAclTold room)
 acl_fails_otherwise room code told error is = rw is.code_told ((acl_error_code error).1, (acl_error_code error).2)
 
 pub capability_fails_otherwise : FailsOtherwise IsCapabilityTold
-capability_fails_otherwise code told error is = rw is.code_told ((capability_error_code error).1, (capability_error_code error).2)
+capability_fails_otherwise code told error is =
+    rw is.code_told ((capability_error_code error).1, (capability_error_code error).2)
 
-pub tells_acl_code : (room : ℕ) (answer : Option (Result (Unit {0}) AclError)) (code : ℕ) (told : Fault) → IsAnswerTold (IsAclTold room) answer code told → IsAclCode code
+pub tells_acl_code : (room : ℕ) (answer : Option (Result (Unit {0}) AclError)) (code : ℕ) (told : Fault)
+    → IsAnswerTold (IsAclTold room) answer code told → IsAclCode code
 tells_acl_code room None code told is = inr (inr (inr (inr (inl is.0))))
 tells_acl_code room (Some (Ok done)) code told is = inl is.0
 tells_acl_code room (Some (Err error)) code told is = rw is.code_told (acl_error_code error).0
 
-pub tells_capability_code : (answer : Option (Result (Unit {0}) CapabilityError)) (code : ℕ) (told : Fault) → IsAnswerTold IsCapabilityTold answer code told → IsCapabilityCode code
+pub tells_capability_code : (answer : Option (Result (Unit {0}) CapabilityError)) (code : ℕ) (told : Fault)
+    → IsAnswerTold IsCapabilityTold answer code told → IsCapabilityCode code
 tells_capability_code None code told is = inl (inr (inr (inr is.0)))
 tells_capability_code (Some (Ok done)) code told is = inl (inl is.0)
 tells_capability_code (Some (Err error)) code told is = rw is.code_told (capability_error_code error).0
 
-pub tells_root_code : (answer : Option (Result (Unit {0}) CapabilityError)) (code : ℕ) (told : Fault) → IsAnswerTold IsCapabilityTold answer code told → IfSome answer (λ r. IfErr r (λ e. e ≢ capabilities.RootMoves)) → IsRootCode code
+pub tells_root_code : (answer : Option (Result (Unit {0}) CapabilityError)) (code : ℕ) (told : Fault)
+    → IsAnswerTold IsCapabilityTold answer code told → IfSome answer (λ r. IfErr r (λ e. e ≢ capabilities.RootMoves))
+    → IsRootCode code
 tells_root_code None code told is stays = inr (inr (inr is.0))
 tells_root_code (Some (Ok done)) code told is stays = inl is.0
 tells_root_code (Some (Err error)) code told is stays = rw is.code_told (root_error_code error stays)
 
 -- ---- where the maps are images
 
-pub tells_acl : (users groups : List Specification) (direction : Direction) (room : ℕ) (old new : List ℕ) (answer : Option (Result (Unit {0}) AclError)) (code : ℕ) (told : Fault) → IsAnswerTold (IsAclTold room) answer code told → IsSomeAnd answer (ChangesList users groups direction room old new) → ChangesAcl users groups direction room old new code told
+pub tells_acl : (users groups : List Specification) (direction : Direction) (room : ℕ) (old new : List ℕ)
+    (answer : Option (Result (Unit {0}) AclError)) (code : ℕ) (told : Fault)
+    → IsAnswerTold (IsAclTold room) answer code told
+    → IsSomeAnd answer (ChangesList users groups direction room old new)
+    → ChangesAcl users groups direction room old new code told
 tells_acl users groups direction room old new None code told is change = absurd change
 tells_acl users groups direction room old new (Some (Ok done)) code told is change = record {
   done = λ _. record { user_ids = change.user_ids; group_ids = change.group_ids; rest = change.rest };
@@ -111,7 +131,10 @@ tells_acl users groups direction room old new (Some (Err error)) code told is ch
       leads_back = λ answered. absurd (failed answered);
     }
 
-pub tells_capability : (users : List Specification) (direction : Direction) (old new : List ℕ) (answer : Option (Result (Unit {0}) CapabilityError)) (code : ℕ) (told : Fault) → IsAnswerTold IsCapabilityTold answer code told → IsSomeAnd answer (ChangesRoot users direction old new) → ChangesCapability users direction old new code told
+pub tells_capability : (users : List Specification) (direction : Direction) (old new : List ℕ)
+    (answer : Option (Result (Unit {0}) CapabilityError)) (code : ℕ) (told : Fault)
+    → IsAnswerTold IsCapabilityTold answer code told → IsSomeAnd answer (ChangesRoot users direction old new)
+    → ChangesCapability users direction old new code told
 tells_capability users direction old new None code told is change = absurd change
 tells_capability users direction old new (Some (Ok done)) code told is change = record {
   root = λ _. change.root;
@@ -134,7 +157,10 @@ tells_capability users direction old new (Some (Err error)) code told is change 
       leads_back = λ answered. absurd (failed answered);
     }
 
-pub tells_written : (users : List Specification) (direction : Direction) (value written : List ℕ) (answer : Option (Result (Unit {0}) CapabilityError)) (code : ℕ) (told : Fault) → IsAnswerTold IsCapabilityTold answer code told → IsSomeAnd answer (WritesRevision3 users direction value written) → WritesCapability users direction value written code told
+pub tells_written : (users : List Specification) (direction : Direction) (value written : List ℕ)
+    (answer : Option (Result (Unit {0}) CapabilityError)) (code : ℕ) (told : Fault)
+    → IsAnswerTold IsCapabilityTold answer code told → IsSomeAnd answer (WritesRevision3 users direction value written)
+    → WritesCapability users direction value written code told
 tells_written users direction value written None code told is change = absurd change
 tells_written users direction value written (Some (Ok done)) code told is change = record {
   root = λ _. change.root;

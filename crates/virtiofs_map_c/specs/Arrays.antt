@@ -4,7 +4,8 @@ use Rattle.std.specs.List.{AllZip}
 use Rattle.std.specs.Option.{option_map}
 use Rattle.virtiofs_map.specs.Build.{BuildFault, RangeOverflow, Intersects, HasFirstFault, build_fault_of}
 use Rattle.virtiofs_map.specs.declared.cmdline.IdMap.{IdMap as Specification}
-use Rattle.virtiofs_map.specs.declared.cmdline.IdMap.TheVariants.{Guest, Host, SquashGuest, SquashHost, Bidirectional, ForbidGuest}
+use Rattle.virtiofs_map.specs.declared.cmdline.IdMap.TheVariants.{Guest, Host, SquashGuest, SquashHost, Bidirectional}
+use Rattle.virtiofs_map.specs.declared.cmdline.IdMap.TheVariants.{ForbidGuest}
 use Rattle.virtiofs_map_c.specs.declared.arrays.errors.ArrayError.{ArrayError}
 use Rattle.virtiofs_map_c.specs.declared.arrays.errors.ArrayError.TheVariants as errors
 use Rattle.virtiofs_map_c.specs.declared.arrays.spec.Spec.{Spec}

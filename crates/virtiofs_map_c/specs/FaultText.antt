@@ -1,11 +1,14 @@
--- The sentence by which a fault is told, as bytes. Of a list of specifications, a text of rules and a value with ids it is what the library prints.
-use Rattle.std.specs.Prelude.{◌≡◌, ⊤, ℕ, ◌==◌, nat_lt, if◌then◌else◌, List, [], ◌++◌, length, take, codes, Option, IsUtf8}
+-- The sentence by which a fault is told, as bytes. Of a list of specifications, a text of rules and a value with ids it
+-- is what the library prints.
+use Rattle.std.specs.Prelude.{◌≡◌, ⊤, ℕ, ◌==◌, nat_lt, if◌then◌else◌, List, [], ◌++◌, length, take, codes, Option}
+use Rattle.std.specs.Prelude.{IsUtf8}
 use Rattle.std.specs.Fmt.{decimal}
 use Rattle.std.specs.Option.{option_map_or}
 use Rattle.std.specs.String.{string_bytes}
 use Rattle.virtiofs_map.specs.Build.{BuildFault, RangeOverflow, Intersects}
 use Rattle.virtiofs_map.specs.Mapping.{entry_of}
-use Rattle.virtiofs_map.specs.Printed.{specification_text, set_up_text, direction_text, build_error_text, unexpected_text}
+use Rattle.virtiofs_map.specs.Printed.{specification_text, set_up_text, direction_text, build_error_text}
+use Rattle.virtiofs_map.specs.Printed.{unexpected_text}
 use Rattle.virtiofs_map.specs.declared.cmdline.IdMap.{IdMap as Specification}
 use Rattle.virtiofs_map.specs.declared.soft_idmap.entry.Direction.{Direction}
 use Rattle.virtiofs_map.specs.declared.soft_idmap.entry.Direction.TheVariants.{GuestToHost, HostToGuest}
@@ -19,7 +22,8 @@ use Rattle.virtiofs_map_c.specs.declared.fault.Fault.{Fault}
 
 -- ---- where the fault is
 
--- the place, before what is wrong there: that of a specification or of an entry, counted from 0, or the number of a rule, counted from 1; nothing where none of these is to blame
+-- the place, before what is wrong there: that of a specification or of an entry, counted from 0, or the number of a
+-- rule, counted from 1; nothing where none of these is to blame
 abbrev pub place_text : ℕ → ℕ → List ℕ
 place_text part place =
     if part == 1 then codes "specification " ++ decimal place ++ codes ": "
@@ -48,7 +52,8 @@ overflow_text spec = codes "Parameter " ++ said_text (said spec) ++ codes ": Ran
 -- two specifications cover one id
 abbrev pub intersects_text : Spec → Direction → List ℕ
 intersects_text spec direction =
-    direction_text direction ++ codes " mapping '" ++ said_entry_text (said spec) direction ++ codes "' intersects previously added entry"
+    direction_text direction ++ codes " mapping '" ++ said_entry_text (said spec) direction
+    ++ codes "' intersects previously added entry"
 
 -- what a field is that is no number below 2^32
 abbrev pub number_text : ℕ → List ℕ
@@ -60,7 +65,8 @@ number_text number =
 -- a word takes another count of numbers
 abbrev pub length_text : ℕ → ℕ → List ℕ
 length_text expected seen =
-    codes "Invalid ID map length (expected " ++ decimal expected ++ codes " elements, got " ++ decimal seen ++ codes " elements)"
+    codes "Invalid ID map length (expected " ++ decimal expected ++ codes " elements, got " ++ decimal seen
+    ++ codes " elements)"
 
 -- there is no such version of a list, or no such revision of a capability
 abbrev pub version_text : ℕ → ℕ → List ℕ
@@ -75,7 +81,8 @@ room_text needed = codes "there are " ++ decimal needed ++ codes " entries"
 abbrev pub text_at_fault : Fault → List ℕ → List ℕ
 text_at_fault fault quoted = if nat_lt fault.quoted fault.wanted then codes "..." else take fault.quoted quoted
 
--- the sentence of a kind that has only one for each part: rules and ids have each their own for memory, and lists and capabilities for a length
+-- the sentence of a kind that has only one for each part: rules and ids have each their own for memory, and lists and
+-- capabilities for a length
 abbrev pub fixed_text : ℕ → ℕ → List ℕ
 fixed_text part kind =
     if kind == 0 then codes "there is no fault"
@@ -90,7 +97,8 @@ fixed_text part kind =
     else if kind == 17 then codes "Key holds NUL"
     else if kind == 18 then codes "Prepend holds NUL"
     else if kind == 19 then (if part == 5 then codes "the value has no first word" else codes "the value has no header")
-    else if kind == 21 then (if part == 5 then codes "the length is not that of the revision" else codes "the last entry is cut")
+    else if kind == 21 then
+    (if part == 5 then codes "the length is not that of the revision" else codes "the last entry is cut")
     else if kind == 23 then codes "there is no such tag"
     else if kind == 24 then codes "the permissions are above 7"
     else if kind == 25 then codes "4294967295 is no id"

@@ -19,7 +19,20 @@ no_spec = record { kind = 0; first = 0; to = 0; count = 0 }
 -- a fault of a part at its place, with the bytes that are quoted of the text at fault, and how many it has
 abbrev pub told_at : ℕ → ℕ → ℕ → ℕ → ℕ → Fault
 told_at kind part place quoted wanted =
-    record { kind = kind; part = part; direction = 0; end = 0; number = 0; place = place; expected = 0; seen = 0; quoted = quoted; wanted = wanted; spec = no_spec }
+    record {
+      kind = kind;
+      part = part;
+      direction = 0;
+      end = 0;
+      number = 0;
+      place = place;
+      expected = 0;
+      seen =
+          0;
+      quoted = quoted;
+      wanted = wanted;
+      spec = no_spec;
+    }
 
 -- a fault that has nothing but its kind
 abbrev pub fault_of_kind : ℕ → Fault
@@ -54,9 +67,36 @@ number_kind Zero = 2
 -- what is told of a list of which no map is made
 abbrev pub build_told : BuildFault → Fault
 build_told (RangeOverflow spec index direction range_end) =
-    record { kind = 4; part = specification; direction = direction_number direction; end = end_number range_end; number = 0; place = index; expected = 0; seen = 0; quoted = 0; wanted = 0; spec = spec_as_c spec }
+    record {
+      kind = 4;
+      part = specification;
+      direction = direction_number direction;
+      end =
+          end_number range_end;
+      number = 0;
+      place = index;
+      expected = 0;
+      seen = 0;
+      quoted = 0;
+      wanted = 0;
+      spec =
+          spec_as_c spec;
+    }
 build_told (Intersects spec index direction) =
-    record { kind = 5; part = specification; direction = direction_number direction; end = 0; number = 0; place = index; expected = 0; seen = 0; quoted = 0; wanted = 0; spec = spec_as_c spec }
+    record {
+      kind = 5;
+      part = specification;
+      direction = direction_number direction;
+      end = 0;
+      number = 0;
+      place =
+          index;
+      expected = 0;
+      seen = 0;
+      quoted = 0;
+      wanted = 0;
+      spec = spec_as_c spec;
+    }
 
 -- what is told of an array; where there is no fault, that memory ran out
 abbrev pub array_told : Option ArrayFault → Fault

@@ -1,7 +1,8 @@
 -- How a text is written piece by piece into the caller's buffer, as far as there is room.
 use Rattle.std.specs.Prelude.{◌≡◌, ℕ, List, ◌++◌, length, take, drop, min}
 
--- The buffer begins with the text, as far as there is room, and the rest of it is as it was. The length of the text is told, as far as a number of 64 bits can tell it.
+-- The buffer begins with the text, as far as there is room, and the rest of it is as it was. The length of the text is
+-- told, as far as a number of 64 bits can tell it.
 pub record IsFront (text first : List ℕ) (len : ℕ) (out : List ℕ) : Type 0 where
   pub length_told : len ≡ min (length text) 18446744073709551615
   pub are : out ≡ take (length first) (text ++ drop (length text) first)

@@ -31,11 +31,13 @@ pub record IsArrayTold (code : ℕ) (told : Fault) (fault : Option ArrayFault) :
 abbrev pub IsAnswered : ℕ → Type 0
 IsAnswered code = (code ≡ ok) ⊎ (code ≡ no_room)
 
--- The length of the image of the specifications is told. Where the image fits it is the beginning of the words, and the rest of them is as it was; else all of them are as they were.
+-- The length of the image of the specifications is told. Where the image fits it is the beginning of the words, and the
+-- rest of them is as it was; else all of them are as they were.
 pub record TellsImage (specs : List Specification) (old : List ℕ) (code wanted : ℕ) (new : List ℕ) : Type 0 where
   pub accepted : Accepted specs
   pub length_told : wanted ≡ image_length specs
-  pub fits : image_length specs ≤ length old → (code ≡ ok) × IsImage specs (take wanted new) × (drop wanted new ≡ drop wanted old)
+  pub fits : image_length specs ≤ length old
+      → (code ≡ ok) × IsImage specs (take wanted new) × (drop wanted new ≡ drop wanted old)
   pub does_not_fit : length old < image_length specs → (code ≡ no_room) × (new ≡ old)
 
 -- the array says an accepted list

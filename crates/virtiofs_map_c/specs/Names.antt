@@ -1,5 +1,6 @@
 -- What the calls on attribute names tell.
-use Rattle.std.specs.Prelude.{◌≡◌, ◌⊎◌, ℕ, ◌<◌, ◌≤◌, Bool, true, false, List, ◌++◌, length, take, drop, Option, Some, None, Contains}
+use Rattle.std.specs.Prelude.{◌≡◌, ◌⊎◌, ℕ, ◌<◌, ◌≤◌, Bool, true, false, List, ◌++◌, length, take, drop, Option, Some}
+use Rattle.std.specs.Prelude.{None, Contains}
 use Rattle.std.specs.Global.{Global}
 use Rattle.virtiofs_map.specs.Audit.{AnswersLeast}
 use Rattle.virtiofs_map.specs.Names.{ClientAnswer, Passes, IsDenied, IsUnsupported, IsUnterminated, client_answer}
@@ -9,12 +10,14 @@ use Rattle.virtiofs_map.specs.declared.audit.answer.Audit.{Audit}
 use Rattle.virtiofs_map.specs.declared.audit.answer.Audit.TheVariants.{Yes, No}
 use Rattle.virtiofs_map.specs.declared.xattrmap.image.Decision.{Decision}
 use Rattle.virtiofs_map.specs.declared.xattrmap.image.Decision.TheVariants as decisions
-use Rattle.virtiofs_map_c.specs.Codes.{ok, as_it_is, denied, unsupported, unterminated, no_room, no_memory, no_map, no_name}
+use Rattle.virtiofs_map_c.specs.Codes.{ok, as_it_is, denied, unsupported, unterminated, no_room, no_memory, no_map}
+use Rattle.virtiofs_map_c.specs.Codes.{no_name}
 use Rattle.virtiofs_map_c.specs.Replies.{TellsBytes, TellsCode}
 
 -- ---- making
 
--- An image of the rules is the beginning of the bytes, and the rest of them is as it was; or the image has more bytes than there are, and all of them are as they were.
+-- An image of the rules is the beginning of the bytes, and the rest of them is as it was; or the image has more bytes
+-- than there are, and all of them are as they were.
 abbrev pub TellsNames : List MappingRule → List ℕ → ℕ → ℕ → List ℕ → Type 0
 TellsNames rules old code wanted new =
     ((code ≡ ok) × (wanted ≤ length old) × IsImage rules (take wanted new) × (drop wanted new ≡ drop wanted old))
@@ -47,11 +50,15 @@ pub record AnswersClient (rules : List MappingRule) (name old : List ℕ) (code 
 -- the codes that the call has
 abbrev pub IsClientCode : ℕ → Type 0
 IsClientCode code =
-    (code ≡ ok) ⊎ ((code ≡ as_it_is) ⊎ ((code ≡ denied) ⊎ ((code ≡ unsupported) ⊎ ((code ≡ unterminated) ⊎ ((code ≡ no_room) ⊎ ((code ≡ no_name) ⊎ (code ≡ no_map)))))))
+    (code ≡ ok)
+    ⊎ ((code ≡ as_it_is)
+    ⊎ ((code ≡ denied)
+    ⊎ ((code ≡ unsupported) ⊎ ((code ≡ unterminated) ⊎ ((code ≡ no_room) ⊎ ((code ≡ no_name) ⊎ (code ≡ no_map)))))))
 
 -- ---- a list of the host
 
--- The list that the guest gets is the beginning of the buffer, and the rest of it is as it was; or the list does not fit. The length is told.
+-- The list that the guest gets is the beginning of the buffer, and the rest of it is as it was; or the list does not
+-- fit. The length is told.
 abbrev pub TellsServer : Option (List ℕ) → List ℕ → ℕ → ℕ → List ℕ → Type 0
 TellsServer None old code len new = (code ≡ unterminated) × (len ≡ 0)
 TellsServer (Some list) old code len new =

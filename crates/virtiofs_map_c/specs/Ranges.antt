@@ -4,7 +4,8 @@ use Rattle.std.specs.Str.{chars, IsUtf8}
 use Rattle.std.specs.Str.Parse.{error_kind}
 use Rattle.core.specs.declared.str.parse.IntErrorKind.{IntErrorKind}
 use Rattle.core.specs.declared.str.parse.IntErrorKind.TheVariants.{Empty}
-use Rattle.virtiofs_map.specs.NamespaceText.{SaysNamespace, NamespaceFault, InvalidDelimiter, IncompleteMap, InvalidValue, HasNamespaceFault}
+use Rattle.virtiofs_map.specs.NamespaceText.{SaysNamespace, NamespaceFault, InvalidDelimiter, IncompleteMap}
+use Rattle.virtiofs_map.specs.NamespaceText.{InvalidValue, HasNamespaceFault}
 use Rattle.virtiofs_map.specs.declared.idmap.IdMapError.{IdMapError}
 use Rattle.virtiofs_map.specs.declared.idmap.IdMapError.TheVariants as errors
 use Rattle.virtiofs_map_c.specs.Faults.{fault_of_kind, number_kind}

@@ -2,13 +2,15 @@
 use Rattle.std.specs.Prelude.{◌≡◌, ℕ, ◌<◌, ◌≤◌, nat_lt, if◌then◌else◌, List, ◌++◌, length, take, drop}
 use Rattle.virtiofs_map_c.specs.Codes.{ok, no_room}
 
--- The length is told. Where the bytes fit they are the beginning of the buffer, and the rest of it is as it was; else all of it is as it was.
+-- The length is told. Where the bytes fit they are the beginning of the buffer, and the rest of it is as it was; else
+-- all of it is as it was.
 pub record TellsBytes (bytes : List ℕ) (done : ℕ) (old : List ℕ) (code len : ℕ) (new : List ℕ) : Type 0 where
   pub length_told : len ≡ length bytes
   pub fits : length bytes ≤ length old → (code ≡ done) × (new ≡ bytes ++ drop (length bytes) old)
   pub does_not_fit : length old < length bytes → (code ≡ no_room) × (new ≡ old)
 
--- The length is told. Where the bytes fit they are the beginning of the buffer, and the rest of it is as it was; else the buffer is the beginning of the bytes.
+-- The length is told. Where the bytes fit they are the beginning of the buffer, and the rest of it is as it was; else
+-- the buffer is the beginning of the bytes.
 pub record TellsFront (bytes old : List ℕ) (code len : ℕ) (new : List ℕ) : Type 0 where
   pub length_told : len ≡ length bytes
   pub fits : length bytes ≤ length old → (code ≡ ok) × (new ≡ bytes ++ drop (length bytes) old)
@@ -24,7 +26,8 @@ pub record TellsCode (told : ℕ) (old : List ℕ) (code len : ℕ) (new : List 
 abbrev pub fitting : ℕ → ℕ → ℕ
 fitting room count = if nat_lt room count then 0 else count
 
--- Bytes that are quoted: where they fit they are the beginning of the buffer, and the rest of it is as it was; else all of it is as it was.
+-- Bytes that are quoted: where they fit they are the beginning of the buffer, and the rest of it is as it was; else all
+-- of it is as it was.
 pub record IsQuoted (bytes old new : List ℕ) : Type 0 where
   pub fits : length bytes ≤ length old → new ≡ bytes ++ drop (length bytes) old
   pub does_not_fit : length old < length bytes → new ≡ old

@@ -4,7 +4,8 @@ use Rattle.std.specs.Option.{option_map}
 use Rattle.std.specs.Str.{chars, IsUtf8}
 use Rattle.virtiofs_map.specs.Rule.{MappingRule}
 use Rattle.virtiofs_map.specs.RuleText.{SaysRules}
-use Rattle.virtiofs_map.specs.RulesFault.{RulesFault, NoRules, InRule, NotOfText, RuleFault, InvalidScope, InvalidType, IncompleteRule, MapRuleViolation, NulInPattern, HasRulesFault, rules_fault_of}
+use Rattle.virtiofs_map.specs.RulesFault.{RulesFault, NoRules, InRule, NotOfText, RuleFault, InvalidScope, InvalidType}
+use Rattle.virtiofs_map.specs.RulesFault.{IncompleteRule, MapRuleViolation, NulInPattern, HasRulesFault, rules_fault_of}
 use Rattle.virtiofs_map.specs.declared.xattrmap.errors.PatternField.TheVariants.{Key, Prepend}
 use Rattle.virtiofs_map_c.specs.Codes.{rule}
 use Rattle.virtiofs_map_c.specs.Faults.{no_fault, told_at, failure_code}

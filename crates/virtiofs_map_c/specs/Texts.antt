@@ -1,5 +1,6 @@
 -- What texts of specifications in bytes say, what is wrong with those that say nothing, and how it is told.
-use Rattle.std.specs.Prelude.{◌≡◌, ⊤, ℕ, List, [], length, take, slice_get, encode_utf8_all, Option, Some, None, IsSomeAnd}
+use Rattle.std.specs.Prelude.{◌≡◌, ⊤, ℕ, List, [], length, take, slice_get, encode_utf8_all, Option, Some, None}
+use Rattle.std.specs.Prelude.{IsSomeAnd}
 use Rattle.std.specs.Borrow.{Bor}
 use Rattle.std.specs.List.{AllZip}
 use Rattle.std.specs.Option.{option_map, option_map_or}
@@ -8,7 +9,8 @@ use Rattle.std.specs.Str.Parse.{error_kind, without_leading_plus, IsParseIntErro
 use Rattle.core.specs.declared.str.parse.IntErrorKind.{IntErrorKind}
 use Rattle.core.specs.declared.str.parse.IntErrorKind.TheVariants.{Empty, PosOverflow}
 use Rattle.virtiofs_map.specs.Build.{Accepted, BuildFault, HasFirstFault, build_fault_of}
-use Rattle.virtiofs_map.specs.SpecificationText.{Says, SpecificationFault, InvalidPrefix, InvalidLength, InvalidValue, HasSpecificationFault, specification_fault_of}
+use Rattle.virtiofs_map.specs.SpecificationText.{Says, SpecificationFault, InvalidPrefix, InvalidLength, InvalidValue}
+use Rattle.virtiofs_map.specs.SpecificationText.{HasSpecificationFault, specification_fault_of}
 use Rattle.virtiofs_map.specs.declared.cmdline.IdMap.{IdMap as Specification}
 use Rattle.virtiofs_map.specs.declared.cmdline.IdMapError.TheVariants as spec_errors
 use Rattle.virtiofs_map_c.specs.Codes.{no_part, specification}
@@ -58,7 +60,8 @@ whole = record { part = no_part; place = 0 }
 abbrev pub text_at : ℕ → Part
 text_at index = record { part = specification; place = index }
 
--- what is told of the text that is that part, where there is room for so many bytes of it, and where a field is no number in that way
+-- what is told of the text that is that part, where there is room for so many bytes of it, and where a field is no
+-- number in that way
 abbrev pub fault_told : IntErrorKind → Part → ℕ → TextFault → Fault
 fault_told kind at room NotUtf8 = told_at 2 at.part at.place 0 0
 fault_told kind at room (OfText (InvalidPrefix word)) =
@@ -66,7 +69,8 @@ fault_told kind at room (OfText (InvalidPrefix word)) =
 fault_told kind at room (OfText (InvalidLength expected seen)) =
     record (told_at 7 at.part at.place 0 0) { expected = expected; seen = seen }
 fault_told kind at room (OfText (InvalidValue field)) =
-    record (told_at 8 at.part at.place (fitting room (length (encode_utf8_all field))) (length (encode_utf8_all field))) { number = number_kind kind }
+    record (told_at 8 at.part at.place (fitting room (length (encode_utf8_all field)))
+    (length (encode_utf8_all field))) { number = number_kind kind }
 
 -- where the fault is that of a field, this is how it is no number: what the standard library's `parse` says of it
 abbrev pub IsNumberError : Option TextFault → IntErrorKind → Type 0

@@ -2,17 +2,20 @@
 use Rattle.std.specs.Prelude.{◌≡◌, ◌≢◌, ◌⊎◌, ℕ, List, Option, Some, None, Result, Ok, Err}
 use Rattle.virtiofs_map.specs.Acl.{GoesAcross, HasAclFault}
 use Rattle.virtiofs_map.specs.AclLaws.{IsTranslated, AllMapped, ComesBack}
-use Rattle.virtiofs_map.specs.Capability.{root_of, RootBecomes, KeepsFront, IsInRevision3, HasRoot, RootGoesAcross, HasRootFault, HasCapabilityFault, RootComesBack}
+use Rattle.virtiofs_map.specs.Capability.{root_of, RootBecomes, KeepsFront, IsInRevision3, HasRoot, RootGoesAcross}
+use Rattle.virtiofs_map.specs.Capability.{HasRootFault, HasCapabilityFault, RootComesBack}
 use Rattle.virtiofs_map.specs.MappingLaws.{IsMappedBothWays}
 use Rattle.virtiofs_map.specs.declared.acl.errors.AclError.{AclError}
 use Rattle.virtiofs_map.specs.declared.acl.errors.AclError.TheVariants as lists
 use Rattle.virtiofs_map.specs.declared.acl.errors.CapabilityError.{CapabilityError}
 use Rattle.virtiofs_map.specs.declared.acl.errors.CapabilityError.TheVariants as capabilities
 use Rattle.virtiofs_map.specs.declared.acl.errors.EntryFault.{EntryFault}
-use Rattle.virtiofs_map.specs.declared.acl.errors.EntryFault.TheVariants.{UnknownTag, Permission, NoId, Forbidden, Merges}
+use Rattle.virtiofs_map.specs.declared.acl.errors.EntryFault.TheVariants.{UnknownTag, Permission, NoId, Forbidden}
+use Rattle.virtiofs_map.specs.declared.acl.errors.EntryFault.TheVariants.{Merges}
 use Rattle.virtiofs_map.specs.declared.cmdline.IdMap.{IdMap as Specification}
 use Rattle.virtiofs_map.specs.declared.soft_idmap.entry.Direction.{Direction}
-use Rattle.virtiofs_map_c.specs.Codes.{ok, forbidden, refused, no_room, no_map, merges, root_moves, acl_value, acl_entry, capability_value}
+use Rattle.virtiofs_map_c.specs.Codes.{ok, forbidden, refused, no_room, no_map, merges, root_moves, acl_value}
+use Rattle.virtiofs_map_c.specs.Codes.{acl_entry, capability_value}
 use Rattle.virtiofs_map_c.specs.Faults.{no_fault, told_at}
 use Rattle.virtiofs_map_c.specs.declared.fault.Fault.{Fault}
 
@@ -85,32 +88,42 @@ IsAnswerTold is_told (Some (Err error)) code told = is_told code told error
 
 -- ---- what the calls answer
 
--- a list that goes across has each id changed and nothing else, and comes back where `map` covers its ids; of any other the first fault is told
-pub record ChangesAcl (users groups : List Specification) (direction : Direction) (room : ℕ) (old new : List ℕ) (code : ℕ) (told : Fault) : Type 0 where
+-- a list that goes across has each id changed and nothing else, and comes back where `map` covers its ids; of any other
+-- the first fault is told
+pub record ChangesAcl (users groups : List Specification) (direction : Direction) (room : ℕ) (old new : List ℕ)
+    (code : ℕ) (told : Fault) : Type 0 where
   pub done : code ≡ ok → IsTranslated users groups direction old new
   pub accepted : code ≡ ok → GoesAcross users groups direction room old
   pub complete : GoesAcross users groups direction room old → code ≡ ok
-  pub refused : code ≢ ok → (error : AclError) × HasAclFault users groups direction room old error × IsAclTold room code told error
+  pub refused : code ≢ ok
+      → (error : AclError) × HasAclFault users groups direction room old error × IsAclTold room code told error
   pub faulty : (error : AclError) → HasAclFault users groups direction room old error → IsAclTold room code told error
   pub leads_back : code ≡ ok → AllMapped users groups direction old → ComesBack users groups direction room old new
 
--- the id of root in a capability that goes across is changed and nothing else, and comes back where a `map` covers it; of any other the first fault is told
-pub record ChangesCapability (users : List Specification) (direction : Direction) (old new : List ℕ) (code : ℕ) (told : Fault) : Type 0 where
+-- the id of root in a capability that goes across is changed and nothing else, and comes back where a `map` covers it;
+-- of any other the first fault is told
+pub record ChangesCapability (users : List Specification) (direction : Direction) (old new : List ℕ) (code : ℕ)
+    (told : Fault) : Type 0 where
   pub root : code ≡ ok → RootBecomes users direction old new
   pub front : code ≡ ok → KeepsFront old new
   pub accepted : code ≡ ok → RootGoesAcross users direction old
   pub complete : RootGoesAcross users direction old → code ≡ ok
-  pub refused : code ≢ ok → (error : CapabilityError) × HasCapabilityFault users direction old error × IsCapabilityTold code told error
-  pub faulty : (error : CapabilityError) → HasCapabilityFault users direction old error → IsCapabilityTold code told error
+  pub refused : code ≢ ok
+      → (error : CapabilityError) × HasCapabilityFault users direction old error × IsCapabilityTold code told error
+  pub faulty : (error : CapabilityError) → HasCapabilityFault users direction old error
+      → IsCapabilityTold code told error
   pub leads_back : code ≡ ok → IsMappedBothWays users direction (root_of old) → RootComesBack users direction old new
 
--- a capability is written in revision 3, with what the id of root becomes; where it is none, or the use of root fails, the first fault is told
-pub record WritesCapability (users : List Specification) (direction : Direction) (value written : List ℕ) (code : ℕ) (told : Fault) : Type 0 where
+-- a capability is written in revision 3, with what the id of root becomes; where it is none, or the use of root fails,
+-- the first fault is told
+pub record WritesCapability (users : List Specification) (direction : Direction) (value written : List ℕ) (code : ℕ)
+    (told : Fault) : Type 0 where
   pub root : code ≡ ok → RootBecomes users direction value written
   pub same : code ≡ ok → IsInRevision3 value written
   pub accepted : code ≡ ok → HasRoot users direction value
   pub complete : HasRoot users direction value → code ≡ ok
-  pub refused : code ≢ ok → (error : CapabilityError) × HasRootFault users direction value error × IsCapabilityTold code told error
+  pub refused : code ≢ ok
+      → (error : CapabilityError) × HasRootFault users direction value error × IsCapabilityTold code told error
   pub faulty : (error : CapabilityError) → HasRootFault users direction value error → IsCapabilityTold code told error
 
 -- ---- the codes that they have

@@ -1,5 +1,6 @@
 -- What is wrong with ranges of a namespace.
-use Rattle.std.proofs.Common.{◌≡◌, ◌≢◌, ℕ, ◌+◌, ◌<◌, ◌≤◌, List, length, take, get_or, Option, Some, None, MatchOption, slice_get, inl, inr, sym, ◌∙◌, ap, subst, arith}
+use Rattle.std.proofs.Common.{◌≡◌, ◌≢◌, ℕ, ◌+◌, ◌<◌, ◌≤◌, List, length, take, get_or, Option, Some, None, MatchOption}
+use Rattle.std.proofs.Common.{slice_get, inl, inr, sym, ◌∙◌, ap, subst, arith}
 use Rattle.std.proofs.lemmas.Bool.{cases_lt}
 use Rattle.std.proofs.lemmas.Option.{slice_get_past, slice_get-get_or, none-some, same_Some}
 use Rattle.virtiofs_map.specs.declared.idmap.UidMap.{UidMap}
@@ -39,10 +40,14 @@ not_past : (before : List UidMap) (Meets : UidMap → Type 0) (k : ℕ) → leng
 not_past before Meets k past (other, is, meets) = none-some _ (sym (slice_get_past before k past) ∙ is)
 
 -- it meets none of all
-pub all_unmet : (before : List UidMap) (range : UidMap) (place : ℕ) → length before ≤ place → MeetsNoneBelow before range place → MeetsNone before range
+pub all_unmet : (before : List UidMap) (range : UidMap) (place : ℕ) → length before ≤ place
+    → MeetsNoneBelow before range place → MeetsNone before range
 all_unmet before range place past so_far k = elim (cases_lt k place) [
   | inl earlier ↦ so_far k earlier
-  | inr late ↦ (not_past before (MeetInside range) k (omega (arith, past, late)), not_past before (MeetOutside range) k (omega (arith, past, late)))
+  | inr late ↦ (
+    not_past before (MeetInside range) k (omega (arith, past, late)),
+    not_past before (MeetOutside range) k (omega (arith, past, late)),
+  )
 ]
 
 -- ---- ranges at fault
@@ -64,8 +69,10 @@ abbrev pub NoneWrongBelow : List UidMap → ℕ → Type 0
 NoneWrongBelow ranges place = (k : ℕ) (fault : RangeFault) → k < place → ¬ HasFaultAt ranges k fault
 
 -- one more that is not at fault
-pub none_wrong_more : (ranges : List UidMap) (d : UidMap) (place : ℕ) → NoneWrongBelow ranges place → place < length ranges
-    → ((fault : RangeFault) → ¬ IsAtFault (take place ranges) (get_or ranges place d) fault) → NoneWrongBelow ranges (place + 1)
+pub none_wrong_more : (ranges : List UidMap) (d : UidMap) (place : ℕ) → NoneWrongBelow ranges place
+    → place < length ranges
+    → ((fault : RangeFault) → ¬ IsAtFault (take place ranges) (get_or ranges place d) fault)
+    → NoneWrongBelow ranges (place + 1)
 none_wrong_more ranges d place so_far here sound k fault below at = elim (cases_lt k place) [
   | inl earlier ↦ so_far k fault earlier at
   | inr last ↦ is (omega (arith, below, last))
@@ -73,7 +80,8 @@ none_wrong_more ranges d place so_far here sound k fault below at = elim (cases_
   is : k ≡ place → ⊥
   is same =
       let at_place = subst (λ i. IsAtFault (take i ranges) at.range fault) same at.is_at_fault in
-      let one = same_Some _ _ (sym at.here ∙ ap (λ i. slice_get ranges i) same ∙ slice_get-get_or ranges place d here) in
+      let one =
+      same_Some _ _ (sym at.here ∙ ap (λ i. slice_get ranges i) same ∙ slice_get-get_or ranges place d here) in
       sound fault (subst (λ r. IsAtFault (take place ranges) r fault) one at_place)
 
 -- none of all is at fault

@@ -1,5 +1,7 @@
 -- What the options of a guest set up, and what is told of texts that are refused.
-use Rattle.std.proofs.Common.{◌≡◌, ◌≢◌, ◌⊎◌, ◌↔◌, inl, inr, ℕ, ◌+◌, ◌<◌, ◌≤◌, List, [], ◌∷◌, ◌++◌, length, take, get_or, Option, Some, None, Result, Ok, Err, OnOk, refl, sym, ap, ◌∙◌, subst, append_assoc, append-nil}
+use Rattle.std.proofs.Common.{◌≡◌, ◌≢◌, ◌⊎◌, ◌↔◌, inl, inr, ℕ, ◌+◌, ◌<◌, ◌≤◌, List, [], ◌∷◌, ◌++◌, length, take, get_or}
+use Rattle.std.proofs.Common.{Option, Some, None, Result, Ok, Err, OnOk, refl, sym, ap, ◌∙◌, subst, append_assoc}
+use Rattle.std.proofs.Common.{append-nil}
 use Rattle.std.specs.Prelude.{⊤}
 use Rattle.std.specs.Borrow.{Bor}
 use Rattle.std.specs.List.{AllZip}
@@ -40,7 +42,8 @@ tells_nothing P before after same not = record {
 
 -- a line is told
 tells_line : (before after line : List ℕ) → after ≡ before ++ line → line ≢ [] → TellsWhere ⊤ before after
-tells_line before after line added some = record { told = line; added = added; where_refused = ((λ _. tt), (λ _. some)) }
+tells_line before after line added some =
+    record { told = line; added = added; where_refused = ((λ _. tt), (λ _. some)) }
 
 -- the lines have text
 refusal_some : (number place : ℕ) (option why : List ℕ) → refusal_line number place option why ≢ []
@@ -57,22 +60,33 @@ tells_refusal (Ok x) before after number place option why told =
 tells_refusal (Err e) before after number place option why told = tt
 
 -- the rules were told of
-pub tells_rules : (P : Type 0) (before after : List ℕ) (number : ℕ) (why : List ℕ) → after ≡ before ++ rules_refusal_line number why → P
+pub tells_rules : (P : Type 0) (before after : List ℕ) (number : ℕ) (why : List ℕ)
+    → after ≡ before ++ rules_refusal_line number why → P
     → TellsWhere P before after
 tells_rules P before after number why told is =
-    record { told = rules_refusal_line number why; added = told; where_refused = ((λ _. is), (λ _. rules_refusal_some number why)) }
+    record {
+      told = rules_refusal_line number why;
+      added = told;
+      where_refused =
+          ((λ _. is), (λ _. rules_refusal_some number why));
+    }
 
 -- what was told is a refusal
 pub tells_that : (P : Type 0) (before after : List ℕ) → TellsWhere ⊤ before after → P → TellsWhere P before after
-tells_that P before after tells is = record { told = tells.told; added = tells.added; where_refused = ((λ _. is), (λ _. tells.where_refused.1 tt)) }
+tells_that P before after tells is =
+    record { told = tells.told; added = tells.added; where_refused = ((λ _. is), (λ _. tells.where_refused.1 tt)) }
 
 -- one after the other
-pub tells_both : (P Q R : Type 0) (before between after : List ℕ) → TellsWhere P before between → TellsWhere Q between after
+pub tells_both : (P Q R : Type 0) (before between after : List ℕ) → TellsWhere P before between
+    → TellsWhere Q between after
     → (R ↔ (P ⊎ Q)) → TellsWhere R before after
 tells_both P Q R before between after first second both = record {
   told = first.told ++ second.told;
   added = second.added ∙ ap (λ x. x ++ second.told) first.added ∙ append_assoc before first.told second.told;
-  where_refused = ((λ some. both.1 (of_some first.told second.told first.where_refused second.where_refused some)), (λ is. some_of first.told second.told (either (both.0 is))));
+  where_refused = (
+    (λ some. both.1 (of_some first.told second.told first.where_refused second.where_refused some)),
+    (λ is. some_of first.told second.told (either (both.0 is))),
+  );
 } where
   of_some : (xs ys : List ℕ) → ((xs ≢ []) ↔ P) → ((ys ≢ []) ↔ Q) → xs ++ ys ≢ [] → P ⊎ Q
   of_some [] ys p q some = inr (q.0 some)
@@ -92,75 +106,103 @@ pub neither : {A B C : Type 0} (x : Option A) (y : Option B) (a : A) (b : B) (c 
     → (Some c ≡ None) ↔ ((x ≡ None) ⊎ (y ≡ None))
 neither x y a b c is is_too = (
   (λ none. absurd (none-some c (sym none))),
-  (λ none. elim none [ inl lacks ↦ absurd (none-some a (sym lacks ∙ is)) | inr lacks ↦ absurd (none-some b (sym lacks ∙ is_too)) ]),
+  (λ none.
+      elim none [
+        | inl lacks ↦ absurd (none-some a (sym lacks ∙ is))
+        | inr lacks ↦ absurd (none-some b (sym lacks ∙ is_too))
+      ]),
 )
 
 -- three, one after the other
-pub tells_three : (P Q R : Type 0) (before first second after : List ℕ) → TellsWhere P before first → TellsWhere Q first second
+pub tells_three : (P Q R : Type 0) (before first second after : List ℕ) → TellsWhere P before first
+    → TellsWhere Q first second
     → TellsWhere R second after → TellsWhere (P ⊎ (Q ⊎ R)) before after
 tells_three P Q R before first second after one two three =
     tells_both P (Q ⊎ R) (P ⊎ (Q ⊎ R)) before first after one
     (tells_both Q R (Q ⊎ R) first second after two three ((λ x. x), (λ x. x))) ((λ x. x), (λ x. x))
 
 -- the guests so far, and one more
-pub tells_more : {A : Type 0} (guests : List (Guest A)) (sets : List (SetUp A)) (place : ℕ) (guest : Guest A) (set : SetUp A) (before between after : List ℕ)
+pub tells_more : {A : Type 0} (guests : List (Guest A)) (sets : List (SetUp A)) (place : ℕ) (guest : Guest A)
+    (set : SetUp A) (before between after : List ℕ)
     → guest ≡ get_or guests place guest → place < length guests → AllZip SetsUp (take place guests) sets
-    → TellsWhere (IsSomeRefused (take place guests) sets) before between → TellsWhere (IsRefused guest set) between after
+    → TellsWhere (IsSomeRefused (take place guests) sets) before between
+    → TellsWhere (IsRefused guest set) between after
     → TellsWhere (IsSomeRefused (take (place + 1) guests) (sets ++ set ∷ [])) before after
 tells_more guests sets place guest set before between after is below sets_up so_far one =
     rw (more_at guests place guest is below)
     (tells_both _ _ _ before between after so_far one
-    (AnyTwoHave-push IsRefused (take place guests) sets guest set (AllZip-long SetsUp (take place guests) sets sets_up)))
+    (AnyTwoHave-push IsRefused (take place guests) sets guest set
+    (AllZip-long SetsUp (take place guests) sets sets_up)))
 
 -- one more guest
-pub sets_up_more : {A : Type 0} (guests : List (Guest A)) (sets : List (SetUp A)) (place : ℕ) (guest : Guest A) (set : SetUp A)
-    → guest ≡ get_or guests place guest → place < length guests → AllZip SetsUp (take place guests) sets → SetsUp guest set
+pub sets_up_more : {A : Type 0} (guests : List (Guest A)) (sets : List (SetUp A)) (place : ℕ) (guest : Guest A)
+    (set : SetUp A)
+    → guest ≡ get_or guests place guest → place < length guests → AllZip SetsUp (take place guests) sets
+    → SetsUp guest set
     → AllZip SetsUp (take (place + 1) guests) (sets ++ set ∷ [])
-sets_up_more guests sets place guest set is below all one = rw (more_at guests place guest is below) (AllZip-push SetsUp (take place guests) sets guest set all one)
+sets_up_more guests sets place guest set is below all one =
+    rw (more_at guests place guest is below) (AllZip-push SetsUp (take place guests) sets guest set all one)
 
 -- all guests
-pub tells_all : {A : Type 0} (guests : List (Guest A)) (sets : List (SetUp A)) (place : ℕ) (before after : List ℕ) → length guests ≤ place
-    → TellsWhere (IsSomeRefused (take place guests) sets) before after → TellsWhere (IsSomeRefused guests sets) before after
-tells_all guests sets place before after over so_far = subst (λ xs. TellsWhere (IsSomeRefused xs sets) before after) (take_all place guests over) so_far
+pub tells_all : {A : Type 0} (guests : List (Guest A)) (sets : List (SetUp A)) (place : ℕ) (before after : List ℕ)
+    → length guests ≤ place
+    → TellsWhere (IsSomeRefused (take place guests) sets) before after
+    → TellsWhere (IsSomeRefused guests sets) before after
+tells_all guests sets place before after over so_far =
+    subst (λ xs. TellsWhere (IsSomeRefused xs sets) before after) (take_all place guests over) so_far
 
 -- ---- faults
 
 -- a call that tells a fault
-pub tells_fault : {F T E : Type 0} (r : Result T E) (told : Option F) (fault : F) → told ≡ Some fault → OnOk r ((f : F) × (told ≡ Some f))
+pub tells_fault : {F T E : Type 0} (r : Result T E) (told : Option F) (fault : F) → told ≡ Some fault
+    → OnOk r ((f : F) × (told ≡ Some f))
 tells_fault (Ok x) told fault is = (fault, is)
 tells_fault (Err e) told fault is = tt
 
 -- the fault of a text is one of the list
-pub unread_fault : {A T E : Type 0} (r : Result T E) (error : SpecsError A) (index : ℕ) (cause : IdMapError A) → error ≡ errors.Spec index cause
-    → OnOk r ((f : SpecificationFault) × (specification_fault_of cause ≡ Some f)) → OnOk r ((f : SpecsFault) × (specs_fault_of error ≡ Some f))
-unread_fault (Ok x) error index cause is (fault, tells) = (Unread index fault, ap specs_fault_of is ∙ ap (option_map (Unread index)) tells)
+pub unread_fault : {A T E : Type 0} (r : Result T E) (error : SpecsError A) (index : ℕ) (cause : IdMapError A)
+    → error ≡ errors.Spec index cause
+    → OnOk r ((f : SpecificationFault) × (specification_fault_of cause ≡ Some f))
+    → OnOk r ((f : SpecsFault) × (specs_fault_of error ≡ Some f))
+unread_fault (Ok x) error index cause is (fault, tells) =
+    (Unread index fault, ap specs_fault_of is ∙ ap (option_map (Unread index)) tells)
 unread_fault (Err e) error index cause is told = tt
 
 -- and so is that of the map
-pub unbuilt_fault : {A T E : Type 0} (r : Result T E) (error : SpecsError A) (cause : IdMapBuildError) → error ≡ errors.Build cause
-    → OnOk r ((f : BuildFault) × (build_fault_of cause ≡ Some f)) → OnOk r ((f : SpecsFault) × (specs_fault_of error ≡ Some f))
-unbuilt_fault (Ok x) error cause is (fault, tells) = (Unbuilt fault, ap specs_fault_of is ∙ ap (option_map Unbuilt) tells)
+pub unbuilt_fault : {A T E : Type 0} (r : Result T E) (error : SpecsError A) (cause : IdMapBuildError)
+    → error ≡ errors.Build cause
+    → OnOk r ((f : BuildFault) × (build_fault_of cause ≡ Some f))
+    → OnOk r ((f : SpecsFault) × (specs_fault_of error ≡ Some f))
+unbuilt_fault (Ok x) error cause is (fault, tells) =
+    (Unbuilt fault, ap specs_fault_of is ∙ ap (option_map Unbuilt) tells)
 unbuilt_fault (Err e) error cause is told = tt
 
 -- an error that tells a fault is about that fault
-pub about_fault : {F : Type 0} (told : Option F) (P : F → Type 0) → OutOfMemoryOr told P → ((f : F) × (told ≡ Some f)) → (f : F) × P f
+pub about_fault : {F : Type 0} (told : Option F) (P : F → Type 0) → OutOfMemoryOr told P → ((f : F) × (told ≡ Some f))
+    → (f : F) × P f
 about_fault None P about (f, is) = absurd (cc)
 about_fault (Some fault) P about (f, is) = (fault, about)
 
 -- an error that blames a rule tells a fault
-pub rule_fault : {A : Type 0} (error : Error A) (number : ℕ) → error.rule ≡ Some number → (f : RulesFault) × (rules_fault_of error ≡ Some f)
-rule_fault error number is = (option_map_or (InRule number) (rule_fault_of error.cause) NotOfText, ap (λ (k : Option ℕ). fault_at k error.cause) is)
+pub rule_fault : {A : Type 0} (error : Error A) (number : ℕ) → error.rule ≡ Some number
+    → (f : RulesFault) × (rules_fault_of error ≡ Some f)
+rule_fault error number is = (
+  option_map_or (InRule number) (rule_fault_of error.cause) NotOfText,
+  ap (λ (k : Option ℕ). fault_at k error.cause) is,
+)
 
 -- ---- ranges
 
 -- one more text that says a range
-pub says_more : (texts : List (Bor (List ℕ))) (ranges : List UidMap) (i : ℕ) (d : Bor (List ℕ)) (range : UidMap) → i < length texts
+pub says_more : (texts : List (Bor (List ℕ))) (ranges : List UidMap) (i : ℕ) (d : Bor (List ℕ)) (range : UidMap)
+    → i < length texts
     → AllZip SaysRange (take i (texts_of texts)) ranges → SaysRange (chars (get_or texts i d).now) range
     → AllZip SaysRange (take (i + 1) (texts_of texts)) (ranges ++ range ∷ [])
 says_more texts ranges i d range below say here =
     let f : Bor (List ℕ) → List ℕ = λ text. chars text.now in
     let more : take (i + 1) (texts_of texts) ≡ take i (texts_of texts) ++ f (get_or texts i d) ∷ [] =
-    take-map f (i + 1) texts ∙ map_more f texts i d below ∙ ap (λ (front : List (List ℕ)). front ++ f (get_or texts i d) ∷ []) (sym (take-map f i texts)) in
+    take-map f (i + 1) texts ∙ map_more f texts i d below
+    ∙ ap (λ (front : List (List ℕ)). front ++ f (get_or texts i d) ∷ []) (sym (take-map f i texts)) in
     rw more (AllZip-push SaysRange (take i (texts_of texts)) ranges (f (get_or texts i d)) range say here)
 
 -- a text that says none

@@ -1,5 +1,6 @@
 -- The lines that show what becomes of all ids.
-use Rattle.std.specs.Prelude.{◌≡◌, ℕ, ◌+◌, ◌-◌, List, [], ◌++◌, max, min, codes, flat_map, Option, Some, None, if◌then◌else◌, ◌==◌, nat_lt}
+use Rattle.std.specs.Prelude.{◌≡◌, ℕ, ◌+◌, ◌-◌, List, [], ◌++◌, max, min, codes, flat_map, Option, Some, None}
+use Rattle.std.specs.Prelude.{if◌then◌else◌, ◌==◌, nat_lt}
 use Rattle.std.specs.Fmt.{decimal}
 use Rattle.virtiofs_map.specs.Pieces.{ArePieces}
 use Rattle.virtiofs_map.specs.declared.cmdline.IdMap.{IdMap}
@@ -62,7 +63,12 @@ piece_line direction piece =
 abbrev pub within_line : UidMap → ℕ → ℕ → List ℕ
 within_line range from past =
     codes "    in the namespace " ++ span_text (record { first = from; last = past - 1 }) ++ codes " -> outside "
-    ++ span_text (record { first = range.outside_uid + (from - range.inside_uid); last = range.outside_uid + (past - 1 - range.inside_uid) })
+    ++ span_text
+    (record {
+      first = range.outside_uid + (from - range.inside_uid);
+      last =
+          range.outside_uid + (past - 1 - range.inside_uid);
+    })
     ++ codes "\n"
 
 -- those of the ids that the range has, if there are any
@@ -83,7 +89,8 @@ piece_lines ranges GuestToHost piece = piece_line GuestToHost piece ++ outside_l
 piece_lines ranges HostToGuest piece = piece_line HostToGuest piece
 
 -- what becomes of all ids in a direction
-pub record ShowsDirection (specs : List IdMap) (ranges : List UidMap) (direction : Direction) (text : List ℕ) : Type 0 where
+pub record ShowsDirection (specs : List IdMap) (ranges : List UidMap) (direction : Direction) (text : List ℕ) : Type
+    0 where
   pub pieces : List Piece
   pub are_pieces : ArePieces specs direction pieces
   pub whole : text ≡ flat_map (piece_lines ranges direction) pieces
@@ -94,4 +101,5 @@ pub record ShowsIds (kind : IdKind) (specs : List IdMap) (ranges : List UidMap) 
   pub from_host : List ℕ
   pub guest : ShowsDirection specs ranges GuestToHost from_guest
   pub host : ShowsDirection specs ranges HostToGuest from_host
-  pub whole : text ≡ one_of kind ++ codes "s from the guest:\n" ++ from_guest ++ one_of kind ++ codes "s from the host:\n" ++ from_host
+  pub whole : text ≡ one_of kind ++ codes "s from the guest:\n" ++ from_guest ++ one_of kind
+      ++ codes "s from the host:\n" ++ from_host

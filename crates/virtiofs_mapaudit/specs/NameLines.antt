@@ -10,7 +10,9 @@ use Rattle.virtiofs_mapaudit.specs.declared.names.found.NameFindings.{NameFindin
 
 -- the name begins as names of attributes do
 abbrev pub is_usual : List ℕ → Bool
-is_usual name = begins (codes "user.") name || begins (codes "trusted.") name || begins (codes "security.") name || begins (codes "system.") name
+is_usual name =
+    begins (codes "user.") name || begins (codes "trusted.") name || begins (codes "security.") name || begins
+    (codes "system.") name
 
 -- a further name, or what is said where there is none
 abbrev pub or_name : {A : Type 0} → Audit A → List ℕ → List ℕ
@@ -50,7 +52,8 @@ stray_lines found =
 -- a rule that decides no name; rules are counted from 1
 abbrev pub idle_lines : ℕ → List ℕ
 idle_lines place =
-    codes "rule " ++ decimal (place + 1) ++ codes " decides no name: earlier rules take all that it fits\n  mend: take it out, or put it before them\n"
+    codes "rule " ++ decimal (place + 1)
+    ++ codes " decides no name: earlier rules take all that it fits\n  mend: take it out, or put it before them\n"
 
 -- what was found of the names of a guest
 abbrev pub name_lines : {A : Type 0} → NameFindings A → List ℕ

@@ -5,4 +5,5 @@ use Rattle.virtiofs_mapaudit.specs.Ranges.{MeetsOneAt, MeetInside, MeetOutside}
 
 -- the range meets none of those before it
 abbrev pub MeetsNone : List UidMap → UidMap → Type 0
-MeetsNone before range = (place : ℕ) → (¬ MeetsOneAt before place (MeetInside range)) × (¬ MeetsOneAt before place (MeetOutside range))
+MeetsNone before range = (place : ℕ)
+    → (¬ MeetsOneAt before place (MeetInside range)) × (¬ MeetsOneAt before place (MeetOutside range))

@@ -60,7 +60,8 @@ HasPair pairs place place_2 = AnyHas (λ pair. (pair.first ≡ place + 1) × (pa
 pub record FindsReport {A : Type 0} (sets : List (SetUp A)) (report : Report A) : Type 0 where
   pub guests : AllZip FindsGuest sets report.guests.items
   pub pairs : All (IsPairOf sets) report.pairs.items
-  pub each_two : (place place_2 : ℕ) → place < place_2 → place_2 < length sets → HasPair report.pairs.items place place_2
+  pub each_two : (place place_2 : ℕ) → place < place_2 → place_2 < length sets
+      → HasPair report.pairs.items place place_2
 
 -- something is told of a guest
 abbrev pub IsFoundOf : {A : Type 0} → List (GuestFindings A) → Type 0

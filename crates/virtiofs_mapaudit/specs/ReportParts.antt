@@ -5,7 +5,8 @@ use Rattle.virtiofs_mapaudit.specs.declared.audit.Pair.{Pair}
 use Rattle.virtiofs_mapaudit.specs.declared.setup.SetUp.{SetUp}
 
 -- the guest at that place was compared with each of the first `count`
-pub record AddsPairs {A : Type 0} (sets : List (SetUp A)) (place count : ℕ) (before after : List (Pair A)) : Type 0 where
+pub record AddsPairs {A : Type 0} (sets : List (SetUp A)) (place count : ℕ) (before after : List (Pair A)) : Type
+    0 where
   pub more : List (Pair A)
   pub added : after ≡ before ++ more
   pub pairs : All (IsPairOf sets) more

@@ -1,5 +1,6 @@
 -- What the program says of guests.
-use Rattle.std.specs.Prelude.{◌≡◌, ◌≢◌, ◌↔◌, ℕ, ◌+◌, Bool, true, false, IsTrue, IsFalse, List, [], ◌∷◌, ◌++◌, length, codes, flat_map, Option, Some, None, string_bytes}
+use Rattle.std.specs.Prelude.{◌≡◌, ◌≢◌, ◌↔◌, ℕ, ◌+◌, Bool, true, false, IsTrue, IsFalse, List, [], ◌∷◌, ◌++◌, length}
+use Rattle.std.specs.Prelude.{codes, flat_map, Option, Some, None, string_bytes}
 use Rattle.std.specs.Fmt.{decimal}
 use Rattle.std.specs.List.{AllZip}
 use Rattle.virtiofs_mapaudit.specs.GuestLines.{guest_lines}
@@ -106,4 +107,5 @@ pub record Says {A : Type 0} (asked : Asked) (guests : List (Guest A)) (said : S
   pub found : IsTrue said.is_found ↔ IsFound report
   pub refused : (string_bytes said.refusals ≢ []) ↔ IsSomeRefused guests sets
   pub quiet : IsTrue asked.quiet → string_bytes said.text ≡ []
-  pub plain : IsFalse asked.quiet → IsFalse asked.json → string_bytes said.text ≡ report_text guests tables report said.is_found
+  pub plain : IsFalse asked.quiet → IsFalse asked.json
+      → string_bytes said.text ≡ report_text guests tables report said.is_found

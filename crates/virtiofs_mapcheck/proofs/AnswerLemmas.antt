@@ -20,7 +20,11 @@ AnswersForm-one (Apart first second) = AnswersApart-one first second
 
 pub HasOneAnswer-words : (words : List (List ℕ)) → HasOneAnswer words
 HasOneAnswer-words words answered other text another (inl (form, has, one)) (inl (form', had, two)) =
-    AnswersForm-one form' answered other text another (subst (λ (f : Form). AnswersForm f answered text) (HasForm-one words form form' has had) one) two
-HasOneAnswer-words words answered other text another (inl (form, has, one)) (inr (none, outcome, is)) = absurd (none form has)
-HasOneAnswer-words words answered other text another (inr (none, outcome, is)) (inl (form, has, two)) = absurd (none form has)
-HasOneAnswer-words words answered other text another (inr (none, outcome, is)) (inr (none', outcome', such)) = (outcome ∙ sym outcome', is ∙ sym such)
+    AnswersForm-one form' answered other text another
+    (subst (λ (f : Form). AnswersForm f answered text) (HasForm-one words form form' has had) one) two
+HasOneAnswer-words words answered other text another (inl (form, has, one)) (inr (none, outcome, is)) =
+    absurd (none form has)
+HasOneAnswer-words words answered other text another (inr (none, outcome, is)) (inl (form, has, two)) =
+    absurd (none form has)
+HasOneAnswer-words words answered other text another (inr (none, outcome, is)) (inr (none', outcome', such)) =
+    (outcome ∙ sym outcome', is ∙ sym such)

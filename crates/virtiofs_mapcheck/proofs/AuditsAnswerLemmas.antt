@@ -1,5 +1,6 @@
 -- What holds of all names has one answer under a text of rules.
-use Rattle.std.proofs.Common.{◌≡◌, ◌≢◌, ℕ, List, [], ◌++◌, codes, Ordering, Less, Equal, Greater, nat_cmp, is_eq, inl, inr, refl, sym, ap, ◌∙◌}
+use Rattle.std.proofs.Common.{◌≡◌, ◌≢◌, ℕ, List, [], ◌++◌, codes, Ordering, Less, Equal, Greater, nat_cmp, is_eq, inl}
+use Rattle.std.proofs.Common.{inr, refl, sym, ap, ◌∙◌}
 use Rattle.std.specs.Cmp.Lexicographic.{slice_cmp}
 use Rattle.std.specs.Ordering.{ordering_reverse}
 use Rattle.std.proofs.lemmas.Cmp.{nat_list_cmp_total}
@@ -9,7 +10,8 @@ use Rattle.virtiofs_map.specs.Audit.{IsBefore, IsLeast, AnswersLeast, IsLost, Is
 use Rattle.virtiofs_map.specs.declared.audit.answer.Audit.{Audit}
 use Rattle.virtiofs_map.specs.declared.audit.answer.Audit.TheVariants.{Yes, No}
 use Rattle.virtiofs_map.specs.Rule.{MappingRule}
-use Rattle.virtiofs_mapcheck.specs.AuditsAnswer.{SaysLeast, SaysTerminated, AnswersTerminated, AnswersAudit, AnswersApart}
+use Rattle.virtiofs_mapcheck.specs.AuditsAnswer.{SaysLeast, SaysTerminated, AnswersTerminated, AnswersAudit}
+use Rattle.virtiofs_mapcheck.specs.AuditsAnswer.{AnswersApart}
 use Rattle.virtiofs_mapcheck.specs.AuditsParts.{audit_text}
 use Rattle.virtiofs_mapcheck.specs.Outcome.{AreOne}
 use Rattle.virtiofs_mapcheck.specs.RulesAnswer.{WithRules}
@@ -19,7 +21,8 @@ use Rattle.virtiofs_mapcheck.proofs.OutcomeLemmas.{IsGiven-one}
 use Rattle.virtiofs_mapcheck.proofs.RulesAnswerLemmas.{WithRules-one}
 
 -- what an audit answers is what is said of it
-pub SaysLeast-audit : {A : Type 0} (bad : List ℕ → Type 0) (audit : Audit A) (text : List ℕ) → AnswersLeast bad audit → text ≡ line (audit_text audit) → SaysLeast bad Given text
+pub SaysLeast-audit : {A : Type 0} (bad : List ℕ → Type 0) (audit : Audit A) (text : List ℕ) → AnswersLeast bad audit
+    → text ≡ line (audit_text audit) → SaysLeast bad Given text
 SaysLeast-audit bad Yes text none is = inl (none, (refl, is))
 SaysLeast-audit bad (No name) text least is = inr (name, least, (refl, is))
 
@@ -35,7 +38,9 @@ neither_less Greater Greater flipped not_less not_more = cc
 -- names of which none comes before the other are one
 same_place : (name other : List ℕ) → ¬ IsBefore name other → ¬ IsBefore other name → name ≡ other
 same_place name other not_before not_after =
-    let equal = neither_less (slice_cmp nat_cmp name other) (slice_cmp nat_cmp other name) (nat_list_cmp_total.antisymm name other) not_before not_after in
+    let equal =
+    neither_less (slice_cmp nat_cmp name other) (slice_cmp nat_cmp other name)
+    (nat_list_cmp_total.antisymm name other) not_before not_after in
     (bytes_eq-Decides name other).0 (sym (is_eq-slice_cmp name other) ∙ ap is_eq equal)
 
 IsLeast-one : (bad : List ℕ → Type 0) (name other : List ℕ) → IsLeast bad name → IsLeast bad other → name ≡ other
@@ -43,17 +48,25 @@ IsLeast-one bad name other first second =
     same_place name other (second.none_before name first.is_bad) (first.none_before other second.is_bad)
 
 SaysLeast-one : (bad : List ℕ → Type 0) → AreOne (SaysLeast bad)
-SaysLeast-one bad answered other text another (inl (none, one)) (inl (never, two)) = IsGiven-one (codes "yes") answered other text another one two
-SaysLeast-one bad answered other text another (inl (none, one)) (inr (name, least, two)) = absurd (none name least.is_bad)
-SaysLeast-one bad answered other text another (inr (name, least, one)) (inl (none, two)) = absurd (none name least.is_bad)
-SaysLeast-one bad answered other text another (inr (name, least, one)) (inr (found, such, two)) =
-    (one.0 ∙ sym two.0, one.1 ∙ ap (λ (n : List ℕ). line (codes "no " ++ written n)) (IsLeast-one bad name found least such) ∙ sym two.1)
+SaysLeast-one bad answered other text another (inl (none, one)) (inl (never, two)) =
+    IsGiven-one (codes "yes") answered other text another one two
+SaysLeast-one bad answered other text another (inl (none, one)) (inr (name, least, two)) =
+    absurd (none name least.is_bad)
+SaysLeast-one bad answered other text another (inr (name, least, one)) (inl (none, two)) =
+    absurd (none name least.is_bad)
+SaysLeast-one bad answered other text another (inr (name, least, one)) (inr (found, such, two)) = (
+  one.0 ∙ sym two.0,
+  one.1
+      ∙ ap (λ (n : List ℕ). line (codes "no " ++ written n)) (IsLeast-one bad name found least such) ∙ sym two.1,
+)
 
 SaysTerminated-one : (rules : List MappingRule) → AreOne (SaysTerminated rules)
-SaysTerminated-one rules answered other text another (inl (holds, one)) (inl (also, two)) = IsGiven-one (codes "yes") answered other text another one two
+SaysTerminated-one rules answered other text another (inl (holds, one)) (inl (also, two)) =
+    IsGiven-one (codes "yes") answered other text another one two
 SaysTerminated-one rules answered other text another (inl (holds, one)) (inr (fails, two)) = absurd (fails holds)
 SaysTerminated-one rules answered other text another (inr (fails, one)) (inl (holds, two)) = absurd (fails holds)
-SaysTerminated-one rules answered other text another (inr (fails, one)) (inr (also, two)) = IsGiven-one (codes "no") answered other text another one two
+SaysTerminated-one rules answered other text another (inr (fails, one)) (inr (also, two)) =
+    IsGiven-one (codes "no") answered other text another one two
 
 -- ---- one answer
 
@@ -61,9 +74,13 @@ pub AnswersTerminated-one : (said : List ℕ) → AreOne (AnswersTerminated said
 AnswersTerminated-one said = WithRules-one [] said SaysTerminated SaysTerminated-one
 
 pub AnswersAudit-one : (said : List ℕ) → AreOne (AnswersAudit said)
-AnswersAudit-one said = WithRules-one [] said (λ (rules : List MappingRule). SaysLeast (IsLost rules)) (λ rules. SaysLeast-one (IsLost rules))
+AnswersAudit-one said =
+    WithRules-one [] said (λ (rules : List MappingRule). SaysLeast (IsLost rules))
+    (λ rules. SaysLeast-one (IsLost rules))
 
 pub AnswersApart-one : (first second : List ℕ) → AreOne (AnswersApart first second)
 AnswersApart-one first second =
-    WithRules-one (codes "first: ") first (λ (rules : List MappingRule). WithRules (codes "second: ") second (λ others. SaysLeast (IsSeen rules others)))
-    (λ rules. WithRules-one (codes "second: ") second (λ (others : List MappingRule). SaysLeast (IsSeen rules others)) (λ others. SaysLeast-one (IsSeen rules others)))
+    WithRules-one (codes "first: ") first
+    (λ (rules : List MappingRule). WithRules (codes "second: ") second (λ others. SaysLeast (IsSeen rules others)))
+    (λ rules. WithRules-one (codes "second: ") second (λ (others : List MappingRule). SaysLeast (IsSeen rules others))
+    (λ others. SaysLeast-one (IsSeen rules others)))

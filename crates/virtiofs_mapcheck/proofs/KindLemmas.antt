@@ -1,7 +1,8 @@
 -- The kinds of forms are told apart by their first words.
 use Rattle.std.proofs.Common.{◌≡◌, List, [], ◌∷◌, ℕ, Option, Some, refl, sym, ap, ◌∙◌}
 use Rattle.std.specs.Prelude.{find, bytes_eq}
-use Rattle.virtiofs_mapcheck.specs.Words.{Kind, IdsKind, NamespaceKind, ClientKind, ServerKind, TerminatedKind, AuditKind, ApartKind, first_word}
+use Rattle.virtiofs_mapcheck.specs.Words.{Kind, IdsKind, NamespaceKind, ClientKind, ServerKind, TerminatedKind}
+use Rattle.virtiofs_mapcheck.specs.Words.{AuditKind, ApartKind, first_word}
 
 -- all kinds
 abbrev kinds : List Kind

@@ -12,9 +12,15 @@ one_range_text : (a b c x y z : ℕ) → (a ≡ x) × (b ≡ y) × (c ≡ z) →
 one_range_text a b c x y z (first, second, third) = rw (first, second, third) refl
 
 pub AnswersNamespace-one : (said : List ℕ) → AreOne (AnswersNamespace said)
-AnswersNamespace-one said answered other text another (inl (a, b, c, says, one)) (inl (x, y, z, told, two)) =
-    (one.0 ∙ sym two.0, one.1 ∙ ap line (one_range_text a b c x y z (namespace_one_value (chars said) a b c x y z says told)) ∙ sym two.1)
-AnswersNamespace-one said answered other text another (inl (a, b, c, says, one)) (inr (fault, has, two)) = absurd (namespace_no_fault (chars said) a b c fault says has)
-AnswersNamespace-one said answered other text another (inr (fault, has, one)) (inl (a, b, c, says, two)) = absurd (namespace_no_fault (chars said) a b c fault says has)
+AnswersNamespace-one said answered other text another (inl (a, b, c, says, one)) (inl (x, y, z, told, two)) = (
+  one.0 ∙ sym two.0,
+  one.1
+      ∙ ap line (one_range_text a b c x y z (namespace_one_value (chars said) a b c x y z says told)) ∙ sym two.1,
+)
+AnswersNamespace-one said answered other text another (inl (a, b, c, says, one)) (inr (fault, has, two)) =
+    absurd (namespace_no_fault (chars said) a b c fault says has)
+AnswersNamespace-one said answered other text another (inr (fault, has, one)) (inl (a, b, c, says, two)) =
+    absurd (namespace_no_fault (chars said) a b c fault says has)
 AnswersNamespace-one said answered other text another (inr (fault, has, one)) (inr (wrong, had, two)) =
-    refused_alike namespace_fault_text fault wrong (namespace_one_fault (chars said) fault wrong has had) answered other text another one two
+    refused_alike namespace_fault_text fault wrong (namespace_one_fault (chars said) fault wrong has had) answered other
+    text another one two

@@ -1,9 +1,11 @@
 -- A text of rules is refused by a line, in one way, or says one list of rules.
-use Rattle.std.proofs.Common.{◌≡◌, ℕ, List, ◌++◌, Option, Some, None, Result, Ok, Err, IfOk, String, string_bytes, inl, inr, sym, ap, ◌∙◌, subst}
+use Rattle.std.proofs.Common.{◌≡◌, ℕ, List, ◌++◌, Option, Some, None, Result, Ok, Err, IfOk, String, string_bytes, inl}
+use Rattle.std.proofs.Common.{inr, sym, ap, ◌∙◌, subst}
 use Rattle.std.specs.Option.{option_map_or}
 use Rattle.std.specs.Str.{chars}
 use Rattle.virtiofs_map.specs.Rule.{MappingRule}
-use Rattle.virtiofs_map.specs.RulesFault.{RuleFault, RulesFault, NoRules, InRule, NotOfText, rule_fault_of, fault_at, rules_fault_of}
+use Rattle.virtiofs_map.specs.RulesFault.{RuleFault, RulesFault, NoRules, InRule, NotOfText, rule_fault_of, fault_at}
+use Rattle.virtiofs_map.specs.RulesFault.{rules_fault_of}
 use Rattle.virtiofs_map.specs.declared.xattrmap.errors.Error.{Error}
 use Rattle.virtiofs_map.specs.declared.xattrmap.errors.ErrorKind.{ErrorKind}
 use Rattle.virtiofs_map.specs.declared.xattrmap.errors.ErrorKind.TheVariants.{NoRulesProvided}
@@ -17,29 +19,52 @@ use Rattle.virtiofs_mapcheck.specs.declared.outcome.Answered.{Answered}
 
 -- the line says what the error tells
 abbrev SaysFault : {A : Type 0} → List ℕ → Error A → String A → Type 0
-SaysFault which error text = (fault : RulesFault) × (rules_fault_of error ≡ Some fault) × (string_bytes text ≡ refusal (which ++ rules_fault_text fault))
+SaysFault which error text =
+    (fault : RulesFault) × (rules_fault_of error ≡ Some fault)
+    × (string_bytes text ≡ refusal (which ++ rules_fault_text fault))
 
-pub rule_refused : {A E : Type 0} (r : Result (String A) E) (which : List ℕ) (error : Error A) (number : ℕ) → error.rule ≡ Some number → IfOk r (λ text. (fault : RuleFault) × (rule_fault_of error.cause ≡ Some fault) × (string_bytes text ≡ refusal (which ++ rules_fault_text (InRule number fault)))) → IfOk r (SaysFault which error)
-rule_refused (Ok text) which error number is (fault, tells, wrote) =
-    (InRule number fault, ap (λ (k : Option ℕ). fault_at k error.cause) is ∙ ap (λ (o : Option RuleFault). Some (option_map_or (InRule number) o NotOfText)) tells, wrote)
+pub rule_refused : {A E : Type 0} (r : Result (String A) E) (which : List ℕ) (error : Error A) (number : ℕ)
+    → error.rule ≡ Some number
+    → IfOk r
+    (λ text. (fault : RuleFault) × (rule_fault_of error.cause ≡ Some fault)
+    × (string_bytes text ≡ refusal (which ++ rules_fault_text (InRule number fault)))) → IfOk r (SaysFault which error)
+rule_refused (Ok text) which error number is (fault, tells, wrote) = (
+  InRule number fault,
+  ap (λ (k : Option ℕ). fault_at k error.cause) is
+      ∙ ap (λ (o : Option RuleFault). Some (option_map_or (InRule number) o NotOfText)) tells,
+  wrote,
+)
 rule_refused (Err e) which error number is wrote = tt
 
-pub text_refused : {A E : Type 0} (r : Result (String A) E) (which : List ℕ) (error : Error A) → error.rule ≡ None → error.cause ≡ NoRulesProvided → IfOk r (λ text. string_bytes text ≡ refusal (which ++ rules_fault_text NoRules)) → IfOk r (SaysFault which error)
-text_refused {A} (Ok text) which error is such wrote =
-    (NoRules, ap (λ (k : Option ℕ). fault_at k error.cause) is ∙ ap (λ (kind : ErrorKind A). fault_at None kind) such, wrote)
+pub text_refused : {A E : Type 0} (r : Result (String A) E) (which : List ℕ) (error : Error A) → error.rule ≡ None
+    → error.cause ≡ NoRulesProvided → IfOk r (λ text. string_bytes text ≡ refusal (which ++ rules_fault_text NoRules))
+    → IfOk r (SaysFault which error)
+text_refused {A} (Ok text) which error is such wrote = (
+  NoRules,
+  ap (λ (k : Option ℕ). fault_at k error.cause) is
+      ∙ ap (λ (kind : ErrorKind A). fault_at None kind) such,
+  wrote,
+)
 text_refused (Err e) which error is such wrote = tt
 
 -- ---- one answer
 
-RefusesRules-one : (which said text other : List ℕ) → RefusesRules which said text → RefusesRules which said other → text ≡ other
+RefusesRules-one : (which said text other : List ℕ) → RefusesRules which said text → RefusesRules which said other
+    → text ≡ other
 RefusesRules-one which said text other (fault, has, is) (wrong, had, such) =
-    is ∙ ap (λ (f : RulesFault). refusal (which ++ rules_fault_text f)) (rules_one_fault (chars said) fault wrong has had) ∙ sym such
+    is ∙ ap (λ (f : RulesFault). refusal (which ++ rules_fault_text f))
+    (rules_one_fault (chars said) fault wrong has had) ∙ sym such
 
 -- where the rules have one answer, so has their text
-pub WithRules-one : (which said : List ℕ) (Answers : List MappingRule → Answered → List ℕ → Type 0) → ((rules : List MappingRule) → AreOne (Answers rules)) → AreOne (WithRules which said Answers)
+pub WithRules-one : (which said : List ℕ) (Answers : List MappingRule → Answered → List ℕ → Type 0)
+    → ((rules : List MappingRule) → AreOne (Answers rules)) → AreOne (WithRules which said Answers)
 WithRules-one which said Answers each answered other text another (inl (rules, says, one)) (inl (others, told, two)) =
-    each others answered other text another (subst (λ (r : List MappingRule). Answers r answered text) (rules_one_value (chars said) rules others says told) one) two
-WithRules-one which said Answers each answered other text another (inl (rules, says, one)) (inr (outcome, (fault, has, is))) = absurd (rules_no_fault (chars said) rules fault says has)
-WithRules-one which said Answers each answered other text another (inr (outcome, (fault, has, is))) (inl (rules, says, two)) = absurd (rules_no_fault (chars said) rules fault says has)
+    each others answered other text another
+    (subst (λ (r : List MappingRule). Answers r answered text) (rules_one_value (chars said) rules others says told)
+    one) two
+WithRules-one which said Answers each answered other text another (inl (rules, says, one))
+    (inr (outcome, (fault, has, is))) = absurd (rules_no_fault (chars said) rules fault says has)
+WithRules-one which said Answers each answered other text another (inr (outcome, (fault, has, is)))
+    (inl (rules, says, two)) = absurd (rules_no_fault (chars said) rules fault says has)
 WithRules-one which said Answers each answered other text another (inr (outcome, one)) (inr (result, two)) =
     (outcome ∙ sym result, RefusesRules-one which said text another one two)

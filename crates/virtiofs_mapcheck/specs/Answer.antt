@@ -5,7 +5,8 @@ use Rattle.virtiofs_mapcheck.specs.AuditsAnswer.{AnswersTerminated, AnswersAudit
 use Rattle.virtiofs_mapcheck.specs.IdsAnswer.{AnswersIds}
 use Rattle.virtiofs_mapcheck.specs.NamespaceAnswer.{AnswersNamespace}
 use Rattle.virtiofs_mapcheck.specs.Outcome.{AreOne}
-use Rattle.virtiofs_mapcheck.specs.Words.{Form, Ids, Namespace, Client, Server, Terminated, Audit, Apart, HasForm, HasNoForm}
+use Rattle.virtiofs_mapcheck.specs.Words.{Form, Ids, Namespace, Client, Server, Terminated, Audit, Apart, HasForm}
+use Rattle.virtiofs_mapcheck.specs.Words.{HasNoForm}
 use Rattle.virtiofs_mapcheck.specs.Written.{line}
 use Rattle.virtiofs_mapcheck.specs.declared.outcome.Answered.{Answered}
 use Rattle.virtiofs_mapcheck.specs.declared.outcome.Answered.TheVariants.{WrongWords}

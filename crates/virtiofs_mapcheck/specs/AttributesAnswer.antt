@@ -1,7 +1,8 @@
 -- What the forms `client` and `server` answer.
 use Rattle.std.specs.Prelude.{ℕ, List, [], ◌∷◌, ◌++◌, codes, Option, Some, None}
 use Rattle.std.specs.List.{flat_map}
-use Rattle.virtiofs_map.specs.Names.{ClientAnswer, Passes, IsDenied, IsUnsupported, IsUnterminated, client_answer, server_answer}
+use Rattle.virtiofs_map.specs.Names.{ClientAnswer, Passes, IsDenied, IsUnsupported, IsUnterminated, client_answer}
+use Rattle.virtiofs_map.specs.Names.{server_answer}
 use Rattle.virtiofs_mapcheck.specs.Outcome.{IsGiven, IsRefused}
 use Rattle.virtiofs_mapcheck.specs.RulesAnswer.{WithRules}
 use Rattle.virtiofs_mapcheck.specs.Written.{written}

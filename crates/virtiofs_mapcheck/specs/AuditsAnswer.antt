@@ -16,7 +16,8 @@ SaysLeast bad answered text =
 -- whether the rules decide every name of either side
 abbrev pub SaysTerminated : List MappingRule → Answered → List ℕ → Type 0
 SaysTerminated rules answered text =
-    (Terminated rules × IsGiven (codes "yes") answered text) ⊎ ((¬ Terminated rules) × IsGiven (codes "no") answered text)
+    (Terminated rules × IsGiven (codes "yes") answered text)
+    ⊎ ((¬ Terminated rules) × IsGiven (codes "no") answered text)
 
 -- whether the rules of a text decide every name
 abbrev pub AnswersTerminated : List ℕ → Answered → List ℕ → Type 0
@@ -29,4 +30,5 @@ AnswersAudit said = WithRules [] said (λ rules. SaysLeast (IsLost rules))
 -- whether the rules of the second text hide what passes under those of the first, which is read first
 abbrev pub AnswersApart : List ℕ → List ℕ → Answered → List ℕ → Type 0
 AnswersApart first second =
-    WithRules (codes "first: ") first (λ rules. WithRules (codes "second: ") second (λ others. SaysLeast (IsSeen rules others)))
+    WithRules (codes "first: ") first
+    (λ rules. WithRules (codes "second: ") second (λ others. SaysLeast (IsSeen rules others)))

@@ -1,7 +1,8 @@
 -- What the form `ns` answers.
 use Rattle.std.specs.Prelude.{◌⊎◌, ℕ, List, codes}
 use Rattle.std.specs.Str.{chars}
-use Rattle.virtiofs_map.specs.NamespaceText.{SaysNamespace, NamespaceFault, InvalidDelimiter, IncompleteMap, InvalidValue, HasNamespaceFault}
+use Rattle.virtiofs_map.specs.NamespaceText.{SaysNamespace, NamespaceFault, InvalidDelimiter, IncompleteMap}
+use Rattle.virtiofs_map.specs.NamespaceText.{InvalidValue, HasNamespaceFault}
 use Rattle.virtiofs_map.specs.Printed.{namespace_text}
 use Rattle.virtiofs_mapcheck.specs.Outcome.{IsGiven, IsRefused}
 use Rattle.virtiofs_mapcheck.specs.declared.outcome.Answered.{Answered}
@@ -21,7 +22,8 @@ namespace_fault_text InvalidValue = codes "InvalidValue"
 -- the text says no range, and the answer names its fault
 abbrev pub RefusesNamespace : List ℕ → Answered → List ℕ → Type 0
 RefusesNamespace said answered text =
-    (fault : NamespaceFault) × HasNamespaceFault (chars said) fault × IsRefused (namespace_fault_text fault) answered text
+    (fault : NamespaceFault) × HasNamespaceFault (chars said) fault
+    × IsRefused (namespace_fault_text fault) answered text
 
 -- the answer to a text of a namespace's range
 abbrev pub AnswersNamespace : List ℕ → Answered → List ℕ → Type 0

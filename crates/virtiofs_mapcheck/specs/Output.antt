@@ -3,7 +3,8 @@ use Rattle.std.specs.Prelude.{ℕ, ◌<◌, Bool, IsTrue, IsFalse, List, Option,
 use Rattle.std.specs.Io.{StartsWith}
 use Rattle.std.specs.Io.KnownBytes.{Appends}
 
--- the bytes that the writer holds, `None` for a writer that doesn't tell them, whether a write failed, and whether the writer was flushed since the last write
+-- the bytes that the writer holds, `None` for a writer that doesn't tell them, whether a write failed, and whether the
+-- writer was flushed since the last write
 pub record Output : Type 0 where
   pub bytes : Option (List ℕ)
   pub failed : Bool

@@ -4,7 +4,8 @@ use Rattle.std.specs.Fmt.{decimal}
 use Rattle.std.specs.Str.{chars}
 use Rattle.virtiofs_map.specs.Rule.{MappingRule}
 use Rattle.virtiofs_map.specs.RuleText.{SaysRules}
-use Rattle.virtiofs_map.specs.RulesFault.{RuleFault, InvalidScope, InvalidType, IncompleteRule, MapRuleViolation, NulInPattern, RulesFault, NoRules, InRule, NotOfText, HasRulesFault}
+use Rattle.virtiofs_map.specs.RulesFault.{RuleFault, InvalidScope, InvalidType, IncompleteRule, MapRuleViolation}
+use Rattle.virtiofs_map.specs.RulesFault.{NulInPattern, RulesFault, NoRules, InRule, NotOfText, HasRulesFault}
 use Rattle.virtiofs_map.specs.declared.xattrmap.errors.PatternField.{PatternField}
 use Rattle.virtiofs_map.specs.declared.xattrmap.errors.PatternField.TheVariants.{Key, Prepend}
 use Rattle.virtiofs_mapcheck.specs.Written.{quoted, refusal}

@@ -47,7 +47,8 @@ first_word TerminatedKind = codes "terminated"
 first_word AuditKind = codes "audit"
 first_word ApartKind = codes "apart"
 
--- what the words ask for: ids under specifications, the meaning of a namespace text, what becomes of a guest's name or of a host's names under rules, or what holds of all names under rules or under two texts of them
+-- what the words ask for: ids under specifications, the meaning of a namespace text, what becomes of a guest's name or
+-- of a host's names under rules, or what holds of all names under rules or under two texts of them
 pub data Form : Type 0 where
   Ids : List (List ℕ) → List Query → Form
   Namespace : List ℕ → Form

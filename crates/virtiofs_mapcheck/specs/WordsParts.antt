@@ -1,6 +1,7 @@
 -- What the parts of the reader of words answer. Only private functions cite these words.
 use Rattle.std.specs.Prelude.{◌≡◌, ◌≢◌, ℕ, List, ◌∷◌, ◌++◌, All, Option, MatchOption}
-use Rattle.virtiofs_mapcheck.specs.Words.{words_of, ask, Kind, Form, Ids, Namespace, Client, Server, Terminated, Audit, Apart, kind_of, HasBody}
+use Rattle.virtiofs_mapcheck.specs.Words.{words_of, ask, Kind, Form, Ids, Namespace, Client, Server, Terminated, Audit}
+use Rattle.virtiofs_mapcheck.specs.Words.{Apart, kind_of, HasBody}
 use Rattle.virtiofs_mapcheck.specs.declared.words.Words.{Words}
 use Rattle.virtiofs_mapcheck.specs.declared.words.Words.TheVariants as read
 

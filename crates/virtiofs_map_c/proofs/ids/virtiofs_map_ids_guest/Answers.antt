@@ -2,4 +2,6 @@ use Rattle.virtiofs_map_c.proofs.IdsLemmas.{tells_value}
 use Rattle.virtiofs_map_c.proofs.ids.virtiofs_map_ids_guest.Goals as goal
 
 pub returns-clause-exact : goal.returns-clause-exact
-returns-clause-exact c = λ specs value image becomes. tells_value value _ _ _ _ c.tell_answer.ensures (c.look_up.ensures.exact specs value image becomes)
+returns-clause-exact c =
+    λ specs value image becomes. tells_value value _ _ _ _ c.tell_answer.ensures
+    (c.look_up.ensures.exact specs value image becomes)

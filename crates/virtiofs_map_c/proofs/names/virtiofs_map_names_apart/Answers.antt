@@ -8,9 +8,12 @@ use Rattle.virtiofs_map_c.proofs.names.virtiofs_map_names_apart.Goals as goal
 pub returns-in-Ok-clause-answer : goal.returns-in-Ok-clause-answer
 returns-in-Ok-clause-answer c = λ rules others image other.
     (let (same, others_same) = c.in-Ok.ensures.maps rules others image other in
-    subst (λ (map : List MappingRule). TellsLeast (IsSeen map others) c.args.out.now c.tell.result c.tell.new.all c.tell.new.len c.tell.new.out) same
-    (subst (λ (map : List MappingRule). TellsLeast (IsSeen c.in-Ok.one map) c.args.out.now c.tell.result c.tell.new.all c.tell.new.len c.tell.new.out) others_same
-    (audit_told (IsSeen c.in-Ok.one c.in-Ok.other) c.keeps_apart.result _ _ _ _ _ c.keeps_apart.ensures.answer c.tell.ensures)))
+    subst (λ (map : List MappingRule). TellsLeast (IsSeen map others) c.args.out.now c.tell.result c.tell.new.all
+    c.tell.new.len c.tell.new.out) same
+    (subst (λ (map : List MappingRule). TellsLeast (IsSeen c.in-Ok.one map) c.args.out.now c.tell.result c.tell.new.all
+    c.tell.new.len c.tell.new.out) others_same
+    (audit_told (IsSeen c.in-Ok.one c.in-Ok.other) c.keeps_apart.result _ _ _ _ _ c.keeps_apart.ensures.answer
+    c.tell.ensures)))
 
 pub returns-in-Err-clause-answer : goal.returns-in-Err-clause-answer
 returns-in-Err-clause-answer c = λ rules others image other.

@@ -7,7 +7,8 @@ use Rattle.virtiofs_map_c.proofs.names.virtiofs_map_names_audit.Goals as goal
 
 pub returns-in-Ok-clause-answer : goal.returns-in-Ok-clause-answer
 returns-in-Ok-clause-answer c = λ rules image.
-    subst (λ (map : List MappingRule). TellsLeast (IsLost map) c.args.out.now c.tell.result c.tell.new.all c.tell.new.len c.tell.new.out)
+    subst (λ (map : List MappingRule). TellsLeast (IsLost map) c.args.out.now c.tell.result c.tell.new.all
+    c.tell.new.len c.tell.new.out)
     (c.in-Ok.ensures.map rules image)
     (audit_told (IsLost c.in-Ok.map) c.audit.result _ _ _ _ _ c.audit.ensures.answer c.tell.ensures)
 

@@ -12,14 +12,18 @@ returns-in-NoMap-clause-okay c = λ rules image okay plain. absurd (c.in-NoMap.e
 pub returns-in_default-2 : goal.returns-in_default-2
 returns-in_default-2 c =
     let plain : ¬ Contains c.args.name.now 0 = search rules in
-    let tells : TellsDecision c.decide.result c.args.name.now c.args.out.now c.tell_client.result c.tell_client.new.len c.tell_client.new.out = c.tell_client.ensures in
+    let tells : TellsDecision c.decide.result c.args.name.now c.args.out.now c.tell_client.result c.tell_client.new.len
+    c.tell_client.new.out = c.tell_client.ensures in
     record {
       answer = λ rules image. record {
         no_name = λ zero. absurd (plain zero);
         told = λ _. client_told rules c.decide.result _ _ _ _ _ (c.decide.ensures.says rules image) tells;
       };
-      okay = λ rules image okay _. okay_told rules c.decide.result _ _ _ _ _ (c.decide.ensures.says rules image) tells okay;
-      prefix = λ rules image prefix. prefix_told rules c.decide.result _ _ _ _ _ (c.decide.ensures.says rules image) tells prefix;
+      okay = λ rules image okay _. okay_told rules c.decide.result _ _ _ _ _ (c.decide.ensures.says rules image) tells
+          okay;
+      prefix =
+          λ rules image prefix. prefix_told rules c.decide.result _ _ _ _ _ (c.decide.ensures.says rules image) tells
+          prefix;
       code = decision_code c.decide.result _ _ _ _ _ tells;
       no_map = λ other. decision_none c.decide.result _ _ _ _ _ tells (c.decide.ensures.closed other);
     }

@@ -38,7 +38,8 @@ pub returns-then-out-len-clause-of_acl : goal.returns-then-out-len-clause-of_acl
 returns-then-out-len-clause-of_acl c = λ room error told. text_of_acl room error c.args.fault.now c.args.quoted.now told
 
 pub returns-then-out-len-clause-of_capability : goal.returns-then-out-len-clause-of_capability
-returns-then-out-len-clause-of_capability c = λ error told. text_of_capability error c.args.fault.now c.args.quoted.now told
+returns-then-out-len-clause-of_capability c =
+    λ error told. text_of_capability error c.args.fault.now c.args.quoted.now told
 
 pub returns-clause-of_acl : goal.returns-clause-of_acl
 returns-clause-of_acl c = λ room error told. text_of_acl room error c.args.fault.now c.args.quoted.now told

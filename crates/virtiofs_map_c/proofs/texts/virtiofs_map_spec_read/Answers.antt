@@ -6,8 +6,30 @@ returns-in-Ok-clause-faulty c = λ wrong has. absurd (SaysSpec-no_fault _ _ wron
 
 pub returns-in-Err-clause-complete : goal.returns-in-Err-clause-complete
 returns-in-Err-clause-complete c =
-    text_complete _ _ _ _ _ _ (_, c.in-Err.ensures.refused, record { code_told = c.code_of_text.ensures; kind = _; explained = c.in-Err.ensures.explained; numbers = c.told_of_text.ensures.told; bytes = c.told_of_text.ensures.quoted })
+    text_complete _ _ _ _ _ _ (
+      _,
+      c.in-Err.ensures.refused,
+      record {
+        code_told = c.code_of_text.ensures;
+        kind = _;
+        explained = c.in-Err.ensures.explained;
+        numbers =
+            c.told_of_text.ensures.told;
+        bytes = c.told_of_text.ensures.quoted;
+      },
+    )
 
 pub returns-in-Err-clause-faulty : goal.returns-in-Err-clause-faulty
 returns-in-Err-clause-faulty c =
-    text_faulty _ _ _ _ _ (_, c.in-Err.ensures.refused, record { code_told = c.code_of_text.ensures; kind = _; explained = c.in-Err.ensures.explained; numbers = c.told_of_text.ensures.told; bytes = c.told_of_text.ensures.quoted })
+    text_faulty _ _ _ _ _ (
+      _,
+      c.in-Err.ensures.refused,
+      record {
+        code_told = c.code_of_text.ensures;
+        kind = _;
+        explained = c.in-Err.ensures.explained;
+        numbers =
+            c.told_of_text.ensures.told;
+        bytes = c.told_of_text.ensures.quoted;
+      },
+    )

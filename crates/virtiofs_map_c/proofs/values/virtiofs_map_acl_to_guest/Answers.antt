@@ -1,16 +1,20 @@
-use Rattle.virtiofs_map_c.proofs.ValuesLemmas.{told_unchanged, told_no_map, told_no_fault, acl_fails_otherwise, tells_acl_code, tells_acl}
+use Rattle.virtiofs_map_c.proofs.ValuesLemmas.{told_unchanged, told_no_map, told_no_fault, acl_fails_otherwise}
+use Rattle.virtiofs_map_c.proofs.ValuesLemmas.{tells_acl_code, tells_acl}
 use Rattle.virtiofs_map_c.specs.Values.{IsAclTold}
 use Rattle.virtiofs_map_c.proofs.values.virtiofs_map_acl_to_guest.Goals as goal
 
 pub returns-clause-answer : goal.returns-clause-answer
 returns-clause-answer c = λ specs others users groups.
-    tells_acl specs others _ _ _ _ _ _ _ c.tell_acl.ensures (c.translate_acl-answer.ensures.change specs others users groups)
+    tells_acl specs others _ _ _ _ _ _ _ c.tell_acl.ensures
+    (c.translate_acl-answer.ensures.change specs others users groups)
 
 pub returns-clause-unchanged : goal.returns-clause-unchanged
-returns-clause-unchanged c = told_unchanged (IsAclTold _) _ _ _ _ _ c.tell_acl.ensures c.translate_acl-answer.ensures.unchanged
+returns-clause-unchanged c =
+    told_unchanged (IsAclTold _) _ _ _ _ _ c.tell_acl.ensures c.translate_acl-answer.ensures.unchanged
 
 pub returns-clause-no_map : goal.returns-clause-no_map
-returns-clause-no_map c = λ without. told_no_map (IsAclTold _) _ _ _ c.tell_acl.ensures (c.translate_acl-answer.ensures.no_image without)
+returns-clause-no_map c =
+    λ without. told_no_map (IsAclTold _) _ _ _ c.tell_acl.ensures (c.translate_acl-answer.ensures.no_image without)
 
 pub returns-clause-no_fault : goal.returns-clause-no_fault
 returns-clause-no_fault c = told_no_fault (IsAclTold _) _ _ _ (acl_fails_otherwise _) c.tell_acl.ensures

@@ -1,4 +1,5 @@
-use Rattle.virtiofs_map_c.proofs.ValuesLemmas.{told_unchanged, told_no_map, told_no_fault, capability_fails_otherwise, tells_root_code, tells_written}
+use Rattle.virtiofs_map_c.proofs.ValuesLemmas.{told_unchanged, told_no_map, told_no_fault, capability_fails_otherwise}
+use Rattle.virtiofs_map_c.proofs.ValuesLemmas.{tells_root_code, tells_written}
 use Rattle.virtiofs_map_c.specs.Values.{IsCapabilityTold}
 use Rattle.virtiofs_map_c.proofs.values.virtiofs_map_capability_to_host_in_revision_3.Goals as goal
 
@@ -7,10 +8,13 @@ returns-clause-answer c = λ specs users.
     tells_written specs _ _ _ _ _ _ c.tell_capability.ensures (c.write_revision_3-answer.ensures.change specs users)
 
 pub returns-clause-unchanged : goal.returns-clause-unchanged
-returns-clause-unchanged c = told_unchanged IsCapabilityTold _ _ _ _ _ c.tell_capability.ensures c.write_revision_3-answer.ensures.unchanged
+returns-clause-unchanged c =
+    told_unchanged IsCapabilityTold _ _ _ _ _ c.tell_capability.ensures c.write_revision_3-answer.ensures.unchanged
 
 pub returns-clause-no_map : goal.returns-clause-no_map
-returns-clause-no_map c = λ without. told_no_map IsCapabilityTold _ _ _ c.tell_capability.ensures (c.write_revision_3-answer.ensures.no_image without)
+returns-clause-no_map c =
+    λ without. told_no_map IsCapabilityTold _ _ _ c.tell_capability.ensures
+    (c.write_revision_3-answer.ensures.no_image without)
 
 pub returns-clause-no_fault : goal.returns-clause-no_fault
 returns-clause-no_fault c = told_no_fault IsCapabilityTold _ _ _ capability_fails_otherwise c.tell_capability.ensures

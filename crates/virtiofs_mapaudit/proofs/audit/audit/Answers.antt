@@ -6,7 +6,8 @@ loop-place-init g c = audited_none c.args.sets.now _ _ c.new-guests.ensures.item
 
 pub loop-place-preserved : goal.loop-place-preserved
 loop-place-preserved g c =
-    audited_more c.args.sets.now c.loop-place.place c.index-sets-place.result _ _ _ _ _ c.index-sets-place.is c.loop-place-test.true c.loop-place.invariant c.in_ok-push.ensures.items
+    audited_more c.args.sets.now c.loop-place.place c.index-sets-place.result _ _ _ _ _ c.index-sets-place.is
+    c.loop-place-test.true c.loop-place.invariant c.in_ok-push.ensures.items
     c.in_ok-audit_guest.ensures c.in_ok-audit_pairs.ensures
 
 pub returns : goal.returns

@@ -7,9 +7,12 @@ loop-earlier-init g c = adds_none _ _ _
 
 pub loop-earlier-preserved : goal.loop-earlier-preserved
 loop-earlier-preserved g c =
-    compared_one c.args.sets.now c.args.place c.loop-earlier.earlier c.index-sets-earlier.result c.index-sets-place.result _ _ _ _
+    compared_one c.args.sets.now c.args.place c.loop-earlier.earlier c.index-sets-earlier.result
+    c.index-sets-place.result _ _ _ _
     c.index-sets-earlier.is c.index-sets-place.is c.requires c.loop-earlier-test.true c.loop-earlier.invariant
     c.in_ok-push.ensures.items refl refl c.in_ok-found.ensures
 
 pub returns : goal.returns
-returns g c = compared_all c.args.sets.now c.args.place c.loop-earlier.earlier _ _ c.loop-earlier-test.false c.loop-earlier.invariant
+returns g c =
+    compared_all c.args.sets.now c.args.place c.loop-earlier.earlier _ _ c.loop-earlier-test.false
+    c.loop-earlier.invariant

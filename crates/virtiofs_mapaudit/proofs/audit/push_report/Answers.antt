@@ -4,8 +4,12 @@ use Rattle.virtiofs_mapaudit.proofs.audit.push_report.Goals as goal
 
 pub returns-clause-text : goal.returns-clause-text
 returns-clause-text g c =
-    let (tables, all, whole) = rw c.as_slice.ensures.value at c.in_ok-of_guests.ensures.text in
-    (tables, all, three_texts _ _ _ _ _ _ _ whole (rw c.as_slice-2.ensures.value at c.in_ok-between.ensures.text) c.in_ok-push_closing.ensures)
+    let (tables, all, whole) = rw c.as_slice.ensures.value at c.in_ok-of_guests.ensures.text in (
+      tables,
+      all,
+      three_texts _ _ _ _ _ _ _ whole (rw c.as_slice-2.ensures.value at c.in_ok-between.ensures.text)
+          c.in_ok-push_closing.ensures,
+    )
 
 pub returns-clause-found : goal.returns-clause-found
 returns-clause-found g c =

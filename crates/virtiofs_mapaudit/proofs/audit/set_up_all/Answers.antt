@@ -11,13 +11,17 @@ loop-place-init g c = rw c.new-sets.ensures.items (tt, tells_nothing _ _ _ refl 
 pub loop-place-preserved : goal.loop-place-preserved
 loop-place-preserved g c =
     rw c.in_ok-push.ensures.items (
-      sets_up_more c.args.guests.now _ c.loop-place.place c.index-guests-place.result _ c.index-guests-place.is c.loop-place-test.true c.loop-place.invariant.0 c.in_ok-set_up.ensures.sets_up,
-      tells_more c.args.guests.now _ c.loop-place.place c.index-guests-place.result _ _ _ _ c.index-guests-place.is c.loop-place-test.true c.loop-place.invariant.0 c.loop-place.invariant.1 c.in_ok-set_up.ensures.told,
+      sets_up_more c.args.guests.now _ c.loop-place.place c.index-guests-place.result _ c.index-guests-place.is
+          c.loop-place-test.true c.loop-place.invariant.0 c.in_ok-set_up.ensures.sets_up,
+      tells_more c.args.guests.now _ c.loop-place.place c.index-guests-place.result _ _ _ _ c.index-guests-place.is
+          c.loop-place-test.true c.loop-place.invariant.0 c.loop-place.invariant.1 c.in_ok-set_up.ensures.told,
     )
 
 pub returns-clause-sets_up : goal.returns-clause-sets_up
 returns-clause-sets_up g c =
-    subst (λ guests. AllZip SetsUp guests c.loop-place.sets.items) (take_all c.loop-place.place c.args.guests.now c.loop-place-test.false) c.loop-place.invariant.0
+    subst (λ guests. AllZip SetsUp guests c.loop-place.sets.items)
+    (take_all c.loop-place.place c.args.guests.now c.loop-place-test.false) c.loop-place.invariant.0
 
 pub returns-clause-told : goal.returns-clause-told
-returns-clause-told g c = tells_all c.args.guests.now _ c.loop-place.place _ _ c.loop-place-test.false c.loop-place.invariant.1
+returns-clause-told g c =
+    tells_all c.args.guests.now _ c.loop-place.place _ _ c.loop-place-test.false c.loop-place.invariant.1

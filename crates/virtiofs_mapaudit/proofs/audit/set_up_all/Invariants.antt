@@ -8,4 +8,5 @@ use Rattle.virtiofs_mapaudit.proofs.audit.set_up_all.Given as goal
 abbrev pub invariant-loop-place : goal.invariant-loop-place
 invariant-loop-place g l =
     AllZip SetsUp (take l.place l.guests) l.sets.items
-    × TellsWhere (IsSomeRefused (take l.place l.guests) l.sets.items) (string_bytes l.initial.refusals.text) (string_bytes l.refusals.text)
+    × TellsWhere (IsSomeRefused (take l.place l.guests) l.sets.items) (string_bytes l.initial.refusals.text)
+    (string_bytes l.refusals.text)

@@ -4,10 +4,12 @@ use Rattle.virtiofs_mapaudit.proofs.SetUpLemmas.{tells_fault}
 use Rattle.virtiofs_mapaudit.proofs.setup.refuse_text.Goals as goal
 
 pub returns-in-InvalidPrefix-clause-faulty : goal.returns-in-InvalidPrefix-clause-faulty
-returns-in-InvalidPrefix-clause-faulty g c = tells_fault _ _ _ (ap (λ e. specification_fault_of e) c.in-InvalidPrefix.is)
+returns-in-InvalidPrefix-clause-faulty g c =
+    tells_fault _ _ _ (ap (λ e. specification_fault_of e) c.in-InvalidPrefix.is)
 
 pub returns-in-InvalidLength-clause-faulty : goal.returns-in-InvalidLength-clause-faulty
-returns-in-InvalidLength-clause-faulty g c = tells_fault _ _ _ (ap (λ e. specification_fault_of e) c.in-InvalidLength.is)
+returns-in-InvalidLength-clause-faulty g c =
+    tells_fault _ _ _ (ap (λ e. specification_fault_of e) c.in-InvalidLength.is)
 
 pub returns-in-InvalidValue-clause-faulty : goal.returns-in-InvalidValue-clause-faulty
 returns-in-InvalidValue-clause-faulty g c = tells_fault _ _ _ (ap (λ e. specification_fault_of e) c.in-InvalidValue.is)

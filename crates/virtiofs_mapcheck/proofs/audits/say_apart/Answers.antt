@@ -3,4 +3,6 @@ use Rattle.virtiofs_mapcheck.proofs.AuditsAnswerLemmas.{SaysLeast-audit}
 use Rattle.virtiofs_mapcheck.proofs.audits.say_apart.Goals as goal
 
 pub returns : goal.returns
-returns g c = SaysLeast-audit (IsSeen c.args.reaching.now c.args.hiding.now) c.in_ok-audited.audited _ c.in_ok-audited.ensures.answer c.in_ok-audit_line.ensures
+returns g c =
+    SaysLeast-audit (IsSeen c.args.reaching.now c.args.hiding.now) c.in_ok-audited.audited _
+    c.in_ok-audited.ensures.answer c.in_ok-audit_line.ensures

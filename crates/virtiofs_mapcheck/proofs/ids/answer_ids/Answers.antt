@@ -3,7 +3,9 @@ use Rattle.virtiofs_mapcheck.proofs.IdsAnswerLemmas.{GivesIds-map, RefusesIds-fa
 use Rattle.virtiofs_mapcheck.proofs.ids.answer_ids.Goals as goal
 
 pub returns-in_ok-lines_of-in-Ok : goal.returns-in_ok-lines_of-in-Ok
-returns-in_ok-lines_of-in-Ok g c = inl (refl, GivesIds-map _ _ _ _ c.in-Ok.ensures.read c.in-Ok.ensures.accepted c.in_ok-lines_of-in-Ok.ensures)
+returns-in_ok-lines_of-in-Ok g c =
+    inl (refl, GivesIds-map _ _ _ _ c.in-Ok.ensures.read c.in-Ok.ensures.accepted c.in_ok-lines_of-in-Ok.ensures)
 
 pub returns-in_ok-specs_refusal-in-Err : goal.returns-in_ok-specs_refusal-in-Err
-returns-in_ok-specs_refusal-in-Err g c = inr (RefusesIds-fault _ _ _ c.in-Err.ensures.refused c.in_ok-specs_refusal-in-Err.ensures)
+returns-in_ok-specs_refusal-in-Err g c =
+    inr (RefusesIds-fault _ _ _ c.in-Err.ensures.refused c.in_ok-specs_refusal-in-Err.ensures)

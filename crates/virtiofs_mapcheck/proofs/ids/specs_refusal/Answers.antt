@@ -5,7 +5,9 @@ pub returns-in-Spec : goal.returns-in-Spec
 returns-in-Spec g c = unread_refused _ _ _ _ c.in-Spec.is c.text_refusal.ensures
 
 pub returns-in-RangeOverflow : goal.returns-in-RangeOverflow
-returns-in-RangeOverflow g c = overflow_refused _ _ _ _ _ _ _ c.in-Build.is c.in-RangeOverflow.is c.build_refusal.ensures
+returns-in-RangeOverflow g c =
+    overflow_refused _ _ _ _ _ _ _ c.in-Build.is c.in-RangeOverflow.is c.build_refusal.ensures
 
 pub returns-in-Intersects : goal.returns-in-Intersects
-returns-in-Intersects g c = overlap_refused _ _ _ _ _ _ c.in-Build.is c.in-Intersects.is c.build_refusal-in-Intersects.ensures
+returns-in-Intersects g c =
+    overlap_refused _ _ _ _ _ _ c.in-Build.is c.in-Intersects.is c.build_refusal-in-Intersects.ensures

@@ -4,7 +4,9 @@ use Rattle.virtiofs_mapcheck.proofs.WordsLemmas.{IsCutAtAsk-here, All-words}
 use Rattle.virtiofs_mapcheck.proofs.words.cut_at_ask.Goals as goal
 
 pub returns-then-eq : goal.returns-then-eq
-returns-then-eq c = IsCutAtAsk-here c.args.words.now c.loop-i.i _ c.loop-i-test.true ((bytes_eq-Decides _ _).0 (sym c.if-eq.ensures)) c.loop-i.invariant
+returns-then-eq c =
+    IsCutAtAsk-here c.args.words.now c.loop-i.i _ c.loop-i-test.true ((bytes_eq-Decides _ _).0 (sym c.if-eq.ensures))
+    c.loop-i.invariant
 
 pub returns : goal.returns
 returns c = All-words c.args.words.now c.loop-i.i c.loop-i-test.false c.loop-i.invariant

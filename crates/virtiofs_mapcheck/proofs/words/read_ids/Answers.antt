@@ -16,4 +16,7 @@ returns-then-is_empty g c =
     no_ids _ (λ specs queries. no_queries _ _ _ specs queries c.in-Some.ensures (λ some _. absurd (omega arith)))
 
 pub returns-in_default-2 : goal.returns-in_default-2
-returns-in_default-2 g c = no_ids _ (λ specs queries. no_queries _ _ _ specs queries c.in-Some.ensures (λ _. MatchOption-at_none _ _ c.in_default-2.is c.in_ok-queries.ensures queries))
+returns-in_default-2 g c =
+    no_ids _
+    (λ specs queries. no_queries _ _ _ specs queries c.in-Some.ensures
+    (λ _. MatchOption-at_none _ _ c.in_default-2.is c.in_ok-queries.ensures queries))

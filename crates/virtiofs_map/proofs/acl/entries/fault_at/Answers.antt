@@ -13,5 +13,9 @@ returns-in-Some-clause-sound c = λ users groups direction are.
 
 pub returns-in-None-clause-wrong : goal.returns-in-None-clause-wrong
 returns-in-None-clause-wrong c = λ users groups direction are.
-    let entry = c.entry_at-entry.ensures in
-    (rw entry.tag at (c.if-not-has_id.ensures.0 refl), (rw entry.permissions at c.if-entry-gt7.false), (rw entry.id at c.if-entry.false), (rw (entry.tag, entry.id) at (c.in-None.ensures users groups direction are)))
+    let entry = c.entry_at-entry.ensures in (
+      rw entry.tag at (c.if-not-has_id.ensures.0 refl),
+      (rw entry.permissions at c.if-entry-gt7.false),
+      (rw entry.id at c.if-entry.false),
+      (rw (entry.tag, entry.id) at (c.in-None.ensures users groups direction are)),
+    )

@@ -3,11 +3,16 @@ use Rattle.virtiofs_map.proofs.acl.entries.test_entries.Goals as goal
 
 pub loop-k-preserved : goal.loop-k-preserved
 loop-k-preserved c = λ users groups direction are.
-    below_more _ _ (c.loop-k.invariant users groups direction are) (c.in_default.ensures.sound users groups direction are)
+    below_more _ _ (c.loop-k.invariant users groups direction are)
+    (c.in_default.ensures.sound users groups direction are)
 
 pub returns-in-Some-clause-refused : goal.returns-in-Some-clause-refused
-returns-in-Some-clause-refused c = λ users groups direction are.
-    (c.loop-k-test.true, c.loop-k.invariant users groups direction are, c.in-Some.ensures.wrong users groups direction are)
+returns-in-Some-clause-refused c = λ users groups direction are. (
+  c.loop-k-test.true,
+  c.loop-k.invariant users groups direction are,
+  c.in-Some.ensures.wrong users groups direction are,
+)
 
 pub returns-clause-sound : goal.returns-clause-sound
-returns-clause-sound c = λ users groups direction are k below. c.loop-k.invariant users groups direction are k (omega arith)
+returns-clause-sound c =
+    λ users groups direction are k below. c.loop-k.invariant users groups direction are k (omega arith)

@@ -7,18 +7,27 @@ use Rattle.virtiofs_map.proofs.acl.lists.translate.Goals as goal
 pub returns-in_err-count-clause-change : goal.returns-in_err-count-clause-change
 returns-in_err-count-clause-change c = λ users groups direction are.
     let p = err_from_is_err_and c.from_residual.result c.from_residual.ensures.1 in
-    rw (p.1, p.2) (ChangesList-refused users groups direction _ _ _ are.users_accepted are.groups_accepted (HasAclFault-size users groups direction _ _ _ c.in_err-count.ensures.refused))
+    rw (p.1, p.2)
+    (ChangesList-refused users groups direction _ _ _ are.users_accepted are.groups_accepted
+    (HasAclFault-size users groups direction _ _ _ c.in_err-count.ensures.refused))
 
 pub returns-in_err-test_entries-clause-change : goal.returns-in_err-test_entries-clause-change
 returns-in_err-test_entries-clause-change c = λ users groups direction are.
-    let p = err_from_is_err_and c.from_residual-in_err-test_entries.result c.from_residual-in_err-test_entries.ensures.1 in
-    let unsound = rw c.in_ok-count.ensures.count at (c.in_err-test_entries.ensures.refused users groups direction are) in
-    rw (p.1, p.2) (ChangesList-refused users groups direction _ _ _ are.users_accepted are.groups_accepted (HasAclFault-unsound_below users groups direction _ _ _ c.in_ok-count.ensures.whole c.in_ok-count.ensures.fits unsound))
+    let p = err_from_is_err_and c.from_residual-in_err-test_entries.result
+    c.from_residual-in_err-test_entries.ensures.1 in
+    let unsound =
+    rw c.in_ok-count.ensures.count at (c.in_err-test_entries.ensures.refused users groups direction are) in
+    rw (p.1, p.2)
+    (ChangesList-refused users groups direction _ _ _ are.users_accepted are.groups_accepted
+    (HasAclFault-unsound_below users groups direction _ _ _ c.in_ok-count.ensures.whole c.in_ok-count.ensures.fits
+    unsound))
 
 pub returns-in-Some-clause-change : goal.returns-in-Some-clause-change
 returns-in-Some-clause-change c = λ users groups direction are.
     let sound = rw c.in_ok-count.ensures.count at (c.in_ok-test_entries.ensures.sound users groups direction are) in
-    let first = rw c.in_ok-count.ensures.count at (c.in-Some.ensures.first users groups direction are (c.in_ok-test_entries.ensures.sound users groups direction are)) in
+    let first =
+    rw c.in_ok-count.ensures.count at (c.in-Some.ensures.first users groups direction are
+    (c.in_ok-test_entries.ensures.sound users groups direction are)) in
     ChangesList-refused users groups direction _ _ _ are.users_accepted are.groups_accepted (record {
       all_sound = record { whole = c.in_ok-count.ensures.whole; fits = c.in_ok-count.ensures.fits; sound = sound };
       is_entry = first.is_entry;
@@ -29,7 +38,9 @@ returns-in-Some-clause-change c = λ users groups direction are.
 pub returns-clause-change : goal.returns-clause-change
 returns-clause-change c = λ users groups direction are.
     let sound = c.in_ok-test_entries.ensures.sound users groups direction are in
-    ChangesList-done users groups direction _ _ _ are.users_accepted are.groups_accepted c.in_ok-count.ensures.bytes (IsTranslated-written users groups direction _ _ (rw c.in_ok-count.ensures.count at (c.write_entries.ensures users groups direction are sound))) (record {
+    ChangesList-done users groups direction _ _ _ are.users_accepted are.groups_accepted c.in_ok-count.ensures.bytes
+    (IsTranslated-written users groups direction _ _
+    (rw c.in_ok-count.ensures.count at (c.write_entries.ensures users groups direction are sound))) (record {
       all_sound = record {
         whole = c.in_ok-count.ensures.whole;
         fits = c.in_ok-count.ensures.fits;

@@ -14,10 +14,18 @@ loop-k-preserved c = λ users groups direction are sound.
     let id = c.entry_at-entry.ensures.id ∙ IsWritten-id users groups direction _ _ k written in
     elim c.if-has_id.branch [
       | then-has_id+in-Some w ↦
-          rw w.value-is (IsWritten-more users groups direction _ _ _ k _ written (rw tag at (c.has_id.ensures.0 w.if-has_id.true)) w.write_four.auto.value w.write_four.ensures.number w.write_four.ensures.rest (rw (tag, id) at (w.in-Some.ensures users groups direction are)))
-      | then-has_id+in_default w ↦ absurd (Becomes-forbidden _ _ _ _ (Accepted-for users groups _ are.users_accepted are.groups_accepted) ((sound k (omega arith)).goes (rw tag at (c.has_id.ensures.0 w.if-has_id.true))).1 (rw (tag, id) at (w.in_default.ensures users groups direction are)))
+          rw w.value-is
+          (IsWritten-more users groups direction _ _ _ k _ written (rw tag at (c.has_id.ensures.0 w.if-has_id.true))
+          w.write_four.auto.value w.write_four.ensures.number w.write_four.ensures.rest
+          (rw (tag, id) at (w.in-Some.ensures users groups direction are)))
+      | then-has_id+in_default w ↦ absurd
+          (Becomes-forbidden _ _ _ _ (Accepted-for users groups _ are.users_accepted are.groups_accepted)
+          ((sound k (omega arith)).goes (rw tag at (c.has_id.ensures.0 w.if-has_id.true))).1
+          (rw (tag, id) at (w.in_default.ensures users groups direction are)))
       | else-has_id w ↦
-          rw w.value-is (IsWritten-pass users groups direction _ _ k written (λ has_id. false≢true (sym w.if-has_id.false ∙ c.has_id.ensures.1 (rw tag has_id))))
+          rw w.value-is
+          (IsWritten-pass users groups direction _ _ k written
+          (λ has_id. false≢true (sym w.if-has_id.false ∙ c.has_id.ensures.1 (rw tag has_id))))
     ]
 
 pub returns : goal.returns

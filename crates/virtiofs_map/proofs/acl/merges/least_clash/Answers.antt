@@ -17,14 +17,20 @@ loop-i-preserved c =
           let clashes = c.clash.ensures.0 w.if-clash.true in
           rw w.least-is (record {
             found = elim w.lesser.ensures.one [
-              | inl here ↦ HasClash-here c.args.value.now c.args.placed.now c.loop-i.i w.lesser.result _ in_order c.loop-i.auto.i c.loop-i-test.true clashes here
+              | inl here ↦ HasClash-here c.args.value.now c.args.placed.now c.loop-i.i w.lesser.result _ in_order
+                  c.loop-i.auto.i c.loop-i-test.true clashes here
               | inr before ↦ (rw before at c.loop-i.invariant.found)
             ];
-            least = MeetsClashes-more c.args.value.now c.args.placed.now c.loop-i.i _ c.loop-i.least (Some w.lesser.result) in_order c.loop-i.auto.i c.loop-i-test.true c.loop-i.invariant.least (λ m. lesser_kept c.loop-i.least w.lesser.result m w.lesser.ensures.least) (λ _. w.lesser.ensures.below);
+            least = MeetsClashes-more c.args.value.now c.args.placed.now c.loop-i.i _ c.loop-i.least
+                (Some w.lesser.result) in_order c.loop-i.auto.i c.loop-i-test.true c.loop-i.invariant.least
+                (λ m. lesser_kept c.loop-i.least w.lesser.result m w.lesser.ensures.least)
+                (λ _. w.lesser.ensures.below);
           })
       | else-clash w ↦
           rw w.least-is (record {
             found = c.loop-i.invariant.found;
-            least = MeetsClashes-more c.args.value.now c.args.placed.now c.loop-i.i _ c.loop-i.least c.loop-i.least in_order c.loop-i.auto.i c.loop-i-test.true c.loop-i.invariant.least (λ m below. below) (λ clashes. absurd (false≢true (sym w.if-clash.false ∙ c.clash.ensures.1 clashes)));
+            least = MeetsClashes-more c.args.value.now c.args.placed.now c.loop-i.i _ c.loop-i.least c.loop-i.least
+                in_order c.loop-i.auto.i c.loop-i-test.true c.loop-i.invariant.least (λ m below. below)
+                (λ clashes. absurd (false≢true (sym w.if-clash.false ∙ c.clash.ensures.1 clashes)));
           })
     ]

@@ -16,23 +16,34 @@ loop-k-preserved c =
           let fits : c.loop-k.used < length c.loop-k.room = omega arith in
           record {
             within = omega arith;
-            entries = rw (w.used-is, w.room-is, take_more_set c.loop-k.room c.loop-k.used _ fits) (entries-push k _ _ c.loop-k.invariant.entries (omega arith));
+            entries =
+                rw (w.used-is, w.room-is, take_more_set c.loop-k.room c.loop-k.used _ fits)
+                (entries-push k _ _ c.loop-k.invariant.entries (omega arith));
             placed = λ users groups direction are sound.
-                rw (w.used-is, w.room-is, take_more_set c.loop-k.room c.loop-k.used _ fits) (Places-push users groups direction value k _ _ (c.loop-k.invariant.placed users groups direction are (λ j below. sound j (omega arith))) refl (c.has_id.ensures.0 w.if-has_id.true) entry.tag (rw (entry.tag, entry.id) at (w.in-Some.ensures users groups direction are)));
+                rw (w.used-is, w.room-is, take_more_set c.loop-k.room c.loop-k.used _ fits)
+                (Places-push users groups direction value k _ _
+                (c.loop-k.invariant.placed users groups direction are (λ j below. sound j (omega arith))) refl
+                (c.has_id.ensures.0 w.if-has_id.true) entry.tag
+                (rw (entry.tag, entry.id) at (w.in-Some.ensures users groups direction are)));
           }
       | then-has_id+in_default w ↦
           record {
             within = omega arith;
             entries = rw (w.used-is, w.room-is) (entries-more k _ c.loop-k.invariant.entries);
             placed = λ users groups direction are sound.
-                absurd (Becomes-forbidden _ _ _ _ (Accepted-for users groups _ are.users_accepted are.groups_accepted) ((sound k (omega arith)).goes (rw entry.tag at (c.has_id.ensures.0 w.if-has_id.true))).1 (rw (entry.tag, entry.id) at (w.in_default.ensures users groups direction are)));
+                absurd (Becomes-forbidden _ _ _ _ (Accepted-for users groups _ are.users_accepted are.groups_accepted)
+                ((sound k (omega arith)).goes (rw entry.tag at (c.has_id.ensures.0 w.if-has_id.true))).1
+                (rw (entry.tag, entry.id) at (w.in_default.ensures users groups direction are)));
           }
       | else-has_id w ↦
           record {
             within = omega arith;
             entries = rw (w.used-is, w.room-is) (entries-more k _ c.loop-k.invariant.entries);
             placed = λ users groups direction are sound.
-                rw (w.used-is, w.room-is) (Places-pass users groups direction value k _ (c.loop-k.invariant.placed users groups direction are (λ j below. sound j (omega arith))) (λ has_id. false≢true (sym w.if-has_id.false ∙ c.has_id.ensures.1 (rw entry.tag has_id))));
+                rw (w.used-is, w.room-is)
+                (Places-pass users groups direction value k _
+                (c.loop-k.invariant.placed users groups direction are (λ j below. sound j (omega arith)))
+                (λ has_id. false≢true (sym w.if-has_id.false ∙ c.has_id.ensures.1 (rw entry.tag has_id))));
           }
     ]
 

@@ -8,12 +8,17 @@ use Rattle.virtiofs_map.proofs.audit.candidates.try_guest_names.Goals as goal
 
 pub loop-place-preserved : goal.loop-place-preserved
 loop-place-preserved g c =
-    flat_more (bad c.args.question.now) c.loop-place.tried c.try_guest_names_of.new.tried _ (guest_names_of c.args.side c.args.other.now) c.args.map.now c.loop-place.place (rule_meant c.in-Some.rule) c.in-Some.ensures.here c.in_ok-try_guest_names_of.ensures c.loop-place.invariant
+    flat_more (bad c.args.question.now) c.loop-place.tried c.try_guest_names_of.new.tried _
+    (guest_names_of c.args.side c.args.other.now) c.args.map.now c.loop-place.place (rule_meant c.in-Some.rule)
+    c.in-Some.ensures.here c.in_ok-try_guest_names_of.ensures c.loop-place.invariant
 
 pub returns-clause-tried : goal.returns-clause-tried
 returns-clause-tried g c =
     let b = bad c.args.question.now in
     let other = c.args.other.now in
-    let walked = flat_all b c.loop-place.tried _ (guest_names_of c.args.side other) c.args.map.now c.loop-place.place (omega (arith, c.len-place-end.ensures.count, c.loop-place-test.false)) c.loop-place.invariant in
-    let end = ap (λ t. after b t one_byte_names) walked ∙ sym (after-append b c.args.tried.now (guest_names c.args.side other c.args.map.now) one_byte_names) in
+    let walked =
+    flat_all b c.loop-place.tried _ (guest_names_of c.args.side other) c.args.map.now c.loop-place.place
+    (omega (arith, c.len-place-end.ensures.count, c.loop-place-test.false)) c.loop-place.invariant in
+    let end = ap (λ t. after b t one_byte_names) walked
+    ∙ sym (after-append b c.args.tried.now (guest_names c.args.side other c.args.map.now) one_byte_names) in
     on_ok_weaker c.try_one_byte_names.result (λ e. e ∙ end) c.try_one_byte_names.ensures

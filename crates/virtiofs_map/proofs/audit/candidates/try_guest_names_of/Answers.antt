@@ -5,4 +5,6 @@ use Rattle.virtiofs_map.proofs.audit.candidates.try_guest_names_of.Goals as goal
 
 pub loop-place-preserved : goal.loop-place-preserved
 loop-place-preserved g c =
-    option_more (bad c.args.question.now) c.loop-place.tried c.try_rest_of.new.tried _ (rest_of c.args.side c.in-Some.added.now) c.args.other.now c.loop-place.place (rule_meant c.in-Some-rule.each) c.in-Some-rule.ensures.here c.in_ok-try_rest_of.ensures c.loop-place.invariant
+    option_more (bad c.args.question.now) c.loop-place.tried c.try_rest_of.new.tried _
+    (rest_of c.args.side c.in-Some.added.now) c.args.other.now c.loop-place.place (rule_meant c.in-Some-rule.each)
+    c.in-Some-rule.ensures.here c.in_ok-try_rest_of.ensures c.loop-place.invariant

@@ -12,7 +12,9 @@ returns-in_err-read_field-clause-refused g c =
     let (done, so_far, read) = c.loop-field.invariant.1 in
     let s = c.in-Some.ensures in
     let next = split_at_each-cut c.args.separator _ _ _ s.whole s.first in
-    rw (p.1, p.2) (IsFieldsFault-here _ done _ _ _ _ (so_far ∙ ap (λ (xs : List (List ℕ)). done ++ xs) next) read c.in_err-read_field.ensures.answer)
+    rw (p.1, p.2)
+    (IsFieldsFault-here _ done _ _ _ _ (so_far ∙ ap (λ (xs : List (List ℕ)). done ++ xs) next) read
+    c.in_err-read_field.ensures.answer)
 
 pub loop-field-preserved : goal.loop-field-preserved
 loop-field-preserved g c =
@@ -30,10 +32,13 @@ loop-field-preserved g c =
 
 pub returns-in_err-read_field-2-clause-refused : goal.returns-in_err-read_field-2-clause-refused
 returns-in_err-read_field-2-clause-refused g c =
-    let p = err_from_is_err_and c.from_residual-in_err-read_field-2.result c.from_residual-in_err-read_field-2.ensures.1 in
+    let p = err_from_is_err_and c.from_residual-in_err-read_field-2.result
+    c.from_residual-in_err-read_field-2.ensures.1 in
     let (done, so_far, read) = c.loop-field.invariant.1 in
     let last = split_at_each-last c.args.separator _ c.in_default.ensures.absent in
-    rw (p.1, p.2) (IsFieldsFault-here _ done _ _ _ _ (so_far ∙ ap (λ (xs : List (List ℕ)). done ++ xs) last) read c.in_err-read_field-2.ensures.answer)
+    rw (p.1, p.2)
+    (IsFieldsFault-here _ done _ _ _ _ (so_far ∙ ap (λ (xs : List (List ℕ)). done ++ xs) last) read
+    c.in_err-read_field-2.ensures.answer)
 
 pub returns-clause-read : goal.returns-clause-read
 returns-clause-read g c =

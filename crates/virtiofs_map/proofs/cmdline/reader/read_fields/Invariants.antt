@@ -11,7 +11,9 @@ use Rattle.virtiofs_map.proofs.cmdline.reader.read_fields.Given as goal
 abbrev pub invariant-loop-field : goal.invariant-loop-field
 invariant-loop-field g l =
     shadow (Utf8 l.rest)
-    × ((done : List (List ℕ)) × (split_at_each l.separator (chars l.fields) ≡ done ++ split_at_each l.separator (chars l.rest)) × AllZip IsNumeral done l.numbers.items)
+    × ((done : List (List ℕ))
+    × (split_at_each l.separator (chars l.fields) ≡ done ++ split_at_each l.separator (chars l.rest))
+    × AllZip IsNumeral done l.numbers.items)
 
 abbrev pub decreases-loop-field : goal.decreases-loop-field
 decreases-loop-field g l = length l.rest

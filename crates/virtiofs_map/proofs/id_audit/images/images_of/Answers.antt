@@ -6,13 +6,22 @@ use Rattle.virtiofs_map.proofs.id_audit.images.images_of.Goals as goal
 
 pub loop-piece-preserved : goal.loop-piece-preserved
 loop-piece-preserved g c =
-    let is = piece_given c.args.map.now _ c.loop-piece.piece-iterator c.next.new.self c.in-Some.piece c.loop-piece.invariant.counts c.in-Some.ensures.steps in
+    let is =
+    piece_given c.args.map.now _ c.loop-piece.piece-iterator c.next.new.self c.in-Some.piece
+    c.loop-piece.invariant.counts c.in-Some.ensures.steps in
     record {
       spans = c.in_ok-push_image.ensures.spans;
-      counts = CountsSoFar-more c.args.map.now c.loop-piece.images.items _ c.loop-piece.piece-iterator c.next.new.self c.in-Some.piece c.loop-piece.invariant.counts c.in-Some.ensures.steps
-          (λ host before. c.in_ok-push_image.ensures.counts c.args.map.now 0 host c.pieces-piece-items.ensures.accepted is (omega arith) before);
+      counts =
+          CountsSoFar-more c.args.map.now c.loop-piece.images.items _ c.loop-piece.piece-iterator c.next.new.self
+          c.in-Some.piece c.loop-piece.invariant.counts c.in-Some.ensures.steps
+          (λ host before. c.in_ok-push_image.ensures.counts c.args.map.now 0 host c.pieces-piece-items.ensures.accepted
+          is (omega arith) before);
     }
 
 pub returns : goal.returns
 returns g c =
-    AreImages-sorted c.args.map.now c.loop-piece.images.items _ c.loop-piece.piece-iterator c.next.new.self c.loop-piece.invariant.counts c.in-None.ensures.steps c.loop-piece.invariant.spans c.sort_unstable_by_key.ensures.permutation (IsNonDecreasingBy-from_sort_by_key (λ (span : Span). span.first) _ c.sort_unstable_by_key.ensures.sorted (λ a r q k. search rules))
+    AreImages-sorted c.args.map.now c.loop-piece.images.items _ c.loop-piece.piece-iterator c.next.new.self
+    c.loop-piece.invariant.counts c.in-None.ensures.steps c.loop-piece.invariant.spans
+    c.sort_unstable_by_key.ensures.permutation
+    (IsNonDecreasingBy-from_sort_by_key (λ (span : Span). span.first) _ c.sort_unstable_by_key.ensures.sorted
+    (λ a r q k. search rules))

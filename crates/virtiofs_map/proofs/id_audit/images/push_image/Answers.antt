@@ -8,12 +8,20 @@ returns-in_default-clause-counts g c = λ specs low host accepted is up before.
 
 pub returns-then-is_one_to_one-clause-counts : goal.returns-then-is_one_to_one-clause-counts
 returns-then-is_one_to_one-clause-counts g c = λ specs low host accepted is up before.
-    rw c.in_ok-push.ensures.items (counts-each specs c.args.piece low host c.args.images.now.items accepted is up before c.in-Some.to c.min-last.result _ (sym c.is_one_to_one.ensures ∙ c.if-is_one_to_one.true) c.in-Some.ensures (omega arith) c.if-last-piece.false refl refl)
+    rw c.in_ok-push.ensures.items
+    (counts-each specs c.args.piece low host c.args.images.now.items accepted is up before c.in-Some.to
+    c.min-last.result _ (sym c.is_one_to_one.ensures ∙ c.if-is_one_to_one.true) c.in-Some.ensures (omega arith)
+    c.if-last-piece.false refl refl)
 
 pub returns-in_ok-push-3-clause-counts : goal.returns-in_ok-push-3-clause-counts
 returns-in_ok-push-3-clause-counts g c = λ specs low host accepted is up before.
-    rw (c.in_ok-push-3.ensures.items, c.in_ok-push-2.ensures.items) (counts-two specs c.args.piece low host c.args.images.now.items accepted is up before c.in-Some.to _ (sym c.is_one_to_one.ensures ∙ c.if-is_one_to_one.false) c.in-Some.ensures (omega arith) refl refl)
+    rw (c.in_ok-push-3.ensures.items, c.in_ok-push-2.ensures.items)
+    (counts-two specs c.args.piece low host c.args.images.now.items accepted is up before c.in-Some.to _
+    (sym c.is_one_to_one.ensures ∙ c.if-is_one_to_one.false) c.in-Some.ensures (omega arith) refl refl)
 
 pub returns-else-piece-last-clause-counts : goal.returns-else-piece-last-clause-counts
 returns-else-piece-last-clause-counts g c = λ specs low host accepted is up before.
-    rw c.in_ok-push-2.ensures.items (counts-one specs c.args.piece low host c.args.images.now.items accepted is up before c.in-Some.to _ (sym c.is_one_to_one.ensures ∙ c.if-is_one_to_one.false) c.in-Some.ensures (omega arith) (omega arith) refl refl)
+    rw c.in_ok-push-2.ensures.items
+    (counts-one specs c.args.piece low host c.args.images.now.items accepted is up before c.in-Some.to _
+    (sym c.is_one_to_one.ensures ∙ c.if-is_one_to_one.false) c.in-Some.ensures (omega arith) (omega arith) refl
+    refl)

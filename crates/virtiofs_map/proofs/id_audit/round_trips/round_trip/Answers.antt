@@ -4,16 +4,28 @@ use Rattle.virtiofs_map.proofs.id_audit.round_trips.round_trip.Goals as goal
 
 pub returns-then-not-is_one_to_one-clause-returns : goal.returns-then-not-is_one_to_one-clause-returns
 returns-then-not-is_one_to_one-clause-returns g c =
-    ReturnsBy-all c.args.map.now c.stretch-there.result c.stretch-back.result _ c.args.n c.in-Some.host c.in-Some-start.to c.stretch-there.ensures.stretch c.stretch-back.ensures.stretch c.stretch-there.ensures.first c.stretch-back.ensures.first (sym c.is_one_to_one.ensures ∙ c.if-not-is_one_to_one.true) c.in-Some.ensures c.in-Some-start.ensures c.all_to_one.ensures
+    ReturnsBy-all c.args.map.now c.stretch-there.result c.stretch-back.result _ c.args.n c.in-Some.host
+    c.in-Some-start.to c.stretch-there.ensures.stretch c.stretch-back.ensures.stretch c.stretch-there.ensures.first
+    c.stretch-back.ensures.first (sym c.is_one_to_one.ensures ∙ c.if-not-is_one_to_one.true) c.in-Some.ensures
+    c.in-Some-start.ensures c.all_to_one.ensures
 
 pub returns-then-is_one_to_one-clause-returns : goal.returns-then-is_one_to_one-clause-returns
 returns-then-is_one_to_one-clause-returns g c =
-    ReturnsBy-each c.args.map.now c.stretch-there.result c.stretch-back.result _ c.args.n c.in-Some.host _ (λ (k : ℕ). Some (c.in-Some-start.to + (k - c.args.n))) c.stretch-there.ensures.stretch c.stretch-back.ensures.stretch c.stretch-there.ensures.first c.stretch-back.ensures.first (sym c.is_one_to_one.ensures ∙ c.if-not-is_one_to_one.false) c.in-Some.ensures (omega arith) (omega arith)
-    (λ k from to. back-each c.stretch-back.result c.in-Some-start.to c.in-Some.host (k - c.args.n) c.stretch-back.ensures.first (sym c.is_one_to_one-2.ensures ∙ c.if-is_one_to_one.true) c.in-Some-start.ensures)
+    ReturnsBy-each c.args.map.now c.stretch-there.result c.stretch-back.result _ c.args.n c.in-Some.host _
+    (λ (k : ℕ). Some (c.in-Some-start.to + (k - c.args.n))) c.stretch-there.ensures.stretch
+    c.stretch-back.ensures.stretch c.stretch-there.ensures.first c.stretch-back.ensures.first
+    (sym c.is_one_to_one.ensures ∙ c.if-not-is_one_to_one.false) c.in-Some.ensures (omega arith) (omega arith)
+    (λ k from to. back-each c.stretch-back.result c.in-Some-start.to c.in-Some.host (k - c.args.n)
+    c.stretch-back.ensures.first (sym c.is_one_to_one-2.ensures ∙ c.if-is_one_to_one.true) c.in-Some-start.ensures)
     c.one_to_one.ensures
 
 pub returns-else-is_one_to_one-clause-returns : goal.returns-else-is_one_to_one-clause-returns
 returns-else-is_one_to_one-clause-returns g c =
-    ReturnsBy-each c.args.map.now c.stretch-there.result c.stretch-back.result _ c.args.n c.in-Some.host _ (λ (k : ℕ). Some c.in-Some-start.to) c.stretch-there.ensures.stretch c.stretch-back.ensures.stretch c.stretch-there.ensures.first c.stretch-back.ensures.first (sym c.is_one_to_one.ensures ∙ c.if-not-is_one_to_one.false) c.in-Some.ensures (omega arith) (omega arith)
-    (λ k from to. back-all c.stretch-back.result c.in-Some-start.to c.in-Some.host (k - c.args.n) (sym c.is_one_to_one-2.ensures ∙ c.if-is_one_to_one.false) c.stretch-back.ensures.stretch.named c.in-Some-start.ensures)
+    ReturnsBy-each c.args.map.now c.stretch-there.result c.stretch-back.result _ c.args.n c.in-Some.host _
+    (λ (k : ℕ). Some c.in-Some-start.to) c.stretch-there.ensures.stretch c.stretch-back.ensures.stretch
+    c.stretch-there.ensures.first c.stretch-back.ensures.first
+    (sym c.is_one_to_one.ensures ∙ c.if-not-is_one_to_one.false) c.in-Some.ensures (omega arith) (omega arith)
+    (λ k from to. back-all c.stretch-back.result c.in-Some-start.to c.in-Some.host (k - c.args.n)
+    (sym c.is_one_to_one-2.ensures ∙ c.if-is_one_to_one.false) c.stretch-back.ensures.stretch.named
+    c.in-Some-start.ensures)
     c.all_to_one-else-is_one_to_one.ensures

@@ -4,7 +4,9 @@ use Rattle.virtiofs_map.proofs.NamespaceLemmas.{SaysNamespace-one, SaysNamespace
 use Rattle.virtiofs_map.proofs.idmap.GidMap.from_str.Goals as goal
 
 pub returns-in_err-range-clause-complete : goal.returns-in_err-range-clause-complete
-returns-in_err-range-clause-complete c = λ inside outside count says. absurd (SaysNamespace-no_fault (chars c.args.text.now) inside outside count _ says c.in_err-range.ensures.refused)
+returns-in_err-range-clause-complete c =
+    λ inside outside count says. absurd
+    (SaysNamespace-no_fault (chars c.args.text.now) inside outside count _ says c.in_err-range.ensures.refused)
 
 pub returns-in_err-range-clause-faulty : goal.returns-in_err-range-clause-faulty
 returns-in_err-range-clause-faulty c = λ fault has.
@@ -12,7 +14,10 @@ returns-in_err-range-clause-faulty c = λ fault has.
     rw (p.1, p.2) (HasNamespaceFault-one (chars c.args.text.now) _ fault c.in_err-range.ensures.refused has)
 
 pub returns-clause-complete : goal.returns-clause-complete
-returns-clause-complete c = λ inside outside count says. SaysNamespace-one (chars c.args.text.now) _ _ _ inside outside count c.in_ok-range.ensures.read says
+returns-clause-complete c =
+    λ inside outside count says. SaysNamespace-one (chars c.args.text.now) _ _ _ inside outside count
+    c.in_ok-range.ensures.read says
 
 pub returns-clause-faulty : goal.returns-clause-faulty
-returns-clause-faulty c = λ fault has. absurd (SaysNamespace-no_fault (chars c.args.text.now) _ _ _ fault c.in_ok-range.ensures.read has)
+returns-clause-faulty c =
+    λ fault has. absurd (SaysNamespace-no_fault (chars c.args.text.now) _ _ _ fault c.in_ok-range.ensures.read has)

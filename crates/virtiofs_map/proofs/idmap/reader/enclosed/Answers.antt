@@ -1,5 +1,6 @@
 use Rattle.std.proofs.Common.{sym, ◌∙◌, inl, rules}
-use Rattle.virtiofs_map.proofs.NamespaceLemmas.{IsBeforeLast-here, chars-empty, HasNoDelimiter-letter, HasNoDelimiter-first, IsEnclosed-here, same_option, other_option}
+use Rattle.virtiofs_map.proofs.NamespaceLemmas.{IsBeforeLast-here, chars-empty, HasNoDelimiter-letter}
+use Rattle.virtiofs_map.proofs.NamespaceLemmas.{HasNoDelimiter-first, IsEnclosed-here, same_option, other_option}
 use Rattle.virtiofs_map.proofs.idmap.reader.enclosed.Goals as goal
 
 pub returns-in_default-clause-refused : goal.returns-in_default-clause-refused
@@ -27,4 +28,5 @@ returns-clause-found c =
     let first = c.next.ensures.steps in
     let same = same_option c.next.result c.in-Some.delimiter (sym c.ne.ensures ∙ c.if-ne.false) in
     let begins = rw same at first.0 in
-    rw c.as_str.ensures (IsEnclosed-here _ _ _ _ before (sym c.is_alphanumeric.ensures ∙ c.if-is_alphanumeric.false) begins)
+    rw c.as_str.ensures
+    (IsEnclosed-here _ _ _ _ before (sym c.is_alphanumeric.ensures ∙ c.if-is_alphanumeric.false) begins)

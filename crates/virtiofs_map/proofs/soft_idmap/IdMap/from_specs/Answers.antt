@@ -9,40 +9,49 @@ pub returns-in_err-specs-clause-complete : goal.returns-in_err-specs-clause-comp
 returns-in_err-specs-clause-complete g c = λ specs say accepted.
     let p = err_from_is_err_and c.from_residual.result c.from_residual.ensures.1 in
     let texts = texts_of c.args.texts.now in
-    rw (p.1, p.2) (out_of_memory _ (HasSpecsFault texts) c.in_err-specs.ensures.refused (λ fault. AllSay-no_fault texts specs fault say accepted))
+    rw (p.1, p.2)
+    (out_of_memory _ (HasSpecsFault texts) c.in_err-specs.ensures.refused
+    (λ fault. AllSay-no_fault texts specs fault say accepted))
 
 pub returns-in_err-specs-clause-faulty : goal.returns-in_err-specs-clause-faulty
 returns-in_err-specs-clause-faulty g c = λ fault has.
     let p = err_from_is_err_and c.from_residual.result c.from_residual.ensures.1 in
     let texts = texts_of c.args.texts.now in
-    rw (p.1, p.2) (told_fault _ (HasSpecsFault texts) fault c.in_err-specs.ensures.refused (λ other told. HasSpecsFault-one texts other fault told has))
+    rw (p.1, p.2)
+    (told_fault _ (HasSpecsFault texts) fault c.in_err-specs.ensures.refused
+    (λ other told. HasSpecsFault-one texts other fault told has))
 
 pub returns-in_err-map-clause-complete : goal.returns-in_err-map-clause-complete
 returns-in_err-map-clause-complete g c = λ specs say accepted.
     let p = err_from_is_err_and c.from_residual-in_err-map.result c.from_residual-in_err-map.ensures.1 in
     let texts = texts_of c.args.texts.now in
     let refused = refused-build texts _ _ c.in_ok-specs.ensures.read c.in_err-map.ensures.refused in
-    rw (p.1, p.2) (out_of_memory _ (HasSpecsFault texts) refused (λ fault. AllSay-no_fault texts specs fault say accepted))
+    rw (p.1, p.2)
+    (out_of_memory _ (HasSpecsFault texts) refused (λ fault. AllSay-no_fault texts specs fault say accepted))
 
 pub returns-in_err-map-clause-refused : goal.returns-in_err-map-clause-refused
 returns-in_err-map-clause-refused g c =
     let p = err_from_is_err_and c.from_residual-in_err-map.result c.from_residual-in_err-map.ensures.1 in
-    rw (p.1, p.2) (refused-build (texts_of c.args.texts.now) _ _ c.in_ok-specs.ensures.read c.in_err-map.ensures.refused)
+    rw (p.1, p.2)
+    (refused-build (texts_of c.args.texts.now) _ _ c.in_ok-specs.ensures.read c.in_err-map.ensures.refused)
 
 pub returns-in_err-map-clause-faulty : goal.returns-in_err-map-clause-faulty
 returns-in_err-map-clause-faulty g c = λ fault has.
     let p = err_from_is_err_and c.from_residual-in_err-map.result c.from_residual-in_err-map.ensures.1 in
     let texts = texts_of c.args.texts.now in
     let refused = refused-build texts _ _ c.in_ok-specs.ensures.read c.in_err-map.ensures.refused in
-    rw (p.1, p.2) (told_fault _ (HasSpecsFault texts) fault refused (λ other told. HasSpecsFault-one texts other fault told has))
+    rw (p.1, p.2)
+    (told_fault _ (HasSpecsFault texts) fault refused (λ other told. HasSpecsFault-one texts other fault told has))
 
 pub returns-clause-complete : goal.returns-clause-complete
 returns-clause-complete g c = λ specs say accepted.
-    c.in_ok-map.ensures.read ∙ AllSay-one (texts_of c.args.texts.now) c.in_ok-specs.specs.items specs c.in_ok-specs.ensures.read say
+    c.in_ok-map.ensures.read
+    ∙ AllSay-one (texts_of c.args.texts.now) c.in_ok-specs.specs.items specs c.in_ok-specs.ensures.read say
 
 pub returns-clause-faulty : goal.returns-clause-faulty
 returns-clause-faulty g c = λ fault has.
-    AllSay-no_fault (texts_of c.args.texts.now) c.in_ok-specs.specs.items fault c.in_ok-specs.ensures.read c.in_ok-map.ensures.accepted has
+    AllSay-no_fault (texts_of c.args.texts.now) c.in_ok-specs.specs.items fault c.in_ok-specs.ensures.read
+    c.in_ok-map.ensures.accepted has
 
 pub returns-clause-order : goal.returns-clause-order
 returns-clause-order g c = rw c.in_ok-map.ensures.read c.in_ok-map.ensures.order

@@ -38,7 +38,8 @@ pub returns-in-Some-clause-leads_back : goal.returns-in-Some-clause-leads_back
 returns-in-Some-clause-leads_back g c = λ mapped.
     let found = rw c.number_of-n.ensures at c.in-Some.ensures.becomes in
     rw c.id_of.ensures
-    (LeadsBack-mapped c.args.self.now c.args.direction _ (Some c.in-Some.target) c.becomes.ensures.accepted mapped found)
+    (LeadsBack-mapped c.args.self.now c.args.direction _ (Some c.in-Some.target) c.becomes.ensures.accepted mapped
+    found)
 
 pub returns-in-None-clause-looks_up : goal.returns-in-None-clause-looks_up
 returns-in-None-clause-looks_up g c =

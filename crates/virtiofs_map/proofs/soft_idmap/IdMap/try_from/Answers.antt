@@ -18,7 +18,8 @@ returns-in_err-words-clause-faulty g c = λ fault has.
     let p = err_from_is_err_and c.from_residual.result c.from_residual.ensures.1 in
     let specs = c.args.specs.items in
     let refused = rw c.deref.ensures.value at c.in_err-words.ensures in
-    rw (p.1, p.2) (told_fault _ (HasFirstFault specs) fault refused (λ other told. HasFirstFault-one specs other fault told has))
+    rw (p.1, p.2)
+    (told_fault _ (HasFirstFault specs) fault refused (λ other told. HasFirstFault-one specs other fault told has))
 
 pub returns-clause-faulty : goal.returns-clause-faulty
 returns-clause-faulty g c = λ fault has. Accepted-no_fault c.args.specs.items fault (search rules) has

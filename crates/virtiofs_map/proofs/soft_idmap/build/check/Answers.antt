@@ -6,15 +6,22 @@ pub returns-in_err-check_direction : goal.returns-in_err-check_direction
 returns-in_err-check_direction c =
     let p = err_from_is_err_and c.from_residual.result c.from_residual.ensures.1 in
     let longest = c.longest_accepted-index.ensures in
-    rw (p.1, p.2) (HasFirstFault-here _ _ _ _ _ longest.below longest.accepted (λ same. absurd (cc)) c.in_err-check_direction.ensures)
+    rw (p.1, p.2)
+    (HasFirstFault-here _ _ _ _ _ longest.below longest.accepted (λ same. absurd (cc))
+    c.in_err-check_direction.ensures)
 
 pub returns-in_err-check_direction-2 : goal.returns-in_err-check_direction-2
 returns-in_err-check_direction-2 c =
-    let p = err_from_is_err_and c.from_residual-in_err-check_direction-2.result c.from_residual-in_err-check_direction-2.ensures.1 in
+    let p = err_from_is_err_and c.from_residual-in_err-check_direction-2.result
+    c.from_residual-in_err-check_direction-2.ensures.1 in
     let longest = c.longest_accepted-index.ensures in
-    rw (p.1, p.2) (HasFirstFault-here _ _ _ _ _ longest.below longest.accepted (λ _. c.in_ok-check_direction.ensures) c.in_err-check_direction-2.ensures)
+    rw (p.1, p.2)
+    (HasFirstFault-here _ _ _ _ _ longest.below longest.accepted (λ _. c.in_ok-check_direction.ensures)
+    c.in_err-check_direction-2.ensures)
 
 pub returns : goal.returns
 returns c =
     let longest = c.longest_accepted-index.ensures in
-    absurd (longest.refused (Accepted-more _ _ _ longest.below longest.accepted c.in_ok-check_direction.ensures c.in_ok-check_direction-2.ensures))
+    absurd (longest.refused
+    (Accepted-more _ _ _ longest.below longest.accepted c.in_ok-check_direction.ensures
+    c.in_ok-check_direction-2.ensures))

@@ -5,4 +5,5 @@ use Rattle.virtiofs_map.proofs.soft_idmap.build.meets_earlier.Given as goal
 
 -- none of the specifications so far meets the entry
 abbrev pub invariant-loop-other : goal.invariant-loop-other
-invariant-loop-other l = All {X = IdMap} (λ other. ¬ EntryMeets l.entry other l.direction) (take l.other-index l.earlier)
+invariant-loop-other l =
+    All {X = IdMap} (λ other. ¬ EntryMeets l.entry other l.direction) (take l.other-index l.earlier)

@@ -4,8 +4,12 @@ use Rattle.virtiofs_map.proofs.soft_idmap.build.words_of.Goals as goal
 
 pub of-requires-clause-guests : goal.of-requires-clause-guests
 of-requires-clause-guests g c =
-    rw c.deref.ensures.value (placed-count c.args.specs.now GuestToHost c.in_ok-guests.guests.items c.in_ok-guests.ensures.accepted c.in_ok-guests.ensures.from_guest)
+    rw c.deref.ensures.value
+    (placed-count c.args.specs.now GuestToHost c.in_ok-guests.guests.items c.in_ok-guests.ensures.accepted
+    c.in_ok-guests.ensures.from_guest)
 
 pub of-requires-clause-hosts : goal.of-requires-clause-hosts
 of-requires-clause-hosts g c =
-    rw c.deref-2.ensures.value (placed-count c.args.specs.now HostToGuest c.in_ok-guests.hosts.items c.in_ok-guests.ensures.accepted c.in_ok-guests.ensures.from_host)
+    rw c.deref-2.ensures.value
+    (placed-count c.args.specs.now HostToGuest c.in_ok-guests.hosts.items c.in_ok-guests.ensures.accepted
+    c.in_ok-guests.ensures.from_host)

@@ -10,24 +10,33 @@ pub returns-in_err-guests-clause-complete : goal.returns-in_err-guests-clause-co
 returns-in_err-guests-clause-complete g c = λ accepted.
     let p = err_from_is_err_and c.from_residual.result c.from_residual.ensures.1 in
     let specs = c.args.specs.now in
-    rw (p.1, p.2) (out_of_memory _ (HasFirstFault specs) c.in_err-guests.ensures (λ fault. Accepted-no_fault specs fault accepted))
+    rw (p.1, p.2)
+    (out_of_memory _ (HasFirstFault specs) c.in_err-guests.ensures
+    (λ fault. Accepted-no_fault specs fault accepted))
 
 pub returns-in_err-guests-clause-faulty : goal.returns-in_err-guests-clause-faulty
 returns-in_err-guests-clause-faulty g c = λ fault has.
     let p = err_from_is_err_and c.from_residual.result c.from_residual.ensures.1 in
     let specs = c.args.specs.now in
-    rw (p.1, p.2) (told_fault _ (HasFirstFault specs) fault c.in_err-guests.ensures (λ other told. HasFirstFault-one specs other fault told has))
+    rw (p.1, p.2)
+    (told_fault _ (HasFirstFault specs) fault c.in_err-guests.ensures
+    (λ other told. HasFirstFault-one specs other fault told has))
 
 pub returns-then-words-len-clause-faulty : goal.returns-then-words-len-clause-faulty
-returns-then-words-len-clause-faulty g c = λ fault has. Accepted-no_fault c.args.specs.now fault c.in_ok-guests.ensures.accepted has
+returns-then-words-len-clause-faulty g c =
+    λ fault has. Accepted-no_fault c.args.specs.now fault c.in_ok-guests.ensures.accepted has
 
 pub write_words-requires-clause-guests : goal.write_words-requires-clause-guests
 write_words-requires-clause-guests g c =
-    rw c.deref.ensures.value (placed-count c.args.specs.now GuestToHost c.in_ok-guests.guests.items c.in_ok-guests.ensures.accepted c.in_ok-guests.ensures.from_guest)
+    rw c.deref.ensures.value
+    (placed-count c.args.specs.now GuestToHost c.in_ok-guests.guests.items c.in_ok-guests.ensures.accepted
+    c.in_ok-guests.ensures.from_guest)
 
 pub write_words-requires-clause-hosts : goal.write_words-requires-clause-hosts
 write_words-requires-clause-hosts g c =
-    rw c.deref-2.ensures.value (placed-count c.args.specs.now HostToGuest c.in_ok-guests.hosts.items c.in_ok-guests.ensures.accepted c.in_ok-guests.ensures.from_host)
+    rw c.deref-2.ensures.value
+    (placed-count c.args.specs.now HostToGuest c.in_ok-guests.hosts.items c.in_ok-guests.ensures.accepted
+    c.in_ok-guests.ensures.from_host)
 
 pub returns-clause-faulty : goal.returns-clause-faulty
 returns-clause-faulty g c = λ fault has. Accepted-no_fault c.args.specs.now fault c.in_ok-guests.ensures.accepted has

@@ -3,18 +3,21 @@ use Rattle.virtiofs_map.proofs.WordLemmas.{SaysIn-none, SaysIn-only, SaysIn-last
 use Rattle.virtiofs_map.proofs.soft_idmap.lookup.look_up.Goals as goal
 
 pub returns-then-len-eq0-clause-says : goal.returns-then-len-eq0-clause-says
-returns-then-len-eq0-clause-says c = λ specs direction has. SaysIn-none specs direction c.args.ranges.now c.args.n has (omega arith)
+returns-then-len-eq0-clause-says c =
+    λ specs direction has. SaysIn-none specs direction c.args.ranges.now c.args.n has (omega arith)
 
 pub returns-then-len-eq0-clause-steps : goal.returns-then-len-eq0-clause-steps
 returns-then-len-eq0-clause-steps c = CountsBetween-none _ _ _ (omega arith) (rw c.new.ensures at c.add.ensures)
 
 pub returns-then-len-eq1-clause-says : goal.returns-then-len-eq1-clause-says
 returns-then-len-eq1-clause-says c = λ specs direction has.
-    SaysIn-only specs direction c.args.ranges.now c.args.n _ has (omega arith) (rw (c.kept-only.ensures, c.read.ensures.end) at c.say_by.ensures)
+    SaysIn-only specs direction c.args.ranges.now c.args.n _ has (omega arith)
+    (rw (c.kept-only.ensures, c.read.ensures.end) at c.say_by.ensures)
 
 pub returns-then-len-eq1-clause-steps : goal.returns-then-len-eq1-clause-steps
 returns-then-len-eq1-clause-steps c = CountsBetween-one _ _ _ (omega arith) c.read.ensures.counted
 
 pub returns-clause-says : goal.returns-clause-says
 returns-clause-says c = λ specs direction has.
-    SaysIn-last specs direction c.args.ranges.now c.args.n c.last_from-last.result.end _ has c.last_from-last.ensures.found (omega arith) c.last_from-last.ensures.within c.say_by-2.ensures
+    SaysIn-last specs direction c.args.ranges.now c.args.n c.last_from-last.result.end _ has
+    c.last_from-last.ensures.found (omega arith) c.last_from-last.ensures.within c.say_by-2.ensures

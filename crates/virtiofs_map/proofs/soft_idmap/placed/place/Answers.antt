@@ -7,5 +7,7 @@ use Rattle.virtiofs_map.proofs.soft_idmap.placed.place.Goals as goal
 pub returns : goal.returns
 returns g c = record {
   places = Places-permutation _ _ _ _ _ c.sort_unstable_by_key.ensures.permutation c.in_ok-placed.ensures;
-  rising = IsNonDecreasingBy-from_sort_by_key (λ one. first_of one.entry) _ c.sort_unstable_by_key.ensures.sorted (λ a r q k. search rules);
+  rising =
+      IsNonDecreasingBy-from_sort_by_key (λ one. first_of one.entry) _ c.sort_unstable_by_key.ensures.sorted
+      (λ a r q k. search rules);
 }

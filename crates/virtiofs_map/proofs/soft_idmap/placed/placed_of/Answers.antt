@@ -2,7 +2,8 @@ use Rattle.std.proofs.Common.{◌≡◌, ◌≤◌, ℕ, ◌∙◌, sym, refl, a
 use Rattle.std.proofs.lemmas.Bool.{false≢true}
 use Rattle.virtiofs_map.proofs.PlacedLemmas.{Places-add, Places-empty, Places-no_entry}
 use Rattle.virtiofs_map.proofs.soft_idmap.placed.placed_of.Goals as goal
-use Rattle.virtiofs_map.proofs.soft_idmap.placed.placed_of.Goals.{in-Some+then-not-is_empty+in_ok-push, in-Some+else-not-is_empty, in_default}
+use Rattle.virtiofs_map.proofs.soft_idmap.placed.placed_of.Goals.{in-Some+then-not-is_empty+in_ok-push}
+use Rattle.virtiofs_map.proofs.soft_idmap.placed.placed_of.Goals.{in-Some+else-not-is_empty, in_default}
 
 at_least_one : (n : ℕ) → (n ≡ 0 → ⊥) → 1 ≤ n
 at_least_one n some = omega arith
@@ -10,7 +11,15 @@ at_least_one n some = omega arith
 pub loop-index-preserved : goal.loop-index-preserved
 loop-index-preserved g c =
     elim c.match-entry_of.branch [
-      | in-Some+then-not-is_empty+in_ok-push w ↦ rw (w.placed-is, w.in_ok-push.ensures.items) (Places-add c.args.specs.now c.args.direction c.loop-index.index _ _ c.loop-index.placed.items c.loop-index-test.true (sym c.entry_of.ensures ∙ w.in-Some.is) (at_least_one _ (λ none. false≢true (w.if-not-is_empty.ensures.1 none))) c.loop-index.invariant)
-      | in-Some+else-not-is_empty w ↦ rw w.placed-is (Places-empty c.args.specs.now c.args.direction c.loop-index.index _ _ c.loop-index.placed.items c.loop-index-test.true (sym c.entry_of.ensures ∙ w.in-Some.is) (w.if-not-is_empty.ensures.0 refl) c.loop-index.invariant)
-      | in_default w ↦ rw w.placed-is (Places-no_entry c.args.specs.now c.args.direction c.loop-index.index _ c.loop-index.placed.items c.loop-index-test.true (sym c.entry_of.ensures ∙ w.in_default.is) c.loop-index.invariant)
+      | in-Some+then-not-is_empty+in_ok-push w ↦ rw (w.placed-is, w.in_ok-push.ensures.items)
+          (Places-add c.args.specs.now c.args.direction c.loop-index.index _ _ c.loop-index.placed.items
+          c.loop-index-test.true (sym c.entry_of.ensures ∙ w.in-Some.is)
+          (at_least_one _ (λ none. false≢true (w.if-not-is_empty.ensures.1 none))) c.loop-index.invariant)
+      | in-Some+else-not-is_empty w ↦ rw w.placed-is
+          (Places-empty c.args.specs.now c.args.direction c.loop-index.index _ _ c.loop-index.placed.items
+          c.loop-index-test.true (sym c.entry_of.ensures ∙ w.in-Some.is) (w.if-not-is_empty.ensures.0 refl)
+          c.loop-index.invariant)
+      | in_default w ↦ rw w.placed-is
+          (Places-no_entry c.args.specs.now c.args.direction c.loop-index.index _ c.loop-index.placed.items
+          c.loop-index-test.true (sym c.entry_of.ensures ∙ w.in_default.is) c.loop-index.invariant)
     ]

@@ -14,7 +14,8 @@ loop-size-init c = record {
 pub loop-size-preserved : goal.loop-size-preserved
 loop-size-preserved c = record {
   within = omega arith;
-  digits = HasDigitsFor-less _ _ _ _ _ c.loop-size.invariant.digits c.read-range.ensures.counted (omega arith) (omega arith);
+  digits =
+      HasDigitsFor-less _ _ _ _ _ c.loop-size.invariant.digits c.read-range.ensures.counted (omega arith) (omega arith);
   begun = inl (omega arith);
   searched =
       let half = c.loop-size.size / 2 in

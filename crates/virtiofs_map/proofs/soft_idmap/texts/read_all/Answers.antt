@@ -3,10 +3,12 @@ use Rattle.virtiofs_map.proofs.soft_idmap.texts.read_all.Goals as goal
 
 pub loop-index-preserved : goal.loop-index-preserved
 loop-index-preserved g c =
-    rw c.in_ok-push-in-Ok.ensures.items (AllSay-more _ _ _ _ _ c.loop-index-test.true c.loop-index.invariant c.in-Ok.ensures.read)
+    rw c.in_ok-push-in-Ok.ensures.items
+    (AllSay-more _ _ _ _ _ c.loop-index-test.true c.loop-index.invariant c.in-Ok.ensures.read)
 
 pub returns-in-Err-clause-refused : goal.returns-in-Err-clause-refused
-returns-in-Err-clause-refused g c = refused-text c.args.texts.now _ _ _ _ c.loop-index-test.true c.loop-index.invariant c.in-Err.ensures.refused
+returns-in-Err-clause-refused g c =
+    refused-text c.args.texts.now _ _ _ _ c.loop-index-test.true c.loop-index.invariant c.in-Err.ensures.refused
 
 pub returns-in-Err-clause-reached : goal.returns-in-Err-clause-reached
 returns-in-Err-clause-reached g c = IsReadUpTo-here c.args.texts.now _ _ c.loop-index-test.true c.loop-index.invariant

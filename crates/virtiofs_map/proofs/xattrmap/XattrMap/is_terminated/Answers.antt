@@ -17,12 +17,21 @@ returns-then-is_none g c =
 
 pub returns-then-is_none-2 : goal.returns-then-is_none-2
 returns-then-is_none-2 g c =
-    let none = ap is_some (sym c.deciding-in-loop-byte.ensures.found) ∙ meant_some c.deciding-in-loop-byte.result ∙ c.if-is_none-2.ensures in
-    (λ h. absurd (cc), λ terminated. absurd (true≢false (sym (byte_from c.args.self.now terminated c.loop-byte.byte (omega arith) (omega arith)) ∙ none)))
+    let none = ap is_some (sym c.deciding-in-loop-byte.ensures.found) ∙ meant_some c.deciding-in-loop-byte.result
+    ∙ c.if-is_none-2.ensures in (
+      λ h. absurd (cc),
+      λ terminated. absurd
+          (true≢false (sym (byte_from c.args.self.now terminated c.loop-byte.byte (omega arith) (omega arith)) ∙ none)),
+    )
 
 pub returns-else-is_none-2 : goal.returns-else-is_none-2
 returns-else-is_none-2 g c =
     let empty = ap is_some (sym c.deciding.ensures.found) ∙ meant_some c.deciding.result ∙ c.if-is_none.ensures in
-    let last = ap is_some (sym c.deciding-in-loop-byte.ensures.found) ∙ meant_some c.deciding-in-loop-byte.result ∙ c.if-is_none-2.ensures in
-    let end : c.loop-byte.byte + 1 ≡ 256 = omega arith in
-    (λ _. terminated_from c.args.self.now empty (subst (BytesDecided c.args.self.now) end (bytes_more c.args.self.now c.loop-byte.byte c.loop-byte.invariant last)), λ _. search rules)
+    let last = ap is_some (sym c.deciding-in-loop-byte.ensures.found) ∙ meant_some c.deciding-in-loop-byte.result
+    ∙ c.if-is_none-2.ensures in
+    let end : c.loop-byte.byte + 1 ≡ 256 = omega arith in (
+      λ _. terminated_from c.args.self.now empty
+          (subst (BytesDecided c.args.self.now) end
+          (bytes_more c.args.self.now c.loop-byte.byte c.loop-byte.invariant last)),
+      λ _. search rules,
+    )

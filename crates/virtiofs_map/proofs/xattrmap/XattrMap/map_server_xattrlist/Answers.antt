@@ -12,12 +12,16 @@ names-init g c =
 pub names-preserved : goal.names-preserved
 names-preserved g c =
     let left = rw c.in-Ok.is at c.in-Some.ensures.steps in
-    IsSoFar-name c.args.self.now c.args.names.items _ _ c.in-Ok.name.now _ _ c.names.invariant left c.in_ok-push_name.ensures.pushed
+    IsSoFar-name c.args.self.now c.args.names.items _ _ c.in-Ok.name.now _ _ c.names.invariant left
+    c.in_ok-push_name.ensures.pushed
 
 pub returns-clause-size : goal.returns-clause-size
 returns-clause-size g c =
     let short = IsSoFar-length c.args.self.now c.args.names.items _ _ c.names.invariant c.in-None.ensures.steps.0 in
-    elim c.if-is_empty.branch [ then-is_empty+in_ok-push w ↦ grind (arith, nat_tests) | else-is_empty w ↦ grind (arith, nat_tests) ]
+    elim c.if-is_empty.branch [
+      | then-is_empty+in_ok-push w ↦ grind (arith, nat_tests)
+      | else-is_empty w ↦ grind (arith, nat_tests)
+    ]
 
 pub returns-in_err-listed-clause-guests_apart : goal.returns-in_err-listed-clause-guests_apart
 returns-in_err-listed-clause-guests_apart g c = guests_apart c.args.self.now c.args.names.items

@@ -30,7 +30,9 @@ returns-in_err-rules-clause-complete g c = λ rules says.
 pub returns-in_err-rules-clause-faulty : goal.returns-in_err-rules-clause-faulty
 returns-in_err-rules-clause-faulty g c = λ fault wrong.
     (let p = err_from_is_err_and c.from_residual.result c.from_residual.ensures.1 in
-    rw (p.1, p.2) (told_fault _ _ fault c.in_err-rules.ensures.refused (λ told is. one_fault (chars c.args.text.now) told fault is wrong)))
+    rw (p.1, p.2)
+    (told_fault _ _ fault c.in_err-rules.ensures.refused
+    (λ told is. one_fault (chars c.args.text.now) told fault is wrong)))
 
 pub returns-clause-complete : goal.returns-clause-complete
 returns-clause-complete g c = λ rules says. one_value _ _ rules c.in_ok-rules.ensures.read says

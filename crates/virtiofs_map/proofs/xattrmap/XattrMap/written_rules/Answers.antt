@@ -13,7 +13,9 @@ returns-in_err-written-clause-complete g c = λ count counts.
 pub returns-in_err-written-clause-faulty : goal.returns-in_err-written-clause-faulty
 returns-in_err-written-clause-faulty g c = λ fault wrong.
     (let p = err_from_is_err_and c.from_residual.result c.from_residual.ensures.1 in
-    rw (p.1, p.2) (told_fault _ _ fault c.in_err-written.ensures.refused (λ told is. one_fault (chars c.args.text.now) told fault is wrong)))
+    rw (p.1, p.2)
+    (told_fault _ _ fault c.in_err-written.ensures.refused
+    (λ told is. one_fault (chars c.args.text.now) told fault is wrong)))
 
 pub returns-clause-complete : goal.returns-clause-complete
 returns-clause-complete g c = λ count counts. one_count _ _ count c.in_ok-written.ensures.counted counts

@@ -13,5 +13,7 @@ loop-at-preserved c = record {
         let here = ap length c.bytes_of.ensures in
         ap (λ n. length (text c.args.patterns.now n)) same ∙ sym here ∙ omega arith)
   ];
-  least = IsLeastOf-more c.args.patterns.now c.args.part.answer c.args.part.low c.loop-at.at c.loop-at.answer c.min-answer.result (omega arith) c.loop-at.invariant.least (let a = c.min-answer.ensures in let b = c.answer_at.ensures in omega (arith, a, b));
+  least = IsLeastOf-more c.args.patterns.now c.args.part.answer c.args.part.low c.loop-at.at c.loop-at.answer
+      c.min-answer.result (omega arith) c.loop-at.invariant.least
+      (let a = c.min-answer.ensures in let b = c.answer_at.ensures in omega (arith, a, b));
 }

@@ -12,4 +12,5 @@ invariant-loop-parts g l = record {
 
 -- how much deeper a part without a branch may be
 abbrev pub decreases-loop-parts : goal.decreases-loop-parts
-decreases-loop-parts g l = length l.bytes + 1 - shallowest (length l.bytes + 1) (drop (length l.branches.items) l.parts.items)
+decreases-loop-parts g l =
+    length l.bytes + 1 - shallowest (length l.bytes + 1) (drop (length l.branches.items) l.parts.items)

@@ -9,6 +9,8 @@ invariant-loop-at g l = record {
   grown : AreGrown l.patterns l.parts.items l.branches.items;
   counted : l.at ≡ length l.branches.items;
   within : l.at-end ≤ length l.parts.items;
-  deep : (depth : ℕ) → AreDeep l.initial.parts.items (length l.initial.branches.items) depth → AreDeep l.parts.items l.at depth;
-  deeper : (depth : ℕ) → AreDeep l.initial.parts.items (length l.initial.branches.items) depth → AreDeep l.parts.items l.at-end (depth + 1);
+  deep : (depth : ℕ) → AreDeep l.initial.parts.items (length l.initial.branches.items) depth
+      → AreDeep l.parts.items l.at depth;
+  deeper : (depth : ℕ) → AreDeep l.initial.parts.items (length l.initial.branches.items) depth
+      → AreDeep l.parts.items l.at-end (depth + 1);
 }

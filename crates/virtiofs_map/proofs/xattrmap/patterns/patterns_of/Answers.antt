@@ -7,7 +7,8 @@ use Rattle.virtiofs_map.proofs.PatternLemmas.{patterns-permutation, AreInOrder-s
 use Rattle.virtiofs_map.proofs.xattrmap.patterns.patterns_of.Goals as goal
 
 pub returns-clause-patterns : goal.returns-clause-patterns
-returns-clause-patterns g c = patterns-permutation _ _ _ _ _ c.sort_unstable_by.ensures.permutation c.in_ok-patterns.ensures
+returns-clause-patterns g c =
+    patterns-permutation _ _ _ _ _ c.sort_unstable_by.ensures.permutation c.in_ok-patterns.ensures
 
 pub returns-clause-order : goal.returns-clause-order
 returns-clause-order g c =

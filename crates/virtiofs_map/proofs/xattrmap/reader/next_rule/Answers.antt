@@ -10,7 +10,8 @@ use Rattle.virtiofs_map.proofs.RuleWordLemmas.{chars_nonempty}
 use Rattle.virtiofs_map.proofs.xattrmap.reader.next_rule.Goals as goal
 
 pub returns-in_default-clause-err : goal.returns-in_default-clause-err
-returns-in_default-clause-err g c = absurd (empty_is_not_opened (subst IsOpened (ap chars c.in_default.ensures.none ∙ chars-nil) c.requires))
+returns-in_default-clause-err g c =
+    absurd (empty_is_not_opened (subst IsOpened (ap chars c.in_default.ensures.none ∙ chars-nil) c.requires))
 
 pub returns-in_err-rule-clause-err : goal.returns-in_err-rule-clause-err
 returns-in_err-rule-clause-err g c =
@@ -19,7 +20,8 @@ returns-in_err-rule-clause-err g c =
 
 pub returns-then-not-is_empty-clause-err : goal.returns-then-not-is_empty-clause-err
 returns-then-not-is_empty-clause-err g c =
-    let is_map : head_of c.in_ok-rule.rule.head ≡ texts.Map = let e : c.in_ok-rule.rule.head ≡ Map = search rules in ap head_of e in
+    let is_map : head_of c.in_ok-rule.rule.head ≡ texts.Map = let e : c.in_ok-rule.rule.head ≡ Map = search rules in
+    ap head_of e in
     inr (
       c.in-Some.delimiter,
       chars c.in-Some.body.now,

@@ -3,18 +3,23 @@ use Rattle.std.proofs.lemmas.Str.{chars-nil}
 use Rattle.std.specs.Str.{chars}
 use Rattle.virtiofs_map.specs.RuleParts.{KeptRules, as_written}
 use Rattle.virtiofs_map.specs.RuleText.{SaysRules}
-use Rattle.virtiofs_map.proofs.ReadSoFarLemmas.{start, opened, refused_at, not_out_of_memory, step, finish, nothing, rule_shorter, items_none, items_some}
+use Rattle.virtiofs_map.proofs.ReadSoFarLemmas.{start, opened, refused_at, not_out_of_memory, step, finish, nothing}
+use Rattle.virtiofs_map.proofs.ReadSoFarLemmas.{rule_shorter, items_none, items_some}
 use Rattle.virtiofs_map.proofs.MadeRuleLemmas.{head_is_map}
 use Rattle.virtiofs_map.proofs.TrimLemmas.{chars-trim, skips}
 use Rattle.virtiofs_map.proofs.RuleWordLemmas.{chars_empty, chars_nonempty}
 use Rattle.virtiofs_map.proofs.xattrmap.reader.read_rules.Goals as goal
 
 pub loop-number-init : goal.loop-number-init
-loop-number-init g c =
-    (c.trim-rest.utf8, start _ _ _ (ap chars c.trim-rest.ensures.trim ∙ chars-trim c.args.text.now c.utf8.text) c.new-rules.ensures)
+loop-number-init g c = (
+  c.trim-rest.utf8,
+  start _ _ _ (ap chars c.trim-rest.ensures.trim ∙ chars-trim c.args.text.now c.utf8.text) c.new-rules.ensures,
+)
 
 pub next_rule-requires : goal.next_rule-requires
-next_rule-requires g c = opened _ _ _ _ c.loop-number.invariant.1 (chars_nonempty _ c.loop-number.invariant.0 _ c.is_empty.ensures c.loop-number-test.true)
+next_rule-requires g c =
+    opened _ _ _ _ c.loop-number.invariant.1
+    (chars_nonempty _ c.loop-number.invariant.0 _ c.is_empty.ensures c.loop-number-test.true)
 
 pub returns-in-Err-clause-refused : goal.returns-in-Err-clause-refused
 returns-in-Err-clause-refused g c =
@@ -23,34 +28,48 @@ returns-in-Err-clause-refused g c =
       | inl memory ↦ rw (c.in_rule.ensures.cause, c.in_rule.ensures.memory memory, memory) tt
       | inr wrong ↦
           (let not_memory = not_out_of_memory _ _ wrong in
-          rw (c.in_rule.ensures.cause, c.in_rule.ensures.rule not_memory) (refused_at _ _ _ _ _ _ c.loop-number.invariant.1 more (ap (λ n. n + 1) (c.len-number.ensures ∙ search rules)) wrong))
+          rw (c.in_rule.ensures.cause, c.in_rule.ensures.rule not_memory)
+          (refused_at _ _ _ _ _ _ c.loop-number.invariant.1 more
+          (ap (λ n. n + 1) (c.len-number.ensures ∙ search rules)) wrong))
     ]
 
 pub loop-number-smaller : goal.loop-number-smaller
 loop-number-smaller g c =
     let shorter = rule_shorter _ _ _ c.in-Ok.ensures.ok in
     let skipped = skips _ _ c.trim_ascii_start-rest.utf8 c.trim_ascii_start-rest.ensures.value in
-    omega (arith, shorter, ap length skipped.spells, length-append skipped.blanks (chars c.trim_ascii_start-rest.result.now))
+    omega (
+      arith,
+      shorter,
+      ap length skipped.spells,
+      length-append skipped.blanks (chars c.trim_ascii_start-rest.result.now),
+    )
 
 pub loop-number-preserved : goal.loop-number-preserved
 loop-number-preserved g c =
     let more = chars_nonempty _ c.loop-number.invariant.0 _ c.is_empty.ensures c.loop-number-test.true in
     let skipped = skips _ _ c.trim_ascii_start-rest.utf8 c.trim_ascii_start-rest.ensures.value in (
       c.trim_ascii_start-rest.utf8,
-      step _ _ _ _ _ _ (as_written c.in-Ok.found.0) _ _ c.loop-number.invariant.1 (ap (λ n. n + 1) (c.len-number.ensures ∙ search rules)) more c.in-Ok.ensures.ok (λ e. ap chars (c.in-Ok.ensures.last (head_is_map _ e)) ∙ chars-nil) skipped c.in_ok-push_rules.ensures,
+      step _ _ _ _ _ _ (as_written c.in-Ok.found.0) _ _ c.loop-number.invariant.1
+          (ap (λ n. n + 1) (c.len-number.ensures ∙ search rules)) more c.in-Ok.ensures.ok
+          (λ e. ap chars (c.in-Ok.ensures.last (head_is_map _ e)) ∙ chars-nil) skipped c.in_ok-push_rules.ensures,
     )
 
 pub returns-then-is_empty-clause-refused : goal.returns-then-is_empty-clause-refused
 returns-then-is_empty-clause-refused g c =
     rw c.from.ensures
-    (nothing _ _ _ _ c.loop-number.invariant.1 (chars_empty _ _ c.is_empty.ensures c.loop-number-test.false) (items_none _ _ _ (search rules) c.is_empty-2.ensures c.if-is_empty.true))
+    (nothing _ _ _ _ c.loop-number.invariant.1 (chars_empty _ _ c.is_empty.ensures c.loop-number-test.false)
+    (items_none _ _ _ (search rules) c.is_empty-2.ensures c.if-is_empty.true))
 
 pub returns-clause-read : goal.returns-clause-read
 returns-clause-read g c =
-    let whole = finish _ _ _ _ c.loop-number.invariant.1 (chars_empty _ _ c.is_empty.ensures c.loop-number-test.false) (items_some _ _ _ (search rules) c.is_empty-2.ensures c.if-is_empty.false) in
+    let whole =
+    finish _ _ _ _ c.loop-number.invariant.1 (chars_empty _ _ c.is_empty.ensures c.loop-number-test.false)
+    (items_some _ _ _ (search rules) c.is_empty-2.ensures c.if-is_empty.false) in
     subst (λ (kept : KeptRules). SaysRules (chars c.args.text.now) kept.list) (sym c.trim.ensures) whole.0
 
 pub returns-clause-counted : goal.returns-clause-counted
 returns-clause-counted g c =
-    let whole = finish _ _ _ _ c.loop-number.invariant.1 (chars_empty _ _ c.is_empty.ensures c.loop-number-test.false) (items_some _ _ _ (search rules) c.is_empty-2.ensures c.if-is_empty.false) in
+    let whole =
+    finish _ _ _ _ c.loop-number.invariant.1 (chars_empty _ _ c.is_empty.ensures c.loop-number-test.false)
+    (items_some _ _ _ (search rules) c.is_empty-2.ensures c.if-is_empty.false) in
     whole.1

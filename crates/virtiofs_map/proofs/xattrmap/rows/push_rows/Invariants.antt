@@ -6,4 +6,5 @@ use Rattle.virtiofs_map.proofs.xattrmap.rows.push_rows.Given as goal
 -- the rows so far are those of the branches so far
 abbrev pub invariant-loop-branch : goal.invariant-loop-branch
 invariant-loop-branch g l =
-    (l.rows.items ≡ l.initial.rows.items ++ flat_map row_of (take l.branch-index l.branches)) × All HasBytes (take l.branch-index l.branches)
+    (l.rows.items ≡ l.initial.rows.items ++ flat_map row_of (take l.branch-index l.branches))
+    × All HasBytes (take l.branch-index l.branches)

@@ -16,7 +16,8 @@ returns-then-at-rows c = λ branches are.
     ap (λ (n : ℕ). take n (drop (at * 24) c.args.rows.now)) width
     ∙ ap (λ (rows : List ℕ). take 24 (drop (at * 24) rows)) are.are
     ∙ row_at row_of length-row_of branches at one below in
-    ap Some (c.branch_of.ensures _ (are.small at one below) (are.bytes at one below) row) ∙ sym (slice_get-get_or branches at one below)
+    ap Some (c.branch_of.ensures _ (are.small at one below) (are.bytes at one below) row)
+    ∙ sym (slice_get-get_or branches at one below)
 
 pub returns-else-at-rows : goal.returns-else-at-rows
 returns-else-at-rows c = λ branches are.

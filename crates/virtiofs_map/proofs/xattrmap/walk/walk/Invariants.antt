@@ -7,7 +7,8 @@ use Rattle.virtiofs_map.proofs.xattrmap.walk.walk.Given as goal
 -- in each trie that these rows are, the walk stands at the branch
 abbrev pub invariant-loop-child : goal.invariant-loop-child
 invariant-loop-child l = record {
-  stands : (side : Side) (rules : List MappingRule) (inside : IsTrieIn side rules l.trie.rows.now l.trie.bytes.now) → StandsAt side rules inside.branches l.trie.bytes.now inside.trie l.name l.branch l.rest l.fn.steps l.steps;
+  stands : (side : Side) (rules : List MappingRule) (inside : IsTrieIn side rules l.trie.rows.now l.trie.bytes.now)
+      → StandsAt side rules inside.branches l.trie.bytes.now inside.trie l.name l.branch l.rest l.fn.steps l.steps;
   within : length l.rest ≤ length l.name;
 }
 

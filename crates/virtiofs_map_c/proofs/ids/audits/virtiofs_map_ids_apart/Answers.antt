@@ -20,7 +20,8 @@ pub returns-in-Ok-clause-faulty : goal.returns-in-Ok-clause-faulty
 returns-in-Ok-clause-faulty c = λ wrong has.
     let of = c.in-Ok.ensures.decided in
     let first : IsAccepted c.args.specs.now = record { list = of.list; are = of.are; accepted = of.accepted } in
-    let second : IsAccepted c.args.others.now = record { list = of.other; are = of.other_are; accepted = of.other_accepted } in
+    let second : IsAccepted c.args.others.now =
+    record { list = of.other; are = of.other_are; accepted = of.other_accepted } in
     absurd (pair_no_fault c.args.specs.now c.args.others.now first second wrong has)
 
 pub returns-in-Err-clause-complete : goal.returns-in-Err-clause-complete

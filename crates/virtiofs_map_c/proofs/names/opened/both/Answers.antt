@@ -12,4 +12,5 @@ returns-in_err-other-clause-maps c = λ rules others image other.
     rw (p.1, p.2) (c.in_err-other.ensures.map others other))
 
 pub returns-clause-maps : goal.returns-clause-maps
-returns-clause-maps c = λ rules others image other. (c.in_ok-one.ensures.map rules image, c.in_ok-other.ensures.map others other)
+returns-clause-maps c =
+    λ rules others image other. (c.in_ok-one.ensures.map rules image, c.in_ok-other.ensures.map others other)

@@ -7,5 +7,7 @@ use Rattle.virtiofs_map_tests.proofs.xattrmap.example.say_the_same.Goals as goal
 
 pub returns : goal.returns
 returns c = λ is rules more says too.
-    (let same : c.args.one.now ≡ c.args.other.now = (slice_eq-Decides (λ a b. Decides-eqb a b) c.args.one.now c.args.other.now _ c.eq.ensures).0 is in
-    c.one_value.ensures (chars c.args.one.now) rules more says (subst (λ text. SaysRules (chars text) more) (sym same) too))
+    (let same : c.args.one.now ≡ c.args.other.now =
+    (slice_eq-Decides (λ a b. Decides-eqb a b) c.args.one.now c.args.other.now _ c.eq.ensures).0 is in
+    c.one_value.ensures (chars c.args.one.now) rules more says
+    (subst (λ text. SaysRules (chars text) more) (sym same) too))

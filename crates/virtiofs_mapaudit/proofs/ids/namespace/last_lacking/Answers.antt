@@ -11,4 +11,6 @@ loop-range-preserved c = (
 )
 
 pub returns-clause-lacks : goal.returns-clause-lacks
-returns-clause-lacks c = λ n from to. none_has c.args.ranges.now c.loop-range.range-index n c.loop-range-test.false (c.loop-range.invariant.1 n from to)
+returns-clause-lacks c =
+    λ n from to. none_has c.args.ranges.now c.loop-range.range-index n c.loop-range-test.false
+    (c.loop-range.invariant.1 n from to)

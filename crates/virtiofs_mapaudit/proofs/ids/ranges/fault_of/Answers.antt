@@ -4,4 +4,5 @@ use Rattle.virtiofs_mapaudit.proofs.ids.ranges.fault_of.Goals as goal
 
 pub returns : goal.returns
 returns c =
-    none_wrong _ c.args.before.now c.args.range.now c.if-range-eq0.false (decides_not _ c.is_beyond.ensures c.if-is_beyond.false) c.meeting.ensures
+    none_wrong _ c.args.before.now c.args.range.now c.if-range-eq0.false
+    (decides_not _ c.is_beyond.ensures c.if-is_beyond.false) c.meeting.ensures

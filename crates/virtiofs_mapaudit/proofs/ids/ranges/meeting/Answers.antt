@@ -9,4 +9,6 @@ loop-place-preserved c =
     (decides_not _ c.meet.ensures c.if-meet.false) (decides_not _ c.meet-in-loop-place.ensures c.if-meet-2.false)
 
 pub returns : goal.returns
-returns c = all_unmet c.args.before.now c.args.range.now c.loop-place.place (omega (arith, c.loop-place-test.false)) c.loop-place.invariant
+returns c =
+    all_unmet c.args.before.now c.args.range.now c.loop-place.place (omega (arith, c.loop-place-test.false))
+    c.loop-place.invariant

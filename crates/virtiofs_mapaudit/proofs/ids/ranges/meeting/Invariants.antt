@@ -5,4 +5,5 @@ use Rattle.virtiofs_mapaudit.proofs.ids.ranges.meeting.Given as goal
 
 abbrev pub invariant-loop-place : goal.invariant-loop-place
 invariant-loop-place l =
-    (k : ℕ) → k < l.place → (¬ MeetsOneAt l.before k (MeetInside l.range)) × (¬ MeetsOneAt l.before k (MeetOutside l.range))
+    (k : ℕ) → k < l.place
+    → (¬ MeetsOneAt l.before k (MeetInside l.range)) × (¬ MeetsOneAt l.before k (MeetOutside l.range))

@@ -3,4 +3,6 @@ use Rattle.virtiofs_mapaudit.proofs.NameLemmas.{none_found}
 use Rattle.virtiofs_mapaudit.proofs.names.audits.shared_of.Goals as goal
 
 pub returns-in-Yes : goal.returns-in-Yes
-returns-in-Yes g c = none_found (IsShared c.args.map.now c.args.other.now) c.in_ok-all.all c.none.result c.in-Yes.is c.in_ok-all.ensures.answer c.none.ensures
+returns-in-Yes g c =
+    none_found (IsShared c.args.map.now c.args.other.now) c.in_ok-all.all c.none.result c.in-Yes.is
+    c.in_ok-all.ensures.answer c.none.ensures

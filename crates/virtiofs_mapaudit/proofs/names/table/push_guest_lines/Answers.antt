@@ -5,4 +5,5 @@ use Rattle.virtiofs_mapaudit.proofs.names.table.push_guest_lines.Goals as goal
 
 pub push_guest_line-requires : goal.push_guest_line-requires
 push_guest_line-requires g c =
-    ap is_shown c.as_bytes.ensures.value ∙ each_shown c.args.names.now c.loop-name.name-index _ c.requires c.loop-name-test.true
+    ap is_shown c.as_bytes.ensures.value
+    ∙ each_shown c.args.names.now c.loop-name.name-index _ c.requires c.loop-name-test.true

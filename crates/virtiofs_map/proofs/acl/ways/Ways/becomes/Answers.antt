@@ -7,4 +7,5 @@ returns-then-tag-eq2 c = λ users groups direction are.
 
 pub returns-else-tag-eq2 : goal.returns-else-tag-eq2
 returns-else-tag-eq2 c = λ users groups direction are.
-    rw (ne_eqb c.args.tag 2 c.if-tag-eq2.false) (c.becomes-else-tag-eq2.ensures groups direction are.groups_accepted are.of_groups)
+    rw (ne_eqb c.args.tag 2 c.if-tag-eq2.false)
+    (c.becomes-else-tag-eq2.ensures groups direction are.groups_accepted are.of_groups)

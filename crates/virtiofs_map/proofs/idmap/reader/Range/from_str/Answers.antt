@@ -15,7 +15,8 @@ returns-in_err-outside-clause-refused c =
     let p = err_from_is_err_and c.from_residual-in_err-outside.result c.from_residual-in_err-outside.ensures.1 in
     let found = c.in_ok-delimiter.ensures.found in
     let three = c.in-Some.ensures.three in
-    rw (p.1, p.2) (HasOtherField-parts _ _ _ _ _ _ _ found three (1, omega arith, refl) c.in_err-outside.ensures.refused)
+    rw (p.1, p.2)
+    (HasOtherField-parts _ _ _ _ _ _ _ found three (1, omega arith, refl) c.in_err-outside.ensures.refused)
 
 pub returns-in_err-count-clause-refused : goal.returns-in_err-count-clause-refused
 returns-in_err-count-clause-refused c =
@@ -28,4 +29,5 @@ pub returns-clause-read : goal.returns-clause-read
 returns-clause-read c =
     let found = c.in_ok-delimiter.ensures.found in
     let three = c.in-Some.ensures.three in
-    SaysNamespace-parts _ _ _ _ _ _ _ _ _ found three c.in_ok-inside.ensures.read c.in_ok-outside.ensures.read c.in_ok-count.ensures.read
+    SaysNamespace-parts _ _ _ _ _ _ _ _ _ found three c.in_ok-inside.ensures.read c.in_ok-outside.ensures.read
+    c.in_ok-count.ensures.read

@@ -7,4 +7,5 @@ use Rattle.virtiofs_map.proofs.xattrmap.branches.Trie.scattered_child.Given as g
 abbrev pub invariant-loop-behind : goal.invariant-loop-behind
 invariant-loop-behind l =
     (branches : List Branch) → AreRowsOf l.self.rows.now branches → IsReadable branches l.self.bytes.now l.parent
-    → (k : ℕ) (child : Branch) → k < l.behind → slice_get branches (l.parent.first + k) ≡ Some child → child.head ≡ l.byte → ⊥
+    → (k : ℕ) (child : Branch) → k < l.behind → slice_get branches (l.parent.first + k) ≡ Some child
+    → child.head ≡ l.byte → ⊥

@@ -8,7 +8,8 @@ use Rattle.virtiofs_map.proofs.xattrmap.image.list.write_list.Given as goal
 -- what was written, with the names that are left, comes to the whole list
 abbrev pub invariant-names : goal.invariant-names
 invariant-names l = record {
-  listed : (rules : List MappingRule) → ArePartsOf Server rules l.parts → IsListedSoFar rules l.list l.rest l.end l.initial.out l.out;
+  listed : (rules : List MappingRule) → ArePartsOf Server rules l.parts
+      → IsListedSoFar rules l.list l.rest l.end l.initial.out l.out;
   same : length l.out ≡ length l.initial.out;
   short : l.end + length l.rest ≤ length l.list + 1;
   shorter : 0 < length l.rest → l.end + length l.rest ≤ length l.list;

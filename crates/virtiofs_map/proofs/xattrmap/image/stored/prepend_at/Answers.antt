@@ -7,8 +7,10 @@ use Rattle.virtiofs_map.proofs.xattrmap.image.stored.prepend_at.Goals as goal
 pub returns-then-at-rows : goal.returns-then-at-rows
 returns-then-at-rows c = λ rules has.
     let there = rule_there rules c.args.rows.now c.args.bytes.now c.args.at has c.if-at-rows.true in
-    c.prepend_of.ensures there.rule there.span there.row there.is has.few ∙ sym (ap (option_map (λ (rule : MappingRule). rule.prepend)) there.here)
+    c.prepend_of.ensures there.rule there.span there.row there.is has.few
+    ∙ sym (ap (option_map (λ (rule : MappingRule). rule.prepend)) there.here)
 
 pub returns-else-at-rows : goal.returns-else-at-rows
 returns-else-at-rows c = λ rules has.
-    sym (ap (option_map (λ (rule : MappingRule). rule.prepend)) (rule_gone rules c.args.rows.now c.args.bytes.now c.args.at has c.if-at-rows.false))
+    sym (ap (option_map (λ (rule : MappingRule). rule.prepend))
+    (rule_gone rules c.args.rows.now c.args.bytes.now c.args.at has c.if-at-rows.false))

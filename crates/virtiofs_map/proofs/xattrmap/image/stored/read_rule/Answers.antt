@@ -8,4 +8,5 @@ returns-then-at-rows c = λ rules has.
     c.rule_of.ensures there.rule there.span there.row there.is has.few ∙ sym there.here
 
 pub returns-else-at-rows : goal.returns-else-at-rows
-returns-else-at-rows c = λ rules has. sym (rule_gone rules c.args.rows.now c.args.bytes.now c.args.at has c.if-at-rows.false)
+returns-else-at-rows c =
+    λ rules has. sym (rule_gone rules c.args.rows.now c.args.bytes.now c.args.at has c.if-at-rows.false)

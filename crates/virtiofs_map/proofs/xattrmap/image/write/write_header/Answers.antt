@@ -1,4 +1,5 @@
-use Rattle.std.proofs.Common.{◌≡◌, ℕ, ◌+◌, List, [], ◌++◌, length, subst, arith, refl, append_assoc, append-nil, length-append}
+use Rattle.std.proofs.Common.{◌≡◌, ℕ, ◌+◌, List, [], ◌++◌, length, subst, arith, refl, append_assoc, append-nil}
+use Rattle.std.proofs.Common.{length-append}
 use Rattle.virtiofs_map.specs.ByteWordParts.{word_bytes}
 use Rattle.virtiofs_map.specs.NamesImage.{image_kind}
 use Rattle.virtiofs_map.specs.NamesImageParts.{Holds}
@@ -37,6 +38,7 @@ returns c = record {
       let lf = longer four c.args.places.bytes 32 le in
       let h = c.put_word-6.ensures.holds five old f (omega (arith, lf)) in
       subst (λ (l : List ℕ). Holds l old c.put_word-6.new.out)
-      (six_apart (word_bytes image_kind) (word_bytes 48) (word_bytes c.args.places.server) (word_bytes c.args.places.rules) (word_bytes c.args.places.bytes) (word_bytes c.args.places.end))
+      (six_apart (word_bytes image_kind) (word_bytes 48) (word_bytes c.args.places.server)
+      (word_bytes c.args.places.rules) (word_bytes c.args.places.bytes) (word_bytes c.args.places.end))
       h);
 }

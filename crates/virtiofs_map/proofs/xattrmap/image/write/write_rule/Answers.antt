@@ -16,5 +16,6 @@ returns-clause-holds c = λ so_far first holds at.
     let eight_more = length-word_bytes span.prepend in
     let a = c.put_word.ensures.holds so_far first holds at in
     let b = c.put_word-2.ensures.holds (so_far ++ one) first a (omega (arith, at, long, eight)) in
-    let d = c.put_word-3.ensures.holds (so_far ++ one ++ two) first b (omega (arith, at, long, longer, eight, eight_more)) in
+    let d = c.put_word-3.ensures.holds (so_far ++ one ++ two) first b
+    (omega (arith, at, long, longer, eight, eight_more)) in
     three_written (rule_meant c.args.rule) span so_far first _ _ c.acts_number.ensures d

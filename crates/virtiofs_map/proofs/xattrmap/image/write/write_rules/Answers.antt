@@ -14,8 +14,11 @@ loop-place-preserved g c = record {
       let long = length-rows_upto list spans place c.requires.counted (omega arith) in
       let size = length-append so_far (rule_rows (take place list) (take place spans)) in
       let before = c.loop-place.invariant.holds so_far first holds from in
-      let after = c.write_rule.ensures.holds (so_far ++ rule_rows (take place list) (take place spans)) first before (omega (arith, from, long, size)) in
-      rule_rows-next list spans place (rule_meant c.in-Some-Some.rule) c.in-Some-Some.span so_far first _ c.requires.counted c.in-Some-Some.ensures c.in-Some-Some.ensures'.here after);
+      let after =
+      c.write_rule.ensures.holds (so_far ++ rule_rows (take place list) (take place spans)) first before
+      (omega (arith, from, long, size)) in
+      rule_rows-next list spans place (rule_meant c.in-Some-Some.rule) c.in-Some-Some.span so_far first _
+      c.requires.counted c.in-Some-Some.ensures c.in-Some-Some.ensures'.here after);
   same = omega (arith, c.write_rule.ensures.same, c.loop-place.invariant.same);
 }
 

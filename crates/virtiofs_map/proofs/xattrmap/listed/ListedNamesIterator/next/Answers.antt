@@ -1,4 +1,5 @@
-use Rattle.std.proofs.Common.{◌≡◌, ◌≤◌, true, List, ℕ, [], ◌∷◌, length, Option, Some, None, Err, IfSome, sym, ap, ◌∙◌, rules}
+use Rattle.std.proofs.Common.{◌≡◌, ◌≤◌, true, List, ℕ, [], ◌∷◌, length, Option, Some, None, Err, IfSome, sym, ap, ◌∙◌}
+use Rattle.std.proofs.Common.{rules}
 use Rattle.std.specs.Option.{option_map}
 use Rattle.virtiofs_map.specs.LookupAnswers.{of_no_rule}
 use Rattle.virtiofs_map.specs.Names.{deciding}

@@ -6,4 +6,5 @@ use Rattle.virtiofs_map.proofs.xattrmap.rules.Rules.bytes.Goals as goal
 
 pub returns-clause-spans : goal.returns-clause-spans
 returns-clause-spans g c =
-    subst (λ (kept : KeptRules). AreSpans kept.bytes kept.list kept.spans) c.self.view_is (spans_are c.self.inside.bytes.items c.self.inside.entries.items c.self.invariant)
+    subst (λ (kept : KeptRules). AreSpans kept.bytes kept.list kept.spans) c.self.view_is
+    (spans_are c.self.inside.bytes.items c.self.inside.entries.items c.self.invariant)

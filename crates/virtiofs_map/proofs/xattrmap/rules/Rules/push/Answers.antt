@@ -5,13 +5,18 @@ use Rattle.virtiofs_map.proofs.xattrmap.rules.Rules.push.Goals as goal
 
 pub invariant_of-self-2 : goal.invariant_of-self-2
 invariant_of-self-2 g c =
-    among_pushed c.self.inside.bytes.items c.push_patterns.new.bytes.items c.self.inside.entries.items c.push.new.self.items _ c.args.key.now c.args.prepend.now
+    among_pushed c.self.inside.bytes.items c.push_patterns.new.bytes.items c.self.inside.entries.items
+    c.push.new.self.items _ c.args.key.now c.args.prepend.now
     c.push_patterns.ensures.more c.in_ok-push.ensures.items c.self.invariant
     (c.in_ok-span.ensures.span (rule_with c.args.kind c.args.scope c.args.key.now c.args.prepend.now) refl refl)
 
 pub returns : goal.returns
 returns g c =
-    let kept = list_pushed c.self.inside.bytes.items c.push_patterns.new.bytes.items c.self.inside.entries.items c.push.new.self.items _ c.args.key.now c.args.prepend.now
+    let kept =
+    list_pushed c.self.inside.bytes.items c.push_patterns.new.bytes.items c.self.inside.entries.items
+    c.push.new.self.items _ c.args.key.now c.args.prepend.now
     c.push_patterns.ensures.more c.in_ok-push.ensures.items c.self.invariant
     (c.in_ok-span.ensures.span (rule_with c.args.kind c.args.scope c.args.key.now c.args.prepend.now) refl refl) in
-    kept ∙ ap (λ (kept : KeptRules). kept.list ++ rule_with c.args.kind c.args.scope c.args.key.now c.args.prepend.now ∷ []) c.self.view_is
+    kept ∙ ap
+    (λ (kept : KeptRules). kept.list ++ rule_with c.args.kind c.args.scope c.args.key.now c.args.prepend.now ∷ [])
+    c.self.view_is
