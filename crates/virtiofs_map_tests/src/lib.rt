@@ -1,17 +1,16 @@
-//! Tests of the library `virtiofs_map` by its public calls alone.
+//! Tests of what the library `virtiofs_map` does to ids, and to values with ids, by its public calls
+//! alone.
 //!
-//! - `acl`, `audit`, `cmdline`, `id_audit`, `id_types`, `idmap`, `soft_idmap` and `xattrmap`: known
-//!   inputs of the library's module of that name, each with its answer. The three modules `example`
-//!   show how a daemon calls the library, with contracts of its own.
+//! `acl`, `cmdline`, `id_audit`, `id_types`, `idmap` and `soft_idmap` have known inputs of the
+//! library's module of that name, each with its answer. The modules `acl::example` and
+//! `soft_idmap::example` show how a daemon calls the library, with contracts of their own.
 //!
-//! The crate `virtiofs_map_limits` has the tests with refused memory and with hostile texts. There is
-//! nothing here but tests.
+//! The crate `virtiofs_map_name_tests` has the tests on names, and `virtiofs_map_limits` those with
+//! refused memory and with hostile texts. There is nothing here but tests.
 #![tactic(auto)]
 
 #[cfg(test)]
 mod acl;
-#[cfg(test)]
-mod audit;
 #[cfg(test)]
 mod cmdline;
 #[cfg(test)]
@@ -22,5 +21,3 @@ mod id_types;
 mod idmap;
 #[cfg(test)]
 mod soft_idmap;
-#[cfg(test)]
-mod xattrmap;
