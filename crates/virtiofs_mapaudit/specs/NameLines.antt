@@ -53,7 +53,7 @@ stray_lines found =
 abbrev pub idle_lines : ℕ → List ℕ
 idle_lines place =
     codes "rule " ++ decimal (place + 1)
-    ++ codes " decides no name: earlier rules take all that it fits\n  mend: take it out, or put it before them\n"
+    ++ codes " decides no name: earlier rules take all that it fits\n  mend: take it out, or change the rules before it\n"
 
 -- what was found of the names of a guest
 abbrev pub name_lines : {A : Type 0} → NameFindings A → List ℕ

@@ -90,7 +90,7 @@ fn push_idle<A: Allocator>(text: &mut String<A>, place: usize) -> Result<(), All
     let number = place as u64 as u128 + 1;
     write!(
         text,
-        "rule {number} decides no name: earlier rules take all that it fits\n  mend: take it out, or put it before them\n"
+        "rule {number} decides no name: earlier rules take all that it fits\n  mend: take it out, or change the rules before it\n"
     )
 }
 
