@@ -1,5 +1,5 @@
 -- What is found of guests, and its text.
-use Rattle.std.proofs.Common.{◌≡◌, ◌≢◌, ◌⊎◌, ◌↔◌, inl, inr, ℕ, ◌+◌, ◌<◌, ◌≤◌, Bool, IsTrue, IsFalse, string_bytes, List}
+use Rattle.std.proofs.Common.{◌≡◌, ◌≢◌, ◌⊎◌, ◌↔◌, inl, inr, ℕ, ◌+◌, ◌<◌, ◌≤◌, Bool, IsTrue, IsFalse, false, codes, string_bytes, List}
 use Rattle.std.proofs.Common.{[], ◌∷◌, ◌++◌, length, take, get_or, All, Result, Ok, Err, OnOk, refl, sym, ap, ◌∙◌}
 use Rattle.std.proofs.Common.{subst, arith, rules, append_assoc, append-nil}
 use Rattle.std.proofs.lemmas.Bool.{cases_lt}
@@ -22,7 +22,7 @@ use Rattle.virtiofs_mapaudit.specs.PairFindings.{FindsPair}
 use Rattle.virtiofs_mapaudit.specs.Report.{FindsGuest, FindsReport, IsFound, IsPairOf, HasPair}
 use Rattle.virtiofs_mapaudit.specs.ReportParts.{AddsPairs, AreCompared}
 use Rattle.virtiofs_mapaudit.specs.Said.{Says, AreTables, specs_given, ranges_given, rules_given, set_up_line}
-use Rattle.virtiofs_mapaudit.specs.Said.{guests_text, pairs_text, report_text}
+use Rattle.virtiofs_mapaudit.specs.Said.{guests_text, pairs_text, closing, report_text}
 use Rattle.virtiofs_mapaudit.specs.Guests.{SetsUp}
 use Rattle.virtiofs_mapaudit.specs.Refusals.{TellsWhere, IsSomeRefused}
 use Rattle.virtiofs_mapaudit.specs.declared.audit.Said.{Said}
@@ -332,12 +332,22 @@ between_parts (Ok x) first second found old one two new a b c d e f is_a is_b is
     ∙ ap (λ x. two ++ lines_round (shared_before first) found.shared found.shared.all x) is_f)
 between_parts (Err x) first second found old one two new a b c d e f is_a is_b is_c is_d is_e is_f seen back shared = tt
 
+-- what is said at the end where nothing was found and nothing was refused
+pub closing_whole : (refusals : List ℕ) → refusals ≡ [] → closing false refusals ≡ codes "nothing found\n"
+closing_whole refusals none = ap (λ x. closing false x) none
+
+-- and where something was refused
+pub closing_rest : (refusals : List ℕ) → refusals ≢ []
+    → closing false refusals ≡ codes "nothing found in what was not refused\n"
+closing_rest [] some = absurd (some refl)
+closing_rest (c ∷ refusals) some = refl
+
 -- what is said is all of this
 pub says_all : {A : Type 0} (asked : Asked) (guests : List (Guest A)) (said : Said) (sets : List (SetUp A))
     (report : Report A) (tables : List (List ℕ))
     (plain : List ℕ) → AllZip SetsUp guests sets → FindsReport sets report → AllZip (AreTables asked) sets tables
     → (IsTrue said.is_found ↔ IsFound report) → TellsWhere (IsSomeRefused guests sets) [] (string_bytes said.refusals)
-    → plain ≡ report_text guests tables report said.is_found
+    → plain ≡ report_text guests tables report said.is_found (string_bytes said.refusals)
     → (IsTrue asked.quiet → string_bytes said.text ≡ [])
     → (IsFalse asked.quiet → IsFalse asked.json → string_bytes said.text ≡ plain)
     → Says asked guests said

@@ -86,15 +86,16 @@ guests_text number guests tables found = []
 abbrev pub pairs_text : {A : Type 0} → List (Pair A) → List ℕ
 pairs_text pairs = flat_map (λ pair. pair_lines pair.first pair.second pair.found) pairs
 
--- what is said where nothing was found
-abbrev pub closing : Bool → List ℕ
-closing true = []
-closing false = codes "nothing found\n"
+-- what is said where nothing was found: it is another sentence where something was refused
+abbrev pub closing : Bool → List ℕ → List ℕ
+closing true refusals = []
+closing false [] = codes "nothing found\n"
+closing false (c ∷ refusals) = codes "nothing found in what was not refused\n"
 
 -- the whole text
-abbrev pub report_text : {A : Type 0} → List (Guest A) → List (List ℕ) → Report A → Bool → List ℕ
-report_text guests tables report is_found =
-    guests_text 1 guests tables report.guests.items ++ pairs_text report.pairs.items ++ closing is_found
+abbrev pub report_text : {A : Type 0} → List (Guest A) → List (List ℕ) → Report A → Bool → List ℕ → List ℕ
+report_text guests tables report is_found refusals =
+    guests_text 1 guests tables report.guests.items ++ pairs_text report.pairs.items ++ closing is_found refusals
 
 -- what is written of the guests: `quiet` writes nothing, and `json` writes the same facts in another form
 pub record Says {A : Type 0} (asked : Asked) (guests : List (Guest A)) (said : Said) : Type 0 where
@@ -108,4 +109,4 @@ pub record Says {A : Type 0} (asked : Asked) (guests : List (Guest A)) (said : S
   pub refused : (string_bytes said.refusals ≢ []) ↔ IsSomeRefused guests sets
   pub quiet : IsTrue asked.quiet → string_bytes said.text ≡ []
   pub plain : IsFalse asked.quiet → IsFalse asked.json
-      → string_bytes said.text ≡ report_text guests tables report said.is_found
+      → string_bytes said.text ≡ report_text guests tables report said.is_found (string_bytes said.refusals)

@@ -269,15 +269,23 @@ fn is_either(first: bool, second: bool) -> bool
     first || second
 }
 
-/// Writes at the end of a text that nothing was found, if so.
-fn push_closing<A: Allocator>(text: &mut String<A>, is_found: bool) -> Result<(), AllocError>
+/// Writes at the end of a text that nothing was found, if so. `refusals` is what was told of texts
+/// that are refused.
+fn push_closing<A: Allocator>(
+    text: &mut String<A>,
+    is_found: bool,
+    refusals: &str,
+) -> Result<(), AllocError>
     ensures { OnOk result
-        (string_bytes text.new ≡ string_bytes text.old ++ closing is_found) }
+        (string_bytes text.new ≡ string_bytes text.old ++ closing is_found refusals.now) }
 {
     if is_found {
         return Ok(());
     }
-    text.push_str("nothing found\n")
+    if refusals.is_empty() {
+        return text.push_str("nothing found\n");
+    }
+    text.push_str("nothing found in what was not refused\n")
 }
 
 /// Writes what was found at the end of a text, and tells whether anything was.
@@ -288,19 +296,20 @@ fn push_report<A: Allocator + Copy>(
     guests: &[Guest<'_, A>],
     sets: &[SetUp<A>],
     report: &Report<A>,
+    refusals: &str,
 ) -> Result<bool, AllocError>
     requires same { length sets.now ≡ length guests.now }
     requires same_2 { length report.now.guests.items ≡ length guests.now }
     ensures text { IfOk result (λ is_found. (tables : List (List ℕ))
         × AllZip (AreTables asked) sets.now tables
         × (string_bytes text.new ≡ string_bytes text.old
-        ++ report_text guests.now tables report.now is_found)) }
+        ++ report_text guests.now tables report.now is_found refusals.now)) }
     ensures found { IfOk result (λ is_found. IsTrue is_found ↔ IsFound report.now) }
 {
     let of_guests = push_guests(alloc, text, asked, guests, sets, report.guests.as_slice())?;
     let between = push_pairs(alloc, text, report.pairs.as_slice())?;
     let is_found = is_either(of_guests, between);
-    push_closing(text, is_found)?;
+    push_closing(text, is_found, refusals)?;
     Ok(is_found)
 }
 
@@ -357,8 +366,16 @@ pub(crate) fn say(
     let sets = set_up_all(alloc, &mut refusals, guests)?;
     let report = audit(alloc, sets.as_slice())?;
     let mut text = String::new(alloc);
-    let is_found = push_report(alloc, &mut text, asked, guests, sets.as_slice(), &report)?;
     let told = refusals.text.as_str();
+    let is_found = push_report(
+        alloc,
+        &mut text,
+        asked,
+        guests,
+        sets.as_slice(),
+        &report,
+        told,
+    )?;
     let text = in_form(alloc, asked, sets.as_slice(), &report, told, text)?;
     Ok(Said {
         text,

@@ -19,7 +19,7 @@ push_report-requires-clause-same_2 c =
 pub returns : goal.returns
 returns c =
     let (tables, all, whole) =
-    rw (c.as_slice-2.ensures.value, c.new-text.ensures.bytes) at c.in_ok-is_found.ensures.text in
+    rw (c.as_slice-2.ensures.value, c.new-text.ensures.bytes, c.as_str-told.ensures.value) at c.in_ok-is_found.ensures.text in
     says_all c.args.asked c.args.guests.now _ c.in_ok-sets.sets.items c.in_ok-report.report tables _
     c.in_ok-sets.ensures.sets_up (rw c.as_slice.ensures.value at c.in_ok-report.ensures) all
     c.in_ok-is_found.ensures.found
