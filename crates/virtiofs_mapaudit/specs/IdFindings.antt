@@ -36,6 +36,6 @@ pub record FindsIds (specs : List IdMap) (ranges : List UidMap) (found : IdFindi
 abbrev pub TellsMeeting : List IdMap → List IdMap → IdFound → Type 0
 TellsMeeting specs others it = GoesTo specs it.guest it.host × IsLeastId (λ n. GoesTo others n it.host) it.other
 
--- the id of the host that both guests reach
+-- None, or the least id of the first guest whose id of the host the second reaches too
 abbrev pub FindsMeeting : List IdMap → List IdMap → Option IdFound → Type 0
 FindsMeeting specs others = FindsLeast (GoesInto specs (ReachedBy others)) (TellsMeeting specs others)

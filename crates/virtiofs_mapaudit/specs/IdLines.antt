@@ -6,7 +6,7 @@ use Rattle.virtiofs_mapaudit.specs.declared.ids.found.IdFindings.{IdFindings}
 use Rattle.virtiofs_mapaudit.specs.declared.ids.kind.IdKind.{IdKind}
 use Rattle.virtiofs_mapaudit.specs.declared.ids.kind.IdKind.TheVariants.{Users, Groups}
 
--- how one id of that kind is called
+-- the word for one id of that kind
 abbrev pub one_of : IdKind → List ℕ
 one_of Users = codes "user"
 one_of Groups = codes "group"

@@ -5,7 +5,7 @@ use Rattle.virtiofs_map.specs.Rule.{MappingRule}
 use Rattle.virtiofs_mapaudit.specs.declared.names.found.LeastName.{LeastName}
 use Rattle.virtiofs_mapaudit.specs.declared.names.found.NameFindings.{NameFindings}
 
--- the least bad name of all, and of those that begin as names of attributes do
+-- the least bad name of all, and of those that begin with `user.`, `trusted.`, `security.` and `system.`
 pub record FindsName {A : Type 0} (bad : List ℕ → Type 0) (found : LeastName A) : Type 0 where
   pub all : AnswersLeast bad found.all
   pub user : AnswersLeast (Within (codes "user.") bad) found.user

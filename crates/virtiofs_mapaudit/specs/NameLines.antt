@@ -8,7 +8,7 @@ use Rattle.virtiofs_mapaudit.specs.Written.{quoted}
 use Rattle.virtiofs_mapaudit.specs.declared.names.found.LeastName.{LeastName}
 use Rattle.virtiofs_mapaudit.specs.declared.names.found.NameFindings.{NameFindings}
 
--- the name begins as names of attributes do
+-- the name begins with `user.`, `trusted.`, `security.` or `system.`
 abbrev pub is_usual : List ℕ → Bool
 is_usual name =
     begins (codes "user.") name || begins (codes "trusted.") name || begins (codes "security.") name || begins
@@ -19,7 +19,7 @@ abbrev pub or_name : {A : Type 0} → Audit A → List ℕ → List ℕ
 or_name Yes otherwise = otherwise
 or_name (No name) otherwise = codes ", or " ++ quoted name
 
--- the first of the least names that begin as names of attributes do
+-- the least name that begins with `user.`; if there is none, the least that begins with `trusted.`; and so on
 abbrev pub also : {A : Type 0} → LeastName A → List ℕ
 also found = or_name found.user (or_name found.trusted (or_name found.security (or_name found.system [])))
 

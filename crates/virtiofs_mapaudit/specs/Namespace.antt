@@ -16,7 +16,7 @@ abbrev pub IsLacking : List UidMap → ℕ → Type 0
 IsLacking [] inside = ⊥
 IsLacking (range ∷ ranges) inside = (inside ≤ 4294967295) × (¬ HasSome (range ∷ ranges) inside)
 
--- the range begins at root outside, and its first id inside is that one
+-- the first id of the range is 0 outside the namespace, and that id inside it
 pub record IsRootOf (inside : ℕ) (range : UidMap) : Type 0 where
   pub first : inside ≡ range.inside_uid
   pub some : 0 < range.count

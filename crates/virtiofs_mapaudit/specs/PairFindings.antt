@@ -11,7 +11,7 @@ use Rattle.virtiofs_mapaudit.specs.declared.setup.IdSetUp.{IdSetUp}
 use Rattle.virtiofs_mapaudit.specs.declared.setup.NamesSetUp.{NamesSetUp}
 use Rattle.virtiofs_mapaudit.specs.declared.setup.SetUp.{SetUp}
 
--- the id of the host that both reach, where neither daemon runs in a namespace of ranges
+-- the least id of the first guest whose id of the host the second reaches too. Nothing is said where a daemon has ranges
 abbrev pub FindsMeetingOf : {A : Type 0} → Option (IdSetUp A) → Option (IdSetUp A) → Option IdFound → Type 0
 FindsMeetingOf None second found = found ≡ None
 FindsMeetingOf (Some one) None found = found ≡ None

@@ -19,7 +19,7 @@ host_text one host =
     codes " are one " ++ one ++ codes " of the host, " ++ decimal host
     ++ codes "\n  mend: give each guest ids of the host of its own\n"
 
--- an id of the host that both reach; ids of that kind are called so
+-- an id of the host that both reach; `one` is the word for one id
 abbrev pub met_lines : List ℕ → ℕ → ℕ → IdFound → List ℕ
 met_lines one first second it =
     id_text one it.guest first ++ codes " and " ++ id_text one it.other second ++ host_text one it.host

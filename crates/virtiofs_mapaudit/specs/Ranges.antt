@@ -22,7 +22,7 @@ MeetInside range other = MeetAt range.inside_uid range.count other.inside_uid ot
 abbrev pub MeetOutside : UidMap → UidMap → Type 0
 MeetOutside range other = MeetAt range.outside_uid range.count other.outside_uid other.count
 
--- the range at that place, counted from 0, meets the other one in that way
+-- the range at that place, counted from 0, has that property
 abbrev pub MeetsOneAt : List UidMap → ℕ → (UidMap → Type 0) → Type 0
 MeetsOneAt ranges place Meets = (one : UidMap) × (slice_get ranges place ≡ Some one) × Meets one
 

@@ -97,7 +97,7 @@ abbrev pub report_text : {A : Type 0} → List (Guest A) → List (List ℕ) →
 report_text guests tables report is_found refusals =
     guests_text 1 guests tables report.guests.items ++ pairs_text report.pairs.items ++ closing is_found refusals
 
--- what is written of the guests: `quiet` writes nothing, and `json` writes the same facts in another form
+-- what is written of the guests. With `quiet` the text is empty. Of the text of `json` nothing is said here
 pub record Says {A : Type 0} (asked : Asked) (guests : List (Guest A)) (said : Said) : Type 0 where
   pub sets : List (SetUp A)
   pub report : Report A

@@ -19,7 +19,3 @@ quoted bytes = codes "'" ++ written bytes ++ codes "'"
 -- a text and its line feed
 abbrev pub line : List ℕ → List ℕ
 line text = text ++ 10 ∷ []
-
--- the line of a refusal
-abbrev pub refusal : List ℕ → List ℕ
-refusal why = line (codes "refused: " ++ why)

@@ -44,7 +44,7 @@ pub(crate) struct Report<A: Allocator> {
 pub(crate) struct Said {
     /// On standard output.
     pub(crate) text: String,
-    /// On standard error: a line for each text that is refused.
+    /// On standard error: for each guest, a line for the first text of each option that is refused.
     pub(crate) refusals: String,
     /// Whether anything was found.
     pub(crate) is_found: bool,
@@ -205,7 +205,7 @@ fn push_set_up<A: Allocator>(
     push_rules(text, guest.xattrmap)
 }
 
-/// Whether anything was found so far, or told at the end of a text that had this length.
+/// Whether `is_found`, or the text is longer than `before`.
 fn has_grown<A: Allocator>(is_found: bool, text: &String<A>, before: usize) -> bool
     ensures { IsTrue result ↔ (IsTrue is_found ⊎ (before < length (string_bytes text.now))) }
 {
@@ -313,7 +313,8 @@ fn push_report<A: Allocator + Copy>(
     Ok(is_found)
 }
 
-/// What the options of each guest set up. A line for each text that is refused goes to `refusals`.
+/// What the options of each guest set up. For each guest, a line for the first text of each option
+/// that is refused goes to `refusals`.
 fn set_up_all<A: Allocator + Copy>(
     alloc: A,
     refusals: &mut Refusals<A>,

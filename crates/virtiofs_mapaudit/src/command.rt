@@ -55,7 +55,7 @@ fn without_equals<'a>(
     }
 }
 
-/// What a word is, before which no option waits for its value. `next` is the word after it.
+/// What a word is that is not the value of the option before it. `next` is the word after it.
 pub(crate) fn read_word<'a>(
     options: &[(&'static str, Takes)],
     word: &'a str,

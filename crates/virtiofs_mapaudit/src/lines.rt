@@ -114,7 +114,8 @@ fn push_one_meeting<A: Allocator>(
     push_host(text, one, it.host)
 }
 
-/// Writes the least id of the host that two guests reach at the end of a text, if there is one.
+/// Writes the least id of the first guest whose id of the host the second reaches too at the end of a
+/// text, if there is one.
 fn push_meeting<A: Allocator>(
     text: &mut String<A>,
     kind: IdKind,

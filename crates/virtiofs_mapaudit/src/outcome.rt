@@ -23,7 +23,7 @@ pub enum Audited {
 pub enum AuditFault {
     /// A request for memory was refused before anything was written.
     OutOfMemory,
-    /// A write failed, and what was written lacks its end.
+    /// A write or a flush failed. The end of the text may be lacking.
     Write,
 }
 

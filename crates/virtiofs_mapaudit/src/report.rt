@@ -1,4 +1,4 @@
-//! What is found of all guests.
+//! What is found of one guest by itself.
 ghost use Rattle.std.specs.Prelude.{◌≡◌, IfOk};
 ghost use Rattle.virtiofs_mapaudit.specs.Report.{FindsGuest, FindsIf, FindsKind, FindsNamesOf};
 
@@ -19,7 +19,7 @@ pub(crate) struct KindFindings {
     pub(crate) ids: IdFindings,
 }
 
-/// What is found of a guest by itself. Nothing is found of what a refused text sets up.
+/// What is found of a guest by itself. Where a text is refused, nothing is found of what it is for.
 #[derive(Drop)]
 pub(crate) struct GuestFindings<A: Allocator> {
     /// Whether access control lists are on while ids are translated.
@@ -58,7 +58,7 @@ fn audit_some_kind<A: Allocator + Copy>(
     }
 }
 
-/// What is found of names, where no text for them is refused.
+/// What is found of names, where there are rules and they are not refused.
 fn audit_some_names<A: Allocator + Copy>(
     alloc: A,
     set: &Option<NamesSetUp<A>>,

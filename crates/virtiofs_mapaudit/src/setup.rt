@@ -54,7 +54,7 @@ pub(crate) struct SetUp<A: Allocator> {
 /// Where refusals are told.
 #[derive(Drop)]
 pub(crate) struct Refusals<A: Allocator> {
-    /// A line for each text that is refused.
+    /// For each guest, a line for the first text of each option that is refused.
     pub(crate) text: String<A>,
 }
 

@@ -107,8 +107,8 @@ fn root_of<A: Allocator>(map: &Ids<A>, ranges: &[UidMap]) -> Option<IdFound>
     found
 }
 
-/// The least id that becomes one from `first` on which no range has, up to where the next range
-/// begins or the one that has `first` ends; and the first id after those.
+/// Looks at the ids from `first` to the next place where a range begins or ends. Gives the least id of
+/// the guest that becomes one of these, if no range has them, and the first id that was not looked at.
 fn lacking_from<A: Allocator>(map: &Ids<A>, ranges: &[UidMap], first: u32) -> (Option<IdFound>, u64)
     ensures order { first < result.1 }
     ensures bound { result.1 ≤ 8589934590 }

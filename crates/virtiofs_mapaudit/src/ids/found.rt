@@ -24,18 +24,3 @@ pub(crate) struct IdFindings {
     /// An id that becomes one which the namespace of the daemon lacks.
     pub(crate) lacking: Option<IdFound>,
 }
-
-impl IdFindings {
-    ghost use Rattle.std.specs.Prelude.{◌≡◌, ◌↔◌, IsFalse, None};
-
-    /// Whether anything is wrong.
-    pub(crate) fn is_any(&self) -> bool
-        ensures { IsFalse result ↔ ((self.now.astray ≡ None) × (self.now.shared ≡ None)
-            × (self.now.root ≡ None) × (self.now.lacking ≡ None)) }
-    {
-        self.astray.is_some()
-            || self.shared.is_some()
-            || self.root.is_some()
-            || self.lacking.is_some()
-    }
-}

@@ -11,7 +11,7 @@ pub(crate) enum IdKind {
     Groups,
 }
 
-/// How one id of a kind is called.
+/// The word for one id of a kind.
 pub(crate) fn one_of(kind: IdKind) -> &'static str
     ensures { result.now ≡ one_of kind }
 {

@@ -231,7 +231,7 @@ fn push_some_root<A: Allocator>(
     }
 }
 
-/// Writes the least id that the namespace lacks at the end of a text, if there is one.
+/// Writes the least id of the guest that becomes one which the namespace lacks at the end of a text, if there is one.
 fn push_some_lacking<A: Allocator>(
     text: &mut String<A>,
     kind: IdKind,

@@ -31,7 +31,7 @@ pub(crate) fn end_of(ranges: &[UidMap], inside: u32) -> Option<u64>
     None
 }
 
-/// The last id from `inside` on up to which the range has none, where it does not have `inside`.
+/// The last id before the next id of the range. The range does not have `inside`.
 fn last_before(range: &UidMap, inside: u32) -> u32
     requires { ¬ Has range.now inside }
     ensures order { inside ≤ result }
@@ -43,7 +43,7 @@ fn last_before(range: &UidMap, inside: u32) -> u32
     u32::MAX
 }
 
-/// The last id from `inside` on up to which no range has any, where none has `inside`.
+/// The last id before the next id of any range. No range has `inside`.
 pub(crate) fn last_lacking(ranges: &[UidMap], inside: u32) -> u32
     requires { ¬ HasSome ranges.now inside }
     ensures order { inside ≤ result }

@@ -22,7 +22,7 @@ pub(crate) struct LeastName<A: Allocator> {
 /// What is wrong with the names of a guest.
 #[derive(Drop)]
 pub(crate) struct NameFindings<A: Allocator> {
-    /// Whether some rule decides every name, of the guest and of the host.
+    /// Whether each name, of the guest and of the host, is decided by a rule.
     pub(crate) is_terminated: bool,
     /// A name that the guest sets, and that is not listed back.
     pub(crate) lost: LeastName<A>,

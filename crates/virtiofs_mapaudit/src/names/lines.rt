@@ -7,7 +7,7 @@ use crate::written::push_quoted;
 use std::alloc::{AllocError, Allocator};
 use virtiofs_map::audit::Audit;
 
-/// Whether a name begins as names of attributes do.
+/// Whether a name begins with `user.`, `trusted.`, `security.` or `system.`.
 fn is_usual(name: &[u8]) -> bool
     ensures { result ≡ is_usual name.now }
 {
@@ -30,7 +30,8 @@ fn push_or<A: Allocator>(text: &mut String<A>, answer: &Audit<A>) -> Result<(), 
     }
 }
 
-/// Writes the first of the least names that begin as names of attributes do at the end of a text.
+/// Writes the least name that begins with `user.` at the end of a text; if there is none, the least
+/// that begins with `trusted.`; and so on.
 fn push_also<A: Allocator>(text: &mut String<A>, found: &LeastName<A>) -> Result<(), AllocError>
     ensures { OnOk result (string_bytes text.new ≡ string_bytes text.old ++ also found.now) }
 {
