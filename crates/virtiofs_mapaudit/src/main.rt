@@ -21,8 +21,6 @@ mod pairs;
 mod report;
 mod setup;
 mod tally;
-#[cfg(test)]
-mod testing;
 mod words;
 mod written;
 
