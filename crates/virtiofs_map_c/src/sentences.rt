@@ -115,7 +115,8 @@ fn say_cause(fault: &Fault, at_fault: &[u8], out: &mut [u8], len: &mut usize)
 
 /// Writes what a rule has in the place of a word, and the words that could stand there.
 fn say_unexpected(what: &str, got: &[u8], expected: &str, out: &mut [u8], len: &mut usize)
-    ensures { Writes (what.now ++ unexpected_text got.now expected.now) len.old out.old len.new out.new }
+    ensures { Writes (what.now ++ unexpected_text got.now expected.now)
+        len.old out.old len.new out.new }
 {
     say(what, out, len);
     put(got, out, len);

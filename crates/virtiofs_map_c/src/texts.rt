@@ -185,7 +185,8 @@ pub extern "C" fn virtiofs_map_range_read(text: &[u8], range: &mut Range, fault:
 
 /// What C is told of a text that is no range.
 fn told_of_range(error: &idmap::IdMapError) -> Fault
-    ensures { result ≡ range_told (range_error_of error.now) (OfRange (namespace_fault_of error.now)) }
+    ensures { result
+        ≡ range_told (range_error_of error.now) (OfRange (namespace_fault_of error.now)) }
 {
     match error {
         idmap::IdMapError::InvalidDelimiter => Fault::of_kind(9),

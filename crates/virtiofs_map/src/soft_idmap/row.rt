@@ -47,7 +47,8 @@ pub(crate) fn ones_if_below(n: u64, other: u64) -> u64
 
 /// The range of a row that begins at `first`.
 pub(crate) fn entry_of_row(first: u32, count: u32, to: u32, kind: u32) -> Entry
-    ensures { (entry : Entry) → first ≡ first_of entry → IsRow count to kind entry → result ≡ entry }
+    ensures { (entry : Entry)
+        → first ≡ first_of entry → IsRow count to kind entry → result ≡ entry }
 {
     match kind {
         MAPS => Entry::Map { first, to, count },

@@ -64,7 +64,8 @@ pub fn say_length(expected: usize, seen: usize, out: &mut [u8], len: &mut usize)
 
 /// Writes that a field is no number below 2^32.
 pub fn say_value(field: &[u8], number: u32, out: &mut [u8], len: &mut usize)
-    ensures { Writes (codes "Invalid value " ++ field.now ++ codes " in ID map: " ++ number_text number)
+    ensures { Writes
+        (codes "Invalid value " ++ field.now ++ codes " in ID map: " ++ number_text number)
         len.old out.old len.new out.new }
 {
     say("Invalid value ", out, len);

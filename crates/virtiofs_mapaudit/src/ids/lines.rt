@@ -12,7 +12,8 @@ fn push_astray_line<A: Allocator>(
     one: &str,
     it: IdFound,
 ) -> Result<(), AllocError>
-    ensures { OnOk result (string_bytes text.new ≡ string_bytes text.old ++ astray_line one.now it) }
+    ensures { OnOk result (string_bytes text.new ≡ string_bytes text.old
+        ++ astray_line one.now it) }
 {
     let IdFound { guest, host, other } = it;
     writeln!(
@@ -27,7 +28,8 @@ fn push_astray_mend<A: Allocator>(
     option: &str,
     it: IdFound,
 ) -> Result<(), AllocError>
-    ensures { OnOk result (string_bytes text.new ≡ string_bytes text.old ++ astray_mend option.now it) }
+    ensures { OnOk result (string_bytes text.new ≡ string_bytes text.old
+        ++ astray_mend option.now it) }
 {
     let guest = it.guest;
     writeln!(
@@ -56,7 +58,8 @@ fn push_shared_line<A: Allocator>(
     one: &str,
     it: IdFound,
 ) -> Result<(), AllocError>
-    ensures { OnOk result (string_bytes text.new ≡ string_bytes text.old ++ shared_line one.now it) }
+    ensures { OnOk result (string_bytes text.new ≡ string_bytes text.old
+        ++ shared_line one.now it) }
 {
     let IdFound { guest, host, other } = it;
     writeln!(
@@ -71,7 +74,8 @@ fn push_shared_mend<A: Allocator>(
     option: &str,
     it: IdFound,
 ) -> Result<(), AllocError>
-    ensures { OnOk result (string_bytes text.new ≡ string_bytes text.old ++ shared_mend option.now it) }
+    ensures { OnOk result (string_bytes text.new ≡ string_bytes text.old
+        ++ shared_mend option.now it) }
 {
     let other = it.other;
     writeln!(
@@ -116,7 +120,8 @@ fn push_root_mend<A: Allocator>(
     option: &str,
     it: IdFound,
 ) -> Result<(), AllocError>
-    ensures { OnOk result (string_bytes text.new ≡ string_bytes text.old ++ root_mend one.now option.now it) }
+    ensures { OnOk result (string_bytes text.new ≡ string_bytes text.old
+        ++ root_mend one.now option.now it) }
 {
     let guest = it.guest;
     writeln!(
@@ -145,7 +150,8 @@ fn push_lacking_line<A: Allocator>(
     one: &str,
     it: IdFound,
 ) -> Result<(), AllocError>
-    ensures { OnOk result (string_bytes text.new ≡ string_bytes text.old ++ lacking_line one.now it) }
+    ensures { OnOk result (string_bytes text.new ≡ string_bytes text.old
+        ++ lacking_line one.now it) }
 {
     let IdFound { guest, host, .. } = it;
     writeln!(
@@ -162,7 +168,8 @@ fn push_lacking_mend<A: Allocator>(
     range: &str,
     it: IdFound,
 ) -> Result<(), AllocError>
-    ensures { OnOk result (string_bytes text.new ≡ string_bytes text.old ++ lacking_mend one.now option.now range.now it) }
+    ensures { OnOk result (string_bytes text.new ≡ string_bytes text.old
+        ++ lacking_mend one.now option.now range.now it) }
 {
     let guest = it.guest;
     writeln!(
@@ -180,7 +187,8 @@ fn push_lacking<A: Allocator>(
     it: IdFound,
 ) -> Result<(), AllocError>
     ensures { OnOk result
-        (string_bytes text.new ≡ string_bytes text.old ++ lacking_lines one.now option.now range.now it) }
+        (string_bytes text.new ≡ string_bytes text.old
+        ++ lacking_lines one.now option.now range.now it) }
 {
     push_lacking_line(text, one, it)?;
     push_lacking_mend(text, one, option, range, it)
