@@ -43,6 +43,8 @@ KINDS = ("prove", "batch", "alone", "anew", "copy")
 SECONDS_BETWEEN_LINES = 60
 # The exit status of a call of the kit's judge, which says that it came to an answer.
 REFUSED, NOT_REFUSED = 0, 10
+# What the kit's judge says of an edit that it refuses: a word for how, and in older kits True.
+REFUSALS = ("refused", "limit", True)
 
 FUNCTION = re.compile(r"fn (\S+): (.*)")
 PLACE = re.compile(r"note: (src/\S+?):(\d+):\d+: it is not proved ")
@@ -403,9 +405,9 @@ def judge(edit, kept):
     loader.exec_module(rt)
     rt.rtlib.guarded()
     crate = next(it for it in rt.rtlib.crates_below(os.getcwd()) if it.folder == os.getcwd())
-    is_refused, said = rt.must_fail(crate, edit, ["--jobs", "1"], kept and os.path.abspath(kept))
+    kind, said = rt.must_fail(crate, edit, ["--jobs", "1"], kept and os.path.abspath(kept))
     say(said)
-    return REFUSED if is_refused else NOT_REFUSED
+    return REFUSED if kind in REFUSALS else NOT_REFUSED
 
 
 def main(words):
