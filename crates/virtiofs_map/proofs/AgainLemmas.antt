@@ -1,18 +1,20 @@
 -- Which ids spans have again, as they come in the order of their first ids.
 use Rattle.std.proofs.Common.{◌≡◌, ◌↔◌, inl, inr, ◌⊎◌, ℕ, ◌+◌, ◌-◌, ◌<◌, ◌≤◌, min, max, List, [], ◌∷◌, ◌++◌, length}
 use Rattle.std.proofs.Common.{take, get_or, Contains, refl, ap, ◌∙◌, arith}
+use Rattle.std.proofs.Common.{rules, subst}
 use Rattle.std.specs.List.{All}
-use Rattle.std.specs.List.Sorted.{IsNonDecreasingBy}
+use Rattle.std.specs.List.Sorted.{IsPermutation, IsNonDecreasingBy}
 use Rattle.std.proofs.lemmas.Bool.{cases_order}
 use Rattle.std.proofs.lemmas.Bool.Decides.{nat_tests}
-use Rattle.std.proofs.lemmas.List.{get_or_default, take_all}
+use Rattle.std.proofs.lemmas.List.{get_or_default, take_all, take_more}
+use Rattle.std.proofs.lemmas.List.Sorted.{sum_by-IsPermutation}
 use Rattle.std.proofs.lemmas.List.Elements.{All-push, All-weaker, All-contains, Contains-push, Contains-push_cases}
 use Rattle.std.proofs.lemmas.List.Elements.{Contains-append_left}
 use Rattle.std.proofs.lemmas.List.Sorted.{IsNonDecreasingBy-push}
 use Rattle.std.proofs.lemmas.List.Sums.{sum_by_more}
-use Rattle.virtiofs_map.specs.IdAuditParts.{Has, Hold, AreInOrder, has_times, times, once_below}
+use Rattle.virtiofs_map.specs.IdAuditParts.{IsSpan, Has, Hold, AreInOrder, has_times, times, once_below}
 use Rattle.virtiofs_map.specs.declared.id_audit.spans.Span.{Span}
-use Rattle.virtiofs_map.proofs.ImageLemmas.{has_or_not}
+use Rattle.virtiofs_map.proofs.ImageLemmas.{has_or_not, times_hold}
 
 -- ---- one span more
 
@@ -258,3 +260,63 @@ pub SweptTo-end : (images : List Span) (start i reached last : ℕ) (again : Lis
     → Hold again id ↔ (2 ≤ times images id + once_below start id)
 unfolding reached_times
 SweptTo-end images start i reached last again so_far end id = rw (take_all i images end) at (so_far.hold id)
+
+-- ---- spans in order
+
+-- the spans that are kept have an id each, and together the ids of all
+pub record AreKept (spans kept : List Span) : Type 0 where
+  pub some : All IsSpan kept
+  pub same : (id : ℕ) → Hold kept id ↔ Hold spans id
+
+-- none at first
+pub kept_none : (spans kept : List Span) → kept ≡ [] → AreKept (take 0 spans) kept
+kept_none spans kept none = rw none (record { some = search rules; same = λ id. ((λ held. held), (λ held. held)) })
+
+-- a span without an id is left out
+pub kept_without : (spans kept : List Span) (i : ℕ) (d : Span) → i < length spans → AreKept (take i spans) kept
+    → (get_or spans i d).last < (get_or spans i d).first → AreKept (take (i + 1) spans) kept
+kept_without spans kept i d below so_far none = record {
+  some = so_far.some;
+  same = λ id. rw (take_more spans i d below) (
+    (λ held. push_hold (take i spans) (get_or spans i d) id (inl ((so_far.same id).0 held))),
+    (λ held. elim (hold_push (take i spans) (get_or spans i d) id held) [
+      | inl before ↦ (so_far.same id).1 before
+      | inr has ↦ absurd (omega (arith, none, has.0, has.1))
+    ]),
+  );
+}
+
+-- one with an id is kept
+pub kept_with : (spans kept : List Span) (i : ℕ) (d : Span) → i < length spans → AreKept (take i spans) kept
+    → IsSpan (get_or spans i d) → AreKept (take (i + 1) spans) (kept ++ get_or spans i d ∷ [])
+kept_with spans kept i d below so_far is = record {
+  some = All-push IsSpan kept (get_or spans i d) so_far.some is;
+  same = λ id. rw (take_more spans i d below) (
+    (λ held. push_hold (take i spans) (get_or spans i d) id (elim (hold_push kept (get_or spans i d) id held) [
+      | inl before ↦ inl ((so_far.same id).0 before)
+      | inr has ↦ inr has
+    ])),
+    (λ held. push_hold kept (get_or spans i d) id (elim (hold_push (take i spans) (get_or spans i d) id held) [
+      | inl before ↦ inl ((so_far.same id).1 before)
+      | inr has ↦ inr has
+    ])),
+  );
+}
+
+-- in another order they have the same ids
+pub hold_permuted : (spans sorted : List Span) (id : ℕ) → IsPermutation spans sorted → Hold sorted id ↔ Hold spans id
+hold_permuted spans sorted id permutation =
+    let same = sum_by-IsPermutation (has_times id) spans sorted permutation in
+    let of_sorted = times_hold sorted id in
+    let of_spans = times_hold spans id in (
+      (λ held. of_spans.0 (let some = of_sorted.1 held in omega (arith, same, some))),
+      (λ held. of_sorted.0 (let some = of_spans.1 held in omega (arith, same, some))),
+    )
+
+-- all of them, in another order
+pub kept_sorted : (spans kept sorted : List Span) (i : ℕ) → length spans ≤ i → AreKept (take i spans) kept
+    → IsPermutation kept sorted → (id : ℕ) → Hold sorted id ↔ Hold spans id
+kept_sorted spans kept sorted i over are permutation id =
+    let same = hold_permuted kept sorted id permutation in
+    let whole = (subst (λ xs. AreKept xs kept) (take_all i spans over) are).same id in
+    ((λ held. whole.0 (same.0 held)), (λ held. same.1 (whole.1 held)))

@@ -1,17 +1,19 @@
 -- How often the guest reaches an id of the host.
 use Rattle.std.proofs.Common.{◌≡◌, inl, inr, ◌⊎◌, ℕ, ◌+◌, ◌-◌, ◌<◌, ◌≤◌, min, true, false, List, [], ◌∷◌, ◌++◌, Some}
 use Rattle.std.proofs.Common.{None, refl, sym, ap, ◌∙◌, arith}
+use Rattle.std.proofs.Common.{◌↔◌}
 use Rattle.std.specs.List.{All, AllByRecursion}
 use Rattle.std.specs.List.Sorted.{IsPermutation, IsNonDecreasingBy}
 use Rattle.std.proofs.lemmas.Bool.{cases_order}
 use Rattle.std.proofs.lemmas.Bool.Decides.{nat_tests}
-use Rattle.std.proofs.lemmas.List.Elements.{recursion_from_All}
+use Rattle.std.proofs.lemmas.List.Elements.{recursion_from_All, All-contains, All-cons, All-nil, Contains-append_cases}
+use Rattle.std.proofs.lemmas.List.Elements.{Contains-append_right}
 use Rattle.std.proofs.lemmas.List.Sorted.{All-permutation, sum_by-IsPermutation}
 use Rattle.std.proofs.lemmas.List.Sums.{sum_by-cons, sum_by_push}
 use Rattle.std.proofs.lemmas.Option.{same_Some}
 use Rattle.virtiofs_map.specs.Build.{Accepted}
 use Rattle.virtiofs_map.specs.IdAudit.{GoesTo}
-use Rattle.virtiofs_map.specs.IdAuditParts.{IsSpan, Has, has_times, times, CountsGuests, AreImages}
+use Rattle.virtiofs_map.specs.IdAuditParts.{IsSpan, Has, Hold, has_times, times, CountsGuests, AreImages}
 use Rattle.virtiofs_map.specs.PieceParts.{is_one_to_one}
 use Rattle.virtiofs_map.specs.Pieces.{value_in, IsPiece, PiecesLeft, GivesPiece}
 use Rattle.virtiofs_map.specs.declared.cmdline.IdMap.{IdMap}
@@ -382,3 +384,40 @@ has_bounded (span ∷ spans) id (is, each) some =
 
 pub times-bounded : (spans : List Span) (id : ℕ) → All IsSpan spans → 1 ≤ times spans id → id ≤ 4294967295
 times-bounded spans id all some = has_bounded spans id (recursion_from_All IsSpan spans all) some
+
+-- ---- spans that have an id are counted
+
+-- one more span in front
+hold_front : (span : Span) (spans : List Span) (id : ℕ) → Hold (span ∷ spans) id ↔ (Has span id ⊎ Hold spans id)
+hold_front span spans id = (
+  (λ (other, listed, has). elim (Contains-append_cases (span ∷ []) spans other listed) [
+    | inl front ↦ inl (rw (All-contains (λ s. s ≡ span) (span ∷ []) other (All-cons (λ s. s ≡ span) span [] refl (All-nil (λ s. s ≡ span))) front) at has)
+    | inr later ↦ inr (other, later, has)
+  ]),
+  (λ held. elim held [
+    | inl has ↦ (span, (0, omega arith, refl), has)
+    | inr (other, listed, has) ↦ (other, Contains-append_right (span ∷ []) spans other listed, has)
+  ]),
+)
+
+-- no span has an id of none
+hold_none : (id : ℕ) → ¬ Hold [] id
+hold_none id (span, listed, has) = absurd (omega (arith, listed.1))
+
+-- spans have an id where one of them counts it
+pub times_hold : (spans : List Span) (id : ℕ) → (1 ≤ times spans id) ↔ Hold spans id
+times_hold [] id = ((λ some. absurd (omega (arith, some))), (λ held. absurd (hold_none id held)))
+times_hold (span ∷ spans) id =
+    let all = sum_by-cons (has_times id) span spans in
+    let rest = times_hold spans id in
+    let front = hold_front span spans id in
+    elim (has_or_not span id) [
+      | inl (once, has) ↦ ((λ some. front.1 (inl has)), (λ held. omega (arith, all, once)))
+      | inr (none, not) ↦ (
+        (λ some. front.1 (inr (rest.0 (omega (arith, all, none, some))))),
+        (λ held. elim (front.0 held) [
+          | inl has ↦ absurd (not has)
+          | inr later ↦ (let more = rest.1 later in omega (arith, all, more))
+        ]),
+      )
+    ]

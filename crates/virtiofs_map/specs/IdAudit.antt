@@ -1,10 +1,11 @@
 -- What an audit of ids decides of a map, for all ids of the guest.
-use Rattle.std.specs.Prelude.{◌≡◌, ◌≢◌, ℕ, ◌<◌, ◌≤◌, List, Option, Some, None, ⊤}
+use Rattle.std.specs.Prelude.{◌≡◌, ◌≢◌, ℕ, ◌<◌, ◌≤◌, List, Contains, Option, Some, None, ⊤}
 use Rattle.virtiofs_map.specs.Mapping.{Becomes}
 use Rattle.virtiofs_map.specs.MappingLaws.{LeadsBack}
 use Rattle.virtiofs_map.specs.declared.cmdline.IdMap.{IdMap}
 use Rattle.virtiofs_map.specs.declared.id_audit.answer.IdAudit.{IdAudit}
 use Rattle.virtiofs_map.specs.declared.id_audit.answer.IdAudit.TheVariants.{Yes, No}
+use Rattle.virtiofs_map.specs.declared.id_audit.spans.Span.{Span}
 use Rattle.virtiofs_map.specs.declared.soft_idmap.entry.Direction.TheVariants.{GuestToHost, HostToGuest}
 
 -- ---- the least id that is bad
@@ -96,3 +97,13 @@ ReachedBy specs host = (guest : ℕ) × GoesTo specs guest host
 -- what the first map reaches, the second does not
 abbrev pub AreIdsApart : List IdMap → List IdMap → Type 0
 AreIdsApart specs others = (guest host : ℕ) → GoesTo specs guest host → ¬ ReachedBy others host
+
+-- ---- spans of ids of the host
+
+-- the span has the id
+abbrev pub Has : Span → ℕ → Type 0
+Has span id = (span.first ≤ id) × (id ≤ span.last)
+
+-- one of the spans has it
+abbrev pub Hold : List Span → ℕ → Type 0
+Hold spans id = (span : Span) × Contains spans span × Has span id

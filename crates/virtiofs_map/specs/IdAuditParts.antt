@@ -1,8 +1,9 @@
 -- What the parts of the audits of ids say. Only private functions cite these definitions.
 use Rattle.std.specs.Prelude.{◌≡◌, ◌≢◌, ◌⊎◌, ◌↔◌, ◌&&◌, if◌then◌else◌, ℕ, ◌+◌, ◌-◌, ◌<◌, ◌≤◌, nat_le, nat_lt, List, All}
-use Rattle.std.specs.Prelude.{Contains, Option, Some, None, sum_by}
+use Rattle.std.specs.Prelude.{Option, Some, None, sum_by}
 use Rattle.std.specs.List.Sorted.{IsNonDecreasingBy}
 use Rattle.virtiofs_map.specs.IdAudit.{GoesTo}
+pub use Rattle.virtiofs_map.specs.IdAudit.{Has, Hold}
 use Rattle.virtiofs_map.specs.Mapping.{Becomes}
 use Rattle.virtiofs_map.specs.MappingLaws.{LeadsBack}
 use Rattle.virtiofs_map.specs.Pieces.{value_in}
@@ -40,14 +41,6 @@ ComeBackBelow specs next = (n host : ℕ) → n < next → GoesTo specs n host �
 -- the span has an id, and only ids
 abbrev pub IsSpan : Span → Type 0
 IsSpan span = (span.first ≤ span.last) × (span.last ≤ 4294967295)
-
--- the span has the id
-abbrev pub Has : Span → ℕ → Type 0
-Has span id = (span.first ≤ id) × (id ≤ span.last)
-
--- one of the spans has it
-abbrev pub Hold : List Span → ℕ → Type 0
-Hold spans id = (span : Span) × Contains spans span × Has span id
 
 -- each span has an id, and neither the first nor the last ids of the spans fall
 pub record AreInOrder (spans : List Span) : Type 0 where

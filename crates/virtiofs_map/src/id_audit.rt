@@ -12,14 +12,16 @@
 //! - [`is_alone`]: no two ids become one id of the host.
 //! - [`reaches`]: the least id that becomes an id of the host in some range.
 //! - [`ids_apart`]: no id of the host is reached by two maps.
+//! - [`reached`]: the ids of the host that the guest reaches, as spans.
+//! - [`reaches_any`]: the least id that becomes an id of the host which one of some spans has.
 //!
 //! The ids are those of the guest from 0 to 4294967294 that no specification forbids. 4294967295 is
 //! left out: it stays itself whatever is specified, and is no id to Linux.
 //!
 //! With m specifications an audit takes as long as m lookups and a sort of m numbers.
-ghost use Rattle.std.specs.Prelude.{◌≡◌, ◌↔◌, IfOk};
+ghost use Rattle.std.specs.Prelude.{◌≡◌, ◌↔◌, ℕ, IfOk};
 ghost use Rattle.std.specs.Option.{option_map};
-ghost use Rattle.virtiofs_map.specs.IdAudit.{IsLeastId, IsLeastIfAny, AnswersLeastId, IfNo, ComesBack, IsAstray, WanderTo, IsAlone, IsShared, SharedAs, GoesInto, Between, AreIdsApart, ReachedBy};
+ghost use Rattle.virtiofs_map.specs.IdAudit.{IsLeastId, IsLeastIfAny, AnswersLeastId, IfNo, ComesBack, IsAstray, WanderTo, IsAlone, IsShared, SharedAs, GoesInto, Between, AreIdsApart, ReachedBy, Hold};
 ghost use Rattle.virtiofs_map.specs.declared.id_audit.answer.IdAudit.TheVariants.{Yes};
 
 mod answer;
@@ -30,9 +32,10 @@ mod spans;
 use crate::id_types::{GuestId, HostId};
 use crate::soft_idmap::{IdMap, id_of, number_of};
 pub use answer::{Astray, IdAudit, Shared};
-use images::{images_of, reached_again};
+use images::{images_of, in_order, reached_again};
 use round_trips::first_astray;
-use spans::{Span, least_into};
+pub use spans::Span;
+use spans::least_into;
 use std::alloc::{AllocError, Allocator};
 
 /// Whether each id comes back: what it becomes on the host becomes that id again. `No` has the least
@@ -152,6 +155,46 @@ pub fn reaches<Guest: GuestId<HostType = Host>, Host: HostId<GuestType = Guest>,
         return None;
     };
     Some(id_of(n))
+}
+
+/// The ids of the host that the guest reaches: the spans have each id that some id of the guest
+/// becomes, and no other.
+///
+/// # Errors
+///
+/// `AllocError`: a request for memory was refused.
+pub fn reached<
+    Guest: GuestId<HostType = Host>,
+    Host: HostId<GuestType = Guest>,
+    A: Allocator + Copy,
+>(alloc: A, map: &IdMap<Guest, Host, A>) -> Result<Vec<Span, A>, AllocError>
+    ensures { IfOk result (λ spans. (host : ℕ)
+        → Hold spans.items host ↔ ReachedBy map.now host) }
+{
+    let images = images_of(alloc, map)?;
+    reached_again(alloc, &images, u64::from(u32::MAX) + 1)
+}
+
+/// The least id that becomes an id of the host which one of the spans has; `None` where there is
+/// none. The spans may stand in any order, and may overlap.
+///
+/// # Errors
+///
+/// `AllocError`: a request for memory was refused.
+pub fn reaches_any<
+    Guest: GuestId<HostType = Host>,
+    Host: HostId<GuestType = Guest>,
+    A: Allocator + Copy,
+>(alloc: A, map: &IdMap<Guest, Host, A>, spans: &[Span]) -> Result<Option<Guest>, AllocError>
+    ensures { IfOk result (λ least. IsLeastIfAny (GoesInto map.now (Hold spans.now))
+        (option_map (λ guest. Guest.number guest) least)) }
+{
+    let sorted = in_order(alloc, spans)?;
+    let merged = reached_again(alloc, &sorted, u64::from(u32::MAX) + 1)?;
+    let Some(n) = least_into(map, 0, &merged) else {
+        return Ok(None);
+    };
+    Ok(Some(id_of(n)))
 }
 
 /// Whether the maps of two guests are apart on the host: no id of the host is reached by both. `No`

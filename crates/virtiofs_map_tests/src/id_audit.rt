@@ -2,7 +2,9 @@
 
 use std::alloc::Global;
 use std::test::Fail;
-use virtiofs_map::id_audit::{IdAudit, comes_back, ids_apart, is_alone, reaches};
+use virtiofs_map::id_audit::{
+    IdAudit, Span, comes_back, ids_apart, is_alone, reached, reaches, reaches_any,
+};
 use virtiofs_map::id_types::{GuestUid, HostUid, Id};
 use virtiofs_map::soft_idmap::IdMap;
 
@@ -176,6 +178,85 @@ const MEETING: [(&str, &str, Option<u32>); 9] = [
     ),
 ];
 
+/// Whether some id becomes that id of the host.
+fn is_reached(alloc: Global, texts: &str, host: u32) -> Result<bool, Fail> {
+    let map = users(alloc, texts)?;
+    let spans = reached(alloc, &map)?;
+    Ok(spans
+        .iter()
+        .any(|span| span.first <= host && host <= span.last))
+}
+
+const REACHED: [(&str, u32, bool); 14] = [
+    ("", 0, true),
+    ("", 4294967294, true),
+    ("", 4294967295, false),
+    (
+        "map:0:100000:65536|forbid-guest:65536:4294901759",
+        99_999,
+        false,
+    ),
+    (
+        "map:0:100000:65536|forbid-guest:65536:4294901759",
+        100_000,
+        true,
+    ),
+    (
+        "map:0:100000:65536|forbid-guest:65536:4294901759",
+        165_535,
+        true,
+    ),
+    (
+        "map:0:100000:65536|forbid-guest:65536:4294901759",
+        165_536,
+        false,
+    ),
+    ("map:0:100000:65536", 0, false),
+    ("map:0:100000:65536", 65536, true),
+    ("squash-guest:0:7:4294967295", 7, true),
+    ("squash-guest:0:7:4294967295", 8, false),
+    ("forbid-guest:0:4294967295", 0, false),
+    ("guest:7:4294967295:1", 4294967295, true),
+    ("guest:7:4294967295:1", 7, false),
+];
+
+/// The least id that becomes one which one of two spans has.
+fn reaching_any(alloc: Global, texts: &str, spans: [Span; 2]) -> Result<Option<u32>, Fail> {
+    let map = users(alloc, texts)?;
+    let guest = reaches_any(alloc, &map, &spans)?;
+    Ok(guest.map(|id| id.into_inner()))
+}
+
+const fn span(first: u32, last: u32) -> Span {
+    Span { first, last }
+}
+
+const REACHING_ANY: [(&str, Span, Span, Option<u32>); 8] = [
+    ("", span(5, 3), span(9, 20), Some(9)),
+    ("", span(9, 20), span(4, 4), Some(4)),
+    ("", span(4, 12), span(9, 20), Some(4)),
+    ("", span(3, 1), span(2, 0), None),
+    ("", span(4294967295, 4294967295), span(1, 0), None),
+    (
+        "map:0:100000:65536|forbid-guest:65536:4294901759",
+        span(165_536, 4294967295),
+        span(0, 99_999),
+        None,
+    ),
+    (
+        "map:0:100000:65536|forbid-guest:65536:4294901759",
+        span(165_535, 165_535),
+        span(100_007, 100_009),
+        Some(7),
+    ),
+    (
+        "squash-guest:5:9:3|forbid-guest:9:1",
+        span(9, 9),
+        span(9, 9),
+        Some(5),
+    ),
+];
+
 #[test]
 fn finds_the_least_id_that_does_not_come_back(rt: HostRuntime) -> Result<(), Fail> {
     for (texts, wanted) in ASTRAY {
@@ -208,6 +289,24 @@ fn finds_the_least_id_that_two_maps_reach(rt: HostRuntime) -> Result<(), Fail> {
     for (texts, others, wanted) in MEETING {
         let answer = meeting(rt.alloc(), texts, others)?;
         assert_eq!(rt; answer, wanted, "of {texts:?} and {others:?}");
+    }
+    Ok(())
+}
+
+#[test]
+fn tells_which_ids_of_the_host_are_reached(rt: HostRuntime) -> Result<(), Fail> {
+    for (texts, host, wanted) in REACHED {
+        let answer = is_reached(rt.alloc(), texts, host)?;
+        assert_eq!(rt; answer, wanted, "of {texts:?}, {host}");
+    }
+    Ok(())
+}
+
+#[test]
+fn finds_the_least_id_that_reaches_some_spans(rt: HostRuntime) -> Result<(), Fail> {
+    for (texts, one, other, wanted) in REACHING_ANY {
+        let answer = reaching_any(rt.alloc(), texts, [one, other])?;
+        assert_eq!(rt; answer, wanted, "of {texts:?}, {one:?} and {other:?}");
     }
     Ok(())
 }

@@ -66,6 +66,24 @@ pub(crate) fn images_of<
     Ok(images)
 }
 
+/// Those of the spans that have an id, in the order of their first ids.
+pub(crate) fn in_order<A: Allocator>(alloc: A, spans: &[Span]) -> Result<Vec<Span, A>, AllocError>
+    ensures spans { IfOk result (λ sorted. All IsSpan sorted.items) }
+    ensures firsts { IfOk result (λ sorted.
+        IsNonDecreasingBy (λ span. span.first) sorted.items) }
+    ensures hold { IfOk result (λ sorted. (id : ℕ) → Hold sorted.items id ↔ Hold spans.now id) }
+{
+    let mut sorted = Vec::new(alloc);
+    for span in spans {
+        if span.last < span.first {
+            continue;
+        }
+        sorted.push(*span)?;
+    }
+    sorted.sort_unstable_by_key(|span| span.first);
+    Ok(sorted)
+}
+
 /// The ids that images have again: an earlier one has them too, or they are below `end`, and so
 /// count as reached before.
 pub(crate) fn reached_again<A: Allocator>(

@@ -9,11 +9,14 @@ use crate::id_types::{GuestId, HostId};
 use crate::soft_idmap::{Direction, IdMap, Piece};
 use std::alloc::Allocator;
 
-/// Ids of the host that follow one another.
-#[derive(Clone, Copy)]
-pub(crate) struct Span {
-    pub(crate) first: u32,
-    pub(crate) last: u32,
+/// Ids of the host that follow one another, by their numbers. There are none where `last` is below
+/// `first`.
+#[derive(Clone, Copy, Debug, PartialEq, Eq)]
+pub struct Span {
+    /// The first.
+    pub first: u32,
+    /// The last.
+    pub last: u32,
 }
 
 /// The least id from `first` to `last` that one of the spans has.

@@ -21,6 +21,10 @@ pub(super) enum Asked {
     Alone(&'static str),
     /// `ids_apart` of the maps of these texts.
     IdsApart(&'static str, &'static str),
+    /// `reached` of the map of these texts.
+    Reached(&'static str),
+    /// `reaches_any` of the map of these texts, and of spans of the host.
+    IntoSpans(&'static str),
     /// `XattrMap::try_from` of this text.
     Rules(&'static str),
     /// `XattrMap::written_rules` of this text.
@@ -40,6 +44,8 @@ impl Asked {
             Asked::Texts(texts) => ids::texts(ample, alloc, texts),
             Asked::Alone(texts) => ids::alone(ample, alloc, texts),
             Asked::IdsApart(texts, others) => ids::apart(ample, alloc, texts, others),
+            Asked::Reached(texts) => ids::all_reached(ample, alloc, texts),
+            Asked::IntoSpans(texts) => ids::into_spans(ample, alloc, texts),
             Asked::Rules(rules) => maps::rules(ample, alloc, rules),
             Asked::Written(rules) => maps::written(ample, alloc, rules),
             Asked::Of(rules, question) => questions::of(ample, alloc, rules, question),

@@ -3,7 +3,7 @@
 use crate::told::{Heap, Told};
 use std::alloc::AllocError;
 use virtiofs_map::cmdline;
-use virtiofs_map::id_audit::{ids_apart, is_alone};
+use virtiofs_map::id_audit::{Span, ids_apart, is_alone, reached, reaches_any};
 use virtiofs_map::id_types::{GuestUid, HostUid};
 use virtiofs_map::soft_idmap::image::write_image;
 use virtiofs_map::soft_idmap::{IdMap, IdMapBuildError, SpecsError};
@@ -104,6 +104,41 @@ pub(super) fn alone<'h>(ample: Heap<'h>, alloc: Heap<'h>, texts: &str) -> Told<'
         return Told::Trouble;
     };
     match is_alone(alloc, &map) {
+        Ok(answer) => Told::of(ample, &answer),
+        Err(AllocError) => Told::OutOfMemory,
+    }
+}
+
+/// Asks which ids of the host the guest reaches.
+pub(super) fn all_reached<'h>(ample: Heap<'h>, alloc: Heap<'h>, texts: &str) -> Told<'h> {
+    let Some(map) = users_of(ample, texts) else {
+        return Told::Trouble;
+    };
+    match reached(alloc, &map) {
+        Ok(spans) => Told::of(ample, &spans),
+        Err(AllocError) => Told::OutOfMemory,
+    }
+}
+
+/// The spans of the host for which a map is asked.
+const SPANS: [Span; 3] = [
+    Span {
+        first: 1003,
+        last: 1009,
+    },
+    Span { first: 9, last: 7 },
+    Span {
+        first: 30,
+        last: 1005,
+    },
+];
+
+/// Asks for the least id that becomes one of some spans.
+pub(super) fn into_spans<'h>(ample: Heap<'h>, alloc: Heap<'h>, texts: &str) -> Told<'h> {
+    let Some(map) = users_of(ample, texts) else {
+        return Told::Trouble;
+    };
+    match reaches_any(alloc, &map, &SPANS) {
         Ok(answer) => Told::of(ample, &answer),
         Err(AllocError) => Told::OutOfMemory,
     }

@@ -2,14 +2,16 @@
 
 use crate::refused::asked::Asked;
 use crate::refused::questions::Question;
-use Asked::{Alone, Build, IdsApart, Image, Of, Rules, Specification, Texts, Written};
+use Asked::{
+    Alone, Build, IdsApart, Image, IntoSpans, Of, Reached, Rules, Specification, Texts, Written,
+};
 use Question::{
     Apart, ApartWithin, Audit, AuditCounted, AuditListed, Client, Clone, ListedWithin, Server,
     Shares, SharesWithin, Within,
 };
 
 /// Calls that cannot do without memory.
-pub(super) const TAKE: [Asked; 69] = [
+pub(super) const TAKE: [Asked; 72] = [
     Specification("foo:x"),
     Specification("foo:1"),
     Specification("foo"),
@@ -39,6 +41,9 @@ pub(super) const TAKE: [Asked; 69] = [
         "map:0:2000:10|forbid-guest:10:4294967285",
     ),
     IdsApart("squash-guest:20:7:5", "map:0:1000:10"),
+    Reached("map:0:1000:10|forbid-guest:10:4294967285"),
+    Reached("squash-guest:20:7:5|guest:0:1000:10"),
+    IntoSpans("map:0:1000:10|forbid-guest:10:4294967285"),
     Rules("xokxallxxx"),
     Rules(":ok:all:::\u{a0}ok\u{a0}all\u{a0}\u{a0}\u{a0}:ok:all:::"),
     Rules(":ok:all:::\u{a0}ok\u{a0}all\u{a0}\u{a0}\u{a0}"),
