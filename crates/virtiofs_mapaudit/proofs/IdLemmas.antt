@@ -10,24 +10,9 @@ use Rattle.virtiofs_map.specs.IdAudit.{IsLeastId, GoesTo, GoesInto, Between}
 use Rattle.virtiofs_map.specs.declared.cmdline.IdMap.{IdMap as Specification}
 use Rattle.virtiofs_mapaudit.specs.IdFindings.{FindsLeast, TellsHost}
 use Rattle.virtiofs_map.specs.declared.idmap.UidMap.{UidMap}
-use Rattle.virtiofs_mapaudit.specs.IdParts.{lesser_of, IsRootIn, IsRootAmong, IsLackingBetween}
-use Rattle.virtiofs_mapaudit.specs.Namespace.{HasSome, IsRoot, IsRootOf, IsLacking}
+use Rattle.virtiofs_mapaudit.specs.IdParts.{lesser_of, IsLackingBetween}
+use Rattle.virtiofs_mapaudit.specs.Namespace.{HasSome, StandsBy, StandsAmong, StandsFor, IsLacking}
 use Rattle.virtiofs_mapaudit.specs.declared.ids.found.IdFound.{IdFound}
-
--- ---- ids that become one id of the host
-
-pub goes_to : (specs : List Specification) (host n : ℕ) → GoesInto specs (Between host host) n → GoesTo specs n host
-goes_to specs host n into = subst (GoesTo specs n) (omega (arith, into.is_one.0, into.is_one.1)) into.goes
-
-pub goes_into : (specs : List Specification) (host n : ℕ) → GoesTo specs n host → GoesInto specs (Between host host) n
-goes_into specs host n goes = record { host = host; goes = goes; is_one = (omega arith, omega arith) }
-
-pub least_to : (specs : List Specification) (host n : ℕ) → IsLeastId (GoesInto specs (Between host host)) n
-    → IsLeastId (λ m. GoesTo specs m host) n
-least_to specs host n least = record {
-  is_bad = goes_to specs host n least.is_bad;
-  none_before = λ m before goes. least.none_before m before (goes_into specs host m goes);
-}
 
 -- ---- the least of two
 
@@ -113,69 +98,84 @@ pub finds_none : (specs : List Specification) (P : ℕ → Type 0) → ((host : 
     → FindsLeast (GoesInto specs P) (TellsHost specs) None
 finds_none specs P none n into = none into.host into.is_one
 
--- ---- root
+-- ---- ids that are one outside the namespace
 
--- without ranges, 0 is root
-pub root_alone : (specs : List Specification) (ranges : List UidMap) (a : Option IdFound) → ranges ≡ []
-    → FindsLeast (GoesInto specs (Between 0 0)) (TellsHost specs) a
-    → FindsLeast (GoesInto specs (IsRoot ranges)) (TellsHost specs) a
-root_alone specs [] a none =
-    finds_into specs (Between 0 0) (IsRoot []) a (λ host is. omega (arith, is.1))
-    (λ host is. (omega arith, omega (arith, is)))
-root_alone specs (range ∷ ranges) a none = absurd (cc)
+-- without ranges, each is itself
+pub stands_alone : (specs : List Specification) (ranges : List UidMap) (outside : ℕ) (a : Option IdFound) → ranges ≡ []
+    → FindsLeast (GoesInto specs (Between outside outside)) (TellsHost specs) a
+    → FindsLeast (GoesInto specs (StandsFor ranges outside)) (TellsHost specs) a
+stands_alone specs [] outside a none =
+    finds_into specs (Between outside outside) (StandsFor [] outside) a (λ host is. omega (arith, is.0, is.1))
+    (λ host is. (omega (arith, is), omega (arith, is)))
+stands_alone specs (range ∷ ranges) outside a none = absurd (cc)
 
--- of some ranges, those that begin at root outside
-pub root_among : (specs : List Specification) (ranges : List UidMap) (a : Option IdFound) → ranges ≢ []
-    → FindsLeast (GoesInto specs (IsRootAmong ranges)) (TellsHost specs) a
-    → FindsLeast (GoesInto specs (IsRoot ranges)) (TellsHost specs) a
-root_among specs [] a some found = absurd (some refl)
-root_among specs (range ∷ ranges) a some found = found
+-- of some ranges, those by which an id inside is that one outside
+pub stands_among : (specs : List Specification) (ranges : List UidMap) (outside : ℕ) (a : Option IdFound) → ranges ≢ []
+    → FindsLeast (GoesInto specs (StandsAmong ranges outside)) (TellsHost specs) a
+    → FindsLeast (GoesInto specs (StandsFor ranges outside)) (TellsHost specs) a
+stands_among specs [] outside a some found = absurd (some refl)
+stands_among specs (range ∷ ranges) outside a some found = found
 
--- a range that begins at root outside has its first id there
-pub root_first : (specs : List Specification) (range : UidMap) (a : Option IdFound) → range.outside_uid ≡ 0
-    → 0 < range.count
-    → FindsLeast (GoesInto specs (Between range.inside_uid range.inside_uid)) (TellsHost specs) a
-    → FindsLeast (GoesInto specs (IsRootIn range)) (TellsHost specs) a
-root_first specs range a root some = finds_into specs (Between range.inside_uid range.inside_uid) (IsRootIn range) a
-    (λ host is. record { first = omega (arith, is.0, is.1); some = some; root = root })
-    (λ host is. (omega (arith, is.first), omega (arith, is.first)))
+-- by a range, one id inside at most is that one outside
+stands_once : (range : UidMap) (outside inside other : ℕ) → StandsBy range outside inside → StandsBy range outside other
+    → other ≡ inside
+stands_once range outside inside other first second =
+    omega (arith, first.has.0, second.has.0, first.same, second.same)
 
-pub root_none : (specs : List Specification) → FindsLeast (GoesInto specs (IsRootAmong [])) (TellsHost specs) None
-root_none specs = finds_none specs (IsRootAmong []) (λ host among. not_in_none among.0 among.1) where
+-- where that id is known
+pub stands_here : (specs : List Specification) (range : UidMap) (outside inside : ℕ) (a : Option IdFound)
+    → StandsBy range outside inside
+    → FindsLeast (GoesInto specs (Between inside inside)) (TellsHost specs) a
+    → FindsLeast (GoesInto specs (StandsBy range outside)) (TellsHost specs) a
+stands_here specs range outside inside a stands = finds_into specs (Between inside inside) (StandsBy range outside) a
+    (λ host is. let same : inside ≡ host = omega (arith, is.0, is.1) in subst (λ n. StandsBy range outside n) same stands)
+    (λ host is.
+    let same = stands_once range outside inside host stands is in (omega (arith, same), omega (arith, same)))
+
+-- where there is none
+pub stands_nowhere : (specs : List Specification) (range : UidMap) (outside : ℕ)
+    → ((inside : ℕ) → ¬ StandsBy range outside inside)
+    → FindsLeast (GoesInto specs (StandsBy range outside)) (TellsHost specs) None
+stands_nowhere specs range outside none = finds_none specs (StandsBy range outside) none
+
+pub stands_none : (specs : List Specification) (outside : ℕ)
+    → FindsLeast (GoesInto specs (StandsAmong [] outside)) (TellsHost specs) None
+stands_none specs outside = finds_none specs (StandsAmong [] outside) (λ host among. not_in_none among.0 among.1) where
   not_in_none : (one : UidMap) → ¬ Contains [] one
   not_in_none one = search rules
 
 -- one more range
-pub root_more : (specs : List Specification) (ranges : List UidMap) (range : UidMap) (a b : Option IdFound)
-    → FindsLeast (GoesInto specs (IsRootAmong ranges)) (TellsHost specs) a
-    → FindsLeast (GoesInto specs (IsRootIn range)) (TellsHost specs) b
-    → FindsLeast (GoesInto specs (IsRootAmong (ranges ++ range ∷ []))) (TellsHost specs) (lesser_of a b)
-root_more specs ranges range a b =
-    lesser_into specs (IsRootAmong ranges) (IsRootIn range) (IsRootAmong (ranges ++ range ∷ [])) a b
+stands_more : (specs : List Specification) (ranges : List UidMap) (range : UidMap) (outside : ℕ) (a b : Option IdFound)
+    → FindsLeast (GoesInto specs (StandsAmong ranges outside)) (TellsHost specs) a
+    → FindsLeast (GoesInto specs (StandsBy range outside)) (TellsHost specs) b
+    → FindsLeast (GoesInto specs (StandsAmong (ranges ++ range ∷ []) outside)) (TellsHost specs) (lesser_of a b)
+stands_more specs ranges range outside a b =
+    lesser_into specs (StandsAmong ranges outside) (StandsBy range outside)
+    (StandsAmong (ranges ++ range ∷ []) outside) a b
     (λ host among. (among.0, Contains-append_left ranges (range ∷ []) among.0 among.1, among.2))
     (λ host is. (range, Contains-push ranges range, is))
     (λ host among. elim (Contains-push_cases ranges range among.0 among.1) [
       | inl before ↦ inl (among.0, before, among.2)
-      | inr same ↦ inr (subst (λ (one : UidMap). IsRootOf host one) (sym same) among.2)
+      | inr same ↦ inr (subst (λ (one : UidMap). StandsBy one outside host) (sym same) among.2)
     ])
 
 -- the next range
-pub root_next : (specs : List Specification) (ranges : List UidMap) (i : ℕ) (d : UidMap) (a b : Option IdFound)
+pub stands_next : (specs : List Specification) (ranges : List UidMap) (outside i : ℕ) (d : UidMap) (a b : Option IdFound)
     → i < length ranges
-    → FindsLeast (GoesInto specs (IsRootAmong (take i ranges))) (TellsHost specs) a
-    → FindsLeast (GoesInto specs (IsRootIn (get_or ranges i d))) (TellsHost specs) b
-    → FindsLeast (GoesInto specs (IsRootAmong (take (i + 1) ranges))) (TellsHost specs) (lesser_of a b)
-root_next specs ranges i d a b below found more =
-    rw (take_more ranges i d below) (root_more specs (take i ranges) (get_or ranges i d) a b found more)
+    → FindsLeast (GoesInto specs (StandsAmong (take i ranges) outside)) (TellsHost specs) a
+    → FindsLeast (GoesInto specs (StandsBy (get_or ranges i d) outside)) (TellsHost specs) b
+    → FindsLeast (GoesInto specs (StandsAmong (take (i + 1) ranges) outside)) (TellsHost specs) (lesser_of a b)
+stands_next specs ranges outside i d a b below found more =
+    rw (take_more ranges i d below) (stands_more specs (take i ranges) (get_or ranges i d) outside a b found more)
 
 -- all ranges
-pub root_end : (specs : List Specification) (ranges : List UidMap) (i : ℕ) (a : Option IdFound) → length ranges ≤ i
-    → ranges ≢ []
-    → FindsLeast (GoesInto specs (IsRootAmong (take i ranges))) (TellsHost specs) a
-    → FindsLeast (GoesInto specs (IsRoot ranges)) (TellsHost specs) a
-root_end specs ranges i a over some found =
-    root_among specs ranges a some
-    (subst (λ (rs : List UidMap). FindsLeast (GoesInto specs (IsRootAmong rs)) (TellsHost specs) a)
+pub stands_end : (specs : List Specification) (ranges : List UidMap) (outside i : ℕ) (a : Option IdFound)
+    → length ranges ≤ i → ranges ≢ []
+    → FindsLeast (GoesInto specs (StandsAmong (take i ranges) outside)) (TellsHost specs) a
+    → FindsLeast (GoesInto specs (StandsFor ranges outside)) (TellsHost specs) a
+stands_end specs ranges outside i a over some found =
+    stands_among specs ranges outside a some
+    (subst (λ (rs : List UidMap). FindsLeast (GoesInto specs (StandsAmong rs outside)) (TellsHost specs) a)
     (take_all i ranges over) found)
 
 -- whether there are ranges

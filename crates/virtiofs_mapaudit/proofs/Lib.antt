@@ -5,5 +5,7 @@ mod NameLemmas
 mod NameTableLemmas
 mod NamespaceLemmas
 mod RangeLemmas
+mod OutsideLemmas
+mod MeetingLemmas
 mod IdTableLemmas
 mod SetUpLemmas

@@ -10,12 +10,12 @@ use Rattle.virtiofs_mapaudit.specs.declared.report.KindFindings.{KindFindings}
 
 -- access control lists are on while ids are translated
 abbrev pub list_lines : Bool → List ℕ
-list_lines true = codes "--posix-acl does not go with --translate-uid or --translate-gid: the daemon does not start\n  mend: leave out --posix-acl\n"
+list_lines true = codes "--posix-acl does not go with --translate-uid or --translate-gid: the daemon does not start\n  fix: leave out --posix-acl\n"
 list_lines false = []
 
 -- what was found of ids of one kind
 abbrev pub kind_lines : IdKind → KindFindings → List ℕ
-kind_lines kind found = lines_if (range_lines kind) found.range ++ id_lines kind found.ids
+kind_lines kind found = lines_if (range_lines kind) found.range ++ id_lines kind found.in_namespace found.ids
 
 -- what was found of a guest
 abbrev pub guest_lines : {A : Type 0} → GuestFindings A → List ℕ

@@ -1,9 +1,9 @@
 -- What an audit of the ids of users, or of groups, finds.
 use Rattle.std.specs.Prelude.{ℕ, List, Option, Some, None}
-use Rattle.virtiofs_map.specs.IdAudit.{IsLeastId, GoesTo, WanderTo, SharedAs, IsAstray, IsShared, GoesInto, ReachedBy}
+use Rattle.virtiofs_map.specs.IdAudit.{IsLeastId, GoesTo, WanderTo, SharedAs, IsAstray, IsShared, GoesInto}
 use Rattle.virtiofs_map.specs.declared.cmdline.IdMap.{IdMap}
 use Rattle.virtiofs_map.specs.declared.idmap.UidMap.{UidMap}
-use Rattle.virtiofs_mapaudit.specs.Namespace.{IsLacking, IsRoot}
+use Rattle.virtiofs_mapaudit.specs.Namespace.{IsLacking, IsRoot, StandsFor}
 use Rattle.virtiofs_mapaudit.specs.declared.ids.found.IdFound.{IdFound}
 use Rattle.virtiofs_mapaudit.specs.declared.ids.found.IdFindings.{IdFindings}
 
@@ -32,10 +32,22 @@ pub record FindsIds (specs : List IdMap) (ranges : List UidMap) (found : IdFindi
   pub root : FindsLeast (GoesInto specs (IsRoot ranges)) (TellsHost specs) found.root
   pub lacking : FindsLeast (GoesInto specs (IsLacking ranges)) (TellsHost specs) found.lacking
 
--- what the id becomes on the host, and the least id of the other guest that becomes that too
-abbrev pub TellsMeeting : List IdMap → List IdMap → IdFound → Type 0
-TellsMeeting specs others it = GoesTo specs it.guest it.host × IsLeastId (λ n. GoesTo others n it.host) it.other
+-- some id of the guest is that id of the host, outside the namespace of these ranges
+abbrev pub ReachedOutside : List IdMap → List UidMap → ℕ → Type 0
+ReachedOutside specs ranges outside = (guest : ℕ) × GoesInto specs (StandsFor ranges outside) guest
 
--- None, or the least id of the first guest whose id of the host the second reaches too
-abbrev pub FindsMeeting : List IdMap → List IdMap → Option IdFound → Type 0
-FindsMeeting specs others = FindsLeast (GoesInto specs (ReachedBy others)) (TellsMeeting specs others)
+-- outside the first namespace, the id inside it is one of the host that the other guest reaches
+abbrev pub Meets : List UidMap → List IdMap → List UidMap → ℕ → Type 0
+Meets ranges others other_ranges inside =
+    (outside : ℕ) × StandsFor ranges outside inside × ReachedOutside others other_ranges outside
+
+-- an id of the host that the id is, and the least id of the other guest that is it too
+pub record TellsMeeting (specs : List IdMap) (ranges : List UidMap) (others : List IdMap) (other_ranges : List UidMap)
+    (it : IdFound) : Type 0 where
+  pub is : GoesInto specs (StandsFor ranges it.host) it.guest
+  pub other : IsLeastId (GoesInto others (StandsFor other_ranges it.host)) it.other
+
+-- None, or the least id of the first guest that is, outside the namespaces, an id of the host that the second reaches too
+abbrev pub FindsMeeting : List IdMap → List UidMap → List IdMap → List UidMap → Option IdFound → Type 0
+FindsMeeting specs ranges others other_ranges =
+    FindsLeast (GoesInto specs (Meets ranges others other_ranges)) (TellsMeeting specs ranges others other_ranges)

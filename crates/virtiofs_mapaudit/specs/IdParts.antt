@@ -1,7 +1,7 @@
 -- Parts of the search for an id that is reported. Only private functions cite these words.
-use Rattle.std.specs.Prelude.{ℕ, ◌<◌, ◌≤◌, List, Contains, Option, Some, None, if◌then◌else◌, nat_lt}
+use Rattle.std.specs.Prelude.{ℕ, ◌<◌, ◌≤◌, List, Option, Some, None, if◌then◌else◌, nat_lt}
 use Rattle.virtiofs_map.specs.declared.idmap.UidMap.{UidMap}
-use Rattle.virtiofs_mapaudit.specs.Namespace.{HasSome, IsRootOf}
+use Rattle.virtiofs_mapaudit.specs.Namespace.{HasSome}
 use Rattle.virtiofs_mapaudit.specs.declared.ids.found.IdFound.{IdFound}
 
 -- the one of the two with the lesser id of the guest
@@ -9,14 +9,6 @@ abbrev pub lesser_of : Option IdFound → Option IdFound → Option IdFound
 lesser_of None other = other
 lesser_of (Some first) None = Some first
 lesser_of (Some first) (Some second) = if nat_lt second.guest first.guest then Some second else Some first
-
--- the range begins at root outside, and the id is its first inside
-abbrev pub IsRootIn : UidMap → ℕ → Type 0
-IsRootIn range inside = IsRootOf inside range
-
--- some range that stands among these begins at root outside, and the id is its first inside
-abbrev pub IsRootAmong : List UidMap → ℕ → Type 0
-IsRootAmong ranges inside = (one : UidMap) × Contains ranges one × IsRootOf inside one
 
 -- an id from the first on and before the end which no range has
 pub record IsLackingBetween (ranges : List UidMap) (first end inside : ℕ) : Type 0 where

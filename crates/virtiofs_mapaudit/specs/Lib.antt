@@ -13,6 +13,7 @@ pub mod NameTableParts
 pub mod Namespace
 pub mod Ordinal
 pub mod Output
+pub mod OutsideParts
 pub mod PairFindings
 pub mod PairLines
 pub mod RangeLines

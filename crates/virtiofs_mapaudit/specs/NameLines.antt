@@ -35,25 +35,25 @@ lines_round before found (No name) after = before ++ said found name ++ after
 -- names without a rule
 abbrev pub unruled_lines : Bool → List ℕ
 unruled_lines true = []
-unruled_lines false = codes "some names have no rule: calls with them fail\n  mend: end the rules with one that takes all names, as :bad:all:::\n"
+unruled_lines false = codes "some names have no rule: calls with them fail\n  fix: end the rules with one that fits all names, for example :bad:all:::\n"
 
 -- a name that the guest sets, and that is not listed back
 abbrev pub lost_lines : {A : Type 0} → LeastName A → List ℕ
 lost_lines found =
     lines_round (codes "the guest sets ") found found.all
-    (codes ", and lists do not show it\n  mend: let the rule that takes it act on both sides, by the scope all, or deny it\n")
+    (codes ", and lists do not show it\n  fix: let the rule that takes it act on both sides, by the scope all, or deny it\n")
 
 -- a name of the host that is listed under a name which leads elsewhere
 abbrev pub stray_lines : {A : Type 0} → LeastName A → List ℕ
 stray_lines found =
     lines_round (codes "lists show ") found found.all
-    (codes " of the host under a name that leads elsewhere\n  mend: hide what begins so by a rule before the others, as :bad:server::NAME:\n")
+    (codes " of the host under a name that leads elsewhere\n  fix: put a rule before the others that hides what begins so, for example :bad:server::NAME:\n")
 
 -- a rule that decides no name; rules are counted from 1
 abbrev pub idle_lines : ℕ → List ℕ
 idle_lines place =
     codes "rule " ++ decimal (place + 1)
-    ++ codes " decides no name: earlier rules take all that it fits\n  mend: take it out, or change the rules before it\n"
+    ++ codes " decides no name: earlier rules take all names that it fits\n  fix: remove it, or change the rules before it\n"
 
 -- what was found of the names of a guest
 abbrev pub name_lines : {A : Type 0} → NameFindings A → List ℕ

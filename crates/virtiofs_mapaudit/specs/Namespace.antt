@@ -1,5 +1,5 @@
 -- The user namespace that a daemon runs in: which ids inside it stand for which ids outside it.
-use Rattle.std.specs.Prelude.{◌≡◌, ℕ, ◌<◌, ◌≤◌, List, [], ◌∷◌, Contains}
+use Rattle.std.specs.Prelude.{◌≡◌, ℕ, ◌+◌, ◌-◌, ◌≤◌, List, [], ◌∷◌, Contains}
 use Rattle.virtiofs_map.specs.Mapping.{InRange}
 use Rattle.virtiofs_map.specs.declared.idmap.UidMap.{UidMap}
 
@@ -16,13 +16,22 @@ abbrev pub IsLacking : List UidMap → ℕ → Type 0
 IsLacking [] inside = ⊥
 IsLacking (range ∷ ranges) inside = (inside ≤ 4294967295) × (¬ HasSome (range ∷ ranges) inside)
 
--- the first id of the range is 0 outside the namespace, and that id inside it
-pub record IsRootOf (inside : ℕ) (range : UidMap) : Type 0 where
-  pub first : inside ≡ range.inside_uid
-  pub some : 0 < range.count
-  pub root : range.outside_uid ≡ 0
+-- outside the namespace, the id inside is that other one, by the range
+pub record StandsBy (range : UidMap) (outside inside : ℕ) : Type 0 where
+  pub has : Has range inside
+  pub same : outside ≡ range.outside_uid + (inside - range.inside_uid)
+  pub is_id : inside ≤ 4294967295
+  pub is_id_outside : outside ≤ 4294967295
 
--- inside the namespace, the id stands for root outside it; without ranges, 0 does
+-- it is so by one of the ranges
+abbrev pub StandsAmong : List UidMap → ℕ → ℕ → Type 0
+StandsAmong ranges outside inside = (range : UidMap) × Contains ranges range × StandsBy range outside inside
+
+-- outside the namespace, the id inside is that other one; without ranges, each is itself
+abbrev pub StandsFor : List UidMap → ℕ → ℕ → Type 0
+StandsFor [] outside inside = inside ≡ outside
+StandsFor (range ∷ ranges) outside inside = StandsAmong (range ∷ ranges) outside inside
+
+-- outside the namespace, the id inside is root
 abbrev pub IsRoot : List UidMap → ℕ → Type 0
-IsRoot [] inside = inside ≡ 0
-IsRoot (range ∷ ranges) inside = (one : UidMap) × Contains (range ∷ ranges) one × IsRootOf inside one
+IsRoot ranges inside = StandsFor ranges 0 inside

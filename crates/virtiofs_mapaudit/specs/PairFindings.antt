@@ -1,5 +1,5 @@
 -- What is found between two guests of one directory.
-use Rattle.std.specs.Prelude.{◌≡◌, List, [], Option, Some, None}
+use Rattle.std.specs.Prelude.{◌≡◌, List, Option, Some, None}
 use Rattle.virtiofs_map.specs.Audit.{IsSeen, IsShared}
 use Rattle.virtiofs_map.specs.Rule.{MappingRule}
 use Rattle.virtiofs_mapaudit.specs.IdFindings.{FindsMeeting}
@@ -11,12 +11,12 @@ use Rattle.virtiofs_mapaudit.specs.declared.setup.IdSetUp.{IdSetUp}
 use Rattle.virtiofs_mapaudit.specs.declared.setup.NamesSetUp.{NamesSetUp}
 use Rattle.virtiofs_mapaudit.specs.declared.setup.SetUp.{SetUp}
 
--- the least id of the first guest whose id of the host the second reaches too. Nothing is said where a daemon has ranges
+-- the least id of the first guest whose id of the host the second reaches too
 abbrev pub FindsMeetingOf : {A : Type 0} → Option (IdSetUp A) → Option (IdSetUp A) → Option IdFound → Type 0
 FindsMeetingOf None second found = found ≡ None
 FindsMeetingOf (Some one) None found = found ≡ None
 FindsMeetingOf (Some one) (Some other) found =
-    (one.ranges.items ≡ [] → other.ranges.items ≡ [] → FindsMeeting one.map other.map found)
+    FindsMeeting one.map one.ranges.items other.map other.ranges.items found
 
 -- names of each that lists of the other show, and names that lead to one name of the host
 pub record FindsNamesBetween {A : Type 0} (rules others : List MappingRule) (found : NamesBetween A) : Type 0 where

@@ -17,7 +17,7 @@ id_text one id guest = one ++ codes " " ++ decimal id ++ codes " of guest " ++ d
 abbrev pub host_text : List ℕ → ℕ → List ℕ
 host_text one host =
     codes " are one " ++ one ++ codes " of the host, " ++ decimal host
-    ++ codes "\n  mend: give each guest ids of the host of its own\n"
+    ++ codes "\n  fix: give each guest host ids of its own\n"
 
 -- an id of the host that both reach; `one` is the word for one id
 abbrev pub met_lines : List ℕ → ℕ → ℕ → IdFound → List ℕ
@@ -29,7 +29,7 @@ meeting_lines kind first second it = met_lines (one_of kind) first second it
 
 -- what mends names that two guests have in common
 abbrev pub own_prefix : List ℕ
-own_prefix = codes "\n  mend: give each guest a prefix of its own, as --xattrmap :map::user.guest1.:\n"
+own_prefix = codes "\n  fix: give each guest a prefix of its own, for example --xattrmap :map::user.guest1.:\n"
 
 -- a name that one guest sets and the other finds in lists
 abbrev pub seen_before : ℕ → List ℕ

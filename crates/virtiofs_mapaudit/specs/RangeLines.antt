@@ -13,12 +13,12 @@ place_text place option = codes "the " ++ ordinal (place + 1) ++ codes " " ++ op
 
 -- what is wrong with a range that the option gives, and what mends it
 abbrev pub fault_lines : List ℕ → RangeFault → List ℕ
-fault_lines option Empty = codes " has no id\n  mend: leave it out\n"
-fault_lines option Beyond = codes " reaches past the greatest id, 4294967294\n  mend: make it shorter\n"
+fault_lines option Empty = codes " has no id\n  fix: leave it out\n"
+fault_lines option Beyond = codes " reaches past the greatest id, 4294967294\n  fix: make it shorter\n"
 fault_lines option (MeetsInside place) =
-    codes " overlaps " ++ place_text place option ++ codes " inside the namespace\n  mend: make one of them shorter\n"
+    codes " overlaps " ++ place_text place option ++ codes " inside the namespace\n  fix: make one of them shorter\n"
 fault_lines option (MeetsOutside place) =
-    codes " overlaps " ++ place_text place option ++ codes " outside the namespace\n  mend: make one of them shorter\n"
+    codes " overlaps " ++ place_text place option ++ codes " outside the namespace\n  fix: make one of them shorter\n"
 
 -- a range that is at fault
 abbrev pub range_lines : IdKind → RangeFound → List ℕ

@@ -1,5 +1,5 @@
 -- What is found of guests, of what their options set up.
-use Rattle.std.specs.Prelude.{◌≡◌, ◌≢◌, ◌⊎◌, ℕ, ◌+◌, ◌<◌, List, [], length, slice_get, All, Option, Some, None}
+use Rattle.std.specs.Prelude.{◌≡◌, ◌≢◌, ◌⊎◌, ◌↔◌, ℕ, ◌+◌, ◌<◌, IsTrue, List, [], length, slice_get, All, Option, Some, None}
 use Rattle.std.specs.List.{AllZip}
 use Rattle.virtiofs_mapaudit.specs.GuestLines.{guest_lines}
 use Rattle.virtiofs_mapaudit.specs.IdFindings.{FindsIds}
@@ -25,6 +25,7 @@ FindsIf Finds (Some set) (Some found) = Finds set found
 
 -- what is found of ids of one kind
 pub record FindsKind {A : Type 0} (set : IdSetUp A) (found : KindFindings) : Type 0 where
+  pub namespace : IsTrue found.in_namespace ↔ (set.ranges.items ≢ [])
   pub range : FindsFault set.ranges.items found.range
   pub ids : FindsIds set.map set.ranges.items found.ids
 

@@ -4,6 +4,8 @@ pub(crate) mod audits;
 pub(crate) mod found;
 pub(crate) mod kind;
 pub(crate) mod lines;
+pub(crate) mod meeting;
 pub(crate) mod namespace;
+pub(crate) mod outside;
 pub(crate) mod ranges;
 pub(crate) mod table;

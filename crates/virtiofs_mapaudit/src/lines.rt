@@ -30,7 +30,7 @@ fn push_kind<A: Allocator>(
     if let Some(range) = found.range {
         push_range(text, kind, range)?;
     }
-    push_ids(text, kind, &found.ids)
+    push_ids(text, kind, found.in_namespace, &found.ids)
 }
 
 /// Writes that access control lists are on while ids are translated at the end of a text, if so.
@@ -41,7 +41,7 @@ fn push_lists<A: Allocator>(text: &mut String<A>, are_on: bool) -> Result<(), Al
         return Ok(());
     }
     text.push_str(
-        "--posix-acl does not go with --translate-uid or --translate-gid: the daemon does not start\n  mend: leave out --posix-acl\n",
+        "--posix-acl does not go with --translate-uid or --translate-gid: the daemon does not start\n  fix: leave out --posix-acl\n",
     )
 }
 
@@ -93,7 +93,7 @@ fn push_host<A: Allocator>(text: &mut String<A>, one: &str, host: u32) -> Result
 {
     write!(
         text,
-        " are one {one} of the host, {host}\n  mend: give each guest ids of the host of its own\n"
+        " are one {one} of the host, {host}\n  fix: give each guest host ids of its own\n"
     )
 }
 
@@ -133,7 +133,7 @@ fn push_meeting<A: Allocator>(
 }
 
 const OWN_PREFIX: &str =
-    "\n  mend: give each guest a prefix of its own, as --xattrmap :map::user.guest1.:\n";
+    "\n  fix: give each guest a prefix of its own, for example --xattrmap :map::user.guest1.:\n";
 
 /// What stands before a name that the guest of that number sets and another finds in lists.
 fn seen_before<A: Allocator>(alloc: A, setter: usize) -> Result<String<A>, AllocError>

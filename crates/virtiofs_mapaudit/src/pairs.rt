@@ -2,8 +2,8 @@
 ghost use Rattle.std.specs.Prelude.{◌≡◌, IfOk};
 ghost use Rattle.virtiofs_mapaudit.specs.PairFindings.{FindsPair, FindsBoth, FindsMeetingOf, FindsNamesBetween, FindsNamesBetweenSets};
 
-use crate::ids::audits::meeting_of;
 use crate::ids::found::IdFound;
+use crate::ids::meeting::meeting_of;
 use crate::names::audits::{seen_of, shared_of};
 use crate::names::found::LeastName;
 use crate::setup::{IdSetUp, NamesSetUp, SetUp};
@@ -32,8 +32,8 @@ pub(crate) struct PairFindings<A: Allocator> {
     pub(crate) names: Option<NamesBetween<A>>,
 }
 
-/// The least id of the first guest whose id of the host the second reaches too. Guests whose daemons
-/// run in namespaces of ranges are not compared, nor are those of which a text is refused.
+/// The least id of the first guest that is an id of the host which the second reaches too. Guests of
+/// which a text is refused are not compared.
 fn meeting_between<A: Allocator + Copy>(
     alloc: A,
     first: &Option<IdSetUp<A>>,
@@ -47,13 +47,7 @@ fn meeting_between<A: Allocator + Copy>(
     let Some(other) = second else {
         return Ok(None);
     };
-    if !one.ranges.is_empty() {
-        return Ok(None);
-    }
-    if !other.ranges.is_empty() {
-        return Ok(None);
-    }
-    meeting_of(alloc, &one.map, &other.map)
+    meeting_of(alloc, one, other)
 }
 
 /// What is found of the names of two guests under their rules.

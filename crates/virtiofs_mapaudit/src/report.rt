@@ -1,5 +1,5 @@
 //! What is found of one guest by itself.
-ghost use Rattle.std.specs.Prelude.{◌≡◌, IfOk};
+ghost use Rattle.std.specs.Prelude.{◌≡◌, ◌≢◌, ◌↔◌, [], IfOk, IsTrue};
 ghost use Rattle.virtiofs_mapaudit.specs.Report.{FindsGuest, FindsIf, FindsKind, FindsNamesOf};
 
 use crate::ids::audits::audit_ids;
@@ -9,10 +9,13 @@ use crate::names::audits::audit_names;
 use crate::names::found::NameFindings;
 use crate::setup::{IdSetUp, NamesSetUp, SetUp};
 use std::alloc::{AllocError, Allocator};
+use virtiofs_map::idmap::UidMap;
 
 /// What is found of ids of one kind.
 #[derive(Clone, Copy, Debug, PartialEq, Eq)]
 pub(crate) struct KindFindings {
+    /// Whether the daemon runs in a namespace of ranges. What ids become is then inside it.
+    pub(crate) in_namespace: bool,
     /// The first range of the namespace that is at fault.
     pub(crate) range: Option<RangeFound>,
     /// What is wrong with the ids.
@@ -32,6 +35,13 @@ pub(crate) struct GuestFindings<A: Allocator> {
     pub(crate) names: Option<NameFindings<A>>,
 }
 
+/// Whether there are ranges.
+fn has_some(ranges: &[UidMap]) -> bool
+    ensures { IsTrue result ↔ (ranges.now ≢ []) }
+{
+    !ranges.is_empty()
+}
+
 /// What is found of ids of one kind.
 fn audit_kind<A: Allocator + Copy>(alloc: A, set: &IdSetUp<A>) -> Result<KindFindings, AllocError>
     ensures { IfOk result (FindsKind set.now) }
@@ -39,7 +49,11 @@ fn audit_kind<A: Allocator + Copy>(alloc: A, set: &IdSetUp<A>) -> Result<KindFin
     let ranges = set.ranges.as_slice();
     let ids = audit_ids(alloc, &set.map, ranges)?;
     let range = first_fault(ranges);
-    Ok(KindFindings { range, ids })
+    Ok(KindFindings {
+        in_namespace: has_some(ranges),
+        range,
+        ids,
+    })
 }
 
 /// What is found of ids of one kind, where no text for them is refused.

@@ -1,14 +1,15 @@
 //! What is decided of all ids of a guest.
 ghost use Rattle.std.specs.Prelude.{◌≡◌, ◌<◌, ◌≤◌, IfOk};
-ghost use Rattle.virtiofs_map.specs.IdAudit.{IsAstray, IsShared, GoesInto, Between, ReachedBy};
-ghost use Rattle.virtiofs_mapaudit.specs.IdFindings.{FindsLeast, TellsAstray, TellsShared, TellsHost, FindsIds, TellsMeeting, FindsMeeting};
-ghost use Rattle.virtiofs_mapaudit.specs.IdParts.{lesser_of, IsRootIn, IsLackingBetween};
-ghost use Rattle.virtiofs_mapaudit.specs.Namespace.{IsLacking, IsRoot};
+ghost use Rattle.virtiofs_map.specs.IdAudit.{IsAstray, IsShared, GoesInto, Between};
+ghost use Rattle.virtiofs_mapaudit.specs.IdFindings.{FindsLeast, TellsAstray, TellsShared, TellsHost, FindsIds};
+ghost use Rattle.virtiofs_mapaudit.specs.IdParts.{lesser_of, IsLackingBetween};
+ghost use Rattle.virtiofs_mapaudit.specs.Namespace.{StandsBy, StandsFor, IsLacking};
 
 use super::found::{IdFindings, IdFound};
 use super::namespace::{end_of, last_lacking};
+use super::outside::{Way, id_moved};
 use std::alloc::{AllocError, Allocator};
-use virtiofs_map::id_audit::{IdAudit, comes_back, ids_apart, is_alone, reaches};
+use virtiofs_map::id_audit::{IdAudit, comes_back, is_alone, reaches};
 use virtiofs_map::id_types::{GuestUid, HostUid, Id};
 use virtiofs_map::idmap::UidMap;
 use virtiofs_map::soft_idmap::IdMap;
@@ -80,29 +81,32 @@ fn lesser(one: Option<IdFound>, other: Option<IdFound>) -> Option<IdFound>
     }
 }
 
-/// The least id that becomes the first of a range which begins at root outside the namespace.
-fn root_in<A: Allocator>(map: &Ids<A>, range: &UidMap) -> Option<IdFound>
-    ensures { FindsLeast (GoesInto map.now (IsRootIn range.now)) (TellsHost map.now) result }
+/// The least id that becomes the one of the namespace which is that id outside it, by the range.
+fn standing_by<A: Allocator>(map: &Ids<A>, range: &UidMap, outside: u32) -> Option<IdFound>
+    ensures { FindsLeast (GoesInto map.now (StandsBy range.now outside)) (TellsHost map.now)
+        result }
 {
-    if range.outside_uid != 0 {
+    let Some(inside) = id_moved(Way::Inwards, range, outside) else {
         return None;
-    }
-    if range.count == 0 {
-        return None;
-    }
-    reach_of(map, range.inside_uid, range.inside_uid)
+    };
+    reach_of(map, inside, inside)
 }
 
-/// The least id that acts as root of the host.
-fn root_of<A: Allocator>(map: &Ids<A>, ranges: &[UidMap]) -> Option<IdFound>
-    ensures { FindsLeast (GoesInto map.now (IsRoot ranges.now)) (TellsHost map.now) result }
+/// The least id that becomes one of the namespace which is that id outside it.
+pub(crate) fn standing_for<A: Allocator>(
+    map: &Ids<A>,
+    ranges: &[UidMap],
+    outside: u32,
+) -> Option<IdFound>
+    ensures { FindsLeast (GoesInto map.now (StandsFor ranges.now outside)) (TellsHost map.now)
+        result }
 {
     if ranges.is_empty() {
-        return reach_of(map, 0, 0);
+        return reach_of(map, outside, outside);
     }
     let mut found = None;
     for range in ranges {
-        found = lesser(found, root_in(map, range));
+        found = lesser(found, standing_by(map, range, outside));
     }
     found
 }
@@ -150,41 +154,7 @@ pub(crate) fn audit_ids<A: Allocator + Copy>(
     Ok(IdFindings {
         astray: astray_of(map),
         shared: shared_of(alloc, map)?,
-        root: root_of(map, ranges),
+        root: standing_for(map, ranges, 0),
         lacking: lacking_of(map, ranges),
-    })
-}
-
-/// What an id of the guest becomes, and the least id of the other guest that becomes that too.
-fn meeting_at<A: Allocator>(map: &Ids<A>, other: &Ids<A>, guest: GuestUid) -> IdFound
-    requires { GoesInto map.now (ReachedBy other.now) guest }
-    ensures guest { result.guest ≡ guest }
-    ensures told { TellsMeeting map.now other.now result }
-{
-    let Ok(host) = map.map_guest(guest) else {
-        unreachable!();
-    };
-    let Some(second) = reaches(other, host, host) else {
-        unreachable!();
-    };
-    IdFound {
-        guest: guest.into_inner(),
-        host: host.into_inner(),
-        other: second.into_inner(),
-    }
-}
-
-/// The least id of a guest whose id of the host the other guest reaches too.
-pub(crate) fn meeting_of<A: Allocator + Copy>(
-    alloc: A,
-    map: &Ids<A>,
-    other: &Ids<A>,
-) -> Result<Option<IdFound>, AllocError>
-    ensures { IfOk result (FindsMeeting map.now other.now) }
-{
-    let audit = ids_apart(alloc, map, other)?;
-    Ok(match audit {
-        IdAudit::Yes => None,
-        IdAudit::No(guest) => Some(meeting_at(map, other, guest)),
     })
 }

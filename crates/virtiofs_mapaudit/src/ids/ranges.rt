@@ -119,19 +119,19 @@ fn push_fault<A: Allocator>(
         (string_bytes text.new ≡ string_bytes text.old ++ fault_lines option.now fault) }
 {
     match fault {
-        RangeFault::Empty => text.push_str(" has no id\n  mend: leave it out\n"),
+        RangeFault::Empty => text.push_str(" has no id\n  fix: leave it out\n"),
         RangeFault::Beyond => {
-            text.push_str(" reaches past the greatest id, 4294967294\n  mend: make it shorter\n")
+            text.push_str(" reaches past the greatest id, 4294967294\n  fix: make it shorter\n")
         }
         RangeFault::MeetsInside(other) => {
             text.push_str(" overlaps ")?;
             push_place(text, other, option)?;
-            text.push_str(" inside the namespace\n  mend: make one of them shorter\n")
+            text.push_str(" inside the namespace\n  fix: make one of them shorter\n")
         }
         RangeFault::MeetsOutside(other) => {
             text.push_str(" overlaps ")?;
             push_place(text, other, option)?;
-            text.push_str(" outside the namespace\n  mend: make one of them shorter\n")
+            text.push_str(" outside the namespace\n  fix: make one of them shorter\n")
         }
     }
 }

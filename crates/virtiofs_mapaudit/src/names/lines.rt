@@ -91,7 +91,7 @@ fn push_idle<A: Allocator>(text: &mut String<A>, place: usize) -> Result<(), All
     let number = place as u64 as u128 + 1;
     write!(
         text,
-        "rule {number} decides no name: earlier rules take all that it fits\n  mend: take it out, or change the rules before it\n"
+        "rule {number} decides no name: earlier rules take all names that it fits\n  fix: remove it, or change the rules before it\n"
     )
 }
 
@@ -115,7 +115,7 @@ fn push_unruled<A: Allocator>(text: &mut String<A>, is_terminated: bool) -> Resu
         return Ok(());
     }
     text.push_str(
-        "some names have no rule: calls with them fail\n  mend: end the rules with one that takes all names, as :bad:all:::\n",
+        "some names have no rule: calls with them fail\n  fix: end the rules with one that fits all names, for example :bad:all:::\n",
     )
 }
 
@@ -132,13 +132,13 @@ pub(crate) fn push_names<A: Allocator>(
         text,
         "the guest sets ",
         &found.lost,
-        ", and lists do not show it\n  mend: let the rule that takes it act on both sides, by the scope all, or deny it\n",
+        ", and lists do not show it\n  fix: let the rule that takes it act on both sides, by the scope all, or deny it\n",
     )?;
     push_round(
         text,
         "lists show ",
         &found.stray,
-        " of the host under a name that leads elsewhere\n  mend: hide what begins so by a rule before the others, as :bad:server::NAME:\n",
+        " of the host under a name that leads elsewhere\n  fix: put a rule before the others that hides what begins so, for example :bad:server::NAME:\n",
     )?;
     push_all_idle(text, found.idle.as_slice())
 }
