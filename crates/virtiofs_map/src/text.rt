@@ -22,7 +22,8 @@ pub(crate) fn is_alphanumeric(c: char) -> bool
         || category == GeneralCategory::OtherNumber as u32
 }
 
-/// Cuts a text at the first character `at`. Neither part holds that character.
+/// Cuts a text at the first character `at`, which belongs to neither part. The part before it does
+/// not contain that character; the part after it may.
 pub(crate) fn cut_at(text: &str, at: char) -> Option<(&str, &str)>
     ensures absent { IfNone result (Lacks at (chars text.now)) }
     ensures whole { IfSome result (λ p. chars text.now ≡ chars p.0.now ++ at ∷ chars p.1.now) }
