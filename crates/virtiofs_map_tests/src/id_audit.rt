@@ -182,9 +182,11 @@ const MEETING: [(&str, &str, Option<u32>); 9] = [
 fn is_reached(alloc: Global, texts: &str, host: u32) -> Result<bool, Fail> {
     let map = users(alloc, texts)?;
     let spans = reached(alloc, &map)?;
-    Ok(spans
-        .iter()
-        .any(|span| span.first <= host && host <= span.last))
+    Ok(
+        spans
+            .iter()
+            .any(|span| span.first <= host && host <= span.last),
+    )
 }
 
 const REACHED: [(&str, u32, bool); 14] = [
