@@ -223,38 +223,35 @@ const REACHED: [(&str, u32, bool); 14] = [
 ];
 
 /// The least id that becomes one which one of two spans has.
-fn reaching_any(alloc: Global, texts: &str, spans: [Span; 2]) -> Result<Option<u32>, Fail> {
+fn reaching_any(alloc: Global, texts: &str, spans: Spans) -> Result<Option<u32>, Fail> {
     let map = users(alloc, texts)?;
+    let spans = spans.map(|(first, last)| Span { first, last });
     let guest = reaches_any(alloc, &map, &spans)?;
     Ok(guest.map(|id| id.into_inner()))
 }
 
-const fn span(first: u32, last: u32) -> Span {
-    Span { first, last }
-}
+/// Two spans, each by its first id and its last.
+type Spans = [(u32, u32); 2];
 
-const REACHING_ANY: [(&str, Span, Span, Option<u32>); 8] = [
-    ("", span(5, 3), span(9, 20), Some(9)),
-    ("", span(9, 20), span(4, 4), Some(4)),
-    ("", span(4, 12), span(9, 20), Some(4)),
-    ("", span(3, 1), span(2, 0), None),
-    ("", span(4294967295, 4294967295), span(1, 0), None),
+const REACHING_ANY: [(&str, Spans, Option<u32>); 8] = [
+    ("", [(5, 3), (9, 20)], Some(9)),
+    ("", [(9, 20), (4, 4)], Some(4)),
+    ("", [(4, 12), (9, 20)], Some(4)),
+    ("", [(3, 1), (2, 0)], None),
+    ("", [(4294967295, 4294967295), (1, 0)], None),
     (
         "map:0:100000:65536|forbid-guest:65536:4294901759",
-        span(165_536, 4294967295),
-        span(0, 99_999),
+        [(165_536, 4294967295), (0, 99_999)],
         None,
     ),
     (
         "map:0:100000:65536|forbid-guest:65536:4294901759",
-        span(165_535, 165_535),
-        span(100_007, 100_009),
+        [(165_535, 165_535), (100_007, 100_009)],
         Some(7),
     ),
     (
         "squash-guest:5:9:3|forbid-guest:9:1",
-        span(9, 9),
-        span(9, 9),
+        [(9, 9), (9, 9)],
         Some(5),
     ),
 ];
@@ -306,9 +303,9 @@ fn tells_which_ids_of_the_host_are_reached(rt: HostRuntime) -> Result<(), Fail> 
 
 #[test]
 fn finds_the_least_id_that_reaches_some_spans(rt: HostRuntime) -> Result<(), Fail> {
-    for (texts, one, other, wanted) in REACHING_ANY {
-        let answer = reaching_any(rt.alloc(), texts, [one, other])?;
-        assert_eq!(rt; answer, wanted, "of {texts:?}, {one:?} and {other:?}");
+    for (texts, spans, wanted) in REACHING_ANY {
+        let answer = reaching_any(rt.alloc(), texts, spans)?;
+        assert_eq!(rt; answer, wanted, "of {texts:?} and {spans:?}");
     }
     Ok(())
 }
