@@ -11,8 +11,9 @@ function is open. That its function calls another refused one counts for nothing
 refused is tried alone, as is every edit that touches more than bodies: in its own modules, and then by the kit's own
 judge. Where a check shows nothing, its halves are tried first.
 
-Each crate that has edits, and each crate that it uses, is first proved from nothing, in this run. Each check starts from
-a copy of what that proved. The archives of static libraries that this builds go to FOLDER.
+Each crate that has edits, and each crate that it uses, is proved first. That begins with what rt has kept of the same
+crate in another checkout on this machine, if there is any. Each check starts from a copy of what that proved. The archives
+of static libraries that this builds go to FOLDER.
 
 Each edit has a line. The last line is 'N passed, N failed', and the exit status is 0 where none failed.
 """
@@ -78,7 +79,7 @@ class Task(NamedTuple):
     def __str__(self):
         what = f"{len(self.edits)} edits of {self.crate.name} in one check"
         if self.kind == "prove":
-            what = f"{self.crate.name} from nothing"
+            what = f"the proof of {self.crate.name}"
         elif self.kind == "copy":
             what = f"a copy of {self.crate.name} with no edit"
         elif len(self.edits) == 1:
@@ -294,7 +295,7 @@ class Run:
             return []
 
     def prove(self, task):
-        """Proves a crate from nothing, in a copy of its own, since rt keeps others out of all that it uses."""
+        """Proves a crate, in a copy of its own, since rt keeps others out of all that it uses."""
         crate, begun, top = task.crate, time.time(), self.copied(task.crate)
         try:
             folder = f"{top}/crates/{crate.name}"
@@ -310,7 +311,7 @@ class Run:
             shutil.rmtree(os.path.dirname(top), ignore_errors=True)
         self.functions[crate.name] = functions_in(ended.said)
         self.done.append(crate.name)
-        self.tell(f"{crate.name} proved from nothing, in {shown(time.time() - begun)}")
+        self.tell(f"{crate.name} proved, in {shown(time.time() - begun)}")
         for it in crate.misnamed:
             self.answer(crate, it, False, "BAD EDIT: rt takes no file of this name in must-fail/")
         copies = [Task("copy", crate, ())] if crate.edits else []
