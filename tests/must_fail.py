@@ -305,11 +305,13 @@ class Run:
             if ended.status:
                 said = f"rt {verb} ended with {ended.status}: {ended.said[-600:]}"
                 raise RuntimeError(f"{crate.name} was not proved, {said}")
+            # (of a library that rt has taken from another checkout it names no function, and a check does)
+            functions = functions_in(ended.said) or functions_in(run(["rt", "check", "--jobs", "1"], folder).said)
             self.hand_over(f"{folder}/out/lib{crate.name}.a")
             os.rename(f"{folder}/out", f"{self.proved}/crates/{crate.name}/out")
         finally:
             shutil.rmtree(os.path.dirname(top), ignore_errors=True)
-        self.functions[crate.name] = functions_in(ended.said)
+        self.functions[crate.name] = functions
         self.done.append(crate.name)
         self.tell(f"{crate.name} proved, in {shown(time.time() - begun)}")
         for it in crate.misnamed:
