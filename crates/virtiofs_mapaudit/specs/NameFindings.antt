@@ -31,8 +31,7 @@ abbrev pub AreIdle : List MappingRule → ℕ → List ℕ → Type 0
 AreIdle rules written idle = (place : ℕ) → Contains idle place ↔ IsIdle rules written place
 
 -- of the names under these rules, which are that many written ones: whether each has a rule, which is not listed back,
--- which is listed under a name that
--- leads elsewhere, and which rules decide none
+-- which is listed under a name that leads elsewhere, and which rules decide none
 pub record FindsNames {A : Type 0} (rules : List MappingRule) (written : ℕ) (found : NameFindings A) : Type 0 where
   pub terminated : IsTrue found.is_terminated ↔ Terminated rules
   pub lost : FindsName (IsLost rules) found.lost

@@ -17,6 +17,30 @@ fn word(kind: IdKind) -> &'static str {
     }
 }
 
+/// An id that does not come back.
+fn astray_value(alloc: Global, guest: usize, ids: &str, it: IdFound) -> Result<Value, AllocError> {
+    let (id, host, back) = (it.guest, it.host, it.other);
+    json!(in alloc; {"guest": guest, "kind": "not_back", "ids": ids, "id": id, "host": host, "back": back})
+}
+
+/// Two ids that are one on the host.
+fn shared_value(alloc: Global, guest: usize, ids: &str, it: IdFound) -> Result<Value, AllocError> {
+    let (id, host, other) = (it.guest, it.host, it.other);
+    json!(in alloc; {"guest": guest, "kind": "one_on_host", "ids": ids, "id": id, "other": other, "host": host})
+}
+
+/// An id of which its kind and what it becomes are told.
+fn reaching_value(
+    alloc: Global,
+    guest: usize,
+    kind: &str,
+    ids: &str,
+    it: IdFound,
+) -> Result<Value, AllocError> {
+    let (id, host) = (it.guest, it.host);
+    json!(in alloc; {"guest": guest, "kind": kind, "ids": ids, "id": id, "host": host})
+}
+
 /// Adds what is found of ids of a guest.
 pub(crate) fn push_ids(
     alloc: Global,
@@ -26,53 +50,17 @@ pub(crate) fn push_ids(
     found: &IdFindings,
 ) -> Result<(), AllocError> {
     let ids = word(kind);
-    if let Some(
-        IdFound {
-            guest: id,
-            host,
-            other,
-        },
-    ) = found.astray
-    {
-        list.push(
-            json!(in alloc; {"guest": guest, "kind": "not_back", "ids": ids, "id": id, "host": host, "back": other})?,
-        )?;
+    if let Some(it) = found.astray {
+        list.push(astray_value(alloc, guest, ids, it)?)?;
     }
-    if let Some(
-        IdFound {
-            guest: id,
-            host,
-            other,
-        },
-    ) = found.shared
-    {
-        list.push(
-            json!(in alloc; {"guest": guest, "kind": "one_on_host", "ids": ids, "id": id, "other": other, "host": host})?,
-        )?;
+    if let Some(it) = found.shared {
+        list.push(shared_value(alloc, guest, ids, it)?)?;
     }
-    if let Some(
-        IdFound {
-            guest: id,
-            host,
-            ..
-        },
-    ) = found.root
-    {
-        list.push(
-            json!(in alloc; {"guest": guest, "kind": "root", "ids": ids, "id": id, "host": host})?,
-        )?;
+    if let Some(it) = found.root {
+        list.push(reaching_value(alloc, guest, "root", ids, it)?)?;
     }
-    if let Some(
-        IdFound {
-            guest: id,
-            host,
-            ..
-        },
-    ) = found.lacking
-    {
-        list.push(
-            json!(in alloc; {"guest": guest, "kind": "lacking", "ids": ids, "id": id, "host": host})?,
-        )?;
+    if let Some(it) = found.lacking {
+        list.push(reaching_value(alloc, guest, "lacking", ids, it)?)?;
     }
     Ok(())
 }
