@@ -6,7 +6,7 @@ use Rattle.std.proofs.lemmas.Bool.Decides.{nat_tests}
 use Rattle.std.proofs.lemmas.List.{take_more, take_all}
 use Rattle.std.proofs.lemmas.Bool.{cases_lt, ltb-true, ltb-false}
 use Rattle.std.proofs.lemmas.List.Elements.{Contains-append_left, Contains-push, Contains-push_cases}
-use Rattle.virtiofs_map.specs.IdAudit.{IsLeastId, GoesTo, GoesInto, Between}
+use Rattle.virtiofs_map.specs.IdAudit.{GoesInto, Between}
 use Rattle.virtiofs_map.specs.declared.cmdline.IdMap.{IdMap as Specification}
 use Rattle.virtiofs_mapaudit.specs.IdFindings.{FindsLeast, TellsHost}
 use Rattle.virtiofs_map.specs.declared.idmap.UidMap.{UidMap}

@@ -24,7 +24,7 @@ use Rattle.virtiofs_mapaudit.specs.ReportParts.{AddsPairs, AreCompared}
 use Rattle.virtiofs_mapaudit.specs.Said.{Says, AreTables, specs_given, ranges_given, rules_given, set_up_line}
 use Rattle.virtiofs_mapaudit.specs.Said.{guests_text, pairs_text, closing, report_text}
 use Rattle.virtiofs_mapaudit.specs.Guests.{SetsUp}
-use Rattle.virtiofs_mapaudit.specs.Refusals.{TellsWhere, IsSomeRefused}
+use Rattle.virtiofs_mapaudit.specs.Refusals.{TellsWhere, IsSomeRefused, Adds, TellsGuests}
 use Rattle.virtiofs_mapaudit.specs.declared.audit.Said.{Said}
 use Rattle.virtiofs_mapaudit.specs.declared.audit.Pair.{Pair}
 use Rattle.virtiofs_mapaudit.specs.declared.audit.Report.{Report}
@@ -347,11 +347,12 @@ pub says_all : {A : Type 0} (asked : Asked) (guests : List (Guest A)) (said : Sa
     (report : Report A) (tables : List (List ℕ))
     (plain : List ℕ) → AllZip SetsUp guests sets → FindsReport sets report → AllZip (AreTables asked) sets tables
     → (IsTrue said.is_found ↔ IsFound report) → TellsWhere (IsSomeRefused guests sets) [] (string_bytes said.refusals)
+    → Adds (TellsGuests 1 guests) [] (string_bytes said.refusals)
     → plain ≡ report_text guests tables report said.is_found (string_bytes said.refusals)
     → (IsTrue asked.quiet → string_bytes said.text ≡ [])
     → (IsFalse asked.quiet → IsFalse asked.json → string_bytes said.text ≡ plain)
     → Says asked guests said
-says_all asked guests said sets report tables plain sets_up finds are found tells whole quiet as_is = record {
+says_all asked guests said sets report tables plain sets_up finds are found tells says whole quiet as_is = record {
   sets = sets;
   report = report;
   tables = tables;
@@ -363,6 +364,7 @@ says_all asked guests said sets report tables plain sets_up finds are found tell
     (λ some. tells.where_refused.0 (λ none. some (tells.added ∙ none))),
     (λ refused none. tells.where_refused.1 refused (sym tells.added ∙ none)),
   );
+  refusals = subst (TellsGuests 1 guests) (sym says.added) says.is;
   quiet = quiet;
   plain = λ loud text. as_is loud text ∙ whole;
 }

@@ -8,7 +8,7 @@ use Rattle.virtiofs_mapaudit.specs.Guests.{SetsUp}
 use Rattle.virtiofs_mapaudit.specs.IdTable.{ShowsIds}
 use Rattle.virtiofs_mapaudit.specs.NameTable.{table_lines}
 use Rattle.virtiofs_mapaudit.specs.PairLines.{pair_lines}
-use Rattle.virtiofs_mapaudit.specs.Refusals.{IsSomeRefused}
+use Rattle.virtiofs_mapaudit.specs.Refusals.{IsSomeRefused, TellsGuests}
 use Rattle.virtiofs_mapaudit.specs.Report.{FindsReport, IsFound}
 use Rattle.virtiofs_mapaudit.specs.declared.audit.Pair.{Pair}
 use Rattle.virtiofs_mapaudit.specs.declared.audit.Report.{Report}
@@ -107,6 +107,7 @@ pub record Says {A : Type 0} (asked : Asked) (guests : List (Guest A)) (said : S
   pub are_tables : AllZip (AreTables asked) sets tables
   pub found : IsTrue said.is_found ↔ IsFound report
   pub refused : (string_bytes said.refusals ≢ []) ↔ IsSomeRefused guests sets
+  pub refusals : TellsGuests 1 guests (string_bytes said.refusals)
   pub quiet : IsTrue asked.quiet → string_bytes said.text ≡ []
   pub plain : IsFalse asked.quiet → IsFalse asked.json
       → string_bytes said.text ≡ report_text guests tables report said.is_found (string_bytes said.refusals)

@@ -2,7 +2,7 @@
 ghost use Rattle.std.specs.Prelude.{◌≡◌, ◌<◌, ◌⊎◌, ◌↔◌, ◌++◌, ℕ, List, [], length, IfOk, IsTrue, IsFalse, OnOk, string_bytes};
 ghost use Rattle.std.specs.List.{AllZip};
 ghost use Rattle.virtiofs_mapaudit.specs.Guests.{SetsUp};
-ghost use Rattle.virtiofs_mapaudit.specs.Refusals.{TellsWhere, IsSomeRefused};
+ghost use Rattle.virtiofs_mapaudit.specs.Refusals.{TellsWhere, IsSomeRefused, Adds, TellsGuests};
 ghost use Rattle.virtiofs_mapaudit.specs.Report.{FindsReport, IsFound, IsFoundOf, IsFoundBetween};
 ghost use Rattle.virtiofs_mapaudit.specs.ReportParts.{AddsPairs};
 ghost use Rattle.virtiofs_mapaudit.specs.Said.{Says, ShownIf, ShowsSet, ShowsKind, ShowsBothKinds, ShowsSomeNames, AreTables, specs_given, ranges_given, rules_given, set_up_line, guests_text, pairs_text, closing, report_text};
@@ -322,6 +322,8 @@ fn set_up_all<A: Allocator + Copy>(
 ) -> Result<Vec<SetUp<A>, A>, AllocError>
     ensures sets_up { IfOk result (λ sets. AllZip SetsUp guests.now sets.items) }
     ensures told { IfOk result (λ sets. TellsWhere (IsSomeRefused guests.now sets.items)
+        (string_bytes refusals.old.text) (string_bytes refusals.new.text)) }
+    ensures says { OnOk result (Adds (TellsGuests 1 guests.now)
         (string_bytes refusals.old.text) (string_bytes refusals.new.text)) }
 {
     let mut sets = Vec::new(alloc);

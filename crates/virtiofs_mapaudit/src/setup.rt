@@ -1,5 +1,5 @@
 //! What the texts of a guest set up, and which of them are refused.
-ghost use Rattle.std.specs.Prelude.{◌≡◌, ◌≢◌, ◌++◌, ◌↔◌, IfOk, IfErr, IsTrue, OnOk, Some, None, ⊤, string_bytes};
+ghost use Rattle.std.specs.Prelude.{◌≡◌, ◌≢◌, ◌++◌, ◌↔◌, IfOk, IfErr, IsTrue, OnOk, Some, None, string_bytes};
 ghost use Rattle.std.specs.Str.{chars};
 ghost use Rattle.virtiofs_map.specs.Refusal.{OutOfMemoryOr};
 ghost use Rattle.virtiofs_map.specs.Build.{BuildFault, build_fault_of};
@@ -7,7 +7,8 @@ ghost use Rattle.virtiofs_map.specs.RulesFault.{RulesFault, HasRulesFault, rules
 ghost use Rattle.virtiofs_map.specs.SpecificationText.{SpecificationFault, specification_fault_of};
 ghost use Rattle.std.specs.Option.{option_map};
 ghost use Rattle.virtiofs_mapaudit.specs.Guests.{ReadsSpecs, ReadsRanges, ReadsIds, ReadsText, ReadsNames, SetsUp, IsRefused, Translates};
-ghost use Rattle.virtiofs_mapaudit.specs.Refusals.{TellsWhere, guest_number, refusal_line, rules_refusal_line};
+ghost use Rattle.virtiofs_map.specs.Printed.{build_error_text, rules_error_text};
+ghost use Rattle.virtiofs_mapaudit.specs.Refusals.{TellsWhere, Adds, TellsPlace, TellsBuildFault, TellsSpecsFault, TellsSpecs, TellsRanges, TellsIds, TellsNames, TellsGuest, guest_number, refusal_line, rules_refusal_line};
 ghost use Rattle.virtiofs_map.specs.Specifications.{SpecsFault, specs_fault_of, texts_of};
 
 use crate::guest::Guest;
@@ -93,8 +94,8 @@ fn refuse_text<A: Allocator + Copy>(
     option: &str,
     cause: &cmdline::IdMapError<A>,
 ) -> Result<(), AllocError>
-    ensures told { OnOk result
-        (TellsWhere ⊤ (string_bytes refusals.old.text) (string_bytes refusals.new.text)) }
+    ensures told { OnOk result (Adds (TellsPlace number option.now place)
+        (string_bytes refusals.old.text) (string_bytes refusals.new.text)) }
     ensures faulty { OnOk result ((fault : SpecificationFault)
         × (specification_fault_of cause.now ≡ Some fault)) }
 {
@@ -113,6 +114,18 @@ fn refuse_text<A: Allocator + Copy>(
     }
 }
 
+/// What the library says of specifications of which no map is made.
+fn build_sentence<A: Allocator + Copy>(
+    alloc: A,
+    error: &IdMapBuildError,
+) -> Result<String<A>, AllocError>
+    ensures { IfOk result (λ why. string_bytes why ≡ build_error_text error.now) }
+{
+    let mut why = String::new(alloc);
+    write!(why, "{error}")?;
+    Ok(why)
+}
+
 /// Tells why no map is made of the specifications of a guest.
 fn refuse_build<A: Allocator + Copy>(
     alloc: A,
@@ -121,11 +134,11 @@ fn refuse_build<A: Allocator + Copy>(
     option: &str,
     error: &IdMapBuildError,
 ) -> Result<(), AllocError>
-    ensures told { OnOk result
-        (TellsWhere ⊤ (string_bytes refusals.old.text) (string_bytes refusals.new.text)) }
-    ensures faulty { OnOk result ((fault : BuildFault) × (build_fault_of error.now ≡ Some fault)) }
+    ensures { OnOk result ((fault : BuildFault) × (build_fault_of error.now ≡ Some fault)
+        × Adds (TellsBuildFault number option.now fault)
+        (string_bytes refusals.old.text) (string_bytes refusals.new.text)) }
 {
-    let why = format!(in alloc; "{error}")?;
+    let why = build_sentence(alloc, error)?;
     match error {
         IdMapBuildError::RangeOverflow { index, .. } => {
             tell(refusals, number, *index, option, why.as_str())
@@ -145,9 +158,9 @@ fn refuse_specs<A: Allocator + Copy>(
     option: &str,
     error: &SpecsError<A>,
 ) -> Result<(), AllocError>
-    ensures told { OnOk result
-        (TellsWhere ⊤ (string_bytes refusals.old.text) (string_bytes refusals.new.text)) }
-    ensures faulty { OnOk result ((fault : SpecsFault) × (specs_fault_of error.now ≡ Some fault)) }
+    ensures { OnOk result ((fault : SpecsFault) × (specs_fault_of error.now ≡ Some fault)
+        × Adds (TellsSpecsFault number option.now fault)
+        (string_bytes refusals.old.text) (string_bytes refusals.new.text)) }
 {
     match error {
         SpecsError::Spec { index, cause } => {
@@ -167,6 +180,8 @@ fn read_specs<A: Allocator + Copy>(
 ) -> Result<Option<Ids<A>>, AllocError>
     ensures read { IfOk result (ReadsSpecs (texts_of texts.now)) }
     ensures told { IfOk result (λ map. TellsWhere (map ≡ None)
+        (string_bytes refusals.old.text) (string_bytes refusals.new.text)) }
+    ensures says { OnOk result (Adds (TellsSpecs number option.now (texts_of texts.now))
         (string_bytes refusals.old.text) (string_bytes refusals.new.text)) }
 {
     match IdMap::from_specs(alloc, texts) {
@@ -189,6 +204,8 @@ fn read_ranges<A: Allocator + Copy>(
     ensures read { IfOk result (λ ranges. ReadsRanges (texts_of texts.now)
         (option_map (λ all. all.items) ranges)) }
     ensures told { IfOk result (λ ranges. TellsWhere (ranges ≡ None)
+        (string_bytes refusals.old.text) (string_bytes refusals.new.text)) }
+    ensures says { OnOk result (Adds (TellsRanges number option.now (texts_of texts.now))
         (string_bytes refusals.old.text) (string_bytes refusals.new.text)) }
 {
     let mut ranges = Vec::new(alloc);
@@ -217,6 +234,8 @@ fn read_ids<A: Allocator + Copy>(
     ensures read { IfOk result (ReadsIds (texts_of specs.now) (texts_of ranges.now)) }
     ensures told { IfOk result (λ set. TellsWhere (set ≡ None)
         (string_bytes refusals.old.text) (string_bytes refusals.new.text)) }
+    ensures says { OnOk result (Adds (TellsIds number kind (texts_of specs.now) (texts_of ranges.now))
+        (string_bytes refusals.old.text) (string_bytes refusals.new.text)) }
 {
     let map = read_specs(alloc, refusals, number, translating(kind), specs)?;
     let ranges = read_ranges(alloc, refusals, number, ranging(kind), ranges)?;
@@ -239,15 +258,24 @@ fn read_text<A: Allocator + Copy>(alloc: A, text: &str) -> Result<NamesSetUp<A>,
 
 /// Whether an error tells what is wrong with a text of rules. Otherwise it says that memory ran out.
 fn tells_fault<A: Allocator>(error: &Error<A>) -> bool
-    ensures { IsTrue result → (fault : RulesFault) × (rules_fault_of error.now ≡ Some fault) }
+    ensures { IsTrue result ↔ ((fault : RulesFault) × (rules_fault_of error.now ≡ Some fault)) }
 {
     match error.rule {
         Some(_) => true,
         None => match error.cause {
-            ErrorKind::NoRulesProvided => true,
-            _ => false,
+            ErrorKind::OutOfMemory => false,
+            _ => true,
         },
     }
+}
+
+/// What the library says of a text of rules.
+fn rules_sentence<A: Allocator + Copy>(alloc: A, error: &Error<A>) -> Result<String<A>, AllocError>
+    ensures { IfOk result (λ why. string_bytes why ≡ rules_error_text error.now) }
+{
+    let mut why = String::new(alloc);
+    write!(why, "{error}")?;
+    Ok(why)
 }
 
 /// Tells that the rules of a guest are refused, and why.
@@ -275,6 +303,8 @@ fn read_names<A: Allocator + Copy>(
     ensures read { IfOk result (ReadsNames rules.entry) }
     ensures told { IfOk result (λ map. TellsWhere ((rules.entry ≢ None) × (map ≡ None))
         (string_bytes refusals.old.text) (string_bytes refusals.new.text)) }
+    ensures says { OnOk result (Adds (TellsNames A number rules.entry)
+        (string_bytes refusals.old.text) (string_bytes refusals.new.text)) }
 {
     let Some(text) = rules else {
         return Ok(None);
@@ -282,10 +312,10 @@ fn read_names<A: Allocator + Copy>(
     match read_text(alloc, text) {
         Ok(set) => Ok(Some(set)),
         Err(error) => {
-            let why = format!(in alloc; "{error}")?;
             if !tells_fault(&error) {
                 return Err(AllocError);
             }
+            let why = rules_sentence(alloc, &error)?;
             tell_rules(refusals, number, why.as_str())?;
             Ok(None)
         }
@@ -318,6 +348,8 @@ pub(crate) fn set_up<A: Allocator + Copy>(
 ) -> Result<SetUp<A>, AllocError>
     ensures sets_up { IfOk result (SetsUp guest.now) }
     ensures told { IfOk result (λ set. TellsWhere (IsRefused guest.now set)
+        (string_bytes refusals.old.text) (string_bytes refusals.new.text)) }
+    ensures says { OnOk result (Adds (TellsGuest number guest.now)
         (string_bytes refusals.old.text) (string_bytes refusals.new.text)) }
 {
     let users = read_ids(

@@ -23,4 +23,5 @@ returns c =
     says_all c.args.asked c.args.guests.now _ c.in_ok-sets.sets.items c.in_ok-report.report tables _
     c.in_ok-sets.ensures.sets_up (rw c.as_slice.ensures.value at c.in_ok-report.ensures) all
     c.in_ok-is_found.ensures.found
-    (rw c.new.ensures.bytes at c.in_ok-sets.ensures.told) whole c.in_ok-text.ensures.quiet c.in_ok-text.ensures.plain
+    (rw c.new.ensures.bytes at c.in_ok-sets.ensures.told)
+    (rw c.new.ensures.bytes at c.in_ok-sets.ensures.says) whole c.in_ok-text.ensures.quiet c.in_ok-text.ensures.plain

@@ -1,4 +1,10 @@
-use Rattle.virtiofs_mapaudit.proofs.SetUpLemmas.{says_more}
+use Rattle.virtiofs_mapaudit.proofs.SetUpLemmas.{says_more, adds_range, adds_no_ranges}
+use Rattle.std.proofs.Common.{◌++◌, ◌∙◌, ap, subst}
+use Rattle.std.specs.List.{AllZip}
+use Rattle.std.proofs.lemmas.List.{take_all, length-map}
+use Rattle.virtiofs_map.specs.Specifications.{texts_of}
+use Rattle.virtiofs_mapaudit.specs.Guests.{SaysRange}
+use Rattle.virtiofs_mapaudit.specs.Refusals.{refusal_line}
 use Rattle.virtiofs_mapaudit.proofs.setup.read_ranges.Goals as goal
 
 pub loop-place-preserved : goal.loop-place-preserved
@@ -7,3 +13,18 @@ loop-place-preserved g c = (
       (says_more _ _ _ _ _ c.loop-place-test.true c.loop-place.invariant.0 c.in-Ok.ensures.read),
   c.loop-place.invariant.1,
 )
+
+pub returns-in-Err-clause-says : goal.returns-in-Err-clause-says
+returns-in-Err-clause-says g c =
+    adds_range _ _ _ c.args.texts.now _ c.loop-place.place _ _ _ _ c.loop-place-test.true c.loop-place.invariant.0
+    c.in-Err.ensures.refused
+    (c.in_ok-tell-in-Err.ensures
+    ∙ ap (λ t. t ++ refusal_line c.args.number c.loop-place.place c.args.option.now c.as_str.result.now)
+    c.loop-place.invariant.1)
+
+pub returns-clause-says : goal.returns-clause-says
+returns-clause-says g c =
+    adds_no_ranges _ _ _ c.loop-place.ranges.items _ _ c.loop-place.invariant.1
+    (subst (λ texts. AllZip SaysRange texts c.loop-place.ranges.items)
+    (take_all c.loop-place.place (texts_of c.args.texts.now) (rw length-map c.loop-place-test.false))
+    c.loop-place.invariant.0)

@@ -1,8 +1,9 @@
-use Rattle.virtiofs_mapaudit.proofs.SetUpLemmas.{unread_fault, unbuilt_fault}
+use Rattle.virtiofs_mapaudit.proofs.SetUpLemmas.{adds_unread, adds_unbuilt}
 use Rattle.virtiofs_mapaudit.proofs.setup.refuse_specs.Goals as goal
 
-pub returns-in-Spec-clause-faulty : goal.returns-in-Spec-clause-faulty
-returns-in-Spec-clause-faulty g c = unread_fault _ _ _ _ c.in-Spec.is c.refuse_text.ensures.faulty
+pub returns-in-Spec : goal.returns-in-Spec
+returns-in-Spec g c =
+    adds_unread _ _ _ _ _ _ _ _ c.in-Spec.is c.refuse_text.ensures.told c.refuse_text.ensures.faulty
 
-pub returns-in-Build-clause-faulty : goal.returns-in-Build-clause-faulty
-returns-in-Build-clause-faulty g c = unbuilt_fault _ _ _ c.in-Build.is c.refuse_build.ensures.faulty
+pub returns-in-Build : goal.returns-in-Build
+returns-in-Build g c = adds_unbuilt _ _ _ _ _ _ _ c.in-Build.is c.refuse_build.ensures

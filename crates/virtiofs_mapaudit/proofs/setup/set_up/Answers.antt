@@ -1,4 +1,4 @@
-use Rattle.virtiofs_mapaudit.proofs.SetUpLemmas.{tells_three}
+use Rattle.virtiofs_mapaudit.proofs.SetUpLemmas.{tells_three, adds_kinds}
 use Rattle.virtiofs_mapaudit.proofs.setup.set_up.Goals as goal
 
 pub returns-clause-sets_up : goal.returns-clause-sets_up
@@ -12,3 +12,9 @@ returns-clause-sets_up g c = record {
 pub returns-clause-told : goal.returns-clause-told
 returns-clause-told g c =
     tells_three _ _ _ _ _ _ _ c.in_ok-users.ensures.told c.in_ok-groups.ensures.told c.in_ok-names.ensures.told
+
+pub returns-clause-says : goal.returns-clause-says
+returns-clause-says g c =
+    adds_kinds _ _ _ _ _ _ (rw (c.as_slice.ensures.value, c.as_slice-2.ensures.value) at c.in_ok-users.ensures.says)
+    (rw (c.as_slice-3.ensures.value, c.as_slice-4.ensures.value) at c.in_ok-groups.ensures.says)
+    c.in_ok-names.ensures.says
