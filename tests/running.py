@@ -4,6 +4,8 @@ Every command is a process group of its own, with a shell in it that waits at a 
 Once this process is gone, by Ctrl-C, by `kill` or by `kill -9`, the pipe closes and the shell kills its group.
 """
 import contextlib
+import importlib.machinery
+import importlib.util
 import os
 import shutil
 import signal
@@ -79,6 +81,15 @@ def free_memory():
     """The memory that is free, in bytes."""
     with open("/proc/meminfo", encoding="utf-8") as lines:
         return next(1024 * int(line.split()[1]) for line in lines if line.startswith("MemAvailable:"))
+
+
+def kit():
+    """The kit's command `rt`, as a module."""
+    told = subprocess.run(["rt", "doc"], stdout=subprocess.PIPE, encoding="utf-8", check=True).stdout.strip()
+    loader = importlib.machinery.SourceFileLoader("rt_of_the_kit", f"{os.path.dirname(told)}/bin/rt")
+    rt = importlib.util.module_from_spec(importlib.util.spec_from_loader("rt_of_the_kit", loader))
+    loader.exec_module(rt)
+    return rt
 
 
 def shown(seconds):

@@ -1,0 +1,36 @@
+#!/usr/bin/env python3
+"""Runs `rt ci` in this folder, and has it prove the libraries on which other crates wait by all processors.
+
+rt would give the largest of them one processor alone: it reckons with 15 GB for each of its jobs, while four jobs of it
+were seen to take 4 GB together. All else is rt's own: what it proves and in which order, and what it says.
+"""
+import sys
+
+from running import cores, kit
+
+
+def waited_for():
+    """The crates of this folder that others of them use."""
+    used_by = {}
+    with open("crates.txt", encoding="utf-8") as lines:
+        for line in lines:
+            name, _, used = line.partition("#")[0].partition(":")
+            if name.strip():
+                used_by[name.split()[0]] = set(used.replace(",", " ").split())
+    return set(used_by) & set().union(*used_by.values())
+
+
+def main(words):
+    rt, libraries = kit(), waited_for()
+    of_rt = rt.Crate.ci
+
+    def ci(crate, flags, tests):
+        is_first = crate.name in libraries and not tests
+        return of_rt(crate, ["--jobs", str(cores())] if is_first else flags, tests)
+
+    rt.Crate.ci = ci
+    return rt.main(["ci", *words])
+
+
+if __name__ == "__main__":
+    sys.exit(main(sys.argv[1:]))
