@@ -11,19 +11,16 @@ function is open. That its function calls another refused one counts for nothing
 refused is tried alone, as is every edit that touches more than bodies: in its own modules, and then by the kit's own
 judge. Where a check shows nothing, its halves are tried first.
 
-Each crate that has edits, and each crate that it uses, is proved first. That begins with what rt has kept of the same
+Each crate that has edits, and each crate that it uses, is proved first (of a program, what its edits touch). That begins with what rt has kept of the same
 crate in another checkout on this machine, if there is any. Each check starts from a copy of what that proved. The archives
 of static libraries that this builds go to FOLDER.
 
 Each edit has a line. The last line is 'N passed, N failed', and the exit status is 0 where none failed.
 """
-import importlib.machinery
-import importlib.util
 import math
 import os
 import re
 import shutil
-import subprocess
 import sys
 import tempfile
 import threading
@@ -33,7 +30,7 @@ from concurrent.futures import FIRST_COMPLETED, ThreadPoolExecutor, wait
 from typing import NamedTuple
 
 from edited_bodies import bodies_of, edits_in, is_body_of, merged, pairs_of
-from running import cores, made_room, run, say, shown
+from running import cores, kit, made_room, run, say, shown
 
 HERE = os.path.dirname(os.path.abspath(__file__))
 # The most edits of one check. A check that changes nothing costs as much as two edits, so that few large checks cost less
@@ -184,6 +181,20 @@ def modules(edit, folder):
     return [word for it in sorted(paths) for word in ("--only", it[len("src/") : -len(".rt")].replace("/", "::"))]
 
 
+def touched(edits, folder):
+    """The words by which a check reads alone the modules, and the functions at the crate's root, that these edits touch.
+    There are none where one of the edits touches more than that."""
+    found = set()
+    for edit in edits:
+        own = set(modules(edit, folder)) - {"--only"}
+        if not own and merged([edit], folder) is not None:
+            own = {it.name for it in bodies_of(edit, folder) or () if not it.head}
+        if not own:
+            return []
+        found |= own
+    return [word for it in sorted(found) for word in ("--only", it)]
+
+
 def told_apart(edits, folder, said, every):
     """The edits of a batch that were refused each at a goal of its own function, with that function's name. Nothing is
     told where a function fails for itself that is not known to be one of the edited ones. `every` are the functions of
@@ -209,7 +220,7 @@ class Run:
         self.top, self.room, self.lanes, self.archives = top, room, lanes, archives
         self.proved = f"{room}/proved"
         self.begun, self.at, self.refused = time.time(), {}, {}
-        self.unproved, self.done, self.functions = crates_of(top), [], {}
+        self.unproved, self.done, self.functions, self.words = crates_of(top), [], {}, {}
         self.alone_on_the_machine = threading.Lock()
 
     def tell(self, text):
@@ -295,13 +306,15 @@ class Run:
             return []
 
     def prove(self, task):
-        """Proves a crate, in a copy of its own, since rt keeps others out of all that it uses."""
+        """Proves a crate, in a copy of its own, since rt keeps others out of all that it uses. Of a program, which no other
+        crate uses, it proves what edits touch, and what that calls."""
         crate, begun, top = task.crate, time.time(), self.copied(task.crate)
         try:
             folder = f"{top}/crates/{crate.name}"
             is_program = os.path.isfile(f"{folder}/src/main.rt")
             verb = "check" if is_program else "lib"
-            ended = run(["rt", verb, "--jobs", str(task.jobs)], folder)
+            self.words[crate.name] = touched(crate.edits, folder) if is_program else []
+            ended = run(["rt", verb, "--jobs", str(task.jobs), *self.words[crate.name]], folder)
             if ended.status:
                 said = f"rt {verb} ended with {ended.status}: {ended.said[-600:]}"
                 raise RuntimeError(f"{crate.name} was not proved, {said}")
@@ -328,7 +341,7 @@ class Run:
 
     def copy(self, task):
         """A copy of a proved crate with no edit must be proved too: else a refusal shows nothing."""
-        ended = self.checked(task.crate, [])
+        ended = self.checked(task.crate, [], self.words[task.crate.name])
         if ended.status:
             raise RuntimeError(f"a copy of {task.crate.name} with no edit was not proved: {ended.said[-600:]}")
         return []
@@ -402,10 +415,7 @@ class Run:
 def judge(edit, kept):
     """Judges one edit of the crate in this folder as rt does, over kept work where it is given. `rt must-fail` itself has
     no option for kept work, and would prove the whole crate for each edit: so this calls the function that it calls."""
-    told = subprocess.run(["rt", "doc"], stdout=subprocess.PIPE, encoding="utf-8", check=True).stdout.strip()
-    loader = importlib.machinery.SourceFileLoader("rt_of_the_kit", f"{os.path.dirname(told)}/bin/rt")
-    rt = importlib.util.module_from_spec(importlib.util.spec_from_loader("rt_of_the_kit", loader))
-    loader.exec_module(rt)
+    rt = kit()
     rt.rtlib.guarded()
     crate = next(it for it in rt.rtlib.crates_below(os.getcwd()) if it.folder == os.getcwd())
     kind, said = rt.must_fail(crate, edit, ["--jobs", "1"], kept and os.path.abspath(kept))
