@@ -3,13 +3,13 @@
 
 usage: acl_by_trial.py [ARCHIVE]
 
-An archive of the library for C, else the one that is built in this checkout, is linked to a shared object and called
-from here. Three values that Linux wrote are handed over with each byte changed to each other value, under two pairs of
+ARCHIVE is the library for C; if it is left out, the one that is built in this checkout. It is linked to a shared object
+and called from here. Three values that Linux wrote are handed over with each byte changed to each other value, under two pairs of
 maps, and values made at random under maps made at random, from a fixed seed. What must come of each is worked out here,
 from the specifications and the bytes alone: the code, the fault, and each byte of the value. The bytes around what a
 call may write are looked at too. The last line is 'N passed, N failed', and the exit status is 0 where none failed.
 
-What is tried has to be sharp too: a reading with a known mistake has to differ from the right one for some of it.
+The values must be able to show mistakes: a reading with a known mistake has to differ from the right one for some of them.
 """
 import ctypes
 import os

@@ -11,7 +11,7 @@ There is no end of names, but few are enough. Let the letters be the bytes of al
 pattern has. Take any name. Put that least byte in the place of each byte that is no letter, and cut off what is past the
 length of the longest pattern, but leave one byte. What this makes of the name
 
-- is begun by the same patterns, and it still is with the same bytes before it, where those are of a pattern,
+- begins with the same patterns, also if the same bytes of some pattern are put before both,
 - so the same rules decide both, and take off or put before both the same number of bytes,
 - so it passes, is listed back, or is hidden where the name is, and is empty where the name is,
 - and it is not after the name in the order of bytes.
@@ -19,7 +19,7 @@ length of the longest pattern, but leave one byte. What this makes of the name
 So the least name that fails is one of letters, at most as long as the longest pattern or one byte. Those are tried, and
 those that are one byte longer.
 
-The made rules have to be sharp too: a decision with a known mistake has to differ from the right one for some of them.
+The rules must be able to show mistakes: a decision with a known mistake has to differ from the right one for some of them.
 """
 import itertools
 import os

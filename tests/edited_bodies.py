@@ -1,7 +1,7 @@
 """Reads must-fail edits, and tells those that lie in bodies of functions.
 
-An edit is a file with a line 'file: src/lib.rt', and then pairs of lines 'old: TEXT' and 'new: TEXT'. Each TEXT stands in
-that file exactly once. It is part of one line, so an edit moves no line.
+An edit is a file with a line 'file: src/lib.rt', and then pairs of lines 'old: TEXT' and 'new: TEXT'. The old text stands
+in that file exactly once. Both are parts of one line, so an edit moves no line.
 """
 import os
 import re

@@ -1,5 +1,5 @@
 #!/usr/bin/env python3
-"""Sees that ./install puts there what programs need, and takes away what it put there.
+"""Checks that ./install installs what programs need, and removes what it installed.
 
 usage: install.py
 

@@ -1,5 +1,5 @@
 #!/usr/bin/env python3
-"""Mounts examples/mapped_fs.c, and sees that a guest gets through it what the program says.
+"""Mounts examples/mapped_fs.c, and checks that a guest sees through it what virtiofs_mapcheck says.
 
 usage: mount.py [--sanitized]
 

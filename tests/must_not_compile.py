@@ -1,10 +1,10 @@
 #!/usr/bin/env python3
-"""Sees that programs that mix up ids, or keep a listed name longer than its list, do not compile, nor a library that
-reads its ranges or the branches of its tries by another way than the one that counts. Sees also that no count is lost.
+"""Sees that programs that mix up ids, or keep a listed name longer than its list, do not compile. Nor does a library
+that reads its ranges or the branches of its tries without counting the step. Sees also that no count is lost.
 
 The folder must_not_compile has one program that compiles, caller.rt.txt, and edits of it, each of one line: 'old: TEXT'
 (standing once in the program), 'new: TEXT', and 'error: NAME', the name of the error that the edited line must get
-first. An edit with a line 'in: PATH' is one of that file of the library, under the program as it is. The program and the
+first. An edit with a line 'in: PATH' changes that file of the library; the program stays as it is. The program and the
 library as they are must compile, or the refusals would show nothing.
 
 Each program is a crate of its own in a temporary repository, over a copy of this repository's libraries; each edit of

@@ -21,12 +21,15 @@ def waited_for():
 
 
 def main(words):
-    rt, libraries = kit(), waited_for()
+    rt, left = kit(), waited_for()
     of_rt = rt.Crate.ci
 
     def ci(crate, flags, tests):
-        is_first = crate.name in libraries and not tests
-        return of_rt(crate, ["--jobs", str(cores())] if is_first else flags, tests)
+        if crate.name in left and not tests:
+            # (once: if that is killed for want of memory, rt tries again with one job)
+            left.remove(crate.name)
+            flags = ["--jobs", str(cores())]
+        return of_rt(crate, flags, tests)
 
     rt.Crate.ci = ci
     return rt.main(["ci", *words])

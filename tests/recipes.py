@@ -5,8 +5,8 @@ they write.
 usage: recipes.py PROGRAM..
 
 Each block of `sh` is a command, and the block of `text` after it is its whole output. The status is 0 where that says
-that nothing was found, and else 5. The command for a daemon that runs is given the number of a stand-in, which is a shell
-with options of a daemon. The last line is 'N passed, N failed'.
+that nothing was found, and else 5. In the command for a running daemon, PID is the process id of a shell that was
+started with options of a daemon. The last line is 'N passed, N failed'.
 """
 import os
 import re
