@@ -24,7 +24,7 @@ use Rattle.virtiofs_mapaudit.specs.declared.setup.SetUp.{SetUp}
 
 -- ---- where something is told
 
--- something was told where that holds, and nothing otherwise
+-- `told` was added; there is text in it if and only if `Refused` holds
 pub record TellsWhere (Refused : Type 0) (before after : List ℕ) : Type 0 where
   pub told : List ℕ
   pub added : after ≡ before ++ told
@@ -34,7 +34,7 @@ pub record TellsWhere (Refused : Type 0) (before after : List ℕ) : Type 0 wher
 abbrev pub IsSomeRefused : {A : Type 0} → List (Guest A) → List (SetUp A) → Type 0
 IsSomeRefused guests sets = AnyTwoHave IsRefused guests sets
 
--- a text of which that holds was added
+-- a text for which `IsTold` holds was added
 pub record Adds (IsTold : List ℕ → Type 0) (before after : List ℕ) : Type 0 where
   pub told : List ℕ
   pub is : IsTold told
@@ -55,7 +55,7 @@ refusal_line number place option why =
 abbrev pub rules_refusal_line : ℕ → List ℕ → List ℕ
 rules_refusal_line number why = guest_number number ++ codes "--xattrmap is refused: " ++ why ++ codes "\n"
 
--- the text is refused at that place, for some reason
+-- the line about the text at that place; the reason may be any text
 abbrev pub TellsPlace : ℕ → List ℕ → ℕ → List ℕ → Type 0
 TellsPlace number option place told = (why : List ℕ) × (told ≡ refusal_line number place option why)
 
@@ -119,7 +119,7 @@ pub record TellsRulesFault (A : Type 0) (number : ℕ) (text told : List ℕ) : 
 abbrev pub TellsRules : (A : Type 0) → ℕ → List ℕ → List ℕ → Type 0
 TellsRules A number text told = ((¬ RefusesRules text) × (told ≡ [])) ⊎ TellsRulesFault A number text told
 
--- and nothing where there is no text of rules
+-- what is told of the rules of a guest: nothing where it has none
 abbrev pub TellsNames : (A : Type 0) → ℕ → Option (Bor (List ℕ)) → List ℕ → Type 0
 TellsNames A number None told = told ≡ []
 TellsNames A number (Some text) told = TellsRules A number (chars text.now) told

@@ -44,7 +44,7 @@ pub(crate) struct Report<A: Allocator> {
 pub(crate) struct Said {
     /// On standard output.
     pub(crate) text: String,
-    /// On standard error: for each guest, a line for the first text of each option that is refused.
+    /// On standard error: guest by guest, a line for the first fault of each option that is refused.
     pub(crate) refusals: String,
     /// Whether anything was found.
     pub(crate) is_found: bool,
@@ -176,7 +176,7 @@ fn push_ranges<A: Allocator>(
     write!(text, "{users} --uid-map, {groups} --gid-map, ")
 }
 
-/// Writes whether a daemon has rules at the end of a text.
+/// Writes at the end of a text whether a daemon has rules.
 fn push_rules<A: Allocator>(text: &mut String<A>, rules: Option<&str>) -> Result<(), AllocError>
     ensures { OnOk result
         (string_bytes text.new ≡ string_bytes text.old ++ rules_given rules.entry) }
@@ -215,7 +215,8 @@ fn has_grown<A: Allocator>(is_found: bool, text: &String<A>, before: usize) -> b
     before < text.as_bytes().len()
 }
 
-/// Writes what was found of each guest at the end of a text, and tells whether anything was.
+/// Writes at the end of a text, for each guest, its first line, its tables and what was found. Tells
+/// whether anything was found.
 fn push_guests<A: Allocator + Copy>(
     alloc: A,
     text: &mut String<A>,
@@ -313,7 +314,7 @@ fn push_report<A: Allocator + Copy>(
     Ok(is_found)
 }
 
-/// What the options of each guest set up. For each guest, a line for the first text of each option
+/// What the options of each guest set up. Guest by guest, a line for the first fault of each option
 /// that is refused goes to `refusals`.
 fn set_up_all<A: Allocator + Copy>(
     alloc: A,

@@ -55,7 +55,7 @@ pub(crate) struct SetUp<A: Allocator> {
 /// Where refusals are told.
 #[derive(Drop)]
 pub(crate) struct Refusals<A: Allocator> {
-    /// For each guest, a line for the first text of each option that is refused.
+    /// Guest by guest, a line for the first fault of each option that is refused.
     pub(crate) text: String<A>,
 }
 
@@ -67,7 +67,8 @@ fn push_number<A: Allocator>(text: &mut String<A>, number: usize) -> Result<(), 
     write!(text, "guest {number}: ")
 }
 
-/// Tells that the option of a guest at a place, counted from 0, is refused, and why.
+/// Writes at the end of what is told that a text of an option of a guest is refused, and why. Its
+/// place among the texts of the option is counted from 0; the line says `first`, `second`.
 fn tell<A: Allocator>(
     refusals: &mut Refusals<A>,
     number: usize,
