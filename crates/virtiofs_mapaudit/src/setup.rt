@@ -235,7 +235,8 @@ fn read_ids<A: Allocator + Copy>(
     ensures read { IfOk result (ReadsIds (texts_of specs.now) (texts_of ranges.now)) }
     ensures told { IfOk result (λ set. TellsWhere (set ≡ None)
         (string_bytes refusals.old.text) (string_bytes refusals.new.text)) }
-    ensures says { OnOk result (Adds (TellsIds number kind (texts_of specs.now) (texts_of ranges.now))
+    ensures says { OnOk result (Adds
+        (TellsIds number kind (texts_of specs.now) (texts_of ranges.now))
         (string_bytes refusals.old.text) (string_bytes refusals.new.text)) }
 {
     let map = read_specs(alloc, refusals, number, translating(kind), specs)?;
