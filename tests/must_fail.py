@@ -11,9 +11,10 @@ function is open. That its function calls another refused one counts for nothing
 refused is tried alone, as is every edit that touches more than bodies: in its own modules, and then by the kit's own
 judge. Where a check shows nothing, its halves are tried first.
 
-Each library that has edits, or that a crate with edits uses, is proved first, and of each program what its edits touch. A
-proof begins with what rt has kept of the same crate in another checkout on this machine, if there is any. Each check
-starts from a copy of what was proved. The archives of static libraries that this builds go to FOLDER.
+Each library that has edits, or that a crate with edits uses, is proved first, and of each program what its edits touch.
+That is a proof from nothing, but the rt of rattle-kit-13f begins with what it has kept of the same crate in another
+checkout on this machine, if there is any. Each check starts from a copy of what was proved. The archives of static
+libraries that this builds go to FOLDER.
 
 Each edit has a line. The last line is 'N passed, N failed', and the exit status is 0 where none failed.
 """
