@@ -2,15 +2,14 @@
 
 ghost use Rattle.std.specs.List.{before_first, after_first};
 ghost use Rattle.std.specs.Option.{option_map};
-ghost use Rattle.std.specs.Prelude.{◌≡◌, ◌≢◌, ◌==◌, ◌+◌, ◌<◌, ◌≤◌, List, length, take, position, All, IfOk, IfErr, IfSome, MatchOption};
+ghost use Rattle.std.specs.Prelude.{◌≡◌, ◌≢◌, ◌==◌, ◌+◌, ◌<◌, ◌≤◌, length, take, drop, slice_get, position, All, IfOk, IfErr, IfSome, IsSome, IsSomeAnd, MatchOption};
 ghost use Rattle.virtiofs_map.specs.Listing.{listing, list_of};
 ghost use Rattle.virtiofs_map.specs.Names.{IsListed, IsHidden, IsUndecided, deciding, host_answer, server_answer};
-ghost use Rattle.virtiofs_map.specs.Rule.{MappingRule};
-ghost use Rattle.virtiofs_map.specs.RuleParts.{rule_meant};
+ghost use Rattle.virtiofs_map.specs.RuleParts.{type_of};
 
 use crate::xattrmap::XattrMap;
 use crate::xattrmap::errors::{Error, ErrorKind};
-use crate::xattrmap::rules::{RuleKind, RuleRef};
+use crate::xattrmap::rules::RuleKind;
 use crate::xattrmap::scopes::Side;
 use std::alloc::{Allocator, Global};
 use std::iter::FusedIterator;
@@ -45,34 +44,45 @@ pub(crate) fn cut_name(list: &[u8], passed: usize) -> (&[u8], &[u8])
     }
 }
 
-/// What the guest sees of a name of the host, by the rule that decides it: `None` where it is
-/// hidden.
-fn listed_as<'n, A: Allocator>(
-    rule: Option<RuleRef<'_>>,
-    name: &'n [u8],
-) -> Result<Option<&'n [u8]>, ErrorKind<A>>
-    requires { IfSome rule (λ rule. length rule.prepend.now ≤ length name.now) }
-    ensures decided { (rules : List MappingRule)
-        → option_map rule_meant rule.entry ≡ deciding Side.Server rules name.now
-        → IfOk result (λ shown. MatchOption shown
-        (host_answer rules name.now ≡ IsHidden)
-        (λ listed. host_answer rules name.now ≡ IsListed listed.now)) }
-    ensures undecided { (rules : List MappingRule)
-        → option_map rule_meant rule.entry ≡ deciding Side.Server rules name.now
-        → IfErr result (λ _. host_answer rules name.now ≡ IsUndecided) }
-    ensures error { IfErr result (λ cause. cause ≡ ErrorKind.UnterminatedMapping) }
-{
-    let Some(rule) = rule else {
-        return Err(ErrorKind::UnterminatedMapping);
-    };
-    Ok(match rule.kind {
-        RuleKind::Okay => Some(name),
-        RuleKind::Prefix => Some(&name[rule.prepend.len()..]),
-        RuleKind::Bad | RuleKind::Unsupported => None,
-    })
-}
-
 impl<A: Allocator> XattrMap<A> {
+    /// A name of the host without the prepend of the rule at a place, which decides it.
+    fn without_prepend<'n>(&self, place: usize, name: &'n [u8]) -> &'n [u8]
+        requires some { IsSome (slice_get self.now place) }
+        requires decides { deciding Side.Server self.now name.now ≡ slice_get self.now place }
+        ensures { IsSomeAnd (slice_get self.now place) (λ rule.
+            result.now ≡ drop (length rule.prepend) name.now) }
+    {
+        match self.rule(place) {
+            Some(rule) => &name[rule.prepend.len()..],
+            None => unreachable!(),
+        }
+    }
+
+    /// What the guest sees of a name of the host, by the type and the place of the rule that decides
+    /// it: `None` where it is hidden.
+    fn listed_as<'n>(
+        &self,
+        found: Option<(RuleKind, usize)>,
+        name: &'n [u8],
+    ) -> Result<Option<&'n [u8]>, ErrorKind<A>>
+        requires kind { option_map (λ rule. rule.kind) (deciding Side.Server self.now name.now)
+            ≡ option_map (λ found. type_of found.0) found }
+        requires place { IfSome found (λ found.
+            deciding Side.Server self.now name.now ≡ slice_get self.now found.1) }
+        ensures decided { IfOk result (λ shown. MatchOption shown
+            (host_answer self.now name.now ≡ IsHidden)
+            (λ listed. host_answer self.now name.now ≡ IsListed listed.now)) }
+        ensures undecided { IfErr result (λ _. host_answer self.now name.now ≡ IsUndecided) }
+        ensures error { IfErr result (λ cause. cause ≡ ErrorKind.UnterminatedMapping) }
+    {
+        match found {
+            None => Err(ErrorKind::UnterminatedMapping),
+            Some((RuleKind::Okay, _)) => Ok(Some(name)),
+            Some((RuleKind::Prefix, place)) => Ok(Some(self.without_prepend(place, name))),
+            Some((RuleKind::Bad | RuleKind::Unsupported, _)) => Ok(None),
+        }
+    }
+
     /// Iterates over the names of the host's list that the guest may see, in order. Each item is
     /// the name as the guest sees it, without a terminating zero. In the list, a zero follows each
     /// name; the last name needs none, and empty names are ignored.
@@ -136,13 +146,13 @@ impl<'m, 'a, A: Allocator> Iterator for ListedNames<'m, 'a, A> {
 
     fn next(&mut self) -> Option<Result<&'a [u8], Error<A>>> {
         'names: while !self.rest.is_empty() {
-            let (rule, passed) = self.map.deciding_first(self.rest);
+            let (found, passed) = self.map.deciding_first(self.rest);
             let (name, rest) = cut_name(self.rest, passed);
             self.rest = rest;
             if name.is_empty() {
                 continue;
             }
-            match listed_as(rule, name) {
+            match self.map.listed_as(found, name) {
                 Ok(Some(listed)) => return Some(Ok(listed)),
                 Ok(None) => {}
                 Err(cause) => {

@@ -2,21 +2,39 @@
 
 ghost use Rattle.std.specs.List.{before_first};
 ghost use Rattle.std.specs.Option.{option_map};
-ghost use Rattle.std.specs.Prelude.{◌≡◌, ◌≢◌, ◌==◌, ◌≤◌, length, take, slice_get, All, IfSome};
-ghost use Rattle.virtiofs_map.specs.BranchParts.{IsTrieIn};
+ghost use Rattle.std.specs.Prelude.{◌≡◌, ◌≢◌, ◌==◌, ◌≤◌, ℕ, List, length, take, slice_get, All, IfSome};
+ghost use Rattle.virtiofs_map.specs.BranchParts.{AreFew, IsTrieIn, answer_of};
 ghost use Rattle.virtiofs_map.specs.FirstRule.{CountsFronts, CountsLookup};
 ghost use Rattle.virtiofs_map.specs.Names.{deciding, first};
-ghost use Rattle.virtiofs_map.specs.Rule.{HasNoZero};
-ghost use Rattle.virtiofs_map.specs.RuleParts.{rule_meant};
+ghost use Rattle.virtiofs_map.specs.Rule.{HasNoZero, MappingRule};
+ghost use Rattle.virtiofs_map.specs.RuleParts.{rule_meant, type_of};
+ghost use Rattle.virtiofs_map.specs.declared.xattrmap.scopes.Side.{Side};
 
 use crate::steps::Steps;
 use crate::xattrmap::XattrMap;
 use crate::xattrmap::branches::{NO_ANSWER, Trie};
 use crate::xattrmap::names::XattrName;
-use crate::xattrmap::rules::RuleRef;
+use crate::xattrmap::rules::{RuleKind, RuleRef};
 use crate::xattrmap::scopes::Side;
 use crate::xattrmap::walk::{first_place, look_up};
 use std::alloc::Allocator;
+
+/// The type and the place of the rule for which an answer of a trie stands.
+#[inline(always)]
+fn type_and_place(answer: u64) -> Option<(RuleKind, usize)>
+    ensures kind { (side : Side) (rules : List MappingRule) (name : List ℕ) → AreFew rules
+        → answer ≡ answer_of side rules name
+        → option_map (λ rule. rule.kind) (deciding side rules name)
+        ≡ option_map (λ found. type_of found.0) result }
+    ensures place { (side : Side) (rules : List MappingRule) (name : List ℕ)
+        → answer ≡ answer_of side rules name
+        → IfSome result (λ found. deciding side rules name ≡ slice_get rules found.1) }
+{
+    if answer == NO_ANSWER {
+        return None;
+    }
+    Some((RuleKind::numbered(answer % 4), (answer / 4) as usize))
+}
 
 impl<A: Allocator> XattrMap<A> {
     /// How many rules there are, where each `map` rule counts as the two or three rules that it is
@@ -67,19 +85,35 @@ impl<A: Allocator> XattrMap<A> {
         self.rule((answer / 4) as usize)
     }
 
-    /// The rule that decides the first name of a list of the host, and so many bytes of that name
-    /// that were passed to find it. The name goes on to a zero or to the end of the list.
-    pub(crate) fn deciding_first(&self, list: &[u8]) -> (Option<RuleRef<'_>>, usize)
-        ensures found { option_map rule_meant result.0
-            ≡ deciding Side.Server self.now (before_first (λ byte. byte == 0) list.now) }
+    /// The type of the first rule that fits the name on that side, and the rule's place. The rule is
+    /// not read: its type is in the trie.
+    #[inline(always)]
+    pub(crate) fn deciding_type(&self, side: Side, name: &[u8]) -> Option<(RuleKind, usize)>
+        ensures kind { option_map (λ rule. rule.kind) (deciding side self.now name.now)
+            ≡ option_map (λ found. type_of found.0) result }
+        ensures place { IfSome result (λ found.
+            deciding side self.now name.now ≡ slice_get self.now found.1) }
+    {
+        let (answer, _) = look_up(self.patterns(side), name);
+        type_and_place(answer)
+    }
+
+    /// The type and the place of the rule that decides the first name of a list of the host, and so
+    /// many bytes of that name that were passed to find it. The name goes on to a zero or to the end
+    /// of the list.
+    #[inline(always)]
+    pub(crate) fn deciding_first(&self, list: &[u8]) -> (Option<(RuleKind, usize)>, usize)
+        ensures kind { option_map (λ rule. rule.kind)
+            (deciding Side.Server self.now (before_first (λ byte. byte == 0) list.now))
+            ≡ option_map (λ found. type_of found.0) result.0 }
+        ensures place { IfSome result.0 (λ found.
+            deciding Side.Server self.now (before_first (λ byte. byte == 0) list.now)
+            ≡ slice_get self.now found.1) }
         ensures no_zero { All (λ byte. byte ≢ 0) (take result.1 list.now) }
         ensures within { result.1 ≤ length list.now }
     {
         let (answer, passed) = look_up(self.patterns(Side::Server), list);
-        if answer == NO_ANSWER {
-            return (None, passed);
-        }
-        (self.rule((answer / 4) as usize), passed)
+        (type_and_place(answer), passed)
     }
 
     /// Returns the position of the first rule that fits the name on that side, counted from 0 in

@@ -2,7 +2,7 @@
 //! it is short for. The patterns of all rules stand in one memory.
 
 ghost use Rattle.std.specs.Option.{option_map};
-ghost use Rattle.std.specs.Prelude.{◌≡◌, ◌==◌, ℕ, List, ◌++◌, ◌∷◌, [], length, slice_get, IfOk, IsSomeAnd, MatchOption, OnOk};
+ghost use Rattle.std.specs.Prelude.{◌≡◌, ◌<◌, ◌==◌, ℕ, List, ◌++◌, ◌∷◌, [], length, slice_get, IfOk, IsSomeAnd, MatchOption, OnOk};
 ghost use Rattle.virtiofs_map.specs.BranchParts.{AreSpans, IsSpan};
 ghost use Rattle.virtiofs_map.specs.FirstRule.{acts, pattern};
 ghost use Rattle.virtiofs_map.specs.Rule.{MappingRule, same_rule, same_rules};
@@ -35,6 +35,19 @@ impl RuleKind {
             RuleKind::Okay => 1,
             RuleKind::Bad => 2,
             RuleKind::Unsupported => 3,
+        }
+    }
+
+    /// The type of that number.
+    #[inline(always)]
+    pub(crate) fn numbered(number: u64) -> RuleKind
+        ensures { number < 4 → type_number (type_of result) ≡ number }
+    {
+        match number {
+            0 => RuleKind::Prefix,
+            1 => RuleKind::Okay,
+            2 => RuleKind::Bad,
+            _ => RuleKind::Unsupported,
         }
     }
 }

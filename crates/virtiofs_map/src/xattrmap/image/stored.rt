@@ -40,25 +40,13 @@ fn rule_of<'a>(row: &[u8], bytes: &'a [u8]) -> Option<RuleRef<'a>>
     let end = word_at(row, 16) as usize;
     if key <= prepend && prepend <= end && end <= bytes.len() {
         Some(RuleRef {
-            kind: kind_of(first / SHARE % 4),
+            kind: RuleKind::numbered(first / SHARE % 4),
             scope: Scope::from_bits_retain((first / SHARE / 4 % 4) as u8),
             key: &bytes[key..prepend],
             prepend: &bytes[prepend..end],
         })
     } else {
         None
-    }
-}
-
-/// The type of that number.
-fn kind_of(number: u64) -> RuleKind
-    ensures { number < 4 → type_number (type_of result) ≡ number }
-{
-    match number {
-        0 => RuleKind::Prefix,
-        1 => RuleKind::Okay,
-        2 => RuleKind::Bad,
-        _ => RuleKind::Unsupported,
     }
 }
 

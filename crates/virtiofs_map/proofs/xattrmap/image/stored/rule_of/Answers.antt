@@ -10,7 +10,7 @@ returns-then-end-bytes c = λ rule span are is few.
     let has =
     words_told c.args.bytes.now rule span c.args.row.now _ _ _ are is few c.word_at-first.ensures
     c.word_at-prepend.ensures c.word_at-end.ensures in
-    ap Some (rule_from_words c.args.bytes.now rule span _ _ _ _ _ is few has (c.kind_of.ensures (omega arith))
+    ap Some (rule_from_words c.args.bytes.now rule span _ _ _ _ _ is few has (c.numbered.ensures (omega arith))
     (let e = c.from_bits_retain.ensures tt in omega (arith, e)))
 
 pub returns-else-key-prepend : goal.returns-else-key-prepend

@@ -1,45 +1,37 @@
-use Rattle.std.proofs.Common.{◌≡◌, ◌≤◌, true, List, ℕ, [], ◌∷◌, length, Option, Some, None, Err, IfSome, sym, ap, ◌∙◌}
-use Rattle.std.proofs.Common.{rules}
+use Rattle.std.proofs.Common.{◌≡◌, true, [], ◌∷◌, Err, IfSome, slice_get, sym, ap, subst, ◌∙◌, rules}
 use Rattle.std.specs.Option.{option_map}
 use Rattle.virtiofs_map.specs.LookupAnswers.{of_no_rule}
 use Rattle.virtiofs_map.specs.Names.{deciding}
 use Rattle.virtiofs_map.specs.Rule.{MappingRule}
-use Rattle.virtiofs_map.specs.RuleParts.{rule_meant}
 use Rattle.virtiofs_map.specs.declared.xattrmap.errors.ErrorKind.TheVariants.{UnterminatedMapping}
-use Rattle.virtiofs_map.specs.declared.xattrmap.rules.RuleRef.{RuleRef}
 use Rattle.virtiofs_map.specs.declared.xattrmap.scopes.Side.TheVariants.{Server}
-use Rattle.virtiofs_map.proofs.BeginsLemmas.{deciding_length}
 use Rattle.virtiofs_map.proofs.ServerListLemmas.{is_name, IsCut}
 use Rattle.virtiofs_map.proofs.ListingLemmas.{listing_shown, listing_hidden, listing_undecided, one_less}
 use Rattle.virtiofs_map.proofs.xattrmap.listed.ListedNamesIterator.next.Goals as goal
 
--- the prepend of the rule that decides is no longer than the name
-short : (map : List MappingRule) (name : List ℕ) (found : Option RuleRef)
-    → option_map rule_meant found ≡ deciding Server map name
-    → IfSome found (λ rule. length rule.prepend.now ≤ length name)
-short map name None e = tt
-short map name (Some rule) e = deciding_length map name (rule_meant rule) e
-
+-- what decides the name is what decides the first name of the list
 pub listed_as-requires : goal.listed_as-requires
 listed_as-requires g c =
-    let by = c.names.self-inside.map.now in
-    let name = c.cut_name.result.0.now in
-    short by name c.deciding_first-passed.result.0
-    (c.deciding_first-passed.ensures.found
-    ∙ ap (deciding Server by) (sym (c.cut_name.ensures.name c.deciding_first-passed.ensures.no_zero)))
+    let rules = c.names.self-inside.map.now in
+    let name = c.cut_name.ensures.name c.deciding_first-found.ensures.no_zero in
+    let found = c.deciding_first-found.ensures in
+    record {
+      kind = ap (λ name. option_map (λ (rule : MappingRule). rule.kind) (deciding Server rules name)) name ∙ found.kind;
+      place = subst (λ name. IfSome c.deciding_first-found.result.0 (λ found. deciding Server rules name ≡ slice_get rules found.1))
+          (sym name) found.place;
+    }
 
 pub names-preserved : goal.names-preserved
 names-preserved g c =
     let by = c.names.self-inside.map.now in
     let name = c.cut_name.result.0.now in
     let rest = c.cut_name.result.1.now in
-    let clear = c.deciding_first-passed.ensures.no_zero in
+    let clear = c.deciding_first-found.ensures.no_zero in
     let cut : IsCut c.names.self-inside.rest.now name rest =
     record { before = c.cut_name.ensures.name clear; after = c.cut_name.ensures.rest clear } in
     let named : is_name name ≡ true = search rules in
-    let found = c.deciding_first-passed.ensures.found ∙ ap (deciding Server by) (sym cut.before) in
     let same = listing_hidden {A = g.row.A.Denot} by _ name rest cut named
-    (rw c.in-Ok-None.field-0-is at c.in-Ok-None.ensures.decided by found) in
+    (rw c.in-Ok-None.field-0-is at c.in-Ok-None.ensures.decided) in
     sym same ∙ c.names.invariant
 
 -- ---- a name that the guest sees
@@ -49,13 +41,12 @@ returns-in-Ok-Some-clause-steps g c =
     let by = c.names.self-inside.map.now in
     let name = c.cut_name.result.0.now in
     let rest = c.cut_name.result.1.now in
-    let clear = c.deciding_first-passed.ensures.no_zero in
+    let clear = c.deciding_first-found.ensures.no_zero in
     let cut : IsCut c.names.self-inside.rest.now name rest =
     record { before = c.cut_name.ensures.name clear; after = c.cut_name.ensures.rest clear } in
     let named : is_name name ≡ true = search rules in
-    let found = c.deciding_first-passed.ensures.found ∙ ap (deciding Server by) (sym cut.before) in
     let first = listing_shown {A = g.row.A.Denot} by _ name rest c.in-Ok-Some.listed.now cut named
-    (rw c.in-Ok-Some.field-0-is at c.in-Ok-Some.ensures.decided by found) in
+    (rw c.in-Ok-Some.field-0-is at c.in-Ok-Some.ensures.decided) in
     sym c.names.invariant ∙ first
 
 pub returns-in-Ok-Some-clause-goes : goal.returns-in-Ok-Some-clause-goes
@@ -68,12 +59,11 @@ returns-in-Err-clause-steps g c =
     let by = c.names.self-inside.map.now in
     let name = c.cut_name.result.0.now in
     let rest = c.cut_name.result.1.now in
-    let clear = c.deciding_first-passed.ensures.no_zero in
+    let clear = c.deciding_first-found.ensures.no_zero in
     let cut : IsCut c.names.self-inside.rest.now name rest =
     record { before = c.cut_name.ensures.name clear; after = c.cut_name.ensures.rest clear } in
     let named : is_name name ≡ true = search rules in
-    let found = c.deciding_first-passed.ensures.found ∙ ap (deciding Server by) (sym cut.before) in
-    let last = listing_undecided {A = g.row.A.Denot} by _ name rest cut named (c.in-Err.ensures.undecided by found) in
+    let last = listing_undecided {A = g.row.A.Denot} by _ name rest cut named c.in-Err.ensures.undecided in
     let told : c.from.result ≡ of_no_rule UnterminatedMapping = c.from.ensures ∙ ap of_no_rule c.in-Err.ensures.error in
     sym c.names.invariant ∙ last ∙ ap (λ error. Err error ∷ []) (sym told)
 
