@@ -5,6 +5,7 @@ mod AclFaultLemmas
 mod AclLawLemmas
 mod AclMergeLemmas
 mod AclWriteLemmas
+mod AddedLemmas
 mod AgainLemmas
 mod AnswerLemmas
 mod AuditAlikeLemmas

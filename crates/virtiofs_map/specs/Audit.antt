@@ -1,6 +1,6 @@
 -- What an audit decides of a map, for all names.
 use Rattle.std.specs.Prelude.{◌≡◌, ◌≢◌, ◌⊎◌, ℕ, ◌+◌, ◌*◌, ◌<◌, true, List, [], ◌∷◌, All, count_by, slice_get, Some}
-use Rattle.std.specs.Prelude.{None}
+use Rattle.std.specs.Prelude.{None, ◌≤◌, length}
 use Rattle.std.specs.Ordering.{nat_cmp}
 use Rattle.std.specs.declared.cmp.Ordering.TheVariants.{Less}
 use Rattle.std.specs.Cmp.Lexicographic.{slice_cmp}
@@ -166,3 +166,19 @@ IsShadowedOn side rules place =
 -- that holds of both sides
 abbrev pub IsShadowed : List MappingRule → ℕ → Type 0
 IsShadowed rules place = (side : Side) → IsShadowedOn side rules place
+
+-- ---- how much longer names become
+
+-- a name of the guest passes, and becomes longer by that many bytes
+pub record AddsTo (rules : List MappingRule) (count : ℕ) : Type 0 where
+  pub name : List ℕ
+  pub host : List ℕ
+  pub is_name : IsName name
+  pub passes : client_answer rules name ≡ Passes host
+  pub longer : length host ≡ length name + count
+
+-- no name of the guest becomes longer by more bytes, and one becomes longer by as many, unless that is 0
+pub record IsMostAdded (rules : List MappingRule) (most : ℕ) : Type 0 where
+  pub at_most : (name host : List ℕ) → IsName name → client_answer rules name ≡ Passes host
+      → length host ≤ length name + most
+  pub reached : (most ≡ 0) ⊎ AddsTo rules most

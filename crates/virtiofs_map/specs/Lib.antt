@@ -2,6 +2,7 @@ pub mod Acl
 pub mod AclLaws
 pub mod AclParts
 pub mod AclPrinted
+pub mod AddedParts
 pub mod Alphanumeric
 pub mod Audit
 pub mod AuditParts

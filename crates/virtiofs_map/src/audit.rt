@@ -27,6 +27,7 @@
 //! - [`XattrMap::is_terminated`]: does each name of either side have a rule?
 //! - [`XattrMap::decides`]: does a rule decide any name? In `:ok:all::: :bad:client:a::` the second
 //!   rule decides none, since the first takes all names.
+//! - [`XattrMap::most_added`]: by how many bytes does a name become longer on the host at most?
 //!
 //! There is no end of names, but few need to be tried: two names that start with the same patterns
 //! are treated alike. The names to try are found from the patterns, and are tried one after the
@@ -36,6 +37,7 @@ ghost use Rattle.virtiofs_map.specs.Audit.{AnswersLeast, Within, Sound, IsLost, 
 ghost use Rattle.virtiofs_map.specs.Steps.{CountsBetween};
 ghost use Rattle.virtiofs_map.specs.declared.audit.answer.Audit.TheVariants.{Yes};
 
+mod added;
 mod answer;
 mod candidates;
 mod deciding;

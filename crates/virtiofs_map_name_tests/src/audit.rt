@@ -458,3 +458,28 @@ fn tells_which_rules_decide_a_name(rt: HostRuntime) -> Result<(), Fail> {
     }
     Ok(())
 }
+
+#[test]
+fn tells_how_much_longer_names_become(rt: HostRuntime) -> Result<(), Fail> {
+    let cases = [
+        (":ok:all:::", 0),
+        (":bad:all:::", 0),
+        (":prefix:client:user.:abc.: :ok:all:::", 4),
+        (":prefix:server:user.:abc.: :ok:all:::", 0),
+        (
+            ":prefix:client:user.:abc.: :prefix:client:user.a:longer.:",
+            4,
+        ),
+        (
+            ":prefix:client:user.a:longer.: :prefix:client:user.:abc.:",
+            7,
+        ),
+        (":map::user.guest.:", 11),
+        (":map:security.selinux:trusted.virtiofs.:", 17),
+    ];
+    for (text, wanted) in cases {
+        let map = XattrMap::try_from(rt.alloc(), text)?;
+        assert_eq!(rt; map.most_added(), wanted, "of {text:?}");
+    }
+    Ok(())
+}

@@ -1,7 +1,7 @@
 -- A list of one name, and what becomes of it.
 use Rattle.std.proofs.Common.{◌≡◌, ℕ, ◌<◌, Bool, true, false, not, eqb, cond, ◌&&◌, if◌then◌else◌, List, [], ◌∷◌, ◌++◌}
 use Rattle.std.proofs.Common.{length, map, get_or, filter, All, Contains, Option, Result, Ok, Err, OnOk, is_ok, codes}
-use Rattle.std.proofs.Common.{append_assoc, refl, sym, ap, ◌∙◌, subst, arith}
+use Rattle.std.proofs.Common.{append_assoc, refl, sym, ap, ◌∙◌, subst, arith, flat_map}
 use Rattle.std.specs.Borrow.{Bor}
 use Rattle.std.specs.List.{list_all, take_while, filter_map}
 use Rattle.std.proofs.lemmas.Bool.{and_parts, not-true, false≢true}
@@ -16,7 +16,8 @@ use Rattle.virtiofs_map.specs.Names.{names}
 use Rattle.virtiofs_map.specs.Rule.{MappingRule}
 use Rattle.virtiofs_map.specs.declared.xattrmap.errors.Error.{Error}
 use Rattle.virtiofs_map.specs.declared.xattrmap.errors.ErrorKind.TheVariants.{UnterminatedMapping}
-use Rattle.virtiofs_mapaudit.specs.NameTable.{stands}
+use Rattle.virtiofs_map.specs.Audit.{IsMostAdded}
+use Rattle.virtiofs_mapaudit.specs.NameTable.{stands, shown, guest_line, host_line, too_long_lines, table_lines, ShowsNames}
 use Rattle.virtiofs_mapaudit.specs.NameTableParts.{is_shown, names_of}
 use Rattle.virtiofs_mapaudit.specs.Written.{written}
 
@@ -144,3 +145,29 @@ pub word_pushed : {T E : Type 0} (r : Result T E) (old new word : List ℕ) (ans
 word_pushed (Ok x) old new word answer told is says wrote =
     wrote ∙ ap (λ (xs : List ℕ). old ++ xs) (sym says) ∙ ap (λ (it : HostAnswer). old ++ stands it) (sym is)
 word_pushed (Err e) old new word answer told is says wrote = tt
+
+-- ---- the table
+
+in_a_row : (old f g l h k : List ℕ) → ((((old ++ f) ++ g) ++ l) ++ h) ++ k ≡ old ++ (f ++ g ++ l ++ h ++ k)
+in_a_row old f g l h k = simp append_assoc refl
+
+-- its parts were written one after the other
+pub table_shown : {T E : Type 0} (r : Result T E) (rules : List MappingRule) (most : ℕ) (old a b c d new : List ℕ)
+    → IsMostAdded rules most → a ≡ old ++ codes "names from the guest:\n" → b ≡ a ++ flat_map (guest_line rules) shown
+    → c ≡ b ++ too_long_lines most → d ≡ c ++ codes "names from the host:\n"
+    → OnOk r (new ≡ d ++ flat_map (host_line rules) shown)
+    → OnOk r ((text : List ℕ) × ShowsNames rules text × (new ≡ old ++ text))
+table_shown (Ok v) rules most old a b c d new is_most is_a is_b is_c is_d wrote =
+    let from_guest = codes "names from the guest:\n" in
+    let guest = flat_map (guest_line rules) shown in
+    let long = too_long_lines most in
+    let from_host = codes "names from the host:\n" in
+    let host = flat_map (host_line rules) shown in (
+      table_lines rules most,
+      record { most = most; is_most = is_most; whole = refl },
+      wrote ∙ ap (λ xs. xs ++ host) is_d ∙ ap (λ xs. (xs ++ from_host) ++ host) is_c
+          ∙ ap (λ xs. ((xs ++ long) ++ from_host) ++ host) is_b
+          ∙ ap (λ xs. (((xs ++ guest) ++ long) ++ from_host) ++ host) is_a
+          ∙ in_a_row old from_guest guest long from_host host,
+    )
+table_shown (Err e) rules most old a b c d new is_most is_a is_b is_c is_d wrote = tt

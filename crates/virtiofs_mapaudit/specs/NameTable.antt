@@ -1,5 +1,7 @@
 -- The lines that tell what becomes of some names.
-use Rattle.std.specs.Prelude.{ℕ, List, [], ◌∷◌, ◌++◌, codes, flat_map}
+use Rattle.std.specs.Prelude.{◌≡◌, ℕ, ◌-◌, List, [], ◌∷◌, ◌++◌, codes, flat_map, if◌then◌else◌, ◌==◌}
+use Rattle.std.specs.Fmt.{decimal}
+use Rattle.virtiofs_map.specs.Audit.{IsMostAdded}
 use Rattle.virtiofs_map.specs.Names.{ClientAnswer, Passes, IsDenied, IsUnsupported, IsUnterminated, client_answer}
 use Rattle.virtiofs_map.specs.Names.{HostAnswer, IsListed, IsHidden, IsUndecided, host_answer}
 use Rattle.virtiofs_map.specs.Rule.{MappingRule}
@@ -34,8 +36,25 @@ stands IsUndecided = codes "no rule"
 abbrev pub host_line : List MappingRule → List ℕ → List ℕ
 host_line rules name = line (codes "  host " ++ written name ++ codes " -> " ++ stands (host_answer rules name))
 
--- the lines of what becomes of the names that are shown
-abbrev pub table_lines : List MappingRule → List ℕ
-table_lines rules =
-    codes "names from the guest:\n" ++ flat_map (guest_line rules) shown
+-- names of more bytes than `longest` may be too long on the host, since up to `most` bytes are put before a name
+abbrev pub too_long_line : ℕ → ℕ → List ℕ
+too_long_line longest most =
+    line (codes "  guest names of more than " ++ decimal longest
+    ++ codes " bytes -> may be too long on the host: up to " ++ decimal most
+    ++ codes " bytes are put before a name, and Linux takes 255")
+
+-- which names may be too long, if up to `most` bytes are put before a name; nothing if none are
+abbrev pub too_long_lines : ℕ → List ℕ
+too_long_lines most = if most == 0 then [] else too_long_line (255 - most) most
+
+-- the lines of what becomes of the names that are shown, if up to `most` bytes are put before a name
+abbrev pub table_lines : List MappingRule → ℕ → List ℕ
+table_lines rules most =
+    codes "names from the guest:\n" ++ flat_map (guest_line rules) shown ++ too_long_lines most
     ++ codes "names from the host:\n" ++ flat_map (host_line rules) shown
+
+-- the text shows what the rules make of those names, and by how many bytes a name becomes longer at most
+pub record ShowsNames (rules : List MappingRule) (text : List ℕ) : Type 0 where
+  pub most : ℕ
+  pub is_most : IsMostAdded rules most
+  pub whole : text ≡ table_lines rules most

@@ -6,7 +6,7 @@ use Rattle.std.specs.List.{AllZip}
 use Rattle.virtiofs_mapaudit.specs.GuestLines.{guest_lines}
 use Rattle.virtiofs_mapaudit.specs.Guests.{SetsUp}
 use Rattle.virtiofs_mapaudit.specs.IdTable.{ShowsIds}
-use Rattle.virtiofs_mapaudit.specs.NameTable.{table_lines}
+use Rattle.virtiofs_mapaudit.specs.NameTable.{ShowsNames}
 use Rattle.virtiofs_mapaudit.specs.PairLines.{pair_lines}
 use Rattle.virtiofs_mapaudit.specs.Refusals.{IsSomeRefused, TellsGuests}
 use Rattle.virtiofs_mapaudit.specs.Report.{FindsReport, IsFound}
@@ -45,7 +45,7 @@ pub record ShowsBothKinds {A : Type 0} (set : SetUp A) (text : List ℕ) : Type 
 
 -- what becomes of some names
 abbrev pub ShowsSomeNames : {A : Type 0} → SetUp A → List ℕ → Type 0
-ShowsSomeNames set = ShowsSet (λ names text. text ≡ table_lines names.map) set.names
+ShowsSomeNames set = ShowsSet (λ names. ShowsNames names.map) set.names
 
 -- the tables of a guest that were asked for
 pub record AreTables {A : Type 0} (asked : Asked) (set : SetUp A) (text : List ℕ) : Type 0 where

@@ -32,7 +32,7 @@ impl<A: Allocator> XattrMap<A> {
 
     /// Whether the rule at a place decides any name of that side. If so, it decides the name that is
     /// its own pattern: an earlier rule that fits this one fits all names that begin with it.
-    fn decides_on(&self, side: Side, place: usize) -> bool
+    pub(super) fn decides_on(&self, side: Side, place: usize) -> bool
         ensures names { IsTrue result ↔ DecidesOn side self.now place }
         ensures patterns { IsFalse result → IsShadowedOn side self.now place }
     {

@@ -138,7 +138,7 @@ fn listed_value(alloc: Global, map: &XattrMap<Global>, name: &[u8]) -> Result<Va
     Ok(Value::String(String::from_str(alloc, told)?))
 }
 
-/// What becomes of some names.
+/// What becomes of some names, and by how many bytes a name becomes longer at most.
 pub(crate) fn name_table(alloc: Global, map: &XattrMap<Global>) -> Result<Value, AllocError> {
     let mut guest = Vec::new(alloc);
     let mut host = Vec::new(alloc);
@@ -152,5 +152,6 @@ pub(crate) fn name_table(alloc: Global, map: &XattrMap<Global>) -> Result<Value,
     }
     let guest = Value::Array(guest);
     let host = Value::Array(host);
-    json!(in alloc; {"from_guest": guest, "from_host": host})
+    let added = map.most_added();
+    json!(in alloc; {"from_guest": guest, "from_host": host, "most_added": added})
 }

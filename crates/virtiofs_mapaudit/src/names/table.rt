@@ -1,9 +1,9 @@
 //! What becomes of some names.
 ghost use Rattle.std.specs.List.{list_all};
-ghost use Rattle.std.specs.Prelude.{◌≡◌, ◌++◌, true, OnOk, flat_map, map, string_bytes};
+ghost use Rattle.std.specs.Prelude.{◌≡◌, ◌++◌, true, ℕ, List, OnOk, flat_map, map, string_bytes};
 ghost use Rattle.virtiofs_map.specs.LookupAnswers.{meaning};
 ghost use Rattle.virtiofs_map.specs.Names.{client_answer, IsUnterminated, host_answer};
-ghost use Rattle.virtiofs_mapaudit.specs.NameTable.{becomes, guest_line, stands, host_line, table_lines};
+ghost use Rattle.virtiofs_mapaudit.specs.NameTable.{becomes, guest_line, stands, host_line, ShowsNames, too_long_line, too_long_lines};
 ghost use Rattle.virtiofs_mapaudit.specs.NameTableParts.{is_shown, names_of};
 
 use crate::written::push_written;
@@ -162,17 +162,46 @@ fn push_host_lines<A: Allocator>(
     Ok(())
 }
 
+/// Writes at the end of a text that names of more bytes than `longest` may be too long on the host.
+fn push_too_long_line<A: Allocator>(
+    text: &mut String<A>,
+    longest: usize,
+    most: usize,
+) -> Result<(), AllocError>
+    ensures { OnOk result
+        (string_bytes text.new ≡ string_bytes text.old ++ too_long_line longest most) }
+{
+    writeln!(
+        text,
+        "  guest names of more than {longest} bytes -> may be too long on the host: \
+        up to {most} bytes are put before a name, and Linux takes 255"
+    )
+}
+
+/// Writes at the end of a text which names of the guest may be too long on the host, if up to `most`
+/// bytes are put before a name.
+fn push_too_long<A: Allocator>(text: &mut String<A>, most: usize) -> Result<(), AllocError>
+    ensures { OnOk result
+        (string_bytes text.new ≡ string_bytes text.old ++ too_long_lines most) }
+{
+    if most == 0 {
+        return Ok(());
+    }
+    push_too_long_line(text, 255usize.saturating_sub(most), most)
+}
+
 /// Writes what becomes of some names at the end of a text.
 pub(crate) fn push_table<A: Allocator + Copy>(
     alloc: A,
     text: &mut String<A>,
     map: &XattrMap<A>,
 ) -> Result<(), AllocError>
-    ensures { OnOk result
-        (string_bytes text.new ≡ string_bytes text.old ++ table_lines map.now) }
+    ensures { OnOk result ((shown : List ℕ) × ShowsNames map.now shown
+        × (string_bytes text.new ≡ string_bytes text.old ++ shown)) }
 {
     text.push_str("names from the guest:\n")?;
     push_guest_lines(alloc, text, map, &SHOWN)?;
+    push_too_long(text, map.most_added())?;
     text.push_str("names from the host:\n")?;
     push_host_lines(text, map, &SHOWN)
 }
