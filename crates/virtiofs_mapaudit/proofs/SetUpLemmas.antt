@@ -1,7 +1,7 @@
 -- What the options of a guest set up, and what is told of texts that are refused.
 use Rattle.std.proofs.Common.{◌≡◌, ◌≢◌, ◌⊎◌, ◌↔◌, inl, inr, ℕ, ◌+◌, ◌<◌, ◌≤◌, List, [], ◌∷◌, ◌++◌, length, take, get_or}
 use Rattle.std.proofs.Common.{Option, Some, None, Result, Ok, Err, OnOk, refl, sym, ap, ◌∙◌, subst, append_assoc, arith}
-use Rattle.std.proofs.Common.{append-nil}
+use Rattle.std.proofs.Common.{append-nil, is_ok, if◌then◌else◌}
 use Rattle.std.specs.Prelude.{IsSomeAnd, slice_get, slice_index_or, Contains, zero, suc}
 use Rattle.std.specs.Borrow.{Bor}
 use Rattle.std.specs.List.{AllZip}
@@ -32,6 +32,7 @@ use Rattle.virtiofs_mapaudit.specs.Refusals.{TellsWhere, Adds, IsSomeRefused, Te
 use Rattle.virtiofs_mapaudit.specs.Refusals.{TellsSpecs, TellsRanges, TellsNames, TellsGuest, TellsGuests, place_of}
 use Rattle.virtiofs_mapaudit.specs.Refusals.{TellsIds, refusal_line, rules_refusal_line}
 use Rattle.virtiofs_mapaudit.specs.IdLines.{translating, ranging}
+use Rattle.virtiofs_mapaudit.specs.Written.{line}
 use Rattle.virtiofs_mapaudit.specs.declared.ids.kind.IdKind.{IdKind}
 use Rattle.virtiofs_mapaudit.specs.declared.ids.kind.IdKind.TheVariants.{Users, Groups}
 use Rattle.virtiofs_mapaudit.specs.declared.guest.Guest.{Guest}
@@ -190,6 +191,15 @@ pub tells_fault : {F T E : Type 0} (r : Result T E) (told : Option F) (fault : F
     → OnOk r ((f : F) × (told ≡ Some f))
 tells_fault (Ok x) told fault is = (fault, is)
 tells_fault (Err e) told fault is = tt
+
+-- a reason was written
+pub why_pushed : {T E : Type 0} (r : Result T E) (old told written_too new front back : List ℕ) → told ≡ old ++ front
+    → written_too ≡ told ++ back → new ≡ (if is_ok r then written_too ++ 10 ∷ [] else written_too)
+    → OnOk r (new ≡ old ++ line (front ++ back))
+why_pushed (Ok x) old told written_too new front back is_told is_written is_new =
+    is_new ∙ ap (λ xs. xs ++ 10 ∷ []) is_written ∙ ap (λ xs. (xs ++ back) ++ 10 ∷ []) is_told
+    ∙ ap (λ xs. xs ++ 10 ∷ []) (append_assoc old front back) ∙ append_assoc old (front ++ back) (10 ∷ [])
+why_pushed (Err e) old told written_too new front back is_told is_written is_new = tt
 
 -- a line about a place
 pub adds_place : {T E : Type 0} (r : Result T E) (before after : List ℕ) (number place : ℕ) (option why : List ℕ)

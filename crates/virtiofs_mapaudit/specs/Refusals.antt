@@ -17,6 +17,7 @@ use Rattle.virtiofs_mapaudit.specs.Guests.{SaysRange, RefusesSpecs, RefusesRange
 use Rattle.virtiofs_mapaudit.specs.IdLines.{translating, ranging}
 use Rattle.virtiofs_mapaudit.specs.Lists.{AnyTwoHave}
 use Rattle.virtiofs_mapaudit.specs.RangeLines.{place_text}
+use Rattle.virtiofs_mapaudit.specs.Written.{written, line}
 use Rattle.virtiofs_mapaudit.specs.declared.guest.Guest.{Guest}
 use Rattle.virtiofs_mapaudit.specs.declared.ids.kind.IdKind.{IdKind}
 use Rattle.virtiofs_mapaudit.specs.declared.ids.kind.IdKind.TheVariants.{Users, Groups}
@@ -46,14 +47,17 @@ pub record Adds (IsTold : List ℕ → Type 0) (before after : List ℕ) : Type 
 abbrev pub guest_number : ℕ → List ℕ
 guest_number number = codes "guest " ++ decimal number ++ codes ": "
 
+-- something is refused, and why. The reason is written as the program writes bytes, so that it stays on its line
+abbrev pub refused_for : List ℕ → List ℕ
+refused_for why = line (codes " is refused: " ++ written why)
+
 -- the option of that guest at that place, counted from 0, is refused, and why
 abbrev pub refusal_line : ℕ → ℕ → List ℕ → List ℕ → List ℕ
-refusal_line number place option why =
-    guest_number number ++ place_text place option ++ codes " is refused: " ++ why ++ codes "\n"
+refusal_line number place option why = guest_number number ++ place_text place option ++ refused_for why
 
 -- the rules of that guest are refused, and why
 abbrev pub rules_refusal_line : ℕ → List ℕ → List ℕ
-rules_refusal_line number why = guest_number number ++ codes "--xattrmap is refused: " ++ why ++ codes "\n"
+rules_refusal_line number why = guest_number number ++ codes "--xattrmap" ++ refused_for why
 
 -- the line about the text at that place; the reason may be any text
 abbrev pub TellsPlace : ℕ → List ℕ → ℕ → List ℕ → Type 0

@@ -8,13 +8,14 @@ ghost use Rattle.virtiofs_map.specs.SpecificationText.{SpecificationFault, speci
 ghost use Rattle.std.specs.Option.{option_map};
 ghost use Rattle.virtiofs_mapaudit.specs.Guests.{ReadsSpecs, ReadsRanges, ReadsIds, ReadsText, ReadsNames, SetsUp, IsRefused, Translates};
 ghost use Rattle.virtiofs_map.specs.Printed.{build_error_text, rules_error_text};
-ghost use Rattle.virtiofs_mapaudit.specs.Refusals.{TellsWhere, Adds, TellsPlace, TellsBuildFault, TellsSpecsFault, TellsSpecs, TellsRanges, TellsIds, TellsNames, TellsGuest, guest_number, refusal_line, rules_refusal_line};
+ghost use Rattle.virtiofs_mapaudit.specs.Refusals.{TellsWhere, Adds, TellsPlace, TellsBuildFault, TellsSpecsFault, TellsSpecs, TellsRanges, TellsIds, TellsNames, TellsGuest, guest_number, refused_for, refusal_line, rules_refusal_line};
 ghost use Rattle.virtiofs_map.specs.Specifications.{SpecsFault, specs_fault_of, texts_of};
 
 use crate::guest::Guest;
 use crate::ids::audits::Ids;
 use crate::ids::kind::{IdKind, ranging, translating};
 use crate::ids::ranges::push_place;
+use crate::written::push_written;
 use std::alloc::{AllocError, Allocator};
 use virtiofs_map::cmdline;
 use virtiofs_map::idmap::UidMap;
@@ -67,6 +68,17 @@ fn push_number<A: Allocator>(text: &mut String<A>, number: usize) -> Result<(), 
     write!(text, "guest {number}: ")
 }
 
+/// Writes at the end of a text that something is refused, and why. The reason is escaped, so that a
+/// line feed in it begins no line of its own.
+fn push_why<A: Allocator>(text: &mut String<A>, why: &str) -> Result<(), AllocError>
+    ensures { OnOk result
+        (string_bytes text.new ≡ string_bytes text.old ++ refused_for why.now) }
+{
+    text.push_str(" is refused: ")?;
+    push_written(text, why.as_bytes())?;
+    text.push_str("\n")
+}
+
 /// Writes at the end of what is told that a text of an option of a guest is refused, and why. Its
 /// place among the texts of the option is counted from 0; the line says `first`, `second`.
 fn tell<A: Allocator>(
@@ -81,9 +93,7 @@ fn tell<A: Allocator>(
 {
     push_number(&mut refusals.text, number)?;
     push_place(&mut refusals.text, place, option)?;
-    refusals.text.push_str(" is refused: ")?;
-    refusals.text.push_str(why)?;
-    refusals.text.push_str("\n")
+    push_why(&mut refusals.text, why)
 }
 
 /// Tells what is wrong with the text of a specification of a guest.
@@ -290,9 +300,8 @@ fn tell_rules<A: Allocator>(
         ≡ string_bytes refusals.old.text ++ rules_refusal_line number why.now) }
 {
     push_number(&mut refusals.text, number)?;
-    refusals.text.push_str("--xattrmap is refused: ")?;
-    refusals.text.push_str(why)?;
-    refusals.text.push_str("\n")
+    refusals.text.push_str("--xattrmap")?;
+    push_why(&mut refusals.text, why)
 }
 
 /// What the rules of a guest set up, or nothing where there are no rules or they are refused.

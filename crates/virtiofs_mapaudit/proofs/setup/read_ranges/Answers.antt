@@ -16,7 +16,7 @@ loop-place-preserved g c = (
 
 pub returns-in-Err-clause-says : goal.returns-in-Err-clause-says
 returns-in-Err-clause-says g c =
-    adds_range _ _ _ c.args.texts.now _ c.loop-place.place _ _ _ _ c.loop-place-test.true c.loop-place.invariant.0
+    adds_range c.args.number c.args.option.now c.as_str.result.now c.args.texts.now _ c.loop-place.place _ _ _ _ c.loop-place-test.true c.loop-place.invariant.0
     c.in-Err.ensures.refused
     (c.in_ok-tell-in-Err.ensures
     ∙ ap (λ t. t ++ refusal_line c.args.number c.loop-place.place c.args.option.now c.as_str.result.now)

@@ -1,6 +1,6 @@
 use Rattle.std.proofs.Common.{ap}
 use Rattle.virtiofs_map.specs.SpecificationText.{specification_fault_of}
-use Rattle.virtiofs_mapaudit.proofs.SetUpLemmas.{tells_fault}
+use Rattle.virtiofs_mapaudit.proofs.SetUpLemmas.{adds_place, tells_fault}
 use Rattle.virtiofs_mapaudit.proofs.setup.refuse_text.Goals as goal
 
 pub returns-in-InvalidPrefix-clause-faulty : goal.returns-in-InvalidPrefix-clause-faulty
@@ -13,3 +13,12 @@ returns-in-InvalidLength-clause-faulty g c =
 
 pub returns-in-InvalidValue-clause-faulty : goal.returns-in-InvalidValue-clause-faulty
 returns-in-InvalidValue-clause-faulty g c = tells_fault _ _ _ (ap (λ e. specification_fault_of e) c.in-InvalidValue.is)
+
+pub returns-in-InvalidPrefix-clause-told : goal.returns-in-InvalidPrefix-clause-told
+returns-in-InvalidPrefix-clause-told g c =
+    adds_place _ _ _ c.args.number c.args.place c.args.option.now c.as_str.result.now c.tell.ensures
+
+pub returns-in-InvalidValue-clause-told : goal.returns-in-InvalidValue-clause-told
+returns-in-InvalidValue-clause-told g c =
+    adds_place _ _ _ c.args.number c.args.place c.args.option.now c.as_str-in-InvalidValue.result.now
+    c.tell-in-InvalidValue.ensures
