@@ -1,5 +1,5 @@
 -- How much longer names become on the host.
-use Rattle.std.proofs.Common.{◌≡◌, ◌≢◌, ◌⊎◌, inl, inr, ℕ, ◌+◌, ◌<◌, ◌≤◌, List, ◌++◌, length, Option, Some, None}
+use Rattle.std.proofs.Common.{◌≡◌, ◌≢◌, inl, inr, ℕ, ◌+◌, ◌<◌, ◌≤◌, List, ◌++◌, length, Option, Some, None}
 use Rattle.std.proofs.Common.{refl, sym, ap, ◌∙◌, arith, length-append}
 use Rattle.std.specs.Prelude.{option_and_then}
 use Rattle.std.specs.List.{slice_get}
@@ -7,9 +7,8 @@ use Rattle.std.specs.Option.{option_map_or}
 use Rattle.std.proofs.lemmas.Bool.{cases_lt}
 use Rattle.std.proofs.lemmas.Option.{slice_get_within}
 use Rattle.virtiofs_map.specs.AddedParts.{IsAddedAt, IsAddedBelow}
-use Rattle.virtiofs_map.specs.Audit.{AddsTo, DecidesOn, IsMostAdded}
-use Rattle.virtiofs_map.specs.MapRule.{IsName}
-use Rattle.virtiofs_map.specs.Names.{first, Passes, IsDenied, IsUnsupported, IsUnterminated, answer_by, client_answer}
+use Rattle.virtiofs_map.specs.Audit.{DecidesOn, IsMostAdded}
+use Rattle.virtiofs_map.specs.Names.{first, Passes, IsUnterminated, answer_by, client_answer}
 use Rattle.virtiofs_map.specs.Rule.{RuleType, Prefix, Okay, Bad, Unsupported, MappingRule}
 use Rattle.virtiofs_map.specs.declared.xattrmap.scopes.Side.TheVariants.{Client}
 use Rattle.virtiofs_map.proofs.DecidingLemmas.{first_at}

@@ -1,4 +1,4 @@
-use Rattle.std.proofs.Common.{rules, arith}
+use Rattle.std.proofs.Common.{rules}
 use Rattle.std.proofs.lemmas.List.Sorted.{All-permutation, IsNonDecreasingBy-from_sort_by_key}
 use Rattle.virtiofs_map.specs.IdAuditParts.{IsSpan}
 use Rattle.virtiofs_map.specs.declared.id_audit.spans.Span.{Span}
