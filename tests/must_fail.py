@@ -1,7 +1,7 @@
 #!/usr/bin/env python3
 """Tries every edit crates/NAME/must-fail/*.edit, many in one check: the prover must refuse each.
 
-usage: must_fail.py [--lanes N] [--archives FOLDER] [TOP]
+usage: must_fail.py [--lanes N] [--archives FOLDER] [--proved TREE] [TOP]
 
 TOP is the top of a repository; if it is left out, this one.
 
@@ -13,11 +13,13 @@ judge. Where a check shows nothing, its halves are tried first.
 
 Each library that has edits, or that a crate with edits uses, is proved first, and of each program what its edits touch.
 That is a proof from nothing, but the rt of rattle-kit-13f begins with what it has kept of the same crate in another
-checkout on this machine, if there is any. Each check starts from a copy of what was proved. The archives of static
-libraries that this builds go to FOLDER.
+checkout on this machine, if there is any. TREE is a copy of the repository in which `rt ci` is at work: a library that it
+proves there is not proved again, but taken from there, and then checked. Each check starts from a copy of what was
+proved. The archives of static libraries that this builds go to FOLDER.
 
 Each edit has a line. The last line is 'N passed, N failed', and the exit status is 0 where none failed.
 """
+import json
 import math
 import os
 import re
@@ -217,11 +219,12 @@ def told_apart(edits, folder, said, every):
 class Run:
     """One run over a repository."""
 
-    def __init__(self, top, room, lanes, archives=None):
-        self.top, self.room, self.lanes, self.archives = top, room, lanes, archives
+    def __init__(self, top, room, lanes, archives=None, tree=None):
+        self.top, self.room, self.lanes, self.archives, self.tree = top, room, lanes, archives, tree
         self.proved = f"{room}/proved"
         self.begun, self.at, self.refused = time.time(), {}, {}
         self.unproved, self.done, self.functions, self.words = crates_of(top), [], {}, {}
+        self.libraries = {name for it in self.unproved for name in it.uses}
         self.alone_on_the_machine = threading.Lock()
 
     def tell(self, text):
@@ -313,7 +316,7 @@ class Run:
         try:
             folder = f"{top}/crates/{crate.name}"
             is_program = os.path.isfile(f"{folder}/src/main.rt")
-            verb = "check" if is_program else "lib"
+            verb = "check" if is_program or self.take_over(crate, folder) else "lib"
             self.words[crate.name] = touched(crate.edits, folder) if is_program else []
             ended = run(["rt", verb, "--jobs", str(task.jobs), *self.words[crate.name]], folder)
             if ended.status:
@@ -332,6 +335,33 @@ class Run:
             self.answer(crate, it, False, "BAD EDIT: rt takes no file of this name in must-fail/")
         copies = [Task("copy", crate, ())] if crate.edits else []
         return planned(crate, f"{self.top}/crates/{crate.name}") + copies
+
+    def take_over(self, crate, folder):
+        """Lays into this folder what `rt ci` proves of the library in the other tree, once it is there. Answers whether there
+        is such a thing: if not, `rt ci` has ended without it, or has kept no proofs."""
+        if self.tree is None or crate.name not in self.libraries:
+            return False
+        made = f"{self.tree}/crates/{crate.name}/out/rlib"
+        while not os.path.isfile(f"{made}/stamp"):
+            if os.path.exists(f"{self.tree}.ended"):
+                return False
+            time.sleep(1)
+        of_library = f"{made}/{crate.name}.rlib/toolchain"
+        if not os.path.isfile(f"{of_library}/checked.a"):
+            return False
+        shutil.copytree(made, f"{folder}/out/rlib", copy_function=os.link)
+        # (this makes the folder in which a check keeps its work)
+        run(["rt", "check", "--only", ""], folder)
+        kept = [it.path for it in os.scandir(f"{folder}/out/incremental") if it.name.startswith("antt-checked")]
+        if len(kept) != 1:
+            return False
+        with open(f"{of_library}/checked.json", encoding="utf-8") as lines, open(f"{of_library}/checked.a", "rb") as archive:
+            for name, at, size in map(json.loads, lines):
+                if "/" not in name:
+                    archive.seek(at)
+                    with open(f"{kept[0]}/{name}.oantt", "wb") as it:
+                        it.write(archive.read(size))
+        return True
 
     def hand_over(self, archive):
         """Hands over the archive of a static library, whole or not at all."""
@@ -427,15 +457,17 @@ def judge(edit, kept):
 def main(words):
     if words[:1] == ["--judge"]:
         return judge(*words[1:])
-    lanes, archives = cores(), None
+    lanes, archives, tree = cores(), None, None
     if words[:1] == ["--lanes"]:
         lanes, words = int(words[1]), words[2:]
     if words[:1] == ["--archives"]:
         archives, words = words[1], words[2:]
+    if words[:1] == ["--proved"]:
+        tree, words = words[1], words[2:]
     top = os.path.abspath(words[0] if words else os.path.dirname(HERE))
     room = made_room("must-fail")
     try:
-        started = Run(top, room, lanes, archives)
+        started = Run(top, room, lanes, archives, tree)
         started.go()
     finally:
         shutil.rmtree(room, ignore_errors=True)

@@ -2,7 +2,8 @@
 """Runs `rt ci` in this folder, and has it prove the libraries on which other crates wait by all processors.
 
 rt would give the largest of them one processor alone: it reckons with 15 GB for each of its jobs, while four jobs of it
-were seen to take 4 GB together. All else is rt's own: what it proves and in which order, and what it says.
+were seen to take 4 GB together. What is built of these libraries holds their proofs too, and not their statements alone,
+so that the edits can begin with them. All else is rt's own: what it proves and in which order, and what it says.
 """
 import sys
 
@@ -29,6 +30,7 @@ def main(words):
             # (once: if that is killed for want of memory, rt tries again with one job)
             left.remove(crate.name)
             flags = ["--jobs", str(cores())]
+        crate.cuts_libraries = False
         return of_rt(crate, flags, tests)
 
     rt.Crate.ci = ci
