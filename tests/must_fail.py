@@ -50,6 +50,8 @@ REFUSALS = ("refused", "limit", True)
 FUNCTION = re.compile(r"fn (\S+): (.*)")
 PLACE = re.compile(r"note: (src/\S+?):(\d+):\d+: it is not proved ")
 PROOF_ERROR = re.compile(r"(?:\./)?proofs/(\S+)/[^/\s]+\.antt:\d+:\d+: error: (.*)")
+# What `search` left open of a function.
+LEFT_OPEN = re.compile(r"^fn (\S+): no proof: .* did not prove (.*)", re.M)
 # The last line of a check that came to an answer, of all of the crate or of some functions of it.
 JUDGED = re.compile(r"^(?:logic=not-proved|only=\d+ proved=\d+$)", re.M)
 TEXT_ERROR = re.compile(r"^(?:\./)?(?:src|specs)/\S+:\d+:\d+: error", re.M)
@@ -156,6 +158,16 @@ def open_functions(said):
     return found
 
 
+def refused_at(name, said):
+    """A function with what a check said is not proved of it: its clauses by their names, and other goals by theirs."""
+    folder = "/".join(name.split("::")[1:])
+    goals = [goal for it, left in LEFT_OPEN.findall(said) if it == name for goal in re.findall(r"`(\S+)`", left)]
+    for at, why in PROOF_ERROR.findall(said):
+        if at == folder and not CITES_REFUSED.search(why) and not NAMES_WHAT_IS_GONE.search(why):
+            goals += re.findall(r"\A`(\S+)`", why)
+    return f"fn {name} ({', '.join(sorted({it.rpartition('-clause-')[2] for it in goals}))})"
+
+
 def functions_in(said):
     """The functions, closures among them, that a check says a line of."""
     return frozenset(re.findall(r"^fn (\S+): ", said, re.M))
@@ -199,8 +211,8 @@ def touched(edits, folder):
 
 
 def told_apart(edits, folder, said, every):
-    """The edits of a batch that were refused each at a goal of its own function, with that function's name. Nothing is
-    told where a function fails for itself that is not known to be one of the edited ones. `every` are the functions of
+    """The edits of a batch that were refused each at a goal of its own function, with that function and its goals. Nothing
+    is told where a function fails for itself that is not known to be one of the edited ones. `every` are the functions of
     the crate."""
     own = {edit: bodies_of(edit, folder) for edit in edits}
     told = {}
@@ -212,7 +224,7 @@ def told_apart(edits, folder, said, every):
         if len(named(body, every)) != 1 or not all(body.holds(*it) for it in places):
             return {}
         if shows:
-            told[edit] = name
+            told[edit] = refused_at(name, said)
     return told
 
 
@@ -398,8 +410,8 @@ class Run:
         told = {}
         if is_judged and not TEXT_ERROR.search(ended.said):
             told = told_apart(edits, folder, ended.said, every)
-        for edit, function in told.items():
-            self.answer(crate, edit, True, f"refused, as it must be: fn {function}")
+        for edit, where in told.items():
+            self.answer(crate, edit, True, f"refused, as it must be: {where}")
         rest = [it for it in edits if it not in told]
         how = "" if is_judged else f"; rt check ended with {ended.status}"
         self.tell(f"{len(told)} of {task} refused, {len(rest)} to be tried again ({shown(time.time() - begun)}{how})")
@@ -417,7 +429,8 @@ class Run:
         if JUDGED.search(said) and not TEXT_ERROR.search(said):
             for function, (_, shows) in open_functions(said).items():
                 if shows:
-                    self.answer(task.crate, task.edits[0], True, f"refused, as it must be: fn {function}")
+                    where = refused_at(function, said)
+                    self.answer(task.crate, task.edits[0], True, f"refused, as it must be: {where}")
                     return []
         status, said = self.judged(task, "out/incremental")
         if status != REFUSED:

@@ -89,11 +89,11 @@ IS_REFUSED = "refused, as it must be"
 EDITS = {
     "does_not_compile": ("    d", "    nothing_of_this_name", "BAD EDIT: it did not reach the prover"),
     "in_an_impl": ("        self.n", "        self.n / 2", f"{IS_REFUSED}: "),
-    "is_refused": ("    a", "    a / 2", f"{IS_REFUSED}: fn tiny::called\n"),
+    "is_refused": ("    a", "    a / 2", f"{IS_REFUSED}: fn tiny::called (returns)\n"),
     "names_what_is_gone": ("    called(c)", "    c / 2", f"{IS_REFUSED} (only because a proof file names"),
     "only_calls_a_refused_one": ("    called(b)", "    { called(b) }", "NOT REFUSED: "),
     "of_a_contract": ("result ≡ d", "result ≡ 7", f"{IS_REFUSED}: note: src/lib.rt"),
-    "of_a_contract_in_a_module": ("result ≡ f", "result ≡ 7", f"{IS_REFUSED}: fn tiny::low::lower\n"),
+    "of_a_contract_in_a_module": ("result ≡ f", "result ≡ 7", f"{IS_REFUSED}: fn tiny::low::lower (returns)\n"),
     "does_not_read": ("result ≡ d", "result ≡ d ≡ )", "BAD EDIT: it did not reach the prover"),
     "has_no_place": ("    no_such_text", "    0", "BAD EDIT: an 'old:' text is in src/lib.rt 0 times"),
 }
