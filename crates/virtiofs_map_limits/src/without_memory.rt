@@ -20,7 +20,7 @@ type Users<'h> = IdMap<GuestUid, HostUid, Heap<'h>>;
 type Numbers = (u32, Option<u32>, Option<u32>);
 
 /// What `SPECIFICATIONS` make of numbers.
-const MAPPED: [Numbers; 6] = [
+static MAPPED: [Numbers; 6] = [
     (0, Some(1000), Some(0)),
     (9, Some(1009), Some(65534)),
     (21, None, Some(21)),
@@ -151,7 +151,7 @@ type Name = (&'static str, Option<usize>, Option<usize>);
 
 const RULES: &str = ":map:trusted.:user.virtiofs.:";
 
-const DECIDED: [Name; 4] = [
+static DECIDED: [Name; 4] = [
     ("trusted.a", Some(0), Some(1)),
     ("user.virtiofs.a", Some(1), Some(0)),
     ("c", Some(2), Some(2)),

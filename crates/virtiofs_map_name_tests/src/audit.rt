@@ -20,7 +20,7 @@ fn told(answer: &Audit) -> Option<&[u8]> {
 
 /// A text of rules, the least name that passes and does not come back, and the most names that an
 /// audit may try.
-const LOST: [(&str, Option<&[u8]>, u64); 13] = [
+static LOST: [(&str, Option<&[u8]>, u64); 13] = [
     (":map:trusted.:user.virtiofs.:", None, 267),
     (":bad:all:::", None, 257),
     (
@@ -65,7 +65,7 @@ const LOST: [(&str, Option<&[u8]>, u64); 13] = [
 ];
 
 /// A text of rules, and the least listed name that does not lead back to the host's.
-const STRAY: [(&str, Option<&[u8]>); 4] = [
+static STRAY: [(&str, Option<&[u8]>); 4] = [
     (":map:trusted.:user.virtiofs.:", Some(b"user.virtiofs.")),
     (":map::a.:", None),
     (":bad:client:xy:: :prefix:all::u.:", Some(b"u.xy")),
@@ -73,7 +73,7 @@ const STRAY: [(&str, Option<&[u8]>); 4] = [
 ];
 
 /// The rules of a guest, those of another, and the least name of the first that the other sees.
-const SEEN: [(&str, &str, Option<&[u8]>); 13] = [
+static SEEN: [(&str, &str, Option<&[u8]>); 13] = [
     (":map::a.:", ":map::b.:", None),
     (":map::a.b.:", ":map::a.:", Some(b"")),
     (":map::a.:", ":map::a.b.:", Some(b"b.")),
@@ -99,7 +99,7 @@ const SEEN: [(&str, &str, Option<&[u8]>); 13] = [
 
 /// The rules of a guest, those of another, and the least name of the first whose host name the other
 /// reaches too.
-const SHARED: [(&str, &str, Option<&[u8]>); 17] = [
+static SHARED: [(&str, &str, Option<&[u8]>); 17] = [
     // No list shows a name, and each guest reaches all names.
     (
         ":ok:client::: :bad:server:::",
@@ -142,7 +142,7 @@ const SHARED: [(&str, &str, Option<&[u8]>); 17] = [
 
 /// A text of rules, the bytes with which names begin, and the least of these that passes and does
 /// not come back.
-const LOST_WITHIN: [(&str, &[u8], Option<&[u8]>); 19] = [
+static LOST_WITHIN: [(&str, &[u8], Option<&[u8]>); 19] = [
     (":ok:client:::", b"", Some(b"\x01")),
     (":ok:client:::", b"user.", Some(b"user.")),
     (":map:trusted.:user.virtiofs.:", b"trusted.", None),
@@ -194,7 +194,7 @@ const LOST_WITHIN: [(&str, &[u8], Option<&[u8]>); 19] = [
 
 /// A text of rules, the bytes with which names of the host begin, and the least of these that is
 /// listed and is not opened.
-const STRAY_WITHIN: [(&str, &[u8], Option<&[u8]>); 7] = [
+static STRAY_WITHIN: [(&str, &[u8], Option<&[u8]>); 7] = [
     (
         ":map:trusted.:user.virtiofs.:",
         b"",
@@ -218,7 +218,7 @@ const STRAY_WITHIN: [(&str, &[u8], Option<&[u8]>); 7] = [
 
 /// The rules of a guest, those of another, the bytes with which names of the first begin, and the
 /// least of these that the other sees.
-const SEEN_WITHIN: [(&str, &str, &[u8], Option<&[u8]>); 7] = [
+static SEEN_WITHIN: [(&str, &str, &[u8], Option<&[u8]>); 7] = [
     (":map::a.b.:", ":map::a.:", b"", Some(b"")),
     (":map::a.b.:", ":map::a.:", b"x", Some(b"x")),
     (":map::a.:", ":map::a.b.:", b"b", Some(b"b.")),
@@ -230,7 +230,7 @@ const SEEN_WITHIN: [(&str, &str, &[u8], Option<&[u8]>); 7] = [
 
 /// The rules of a guest, those of another, the bytes with which names of the first begin, and the
 /// least of these whose host name the other reaches too.
-const SHARED_WITHIN: [(&str, &str, &[u8], Option<&[u8]>); 8] = [
+static SHARED_WITHIN: [(&str, &str, &[u8], Option<&[u8]>); 8] = [
     (":ok:client:::", ":map::a.:", b"", Some(b"a.")),
     (":ok:client:::", ":map::a.:", b"a", Some(b"a.")),
     (":ok:client:::", ":map::a.:", b"a.x", Some(b"a.x")),
@@ -252,7 +252,7 @@ const SHARED_WITHIN: [(&str, &str, &[u8], Option<&[u8]>); 8] = [
 ];
 
 /// A text of rules, and for each of its rules whether it decides any name.
-const DECIDING: [(&str, &[bool]); 16] = [
+static DECIDING: [(&str, &[bool]); 16] = [
     (":ok:all::: :bad:client:a::", &[true, false]),
     (":bad:client:a:: :ok:all:::", &[true, true]),
     // The earlier pattern begins the later one, on the same side.
@@ -335,7 +335,7 @@ fn shared_within(alloc: Global, text: &str, other: &str, beginning: &[u8]) -> Re
 
 #[test]
 fn finds_the_least_name_that_is_lost(rt: HostRuntime) -> Result<(), Fail> {
-    for (text, wanted, _most) in LOST {
+    for &(text, wanted, _most) in &LOST {
         let answer = lost(rt.alloc(), text)?;
         assert_eq!(rt; told(&answer), wanted, "of {text:?}");
     }
@@ -344,7 +344,7 @@ fn finds_the_least_name_that_is_lost(rt: HostRuntime) -> Result<(), Fail> {
 
 #[test]
 fn counts_the_names_that_it_tries(rt: HostRuntime) -> Result<(), Fail> {
-    for (text, wanted, most) in LOST {
+    for &(text, wanted, most) in &LOST {
         let (answer, steps) = lost_counted(rt.alloc(), text)?;
         assert_eq!(rt; told(&answer), wanted, "of {text:?}");
         assert!(rt; 1 <= steps && steps <= most, "{steps} for {text:?}");
@@ -354,7 +354,7 @@ fn counts_the_names_that_it_tries(rt: HostRuntime) -> Result<(), Fail> {
 
 #[test]
 fn finds_the_least_listed_name_that_is_not_opened(rt: HostRuntime) -> Result<(), Fail> {
-    for (text, wanted) in STRAY {
+    for &(text, wanted) in &STRAY {
         let answer = stray(rt.alloc(), text)?;
         assert_eq!(rt; told(&answer), wanted, "of {text:?}");
     }
@@ -363,7 +363,7 @@ fn finds_the_least_listed_name_that_is_not_opened(rt: HostRuntime) -> Result<(),
 
 #[test]
 fn finds_the_least_name_that_another_guest_sees(rt: HostRuntime) -> Result<(), Fail> {
-    for (text, other, wanted) in SEEN {
+    for &(text, other, wanted) in &SEEN {
         let answer = seen(rt.alloc(), text, other)?;
         assert_eq!(rt; told(&answer), wanted, "of {text:?} and {other:?}");
     }
@@ -372,7 +372,7 @@ fn finds_the_least_name_that_another_guest_sees(rt: HostRuntime) -> Result<(), F
 
 #[test]
 fn finds_the_least_name_that_another_guest_reaches(rt: HostRuntime) -> Result<(), Fail> {
-    for (text, other, wanted) in SHARED {
+    for &(text, other, wanted) in &SHARED {
         let answer = shared(rt.alloc(), text, other)?;
         assert_eq!(rt; told(&answer), wanted, "of {text:?} and {other:?}");
     }
@@ -381,7 +381,7 @@ fn finds_the_least_name_that_another_guest_reaches(rt: HostRuntime) -> Result<()
 
 #[test]
 fn finds_the_least_lost_name_that_begins_with_bytes(rt: HostRuntime) -> Result<(), Fail> {
-    for (text, beginning, wanted) in LOST_WITHIN {
+    for &(text, beginning, wanted) in &LOST_WITHIN {
         let answer = lost_within(rt.alloc(), text, beginning)?;
         assert_eq!(rt; told(&answer), wanted, "of {text:?} within {beginning:?}");
     }
@@ -390,7 +390,7 @@ fn finds_the_least_lost_name_that_begins_with_bytes(rt: HostRuntime) -> Result<(
 
 #[test]
 fn finds_the_least_stray_name_that_begins_with_bytes(rt: HostRuntime) -> Result<(), Fail> {
-    for (text, beginning, wanted) in STRAY_WITHIN {
+    for &(text, beginning, wanted) in &STRAY_WITHIN {
         let answer = stray_within(rt.alloc(), text, beginning)?;
         assert_eq!(rt; told(&answer), wanted, "of {text:?} within {beginning:?}");
     }
@@ -399,7 +399,7 @@ fn finds_the_least_stray_name_that_begins_with_bytes(rt: HostRuntime) -> Result<
 
 #[test]
 fn finds_the_least_seen_name_that_begins_with_bytes(rt: HostRuntime) -> Result<(), Fail> {
-    for (text, other, beginning, wanted) in SEEN_WITHIN {
+    for &(text, other, beginning, wanted) in &SEEN_WITHIN {
         let answer = seen_within(rt.alloc(), text, other, beginning)?;
         assert_eq!(rt;
             told(&answer),
@@ -412,7 +412,7 @@ fn finds_the_least_seen_name_that_begins_with_bytes(rt: HostRuntime) -> Result<(
 
 #[test]
 fn finds_the_least_shared_name_that_begins_with_bytes(rt: HostRuntime) -> Result<(), Fail> {
-    for (text, other, beginning, wanted) in SHARED_WITHIN {
+    for &(text, other, beginning, wanted) in &SHARED_WITHIN {
         let answer = shared_within(rt.alloc(), text, other, beginning)?;
         assert_eq!(rt;
             told(&answer),
@@ -452,7 +452,7 @@ fn assert_deciding(rt: &impl Abort, map: &XattrMap, wanted: &[bool]) {
 
 #[test]
 fn tells_which_rules_decide_a_name(rt: HostRuntime) -> Result<(), Fail> {
-    for (text, wanted) in DECIDING {
+    for &(text, wanted) in &DECIDING {
         let map = XattrMap::try_from(rt.alloc(), text)?;
         assert_deciding(&rt, &map, wanted);
     }

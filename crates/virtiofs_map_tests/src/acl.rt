@@ -11,13 +11,13 @@ use by_linux::{CAPABILITIES, LISTS, REVISION_2};
 use std::alloc::Global;
 use std::process::Abort;
 use std::test::Fail;
-use told::{SHIFTED, capability_of, in_revision_3, list_of, value_of};
-use virtiofs_map::acl::{CapabilityError, ValueKind, carries_ids};
+use told::{SHIFTED, capability_of, in_revision_3, is_value, list_of};
+use virtiofs_map::acl::{AclError, CapabilityError, ValueKind, carries_ids};
 use virtiofs_map::soft_idmap::Direction::{self, GuestToHost, HostToGuest};
 use virtiofs_map::xattrmap::XattrName;
 
 /// Names, and which ids their values hold.
-const NAMES: [(&[u8], Option<ValueKind>); 9] = [
+static NAMES: [(&[u8], Option<ValueKind>); 9] = [
     (b"system.posix_acl_access", Some(ValueKind::Acl)),
     (b"system.posix_acl_default", Some(ValueKind::Acl)),
     (b"security.capability", Some(ValueKind::Capability)),
@@ -31,12 +31,23 @@ const NAMES: [(&[u8], Option<ValueKind>); 9] = [
 
 #[test]
 fn tells_which_values_hold_ids(rt: HostRuntime) {
-    for (bytes, wanted) in NAMES {
+    for &(bytes, wanted) in &NAMES {
         let Some(name) = XattrName::new(bytes) else {
             panic!(rt; "{bytes:?} is no name");
         };
         assert!(rt; carries_ids(name) == wanted, "of {bytes:?}");
     }
+}
+
+/// Whether one list becomes another, and the fault that it has, if it has one.
+fn list_becomes(
+    alloc: Global,
+    direction: Direction,
+    from: &[&str],
+    to: &[&str],
+) -> Result<(bool, Option<AclError>), Fail> {
+    let (value, refusal) = list_of(alloc, SHIFTED, direction, from)?;
+    Ok((is_value(alloc, value.as_slice(), to)?, refusal))
 }
 
 /// Sees that one list becomes another.
@@ -47,18 +58,43 @@ fn check_list(
     from: &[&str],
     to: &[&str],
 ) -> Result<(), Fail> {
-    let (value, refusal) = list_of(alloc, SHIFTED, direction, from)?;
-    let wanted = value_of(alloc, to)?;
-    assert!(rt; value == wanted && refusal.is_none(), "{from:?}");
+    let (becomes, refusal) = list_becomes(alloc, direction, from, to)?;
+    assert!(rt; becomes && refusal.is_none(), "{from:?}");
     Ok(())
 }
 
 #[test]
 fn lists_become_what_linux_writes_for_the_other_ids(rt: HostRuntime) -> Result<(), Fail> {
-    for (guest, host) in LISTS {
+    for &(guest, host) in &LISTS {
         check_list(&rt, rt.alloc(), GuestToHost, guest, host)?;
         check_list(&rt, rt.alloc(), HostToGuest, host, guest)?;
     }
+    Ok(())
+}
+
+/// Whether one capability becomes another, and why it does not, if it is refused.
+fn capability_becomes(
+    alloc: Global,
+    users: &[&str],
+    direction: Direction,
+    from: &[&str],
+    to: &[&str],
+) -> Result<(bool, Option<CapabilityError>), Fail> {
+    let (value, refusal) = capability_of(alloc, users, direction, from)?;
+    Ok((is_value(alloc, value.as_slice(), to)?, refusal))
+}
+
+/// Sees that one capability becomes another in revision 3.
+fn check_in_revision_3(
+    rt: &impl Abort,
+    alloc: Global,
+    direction: Direction,
+    from: &[&str],
+    to: &[&str],
+) -> Result<(), Fail> {
+    let (written, refusal) = in_revision_3(alloc, SHIFTED.users, direction, from)?;
+    let becomes = is_value(alloc, &written, to)?;
+    assert!(rt; becomes && refusal.is_none(), "{from:?}");
     Ok(())
 }
 
@@ -70,20 +106,14 @@ fn check_capability(
     from: &[&str],
     to: &[&str],
 ) -> Result<(), Fail> {
-    let (value, refusal) = capability_of(alloc, SHIFTED.users, direction, from)?;
-    let wanted = value_of(alloc, to)?;
-    assert!(rt; value == wanted && refusal.is_none(), "{from:?}");
-    let (written, refusal) = in_revision_3(alloc, SHIFTED.users, direction, from)?;
-    assert!(rt;
-        written.as_slice() == wanted.as_slice() && refusal.is_none(),
-        "{from:?}"
-    );
-    Ok(())
+    let (becomes, refusal) = capability_becomes(alloc, SHIFTED.users, direction, from, to)?;
+    assert!(rt; becomes && refusal.is_none(), "{from:?}");
+    check_in_revision_3(rt, alloc, direction, from, to)
 }
 
 #[test]
 fn capabilities_become_what_linux_writes_for_the_other_root(rt: HostRuntime) -> Result<(), Fail> {
-    for (guest, host) in CAPABILITIES {
+    for &(guest, host) in &CAPABILITIES {
         check_capability(&rt, rt.alloc(), GuestToHost, guest, host)?;
         check_capability(&rt, rt.alloc(), HostToGuest, host, guest)?;
     }
@@ -98,9 +128,8 @@ fn check_revision_2(
     parts: &[&str],
     wanted: Option<CapabilityError>,
 ) -> Result<(), Fail> {
-    let (value, refusal) = capability_of(alloc, users, GuestToHost, parts)?;
-    let same = value_of(alloc, parts)?;
-    assert!(rt; value == same && refusal == wanted, "{users:?} {parts:?}");
+    let (stays, refusal) = capability_becomes(alloc, users, GuestToHost, parts, parts)?;
+    assert!(rt; stays && refusal == wanted, "{users:?} {parts:?}");
     Ok(())
 }
 
@@ -135,13 +164,8 @@ const WITH_ROOT: [(&[&str], &[&str]); 2] = [
 
 #[test]
 fn writes_the_same_in_revision_3(rt: HostRuntime) -> Result<(), Fail> {
-    for (parts, wanted) in WITH_ROOT {
-        let (written, refusal) = in_revision_3(rt.alloc(), SHIFTED.users, GuestToHost, parts)?;
-        let wanted = value_of(rt.alloc(), wanted)?;
-        assert!(rt;
-            written.as_slice() == wanted.as_slice() && refusal.is_none(),
-            "{parts:?}"
-        );
+    for &(parts, wanted) in &WITH_ROOT {
+        check_in_revision_3(&rt, rt.alloc(), GuestToHost, parts, wanted)?;
     }
     Ok(())
 }

@@ -9,7 +9,7 @@ use std::test::Fail;
 use virtiofs_map::cmdline::{IdMap, IdMapError, laws};
 
 /// Each text, and the printed form of the specification that it says.
-const PRINTED: [(&str, &str); 11] = [
+static PRINTED: [(&str, &str); 11] = [
     ("FORBID-GUEST/7/3", "forbid-guest:7:3"),
     ("map+00+1000+10", "map:0:1000:10"),
     ("Guest:1:2:3", "guest:1:2:3"),
@@ -30,7 +30,7 @@ const PRINTED: [(&str, &str); 11] = [
 ];
 
 /// Each text that says no specification, and the text of its fault.
-const REFUSED: [(&str, &str); 8] = [
+static REFUSED: [(&str, &str); 8] = [
     ("FOO:1", "Invalid ID map prefix foo"),
     (":0:1:2", "Invalid ID map prefix "),
     ("map\u{660}:0:1:2", "Invalid ID map prefix map\u{660}"),
@@ -75,7 +75,7 @@ fn prints_to_say_it(rt: HostRuntime) -> Result<(), Fail> {
 
 #[test]
 fn prints_specifications(rt: HostRuntime) -> Result<(), Fail> {
-    for (text, printed) in PRINTED {
+    for &(text, printed) in &PRINTED {
         let spec = IdMap::from_str(rt.alloc(), text)?;
         assert_eq!(rt; spec.to_string(rt.alloc())?.as_str(), printed);
 
@@ -87,7 +87,7 @@ fn prints_specifications(rt: HostRuntime) -> Result<(), Fail> {
 
 #[test]
 fn prints_faults(rt: HostRuntime) -> Result<(), Fail> {
-    for (text, printed) in REFUSED {
+    for &(text, printed) in &REFUSED {
         let fault = IdMap::from_str(rt.alloc(), text).err().ok_or("read")?;
         assert_eq!(rt; fault.to_string(rt.alloc())?.as_str(), printed);
     }
@@ -95,7 +95,7 @@ fn prints_faults(rt: HostRuntime) -> Result<(), Fail> {
 }
 
 /// A text, and the first of its fields that is no number.
-const UNREAD: [(&str, &str); 9] = [
+static UNREAD: [(&str, &str); 9] = [
     ("map:-0:1:2", "-0"),
     ("map:0:4294967296:x", "4294967296"),
     ("map:::x", ""),
@@ -109,7 +109,7 @@ const UNREAD: [(&str, &str); 9] = [
 
 #[test]
 fn prints_the_first_unread_field(rt: HostRuntime) -> Result<(), Fail> {
-    for (text, field) in UNREAD {
+    for &(text, field) in &UNREAD {
         let error = field.parse::<u32>().err().ok_or("a number")?;
         let fault = IdMap::from_str(rt.alloc(), text).err().ok_or("read")?;
         assert_eq!(rt;

@@ -34,7 +34,7 @@ fn astray(map: &IdMap<GuestUid, HostUid>) -> Three {
     }
 }
 
-const ASTRAY: [(&str, Three); 14] = [
+static ASTRAY: [(&str, Three); 14] = [
     ("", None),
     ("map:0:100000:65536", Some((100_000, 100_000, 0))),
     ("map:0:100000:65536|forbid-guest:65536:4294901759", None),
@@ -68,7 +68,7 @@ fn sharing(alloc: Global, texts: &str) -> Result<Three, Fail> {
     })
 }
 
-const SHARING: [(&str, Three); 15] = [
+static SHARING: [(&str, Three); 15] = [
     ("", None),
     ("map:0:100000:65536", Some((0, 100_000, 100_000))),
     ("map:0:100000:65536|forbid-guest:65536:4294901759", None),
@@ -105,7 +105,7 @@ fn reaching(alloc: Global, texts: &str, first: u32, last: u32) -> Result<Option<
     Ok(guest.map(|id| id.into_inner()))
 }
 
-const REACHING: [(&str, u32, u32, Option<u32>); 14] = [
+static REACHING: [(&str, u32, u32, Option<u32>); 14] = [
     ("", 0, 0, Some(0)),
     ("", 5, 9, Some(5)),
     ("", 9, 5, None),
@@ -142,7 +142,7 @@ fn meeting(alloc: Global, texts: &str, others: &str) -> Result<Option<u32>, Fail
     })
 }
 
-const MEETING: [(&str, &str, Option<u32>); 9] = [
+static MEETING: [(&str, &str, Option<u32>); 9] = [
     ("", "", Some(0)),
     (
         "map:0:100000:65536|forbid-guest:65536:4294901759",
@@ -189,7 +189,7 @@ fn is_reached(alloc: Global, texts: &str, host: u32) -> Result<bool, Fail> {
     )
 }
 
-const REACHED: [(&str, u32, bool); 14] = [
+static REACHED: [(&str, u32, bool); 14] = [
     ("", 0, true),
     ("", 4294967294, true),
     ("", 4294967295, false),
@@ -233,7 +233,7 @@ fn reaching_any(alloc: Global, texts: &str, spans: Spans) -> Result<Option<u32>,
 /// Two spans, each by its first id and its last.
 type Spans = [(u32, u32); 2];
 
-const REACHING_ANY: [(&str, Spans, Option<u32>); 8] = [
+static REACHING_ANY: [(&str, Spans, Option<u32>); 8] = [
     ("", [(5, 3), (9, 20)], Some(9)),
     ("", [(9, 20), (4, 4)], Some(4)),
     ("", [(4, 12), (9, 20)], Some(4)),
@@ -258,7 +258,7 @@ const REACHING_ANY: [(&str, Spans, Option<u32>); 8] = [
 
 #[test]
 fn finds_the_least_id_that_does_not_come_back(rt: HostRuntime) -> Result<(), Fail> {
-    for (texts, wanted) in ASTRAY {
+    for &(texts, wanted) in &ASTRAY {
         let answer = astray(&users(rt.alloc(), texts)?);
         assert_eq!(rt; answer, wanted, "of {texts:?}");
     }
@@ -267,7 +267,7 @@ fn finds_the_least_id_that_does_not_come_back(rt: HostRuntime) -> Result<(), Fai
 
 #[test]
 fn finds_the_least_id_that_shares(rt: HostRuntime) -> Result<(), Fail> {
-    for (texts, wanted) in SHARING {
+    for &(texts, wanted) in &SHARING {
         let answer = sharing(rt.alloc(), texts)?;
         assert_eq!(rt; answer, wanted, "of {texts:?}");
     }
@@ -276,7 +276,7 @@ fn finds_the_least_id_that_shares(rt: HostRuntime) -> Result<(), Fail> {
 
 #[test]
 fn finds_the_least_id_that_reaches_a_range(rt: HostRuntime) -> Result<(), Fail> {
-    for (texts, first, last, wanted) in REACHING {
+    for &(texts, first, last, wanted) in &REACHING {
         let answer = reaching(rt.alloc(), texts, first, last)?;
         assert_eq!(rt; answer, wanted, "of {texts:?}, {first} to {last}");
     }
@@ -285,7 +285,7 @@ fn finds_the_least_id_that_reaches_a_range(rt: HostRuntime) -> Result<(), Fail> 
 
 #[test]
 fn finds_the_least_id_that_two_maps_reach(rt: HostRuntime) -> Result<(), Fail> {
-    for (texts, others, wanted) in MEETING {
+    for &(texts, others, wanted) in &MEETING {
         let answer = meeting(rt.alloc(), texts, others)?;
         assert_eq!(rt; answer, wanted, "of {texts:?} and {others:?}");
     }
@@ -294,7 +294,7 @@ fn finds_the_least_id_that_two_maps_reach(rt: HostRuntime) -> Result<(), Fail> {
 
 #[test]
 fn tells_which_ids_of_the_host_are_reached(rt: HostRuntime) -> Result<(), Fail> {
-    for (texts, host, wanted) in REACHED {
+    for &(texts, host, wanted) in &REACHED {
         let answer = is_reached(rt.alloc(), texts, host)?;
         assert_eq!(rt; answer, wanted, "of {texts:?}, {host}");
     }
@@ -303,7 +303,7 @@ fn tells_which_ids_of_the_host_are_reached(rt: HostRuntime) -> Result<(), Fail> 
 
 #[test]
 fn finds_the_least_id_that_reaches_some_spans(rt: HostRuntime) -> Result<(), Fail> {
-    for (texts, spans, wanted) in REACHING_ANY {
+    for &(texts, spans, wanted) in &REACHING_ANY {
         let answer = reaching_any(rt.alloc(), texts, spans)?;
         assert_eq!(rt; answer, wanted, "of {texts:?} and {spans:?}");
     }

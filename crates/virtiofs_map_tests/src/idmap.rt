@@ -8,7 +8,7 @@ use std::test::Fail;
 use virtiofs_map::idmap::{GidMap, IdMapError, UidMap, laws};
 
 /// A text, the three numbers that it says, and what these are printed as.
-const READ: [(&str, (u32, u32, u32), &str); 9] = [
+static READ: [(&str, (u32, u32, u32), &str); 9] = [
     (":0:100000:65536:", (0, 100000, 65536), ":0:100000:65536:"),
     ("+1+2+3+", (1, 2, 3), ":1:2:3:"),
     ("-1-2-3-", (1, 2, 3), ":1:2:3:"),
@@ -25,7 +25,7 @@ const READ: [(&str, (u32, u32, u32), &str); 9] = [
 ];
 
 /// A text that says no range, and the name of its fault.
-const REFUSED: [(&str, &str); 18] = [
+static REFUSED: [(&str, &str); 18] = [
     ("", "IncompleteMap"),
     (":", "InvalidDelimiter"),
     ("::", "IncompleteMap"),
@@ -71,7 +71,7 @@ fn printed(alloc: Global, map: &UidMap) -> Result<String, AllocError>
 
 #[test]
 fn reads_user_ids(rt: HostRuntime) -> Result<(), Fail> {
-    for (text, (inside_uid, outside_uid, count), form) in READ {
+    for &(text, (inside_uid, outside_uid, count), form) in &READ {
         let map = UidMap {
             inside_uid,
             outside_uid,
@@ -88,7 +88,7 @@ fn reads_user_ids(rt: HostRuntime) -> Result<(), Fail> {
 
 #[test]
 fn reads_group_ids(rt: HostRuntime) -> Result<(), Fail> {
-    for (text, (inside_gid, outside_gid, count), form) in READ {
+    for &(text, (inside_gid, outside_gid, count), form) in &READ {
         let map = GidMap {
             inside_gid,
             outside_gid,
@@ -105,7 +105,7 @@ fn reads_group_ids(rt: HostRuntime) -> Result<(), Fail> {
 
 #[test]
 fn refuses_other_texts(rt: HostRuntime) -> Result<(), Fail> {
-    for (text, name) in REFUSED {
+    for &(text, name) in &REFUSED {
         let fault = UidMap::from_str(text).err().ok_or("read")?;
         assert_eq!(rt; name_of(&fault), name);
         let same = GidMap::from_str(text).err().ok_or("read")?;
@@ -115,7 +115,7 @@ fn refuses_other_texts(rt: HostRuntime) -> Result<(), Fail> {
 }
 
 /// A text, and the first of its fields that is no number.
-const UNREAD: [(&str, &str); 5] = [
+static UNREAD: [(&str, &str); 5] = [
     (":x:0:4294967296:", "x"),
     ("::x:4294967296:", ""),
     (":4294967296::x:", "4294967296"),
@@ -125,7 +125,7 @@ const UNREAD: [(&str, &str); 5] = [
 
 #[test]
 fn tells_what_is_wrong_with_the_first_number(rt: HostRuntime) -> Result<(), Fail> {
-    for (text, field) in UNREAD {
+    for &(text, field) in &UNREAD {
         let wanted = IdMapError::from(field.parse::<u32>().err().ok_or("a number")?);
         assert!(rt;
             UidMap::from_str(text).err().ok_or("read")? == wanted,
@@ -166,8 +166,8 @@ const SAID: [(IdMapError, &str); 2] = [
 
 #[test]
 fn says_what_is_wrong(rt: HostRuntime) -> Result<(), Fail> {
-    for (fault, text) in SAID {
-        assert_eq!(rt; fault.to_string(rt.alloc())?.as_str(), text);
+    for (fault, text) in &SAID {
+        assert_eq!(rt; fault.to_string(rt.alloc())?.as_str(), *text);
     }
     Ok(())
 }

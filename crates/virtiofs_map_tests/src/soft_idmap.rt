@@ -111,7 +111,7 @@ type Known = (
 /// What `map:0:1000:10` makes of guest's numbers.
 const TEN: &[(u32, Option<u32>)] = &[(5, Some(1005)), (10, Some(10)), (1005, Some(1005))];
 
-const KNOWN: [Known; 7] = [
+static KNOWN: [Known; 7] = [
     (&["map:0:1000:10"], TEN, &[(1005, Some(5))]),
     (
         &["host:1000:0:10", "guest:0:1000:10"],

@@ -80,7 +80,7 @@ mod tests {
 
     #[test]
     fn writes_known_bytes(rt: HostRuntime) -> Result<(), Fail> {
-        for (byte, wanted) in KNOWN {
+        for &(byte, wanted) in &KNOWN {
             let mut text = String::new(rt.alloc());
             push_written(&mut text, &[byte])?;
             assert_eq!(rt; text.as_str(), wanted, "byte {byte}");

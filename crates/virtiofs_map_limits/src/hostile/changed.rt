@@ -21,7 +21,7 @@ const FRONTS: [(Grammar, &str, &str); 3] = [
 
 /// A text, a character, and the faults of the text with that character in the place of its first,
 /// of its second and so on; a dot stands where such a text is read.
-const CHANGES: [(Grammar, &str, char, &str); 27] = [
+static CHANGES: [(Grammar, &str, char, &str); 27] = [
     (Specification, SPECIFICATION, ':', "vvv.v.v44v.vv"),
     (Specification, SPECIFICATION, 'x', "ppppvvvvvvvvv"),
     (Specification, SPECIFICATION, '7', "pppp.2....2.."),
@@ -71,12 +71,10 @@ fn assert_fronts(rt: &impl Abort, alloc: Global, grammar: Grammar, text: &str, w
 
 /// A text with another character at a place; `None` where memory ends.
 fn changed(alloc: Global, text: &str, place: usize, by: char) -> Option<String> {
-    let mut changed = String::new(alloc);
-    for (at, own) in text.chars().enumerate() {
-        let next = if at == place { by } else { own };
-        changed.push(next).ok()?;
-    }
-    Some(changed)
+    let own = text.chars().enumerate();
+    own.map(|(at, own)| if at == place { by } else { own })
+        .collect(alloc)
+        .ok()
 }
 
 fn assert_changes(

@@ -59,7 +59,7 @@ const LARGER_WORDS: [Row; 2] = [
 ];
 
 /// One field; nothing but separators, blanks or zeros.
-const FIELDS: [Row; 4] = [
+static FIELDS: [Row; 4] = [
     (Size::Mib16, "map:", '9', ":0:1", 'v'),
     (Size::Mib16, "", ':', "", 'v'),
     (Size::Mib16, "", ' ', "", 'v'),
@@ -67,7 +67,7 @@ const FIELDS: [Row; 4] = [
 ];
 
 /// One word, one field, nothing but delimiters, nothing but blanks.
-const RANGES: [Row; 4] = [
+static RANGES: [Row; 4] = [
     (Size::Mib16, "", 'a', "", 'd'),
     (Size::Mib16, ":0:", '9', ":1:", 'v'),
     (Size::Mib16, "", ':', "", 'i'),
@@ -75,7 +75,7 @@ const RANGES: [Row; 4] = [
 ];
 
 /// One word; one field that is not closed; a key of zeros; nothing but delimiters.
-const OPEN_RULES: [Row; 4] = [
+static OPEN_RULES: [Row; 4] = [
     (Size::Mib16, "", 'a', "", 't'),
     (Size::Mib16, ":ok:", 'a', "", 'i'),
     (Size::Mib16, ":ok:all:", '\0', "::", 'k'),

@@ -35,7 +35,7 @@ fn rules_text(alloc: Global, count: u32) -> Option<String> {
 type Name = (&'static str, Side, Option<usize>);
 
 /// Names under some of the rules.
-const UNDER_SOME: [Name; 5] = [
+static UNDER_SOME: [Name; 5] = [
     ("key0.a", Side::Client, Some(0)),
     ("key19999.a", Side::Client, Some(19_999)),
     ("key20000.a", Side::Client, None),
@@ -44,7 +44,7 @@ const UNDER_SOME: [Name; 5] = [
 ];
 
 /// Names under all of the rules.
-const UNDER_ALL: [Name; 5] = [
+static UNDER_ALL: [Name; 5] = [
     ("key0.a", Side::Client, Some(0)),
     ("key199999.a", Side::Client, Some(199_999)),
     ("key200000.a", Side::Client, None),
@@ -159,7 +159,7 @@ fn host_of(map: &IdMap<GuestUid, HostUid>, number: u32) -> (Option<u32>, u64) {
 }
 
 /// A guest's number, and the host's.
-const IDS: [(u32, u32); 5] = [
+static IDS: [(u32, u32); 5] = [
     (0, 5_000_000),
     (4, 5_000_004),
     (5, 5),

@@ -20,7 +20,7 @@ pub(super) fn specification<'h>(ample: Heap<'h>, alloc: Heap<'h>, text: &str) ->
 }
 
 /// The numbers for which a map that was made is asked, on both sides.
-const NUMBERS: [u32; 12] = [0, 5, 7, 9, 22, 100, 105, 1000, 1009, 5001, 5002, 4294967295];
+static NUMBERS: [u32; 12] = [0, 5, 7, 9, 22, 100, 105, 1000, 1009, 5001, 5002, 4294967295];
 
 /// Appends what a map makes of a number of either side.
 fn push_lookups<'h>(
@@ -36,7 +36,7 @@ fn push_lookups<'h>(
 /// What a map makes of the numbers.
 fn lookups<'h>(ample: Heap<'h>, map: &Users<'h>) -> Told<'h> {
     let mut text = String::new(ample);
-    for number in NUMBERS {
+    for &number in &NUMBERS {
         if push_lookups(&mut text, map, number).is_err() {
             return Told::Trouble;
         }

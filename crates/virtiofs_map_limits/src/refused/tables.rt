@@ -11,7 +11,7 @@ use Question::{
 };
 
 /// Calls that cannot do without memory.
-pub(super) const TAKE: [Asked; 72] = [
+pub(super) static TAKE: [Asked; 72] = [
     Specification("foo:x"),
     Specification("foo:1"),
     Specification("foo"),
@@ -99,7 +99,7 @@ pub(super) const TAKE: [Asked; 72] = [
 ];
 
 /// Calls that may take memory or do without.
-pub(super) const MAY_TAKE: [Asked; 11] = [
+pub(super) static MAY_TAKE: [Asked; 11] = [
     Specification(""),
     Build("guest:0:1:0"),
     Image("guest:0:1:0"),
@@ -114,7 +114,7 @@ pub(super) const MAY_TAKE: [Asked; 11] = [
 ];
 
 /// Calls that take no memory, though they are handed an allocator.
-pub(super) const TAKE_NONE: [Asked; 4] = [
+pub(super) static TAKE_NONE: [Asked; 4] = [
     Of(":map:trusted.:user.virtiofs.:", Client("user.virtiofs.a")),
     Of(":map:trusted.:user.virtiofs.:", Client("c")),
     Of(":unsupported:client:a:: :ok:all:::", Client("ab")),

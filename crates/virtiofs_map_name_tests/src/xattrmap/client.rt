@@ -80,7 +80,7 @@ fn makes_names_of_bytes(rt: HostRuntime) {
     assert!(rt; XattrName::new(b"\0a").is_none());
 }
 
-const FIRST: [Case; 10] = [
+static FIRST: [Case; 10] = [
     (
         ":bad:all:a:a: :ok:all:ab:ab: :ok:all:::",
         b"abc",
@@ -122,7 +122,7 @@ fn answers_by_the_first_rule(rt: HostRuntime) -> Result<(), Fail> {
     assert_clients(&rt, rt.alloc(), &FIRST)
 }
 
-const TYPES: [Case; 6] = [
+static TYPES: [Case; 6] = [
     (
         ":ok:all:::",
         b"user.virtiofs.potato",
@@ -148,7 +148,7 @@ fn answers_by_each_type(rt: HostRuntime) -> Result<(), Fail> {
     assert_clients(&rt, rt.alloc(), &TYPES)
 }
 
-const MAP_RULES: [Case; 11] = [
+static MAP_RULES: [Case; 11] = [
     (
         ":map:trusted.:user.virtiofs.:",
         b"user.virtiofs.a",

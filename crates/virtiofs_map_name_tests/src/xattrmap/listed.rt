@@ -63,7 +63,7 @@ type Given = (
     Ending,
 );
 
-const GIVEN: [Given; 15] = [
+static GIVEN: [Given; 15] = [
     (
         BOTH,
         b"user.virtiofs.a\0trusted.b\0c\0user.virtiofs.",
@@ -114,7 +114,7 @@ const GIVEN: [Given; 15] = [
 
 #[test]
 fn names_are_given_in_order_up_to_the_end(rt: HostRuntime) -> Result<(), Fail> {
-    for (text, list, wanted, ending) in GIVEN {
+    for &(text, list, wanted, ending) in &GIVEN {
         assert_given(&rt, rt.alloc(), text, list, wanted, ending)?;
     }
     Ok(())

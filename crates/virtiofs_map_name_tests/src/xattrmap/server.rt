@@ -128,7 +128,7 @@ fn lists_by_a_map_rule(rt: HostRuntime) -> Result<(), Fail> {
 
 /// The rules of a guest, what the host lists, and what the guest is shown, whatever names another
 /// guest has in the list.
-const APART: [(&str, &[u8], &[u8]); 8] = [
+static APART: [(&str, &[u8], &[u8]); 8] = [
     (":map::a.:", b"a.x\0b.y\0a.z\0", b"x\0z\0"),
     (":map::a.:", b"a.x\0a.z\0", b"x\0z\0"),
     (":map::a.:", b"b.w\0a.x\0b.y\0a.z\0", b"x\0z\0"),
@@ -141,7 +141,7 @@ const APART: [(&str, &[u8], &[u8]); 8] = [
 
 #[test]
 fn other_guests_change_no_list(rt: HostRuntime) -> Result<(), Fail> {
-    for (text, names, wanted) in APART {
+    for &(text, names, wanted) in &APART {
         assert_list(&rt, rt.alloc(), text, names, wanted)?;
     }
     Ok(())

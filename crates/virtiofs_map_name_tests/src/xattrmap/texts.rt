@@ -25,7 +25,7 @@ fn equals_its_clone(alloc: Global, text: &str) -> Result<bool, Fail> {
 }
 
 /// Two texts, and whether they mean the same.
-const COMPARED: [(&str, &str, bool); 16] = [
+static COMPARED: [(&str, &str, bool); 16] = [
     ("xokxallxxx", ":ok:all:::", true),
     ("obadoallooo", ":bad:all:::", true),
     ("obadoallooo", ":ok:all:::", false),
@@ -82,7 +82,7 @@ const COMPARED: [(&str, &str, bool); 16] = [
 
 #[test]
 fn compares_by_what_rules_mean(rt: HostRuntime) -> Result<(), Fail> {
-    for (one, other, wanted) in COMPARED {
+    for &(one, other, wanted) in &COMPARED {
         assert_eq!(rt;
             mean_the_same(rt.alloc(), one, other)?,
             wanted,
@@ -135,7 +135,7 @@ fn assert_fault(
 }
 
 /// A text, what is wrong with it, and the number of the rule at fault.
-const FAULTS: [(&str, Wrong, Option<usize>); 24] = [
+static FAULTS: [(&str, Wrong, Option<usize>); 24] = [
     (" ", Wrong::Nothing, None),
     (":", Wrong::Incomplete, Some(1)),
     (
@@ -184,14 +184,14 @@ const FAULTS: [(&str, Wrong, Option<usize>); 24] = [
 
 #[test]
 fn tells_the_first_fault(rt: HostRuntime) -> Result<(), Fail> {
-    for (text, wrong, rule) in FAULTS {
+    for &(text, wrong, rule) in &FAULTS {
         assert_fault(&rt, rt.alloc(), text, wrong, rule)?;
     }
     Ok(())
 }
 
 /// A text of rules, and how many rules are written in it.
-const WRITTEN: [(&str, usize); 11] = [
+static WRITTEN: [(&str, usize); 11] = [
     (":ok:all:::", 1),
     (":bad:all:::", 1),
     (":prefix:client:a:b:", 1),
@@ -210,7 +210,7 @@ const WRITTEN: [(&str, usize); 11] = [
 
 #[test]
 fn counts_the_rules_as_they_are_written(rt: HostRuntime) -> Result<(), Fail> {
-    for (text, wanted) in WRITTEN {
+    for &(text, wanted) in &WRITTEN {
         let written = XattrMap::written_rules(rt.alloc(), text)?;
         assert_eq!(rt; written, wanted, "of {text:?}");
     }
@@ -234,7 +234,7 @@ fn assert_uncounted(
 #[test]
 fn counts_no_rules_of_a_text_at_fault(rt: HostRuntime) -> Result<(), Fail> {
     assert_uncounted(&rt, rt.alloc(), "", Wrong::Nothing, None)?;
-    for (text, wrong, rule) in FAULTS {
+    for &(text, wrong, rule) in &FAULTS {
         assert_uncounted(&rt, rt.alloc(), text, wrong, rule)?;
     }
     Ok(())
@@ -247,7 +247,7 @@ fn message_of(alloc: Global, text: &str) -> Result<String, Fail> {
 }
 
 /// A text of no map, and what is printed of it.
-const MESSAGES: [(&str, &str); 7] = [
+static MESSAGES: [(&str, &str); 7] = [
     (" ", "there are no rules"),
     (
         ":ok:nope:::",
@@ -265,7 +265,7 @@ const MESSAGES: [(&str, &str); 7] = [
 
 #[test]
 fn prints_errors_of_texts(rt: HostRuntime) -> Result<(), Fail> {
-    for (text, message) in MESSAGES {
+    for &(text, message) in &MESSAGES {
         assert_eq!(rt; message_of(rt.alloc(), text)?.as_str(), message);
     }
     Ok(())
@@ -327,7 +327,7 @@ fn assert_asked(rt: &impl Abort, alloc: Global, text: &str, asked: &[Asked]) -> 
 }
 
 /// Texts, each with names that are asked for.
-const ASKED: [(&str, &[Asked]); 10] = [
+static ASKED: [(&str, &[Asked]); 10] = [
     (
         ":prefix:client:trusted.:user.virtiofs.:",
         &[
@@ -407,7 +407,7 @@ const ASKED: [(&str, &[Asked]); 10] = [
 
 #[test]
 fn finds_the_first_rule(rt: HostRuntime) -> Result<(), Fail> {
-    for (text, asked) in ASKED {
+    for &(text, asked) in &ASKED {
         assert_asked(&rt, rt.alloc(), text, asked)?;
     }
     Ok(())

@@ -7,7 +7,7 @@
 /// command wrote both, with the ids of either side.
 pub(super) type Pair = (&'static [&'static str], &'static [&'static str]);
 
-pub(super) const LISTS: [Pair; 4] = [
+pub(super) static LISTS: [Pair; 4] = [
     (
         // setfacl -m u:1000:rw file
         // setfacl -m u:101000:rw file

@@ -27,18 +27,28 @@ fn set_by_guest(
     }
 }
 
-/// What becomes of a value of that name; `None` where it is refused.
-fn value_on_host(alloc: Global, name: &[u8], value: &[u8]) -> Result<Option<Vec<u8>>, Fail> {
-    let users: IdMap<GuestUid, HostUid> = IdMap::from_specs(alloc, &["map:0:100000:65536"])?;
-    let groups: IdMap<GuestGid, HostGid> = IdMap::empty(alloc);
+/// What becomes of a value of that name under these maps; `None` where it is refused.
+fn value_under(
+    alloc: Global,
+    users: &IdMap<GuestUid, HostUid>,
+    groups: &IdMap<GuestGid, HostGid>,
+    name: XattrName<'_>,
+    value: &[u8],
+) -> Result<Option<Vec<u8>>, Fail> {
     let mut value = Vec::from_slice(alloc, value)?;
     let mut room = [EntryRoom::new(); 8];
+    let is_set = set_by_guest(users, groups, name, value.as_mut_slice(), &mut room);
+    Ok(is_set.then_some(value))
+}
+
+/// What becomes of a value of that name; `None` where it is refused.
+fn value_on_host(alloc: Global, name: &[u8], value: &[u8]) -> Result<Option<Vec<u8>>, Fail> {
     let Some(name) = XattrName::new(name) else {
         return Ok(None);
     };
-    let bytes = value.as_mut_slice();
-    let is_set = set_by_guest(&users, &groups, name, bytes, &mut room);
-    Ok(is_set.then_some(value))
+    let users: IdMap<GuestUid, HostUid> = IdMap::from_specs(alloc, &["map:0:100000:65536"])?;
+    let groups: IdMap<GuestGid, HostGid> = IdMap::empty(alloc);
+    value_under(alloc, &users, &groups, name, value)
 }
 
 /// `u::rw-,u:1000:rw-`, and the same with user 101000.
@@ -54,10 +64,7 @@ fn check_value(
     wanted: Option<&[u8]>,
 ) -> Result<(), Fail> {
     let made = value_on_host(alloc, name, value)?;
-    assert!(rt;
-        made.as_ref().map(|bytes| bytes.as_slice()) == wanted,
-        "{name:?}"
-    );
+    assert!(rt; made.as_deref() == wanted, "{name:?}");
     Ok(())
 }
 

@@ -26,7 +26,7 @@ type Row = (&'static [&'static str], Option<AclError>);
 type EntryRow = (&'static [&'static str], Option<(usize, EntryFault)>);
 
 /// Lengths and versions.
-const SIZES: [Row; 20] = [
+static SIZES: [Row; 20] = [
     (&[], Some(TooShort)),
     (&["02"], Some(TooShort)),
     (&["020000"], Some(TooShort)),
@@ -55,7 +55,7 @@ const SIZES: [Row; 20] = [
 ];
 
 /// Tags, permissions and ids.
-const ENTRIES: [EntryRow; 28] = [
+static ENTRIES: [EntryRow; 28] = [
     (&["02000000", "0000000000000000"], Some((0, UnknownTag))),
     (&["02000000", "0300000000000000"], Some((0, UnknownTag))),
     (&["02000000", "0101000000000000"], Some((0, UnknownTag))),
@@ -96,7 +96,7 @@ const ENTRIES: [EntryRow; 28] = [
 ];
 
 /// Ids that would become one.
-const MERGED: [EntryRow; 10] = [
+static MERGED: [EntryRow; 10] = [
     // users 80000 and 80001
     (
         &["02000000", "0200070080380100", "0200070081380100"],
@@ -170,7 +170,7 @@ fn check_entries(rt: &impl Abort, alloc: Global, rows: &[EntryRow]) -> Result<()
 
 #[test]
 fn lists_of_another_size_are_refused(rt: HostRuntime) -> Result<(), Fail> {
-    for (parts, wanted) in SIZES {
+    for &(parts, wanted) in &SIZES {
         check_list(&rt, rt.alloc(), parts, wanted)?;
     }
     Ok(())
@@ -189,7 +189,7 @@ fn ids_that_would_merge_are_refused(rt: HostRuntime) -> Result<(), Fail> {
 /// A capability of the guest, and its first fault.
 type Refused = (&'static [&'static str], CapabilityError);
 
-const CAPABILITIES: [Refused; 14] = [
+static CAPABILITIES: [Refused; 14] = [
     (&[], CapabilityError::TooShort),
     (&["010000"], CapabilityError::TooShort),
     (&["01000000"], CapabilityError::Revision { revision: 0 }),

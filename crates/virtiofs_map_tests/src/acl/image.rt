@@ -32,7 +32,7 @@ fn lists_go_across_by_images(rt: HostRuntime) -> Result<(), Fail> {
     let alloc = rt.alloc();
     let users = image_of(alloc, SHIFTED.users)?;
     let groups = image_of(alloc, SHIFTED.groups)?;
-    for (guest, host) in LISTS {
+    for &(guest, host) in &LISTS {
         check_list(&rt, alloc, &users, &groups, GuestToHost, (guest, host))?;
         check_list(&rt, alloc, &users, &groups, HostToGuest, (host, guest))?;
     }
@@ -64,7 +64,7 @@ fn check_capability(
 fn capabilities_go_across_by_images(rt: HostRuntime) -> Result<(), Fail> {
     let alloc = rt.alloc();
     let users = image_of(alloc, SHIFTED.users)?;
-    for (guest, host) in CAPABILITIES {
+    for &(guest, host) in &CAPABILITIES {
         check_capability(&rt, alloc, &users, GuestToHost, (guest, host))?;
         check_capability(&rt, alloc, &users, HostToGuest, (host, guest))?;
     }

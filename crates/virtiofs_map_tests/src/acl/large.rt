@@ -42,22 +42,26 @@ fn timed(
     Ok((done.err(), taken))
 }
 
+/// The fault of a list under these maps, if it has one, with room for so many entries.
+fn fault_under(
+    rt: &HostRuntime,
+    users: &Users,
+    groups: &Groups,
+    value: &mut [u8],
+    room: u16,
+) -> Result<Option<AclError>, Fail> {
+    let mut entries = vec![in rt.alloc(); EntryRoom::new(); usize::from(room)]?;
+    let (refusal, taken) = timed(rt, users, groups, value, entries.as_mut_slice())?;
+    println!(rt; "room for {room}: {taken} microseconds")?;
+    Ok(refusal)
+}
+
 /// The first fault of such a list under that specification of users, with room for so many entries.
 fn fault_of(rt: &HostRuntime, specs: &[&str], room: u16) -> Result<Option<AclError>, Fail> {
-    let alloc = rt.alloc();
-    let users: Users = IdMap::from_specs(alloc, specs)?;
-    let groups: Groups = IdMap::empty(alloc);
-    let mut value = users_list(alloc)?;
-    let mut room = vec![in alloc; EntryRoom::new(); usize::from(room)]?;
-    let (refusal, taken) = timed(
-        rt,
-        &users,
-        &groups,
-        value.as_mut_slice(),
-        room.as_mut_slice(),
-    )?;
-    println!(rt; "{specs:?}: {taken} microseconds")?;
-    Ok(refusal)
+    let users: Users = IdMap::from_specs(rt.alloc(), specs)?;
+    let groups: Groups = IdMap::empty(rt.alloc());
+    let mut value = users_list(rt.alloc())?;
+    fault_under(rt, &users, &groups, value.as_mut_slice(), room)
 }
 
 #[test]
@@ -94,15 +98,19 @@ fn room_for_fewer_entries_is_refused(rt: HostRuntime) -> Result<(), Fail> {
     Ok(())
 }
 
-#[test]
-fn a_value_of_64_kib_is_cut(rt: HostRuntime) -> Result<(), Fail> {
-    let alloc = rt.alloc();
+/// The fault of that list with one entry more, if it has one, and how long the list then is.
+fn fault_of_one_more(alloc: Global) -> Result<(Option<AclError>, usize), Fail> {
     let users: Users = IdMap::empty(alloc);
     let groups: Groups = IdMap::empty(alloc);
     let mut value = users_list(alloc)?;
     value.extend_from_slice(&[2, 0, 7, 0])?;
-    let length = value.len();
     let refusal = acl_to_host(&users, &groups, value.as_mut_slice(), &mut []).err();
+    Ok((refusal, value.len()))
+}
+
+#[test]
+fn a_value_of_64_kib_is_cut(rt: HostRuntime) -> Result<(), Fail> {
+    let (refusal, length) = fault_of_one_more(rt.alloc())?;
     assert!(rt; length == 65536 && refusal == Some(AclError::Length));
     Ok(())
 }

@@ -58,6 +58,12 @@ pub(super) fn value_of(alloc: Global, parts: &[&str]) -> Result<Vec<u8>, AllocEr
     Ok(value)
 }
 
+/// Whether a value is what some texts say.
+pub(super) fn is_value(alloc: Global, value: &[u8], parts: &[&str]) -> Result<bool, AllocError> {
+    let wanted = value_of(alloc, parts)?;
+    Ok(value == wanted.as_slice())
+}
+
 /// What a list becomes in a direction, and why it does not go across, if it does not.
 pub(super) fn list_of(
     alloc: Global,

@@ -11,7 +11,7 @@ use virtiofs_map::id_types::{GuestId, GuestUid, HostId, HostUid, Id};
 use virtiofs_map::soft_idmap::{FaultKind, IdMap, IdMapBuildError, MapError};
 
 /// Two specifications of which the second meets the first, and the text of the fault.
-const MEETING: [(&str, &str, &str); 7] = [
+static MEETING: [(&str, &str, &str); 7] = [
     (
         "guest:0:100:10",
         "guest:5:200:1",
@@ -50,7 +50,7 @@ const MEETING: [(&str, &str, &str); 7] = [
 ];
 
 /// A specification with a range that goes too far, and the text of the fault.
-const OVERFLOWING: [(&str, &str); 4] = [
+static OVERFLOWING: [(&str, &str); 4] = [
     (
         "guest:4294967295:0:1",
         "Parameter guest:4294967295:0:1: Range overflow",
@@ -107,7 +107,7 @@ fn check_fault(
 
 #[test]
 fn prints_meeting_ranges(rt: HostRuntime) -> Result<(), Fail> {
-    for (first, second, text) in MEETING {
+    for &(first, second, text) in &MEETING {
         check_fault(&rt, rt.alloc(), &[first, second], text, FaultKind::Other)?;
     }
     Ok(())
@@ -115,7 +115,7 @@ fn prints_meeting_ranges(rt: HostRuntime) -> Result<(), Fail> {
 
 #[test]
 fn prints_overflowing_ranges(rt: HostRuntime) -> Result<(), Fail> {
-    for (spec, text) in OVERFLOWING {
+    for &(spec, text) in &OVERFLOWING {
         check_fault(&rt, rt.alloc(), &[spec], text, FaultKind::InvalidInput)?;
     }
     Ok(())

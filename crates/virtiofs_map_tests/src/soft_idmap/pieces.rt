@@ -30,7 +30,7 @@ fn pieces(alloc: Global, texts: &str, direction: Direction) -> Result<Vec<Row>, 
 type Row = (u32, u32, Outcome);
 
 /// Texts of specifications, and their pieces from guest to host.
-const GUESTS: [(&str, &[Row]); 13] = [
+static GUESTS: [(&str, &[Row]); 13] = [
     ("guest:0:1:0", &[(0, 4294967295, Kept)]),
     (
         "map:0:100000:65536",
@@ -107,7 +107,7 @@ const GUESTS: [(&str, &[Row]); 13] = [
 ];
 
 /// The same from host to guest.
-const HOSTS: [(&str, &[Row]); 4] = [
+static HOSTS: [(&str, &[Row]); 4] = [
     (
         "map:0:100000:65536",
         &[
@@ -133,7 +133,7 @@ const HOSTS: [(&str, &[Row]); 4] = [
 
 #[test]
 fn pieces_of_guests_are_the_longest(rt: HostRuntime) -> Result<(), Fail> {
-    for (texts, wanted) in GUESTS {
+    for &(texts, wanted) in &GUESTS {
         let found = pieces(rt.alloc(), texts, Direction::GuestToHost)?;
         assert_eq!(rt; found.as_slice(), wanted, "of {texts:?}");
     }
@@ -142,7 +142,7 @@ fn pieces_of_guests_are_the_longest(rt: HostRuntime) -> Result<(), Fail> {
 
 #[test]
 fn pieces_of_hosts_are_the_longest(rt: HostRuntime) -> Result<(), Fail> {
-    for (texts, wanted) in HOSTS {
+    for &(texts, wanted) in &HOSTS {
         let found = pieces(rt.alloc(), texts, Direction::HostToGuest)?;
         assert_eq!(rt; found.as_slice(), wanted, "of {texts:?}");
     }

@@ -15,7 +15,7 @@ type Heap<'h> = &'h Rationed<Global>;
 /// Words with a bar between each two.
 struct Words(&'static str);
 
-const ASKED: [Words; 16] = [
+static ASKED: [Words; 16] = [
     Words("ids|map:0:1000:10|ask|guest=5|guest=6"),
     Words("ids|map:0:1000:10|ask|guest=5|host=1005|guest=10|guest=1005"),
     Words("ids|map:0:1000:10|forbid-guest:20:1|ask|guest=5|guest=20"),

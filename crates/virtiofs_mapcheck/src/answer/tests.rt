@@ -13,7 +13,7 @@ use std::test::Fail;
 /// Words with a bar between each two, what they come to, and the text.
 type Row = (&'static str, Answered, &'static str);
 
-const IDS: [Row; 7] = [
+static IDS: [Row; 7] = [
     (
         "ids|map:0:1000:10|forbid-guest:20:1|ask|guest=5|host=1005|guest=10|guest=20",
         Given,
@@ -47,14 +47,14 @@ const IDS: [Row; 7] = [
     ),
 ];
 
-const NAMESPACE: [Row; 4] = [
+static NAMESPACE: [Row; 4] = [
     ("ns|+1+2+3+", Given, ":1:2:3:\n"),
     ("ns|5", Refused, "refused: InvalidDelimiter\n"),
     ("ns|", Refused, "refused: IncompleteMap\n"),
     ("ns|::::", Refused, "refused: InvalidValue\n"),
 ];
 
-const CLIENT: [Row; 12] = [
+static CLIENT: [Row; 12] = [
     (
         "client|:ok:all:é:é: :bad:all:::|éa",
         Given,
@@ -113,7 +113,7 @@ const CLIENT: [Row; 12] = [
     ),
 ];
 
-const SERVER: [Row; 6] = [
+static SERVER: [Row; 6] = [
     (
         "server|:map:trusted.:user.virtiofs.:|user.virtiofs.a|trusted.b|c|user.virtiofs.",
         Given,
@@ -134,7 +134,7 @@ const SERVER: [Row; 6] = [
     ),
 ];
 
-const AUDITS: [Row; 11] = [
+static AUDITS: [Row; 11] = [
     ("terminated|:ok:all:::", Given, "yes\n"),
     ("terminated|:ok:client:::", Given, "no\n"),
     (
@@ -168,7 +168,7 @@ const AUDITS: [Row; 11] = [
     ),
 ];
 
-const WRONG: [Row; 13] = [
+static WRONG: [Row; 13] = [
     ("", WrongWords, "wrong words\n"),
     ("map|:1:2:3:", WrongWords, "wrong words\n"),
     ("ids|map:0:1:1", WrongWords, "wrong words\n"),
