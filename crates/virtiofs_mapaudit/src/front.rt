@@ -83,9 +83,9 @@ fn of_daemon<'a>(alloc: Global, command: Command<'a>) -> Result<Command<'a>, All
         .arg(flag(alloc, "posix-acl", "Access control lists are on"))
 }
 
-/// The program's words before the first `--`.
-fn command<'a>(alloc: Global) -> Result<Command<'a>, AllocError> {
-    let command = Command::new(alloc, "virtiofs_mapaudit")
+/// The program, with no options yet.
+fn program<'a>(alloc: Global) -> Command<'a> {
+    Command::new(alloc, "virtiofs_mapaudit")
         .version("1.0")
         .about(
             "Says what the options of a virtiofsd do to ids and names, and what is wrong with them.",
@@ -95,15 +95,23 @@ fn command<'a>(alloc: Global) -> Result<Command<'a>, AllocError> {
         )
         .override_usage("virtiofs_mapaudit [OPTIONS] [-- COMMAND LINE OF THE DAEMON].. ")
         .no_binary_name(true)
-        .args_override_self(true);
-    let show = Arg::new(alloc, "show")
+        .args_override_self(true)
+}
+
+/// The option that shows more.
+fn show<'a>(alloc: Global) -> Arg<'a> {
+    Arg::new(alloc, "show")
         .long("show")
         .action(ArgAction::Append)
         .value_name("WHAT")
         .value_parser(["ids", "names"].as_slice())
-        .help("Show also what becomes of all ids, or of some names");
-    of_daemon(alloc, command)?
-        .arg(show)?
+        .help("Show also what becomes of all ids, or of some names")
+}
+
+/// The program's words before the first `--`.
+fn command<'a>(alloc: Global) -> Result<Command<'a>, AllocError> {
+    of_daemon(alloc, program(alloc))?
+        .arg(show(alloc))?
         .arg(flag(alloc, "json", "Write JSON"))?
         .arg(flag(alloc, "quiet", "Write nothing: the status tells"))
 }
@@ -124,19 +132,22 @@ fn take_all<'a>(
     Ok(())
 }
 
-/// What was asked for, and the guest that the words before the first `--` set up.
-pub(crate) fn read_front<'a>(
-    alloc: Global,
-    words: &'a [&'a str],
-) -> Result<(Asked, Guest<'a, Global>), Error> {
-    let matches = command(alloc)?.try_get_matches_from(words)?;
-    let mut guest = Guest::new(alloc);
-    take_all(&mut guest, &matches, "translate-uid", "--translate-uid")?;
-    take_all(&mut guest, &matches, "translate-gid", "--translate-gid")?;
-    take_all(&mut guest, &matches, "uid-map", "--uid-map")?;
-    take_all(&mut guest, &matches, "gid-map", "--gid-map")?;
-    take_all(&mut guest, &matches, "xattrmap", "--xattrmap")?;
+/// Takes in the values of all options of the daemon.
+fn take_front<'a>(
+    guest: &mut Guest<'a, Global>,
+    matches: &ArgMatches<'a>,
+) -> Result<(), AllocError> {
+    take_all(guest, matches, "translate-uid", "--translate-uid")?;
+    take_all(guest, matches, "translate-gid", "--translate-gid")?;
+    take_all(guest, matches, "uid-map", "--uid-map")?;
+    take_all(guest, matches, "gid-map", "--gid-map")?;
+    take_all(guest, matches, "xattrmap", "--xattrmap")?;
     guest.posix_acl = matches.get_flag("posix-acl");
+    Ok(())
+}
+
+/// What was asked for.
+fn asked_of(matches: &ArgMatches<'_>) -> Asked {
     let mut asked = Asked {
         json: matches.get_flag("json"),
         quiet: matches.get_flag("quiet"),
@@ -151,5 +162,16 @@ pub(crate) fn read_front<'a>(
             }
         }
     }
-    Ok((asked, guest))
+    asked
+}
+
+/// What was asked for, and the guest that the words before the first `--` set up.
+pub(crate) fn read_front<'a>(
+    alloc: Global,
+    words: &'a [&'a str],
+) -> Result<(Asked, Guest<'a, Global>), Error> {
+    let matches = command(alloc)?.try_get_matches_from(words)?;
+    let mut guest = Guest::new(alloc);
+    take_front(&mut guest, &matches)?;
+    Ok((asked_of(&matches), guest))
 }

@@ -7,8 +7,8 @@ use crate::audit::{Pair, Report};
 use crate::front::Asked;
 use crate::ids::kind::IdKind;
 use crate::report::{GuestFindings, KindFindings};
-use crate::setup::{IdSetUp, SetUp};
-use ids::{id_table, push_ids, push_meeting, push_range};
+use crate::setup::{IdSetUp, NamesSetUp, SetUp};
+use ids::{id_table, push_ids, push_meeting, range_value};
 use names::{name_table, push_between, push_names};
 use serde_json::{Value, json};
 use std::alloc::{AllocError, Global};
@@ -25,9 +25,14 @@ fn push_kind(
         return Ok(());
     };
     if let Some(range) = found.range {
-        push_range(alloc, list, number, kind, range)?;
+        list.push(range_value(alloc, number, kind, range)?)?;
     }
     push_ids(alloc, list, number, kind, &found.ids)
+}
+
+/// That access control lists are on while ids are translated.
+fn lists_value(alloc: Global, number: usize) -> Result<Value, AllocError> {
+    json!(in alloc; {"guest": number, "kind": "posix_acl"})
 }
 
 /// Adds what is found of a guest.
@@ -38,7 +43,7 @@ fn push_guest(
     found: &GuestFindings<Global>,
 ) -> Result<(), AllocError> {
     if found.translates_lists {
-        list.push(json!(in alloc; {"guest": number, "kind": "posix_acl"})?)?;
+        list.push(lists_value(alloc, number)?)?;
     }
     push_kind(alloc, list, number, IdKind::Users, &found.users)?;
     push_kind(alloc, list, number, IdKind::Groups, &found.groups)?;
@@ -60,10 +65,26 @@ fn push_pair(alloc: Global, list: &mut Vec<Value>, pair: &Pair<Global>) -> Resul
 }
 
 /// What becomes of all ids of one kind, or null.
-fn table_of(alloc: Global, set: &Option<IdSetUp<Global>>) -> Result<Value, AllocError> {
+fn ids_shown(
+    alloc: Global,
+    asked: Asked,
+    set: &Option<IdSetUp<Global>>,
+) -> Result<Value, AllocError> {
     match set {
-        Some(set) => id_table(alloc, &set.map, set.ranges.as_slice()),
-        None => Ok(Value::Null),
+        Some(set) if asked.ids => id_table(alloc, &set.map, set.ranges.as_slice()),
+        _ => Ok(Value::Null),
+    }
+}
+
+/// What becomes of some names, or null.
+fn names_shown(
+    alloc: Global,
+    asked: Asked,
+    set: &Option<NamesSetUp<Global>>,
+) -> Result<Value, AllocError> {
+    match set {
+        Some(set) if asked.names => name_table(alloc, &set.map),
+        _ => Ok(Value::Null),
     }
 }
 
@@ -74,19 +95,33 @@ fn shown(
     number: usize,
     set: &SetUp<Global>,
 ) -> Result<Value, AllocError> {
-    let mut users = Value::Null;
-    let mut groups = Value::Null;
-    if asked.ids {
-        users = table_of(alloc, &set.users)?;
-        groups = table_of(alloc, &set.groups)?;
+    json!(in alloc; {
+        "guest": number,
+        "users": ids_shown(alloc, asked, &set.users)?,
+        "groups": ids_shown(alloc, asked, &set.groups)?,
+        "names": names_shown(alloc, asked, &set.names)?
+    })
+}
+
+/// What was asked to be shown of each guest.
+fn all_shown(alloc: Global, asked: Asked, sets: &[SetUp<Global>]) -> Result<Value, AllocError> {
+    let mut guests = Vec::new(alloc);
+    for (place, set) in sets.iter().enumerate() {
+        guests.push(shown(alloc, asked, place + 1, set)?)?;
     }
-    let mut names = Value::Null;
-    if asked.names {
-        if let Some(set) = &set.names {
-            names = name_table(alloc, &set.map)?;
-        }
+    Ok(Value::Array(guests))
+}
+
+/// What was found.
+fn findings(alloc: Global, report: &Report<Global>) -> Result<Value, AllocError> {
+    let mut list = Vec::new(alloc);
+    for (place, found) in report.guests.iter().enumerate() {
+        push_guest(alloc, &mut list, place + 1, found)?;
     }
-    json!(in alloc; {"guest": number, "users": users, "groups": groups, "names": names})
+    for pair in report.pairs.as_slice() {
+        push_pair(alloc, &mut list, pair)?;
+    }
+    Ok(Value::Array(list))
 }
 
 /// The lines of a text.
@@ -106,21 +141,11 @@ pub(crate) fn push_json(
     report: &Report<Global>,
     refusals: &str,
 ) -> Result<String, AllocError> {
-    let mut guests = Vec::new(alloc);
-    for (place, set) in sets.iter().enumerate() {
-        guests.push(shown(alloc, asked, place + 1, set)?)?;
-    }
-    let mut findings = Vec::new(alloc);
-    for (place, found) in report.guests.iter().enumerate() {
-        push_guest(alloc, &mut findings, place + 1, found)?;
-    }
-    for pair in report.pairs.as_slice() {
-        push_pair(alloc, &mut findings, pair)?;
-    }
-    let guests = Value::Array(guests);
-    let findings = Value::Array(findings);
-    let refused = lines(alloc, refusals)?;
-    let whole = json!(in alloc; {"guests": guests, "findings": findings, "refused": refused})?;
+    let whole = json!(in alloc; {
+        "guests": all_shown(alloc, asked, sets)?,
+        "findings": findings(alloc, report)?,
+        "refused": lines(alloc, refusals)?
+    })?;
     let mut text = whole.to_string(alloc)?;
     text.push('\n')?;
     Ok(text)

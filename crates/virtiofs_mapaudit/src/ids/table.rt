@@ -1,7 +1,7 @@
 //! What becomes of all ids, piece by piece.
-ghost use Rattle.std.specs.Prelude.{◌≡◌, ◌++◌, ◌<◌, ◌≤◌, List, ℕ, OnOk, flat_map, string_bytes};
+ghost use Rattle.std.specs.Prelude.{◌≡◌, ◌++◌, ◌<◌, ◌≤◌, List, ℕ, OnOk, codes, flat_map, string_bytes};
 ghost use Rattle.virtiofs_map.specs.Pieces.{IsNamed};
-ghost use Rattle.virtiofs_mapaudit.specs.IdTable.{span_text, span_of, images_of, source_word, target_word, piece_line, within_line, outside_line, outside_lines, piece_lines, ShowsDirection, ShowsIds};
+ghost use Rattle.virtiofs_mapaudit.specs.IdTable.{span_text, span_of, images_of, source_word, target_word, becomes_text, piece_line, within_line, outside_line, outside_lines, piece_lines, ShowsDirection, ShowsIds};
 
 use super::audits::Ids;
 use super::kind::{IdKind, one_of};
@@ -79,6 +79,46 @@ fn target_word(direction: Direction) -> &'static str
     }
 }
 
+/// Writes the side on which ids of a direction are then, and these ids, at the end of a text.
+fn push_images<A: Allocator>(
+    text: &mut String<A>,
+    direction: Direction,
+    images: Span,
+) -> Result<(), AllocError>
+    ensures { OnOk result (string_bytes text.new
+        ≡ string_bytes text.old ++ target_word direction ++ codes " " ++ span_text images) }
+{
+    let to = target_word(direction);
+    write!(text, "{to} ")?;
+    push_span(text, images)
+}
+
+/// Writes what the ids of a piece become at the end of a text.
+fn push_becomes<A: Allocator>(
+    text: &mut String<A>,
+    direction: Direction,
+    piece: Piece,
+) -> Result<(), AllocError>
+    requires { piece.first ≤ piece.last }
+    ensures { OnOk result (string_bytes text.new ≡ string_bytes text.old
+        ++ becomes_text direction piece.becomes piece.first piece.last) }
+{
+    match piece.becomes {
+        Outcome::Kept => text.push_str("itself"),
+        Outcome::Forbidden => text.push_str("forbidden"),
+        Outcome::OneToOne { to } => {
+            let count = u64::from(piece.last) - u64::from(piece.first);
+            let first = u64::from(to);
+            let last = first + count;
+            push_images(text, direction, Span { first, last })
+        }
+        Outcome::AllToOne { to } => {
+            let first = u64::from(to);
+            push_images(text, direction, Span { first, last: first })
+        }
+    }
+}
+
 /// Writes the line of a piece at the end of a text.
 fn push_piece<A: Allocator>(
     text: &mut String<A>,
@@ -90,27 +130,11 @@ fn push_piece<A: Allocator>(
         (string_bytes text.new ≡ string_bytes text.old ++ piece_line direction piece) }
 {
     let from = source_word(direction);
-    let to = target_word(direction);
     write!(text, "  {from} ")?;
     push_span(text, span_of(piece))?;
-    match piece.becomes {
-        Outcome::Kept => text.push_str(" -> itself\n"),
-        Outcome::Forbidden => text.push_str(" -> forbidden\n"),
-        Outcome::OneToOne { to: first } => {
-            let count = u64::from(piece.last) - u64::from(piece.first);
-            let first = u64::from(first);
-            write!(text, " -> {to} ")?;
-            let last = first + count;
-            push_span(text, Span { first, last })?;
-            text.push_str("\n")
-        }
-        Outcome::AllToOne { to: one } => {
-            let first = u64::from(one);
-            write!(text, " -> {to} ")?;
-            push_span(text, Span { first, last: first })?;
-            text.push_str("\n")
-        }
-    }
+    text.push_str(" -> ")?;
+    push_becomes(text, direction, piece)?;
+    text.push_str("\n")
 }
 
 /// Writes what the ids inside the namespace from `from` on and before `past` are outside it, by a

@@ -65,14 +65,13 @@ pub(crate) fn push_ids(
     Ok(())
 }
 
-/// Adds a range that is at fault. Places are counted from 1.
-pub(crate) fn push_range(
+/// A range that is at fault. Places are counted from 1.
+pub(crate) fn range_value(
     alloc: Global,
-    list: &mut Vec<Value>,
     guest: usize,
     kind: IdKind,
     found: RangeFound,
-) -> Result<(), AllocError> {
+) -> Result<Value, AllocError> {
     let ids = word(kind);
     let (fault, other) = match found.fault {
         RangeFault::Empty => ("empty", None),
@@ -81,32 +80,34 @@ pub(crate) fn push_range(
         RangeFault::MeetsOutside(other) => ("overlaps_outside", Some(other.saturating_add(1))),
     };
     let place = found.place.saturating_add(1);
-    list.push(
-        json!(in alloc; {"guest": guest, "kind": "range", "ids": ids, "range": place, "fault": fault, "other": other})?,
-    )?;
-    Ok(())
+    json!(in alloc; {
+        "guest": guest, "kind": "range", "ids": ids, "range": place, "fault": fault, "other": other
+    })
 }
 
-/// Adds an id of the host that two guests reach.
+/// An id of the host that two guests reach.
+fn meeting_value(
+    alloc: Global,
+    (first, second): (usize, usize),
+    ids: &str,
+    it: IdFound,
+) -> Result<Value, AllocError> {
+    let (id, host, other) = (it.guest, it.host, it.other);
+    json!(in alloc; {
+        "guests": [first, second], "kind": "one_on_host", "ids": ids, "id": id, "other": other, "host": host
+    })
+}
+
+/// Adds an id of the host that two guests reach, if there is any.
 pub(crate) fn push_meeting(
     alloc: Global,
     list: &mut Vec<Value>,
-    (first, second): (usize, usize),
+    guests: (usize, usize),
     kind: IdKind,
     found: Option<IdFound>,
 ) -> Result<(), AllocError> {
-    let ids = word(kind);
-    if let Some(
-        IdFound {
-            guest: id,
-            host,
-            other,
-        },
-    ) = found
-    {
-        list.push(
-            json!(in alloc; {"guests": [first, second], "kind": "one_on_host", "ids": ids, "id": id, "other": other, "host": host})?,
-        )?;
+    if let Some(it) = found {
+        list.push(meeting_value(alloc, guests, word(kind), it)?)?;
     }
     Ok(())
 }
@@ -133,21 +134,30 @@ fn pieces(alloc: Global, map: &Ids<Global>, direction: Direction) -> Result<Valu
     Ok(Value::Array(list))
 }
 
+/// A range of the daemon's namespace.
+fn namespace_row(alloc: Global, range: &UidMap) -> Result<Value, AllocError> {
+    let (inside, outside, count) = (range.inside_uid, range.outside_uid, range.count);
+    json!(in alloc; {"inside": inside, "outside": outside, "count": count})
+}
+
+/// The ranges of the daemon's namespace.
+fn namespace_rows(alloc: Global, ranges: &[UidMap]) -> Result<Value, AllocError> {
+    let mut rows = Vec::new(alloc);
+    for range in ranges {
+        rows.push(namespace_row(alloc, range)?)?;
+    }
+    Ok(Value::Array(rows))
+}
+
 /// What becomes of all ids, and the ranges of the daemon's namespace.
 pub(crate) fn id_table(
     alloc: Global,
     map: &Ids<Global>,
     ranges: &[UidMap],
 ) -> Result<Value, AllocError> {
-    let mut list = Vec::new(alloc);
-    for range in ranges {
-        let inside = range.inside_uid;
-        let outside = range.outside_uid;
-        let count = range.count;
-        list.push(json!(in alloc; {"inside": inside, "outside": outside, "count": count})?)?;
-    }
-    let ranges = Value::Array(list);
-    let guest = pieces(alloc, map, Direction::GuestToHost)?;
-    let host = pieces(alloc, map, Direction::HostToGuest)?;
-    json!(in alloc; {"from_guest": guest, "from_host": host, "namespace": ranges})
+    json!(in alloc; {
+        "from_guest": pieces(alloc, map, Direction::GuestToHost)?,
+        "from_host": pieces(alloc, map, Direction::HostToGuest)?,
+        "namespace": namespace_rows(alloc, ranges)?
+    })
 }

@@ -32,12 +32,23 @@ fn answer_value(alloc: Global, answer: &Audit<Global>) -> Result<Value, AllocErr
 
 /// The least names: of all, and of each usual beginning.
 fn least_value(alloc: Global, found: &LeastName<Global>) -> Result<Value, AllocError> {
-    let all = answer_value(alloc, &found.all)?;
-    let user = answer_value(alloc, &found.user)?;
-    let trusted = answer_value(alloc, &found.trusted)?;
-    let security = answer_value(alloc, &found.security)?;
-    let system = answer_value(alloc, &found.system)?;
-    json!(in alloc; {"all": all, "user": user, "trusted": trusted, "security": security, "system": system})
+    json!(in alloc; {
+        "all": answer_value(alloc, &found.all)?,
+        "user": answer_value(alloc, &found.user)?,
+        "trusted": answer_value(alloc, &found.trusted)?,
+        "security": answer_value(alloc, &found.security)?,
+        "system": answer_value(alloc, &found.system)?
+    })
+}
+
+/// Names that are reported of a guest.
+fn found_value(
+    alloc: Global,
+    guest: usize,
+    kind: &str,
+    found: &LeastName<Global>,
+) -> Result<Value, AllocError> {
+    json!(in alloc; {"guest": guest, "kind": kind, "least": least_value(alloc, found)?})
 }
 
 /// Adds names that are reported of a guest, if there are any.
@@ -49,10 +60,19 @@ fn push_least(
     found: &LeastName<Global>,
 ) -> Result<(), AllocError> {
     if matches!(found.all, Audit::No(_)) {
-        let least = least_value(alloc, found)?;
-        list.push(json!(in alloc; {"guest": guest, "kind": kind, "least": least})?)?;
+        list.push(found_value(alloc, guest, kind, found)?)?;
     }
     Ok(())
+}
+
+/// That no rule decides some names.
+fn undecided_value(alloc: Global, guest: usize) -> Result<Value, AllocError> {
+    json!(in alloc; {"guest": guest, "kind": "no_rule"})
+}
+
+/// A rule that decides nothing. Rules are counted from 1.
+fn idle_value(alloc: Global, guest: usize, rule: usize) -> Result<Value, AllocError> {
+    json!(in alloc; {"guest": guest, "kind": "idle_rule", "rule": rule})
 }
 
 /// Adds what is found of the names of a guest.
@@ -63,15 +83,27 @@ pub(crate) fn push_names(
     found: &NameFindings<Global>,
 ) -> Result<(), AllocError> {
     if !found.is_terminated {
-        list.push(json!(in alloc; {"guest": guest, "kind": "no_rule"})?)?;
+        list.push(undecided_value(alloc, guest)?)?;
     }
     push_least(alloc, list, guest, "not_listed", &found.lost)?;
     push_least(alloc, list, guest, "listed_elsewhere", &found.stray)?;
     for place in found.idle.as_slice() {
-        let rule = place.saturating_add(1);
-        list.push(json!(in alloc; {"guest": guest, "kind": "idle_rule", "rule": rule})?)?;
+        list.push(idle_value(alloc, guest, place.saturating_add(1))?)?;
     }
     Ok(())
+}
+
+/// Names that are reported between two guests. They are those of the first.
+fn found_between_value(
+    alloc: Global,
+    first: usize,
+    second: usize,
+    kind: &str,
+    found: &LeastName<Global>,
+) -> Result<Value, AllocError> {
+    json!(in alloc; {
+        "guests": [first, second], "kind": kind, "least": least_value(alloc, found)?
+    })
 }
 
 /// Adds names that are reported between two guests, if there are any. The names are those of the
@@ -85,8 +117,7 @@ fn push_least_between(
     found: &LeastName<Global>,
 ) -> Result<(), AllocError> {
     if matches!(found.all, Audit::No(_)) {
-        let least = least_value(alloc, found)?;
-        list.push(json!(in alloc; {"guests": [first, second], "kind": kind, "least": least})?)?;
+        list.push(found_between_value(alloc, first, second, kind, found)?)?;
     }
     Ok(())
 }
@@ -138,20 +169,46 @@ fn listed_value(alloc: Global, map: &XattrMap<Global>, name: &[u8]) -> Result<Va
     Ok(Value::String(String::from_str(alloc, told)?))
 }
 
-/// What becomes of some names, and by how many bytes a name becomes longer at most.
-pub(crate) fn name_table(alloc: Global, map: &XattrMap<Global>) -> Result<Value, AllocError> {
-    let mut guest = Vec::new(alloc);
-    let mut host = Vec::new(alloc);
+/// What becomes of a name from the guest, with the name.
+fn set_row(
+    alloc: Global,
+    map: &XattrMap<Global>,
+    name: XattrName<'_>,
+    shown: &str,
+) -> Result<Value, AllocError> {
+    json!(in alloc; {"name": shown, "becomes": set_value(alloc, map, name)?})
+}
+
+/// What becomes of a name of the host in lists, with the name.
+fn listed_row(alloc: Global, map: &XattrMap<Global>, shown: &str) -> Result<Value, AllocError> {
+    json!(in alloc; {"name": shown, "becomes": listed_value(alloc, map, shown.as_bytes())?})
+}
+
+/// What becomes of some names from the guest.
+fn set_rows(alloc: Global, map: &XattrMap<Global>) -> Result<Value, AllocError> {
+    let mut rows = Vec::new(alloc);
     for shown in SHOWN {
         if let Some(name) = XattrName::new(shown.as_bytes()) {
-            let becomes = set_value(alloc, map, name)?;
-            guest.push(json!(in alloc; {"name": shown, "becomes": becomes})?)?;
+            rows.push(set_row(alloc, map, name, shown)?)?;
         }
-        let becomes = listed_value(alloc, map, shown.as_bytes())?;
-        host.push(json!(in alloc; {"name": shown, "becomes": becomes})?)?;
     }
-    let guest = Value::Array(guest);
-    let host = Value::Array(host);
-    let added = map.most_added();
-    json!(in alloc; {"from_guest": guest, "from_host": host, "most_added": added})
+    Ok(Value::Array(rows))
+}
+
+/// What becomes of some names of the host in lists.
+fn listed_rows(alloc: Global, map: &XattrMap<Global>) -> Result<Value, AllocError> {
+    let mut rows = Vec::new(alloc);
+    for shown in SHOWN {
+        rows.push(listed_row(alloc, map, shown)?)?;
+    }
+    Ok(Value::Array(rows))
+}
+
+/// What becomes of some names, and by how many bytes a name becomes longer at most.
+pub(crate) fn name_table(alloc: Global, map: &XattrMap<Global>) -> Result<Value, AllocError> {
+    json!(in alloc; {
+        "from_guest": set_rows(alloc, map)?,
+        "from_host": listed_rows(alloc, map)?,
+        "most_added": map.most_added()
+    })
 }
