@@ -40,13 +40,13 @@
  *    that the call writes to must not overlap each other, nor anything that it reads.
  * No function keeps a pointer after it has returned.
  *
- * MEMORY. Only `.._make`, `.._make_texts`, `virtiofs_spec_read` and the audits
- * `.._audit`, `.._audit_listed`, `.._apart`, `.._share_none` and `virtiofs_ids_come_back`,
- * `.._alone`, `.._reach`, `.._apart` allocate. They free all
- * of it before they return. They use malloc, realloc and free. These must be the C
- * library's, or replacements that belong to one allocator and return memory aligned to
- * 16 bytes. So these calls must not be made in a signal handler, or in the child of a
- * fork of a program with threads. All other calls may.
+ * MEMORY. Only these calls allocate: `.._make`, `.._make_texts`, `virtiofs_spec_read`, the
+ * audits `virtiofs_names_audit`, `.._audit_listed`, `.._apart` and `.._share_none`, and the
+ * decisions `virtiofs_ids_come_back`, `.._alone`, `.._reach` and `.._apart`. They free all
+ * that they allocated before they return. They use malloc, realloc and free, which must be
+ * the C library's, or replacements that belong to one allocator and return memory aligned
+ * to 16 bytes. So these calls must not be made in a signal handler, or in the child of a
+ * fork of a program with threads. All other calls may be made there.
  *
  * BUFFERS. A result in bytes goes to the caller's buffer: `out` with `room` bytes,
  * and `*len` is its length. If the result is longer than `room`, the code is
@@ -54,7 +54,7 @@
  * of that length. If a call has no bytes to give, `*len` is 0 (so also with
  * VIRTIOFS_AS_IT_IS, and for an audit whose answer is yes). No zero is put after
  * the bytes. The rest of the buffer, and every other output that the comment of the
- * function does not mention, is unchanged. If that does not hold, the comment says so.
+ * function does not mention, is unchanged. Where something else holds, the comment says so.
  *
  * ERRORS. Each function returns a code, 0 for success, except `virtiofs_map_version`,
  * the `.._bound` functions and `virtiofs_carries_ids`. The comment of each function
@@ -75,8 +75,8 @@
  *   VIRTIOFS_MERGES        EPERM
  *   VIRTIOFS_ROOT_MOVES    EPERM
  *
- * No function prints, and none ends the program. For a fault that a call tells,
- * virtiofs_fault_text has the sentence to print.
+ * No function prints, and none ends the program. virtiofs_fault_text writes a sentence
+ * about a fault that a call has reported, for the caller to print.
  */
 #ifndef VIRTIOFS_MAP_H
 #define VIRTIOFS_MAP_H
@@ -93,8 +93,8 @@ extern "C" {
    virtiofs_map_version() returns the archive's. */
 #define VIRTIOFS_MAP_VERSION 1
 
-/* Attributes of a function, for compilers that have them: its code must be used, and the
-   arguments at these places must not be NULL. */
+/* Attributes of a function, for compilers that know them: the caller must use its code, and
+   the arguments at these places must not be NULL. */
 #if defined(__GNUC__)
 #define VIRTIOFS_CHECKED(places) __attribute__((warn_unused_result, nonnull places))
 #else
@@ -189,8 +189,8 @@ enum virtiofs_fault_kind {
     VIRTIOFS_FAULT_VALUE = 8,  /* a field is no number below 2^32; quoted */
 
     /* of the text of a range of a namespace */
-    VIRTIOFS_FAULT_RANGE_DELIMITER = 9,   /* it does not start and end with the same character that
-                                             is not alphanumeric, or it is that one character */
+    VIRTIOFS_FAULT_RANGE_DELIMITER = 9,   /* its first and its last character differ or are
+                                             alphanumeric, or it has only one character */
     VIRTIOFS_FAULT_RANGE_INCOMPLETE = 10, /* it is empty, or does not have exactly three fields */
     VIRTIOFS_FAULT_RANGE_VALUE = 11,      /* a field is no number below 2^32 */
 
@@ -240,8 +240,8 @@ enum virtiofs_number {
     VIRTIOFS_NUMBER_LARGE = 2  /* it is too large */
 };
 
-/* The first fault, with all details. Members that do not belong to the kind are 0. If the
-   code is VIRTIOFS_OK or VIRTIOFS_NO_MAP, all members are 0; so also if a `make` returns
+/* The first fault, with all details. Members that do not belong to the kind are 0. All
+   members are 0 if the code is VIRTIOFS_OK or VIRTIOFS_NO_MAP, or if a `make` returns
    VIRTIOFS_NO_ROOM. */
 struct virtiofs_fault {
     /* One of enum virtiofs_fault_kind. */
@@ -256,14 +256,13 @@ struct virtiofs_fault {
     /* VALUE and RANGE_VALUE: one of enum virtiofs_number. */
     uint32_t number;
     /* For a list: the index of the specification or of its text, from 0; the indexes of
-       a second list continue those of the first. For a text
-       of rules: the number of the rule, from 1; 0 if no rule is to blame. For an
-       access control list: the index of the entry, from 0. */
+       a second list continue those of the first. For a text of rules: the number of the
+       rule, from 1, or 0 if no rule is at fault. For an access control list: the index of
+       the entry, from 0. */
     size_t place;
-    /* LENGTH: how many numbers the word takes, and how many there are. If there is no
-       separator after the word, 1 and 0, as virtiofsd reports it. ROOM: how many entries
-       there are, and for how many room is lent. VERSION: 0, and the version or the
-       revision. */
+    /* LENGTH: how many numbers the word takes, and how many there are; 1 and 0 if there is
+       no separator after the word, as virtiofsd reports it. ROOM: how many entries there
+       are, and for how many there is room. VERSION: 0, and the version or the revision. */
     size_t expected;
     size_t seen;
     /* PREFIX, VALUE, SCOPE and TYPE: `wanted` is the length in bytes of the part of the
@@ -278,11 +277,11 @@ struct virtiofs_fault {
 
 /* ---- decisions about ids ---- */
 
-/* The least id that shows an answer about all ids. */
+/* What a decision about all ids has found: the least id that shows the answer. */
 struct virtiofs_ids_found {
     uint32_t guest; /* the id of the guest */
     uint32_t host;  /* what it becomes on the host */
-    uint32_t other; /* the second id of a guest, where the function tells one; else 0 */
+    uint32_t other; /* a second id of a guest, if the function gives one; otherwise 0 */
 };
 
 /* ---- values with ids ---- */
@@ -294,8 +293,8 @@ enum virtiofs_value_kind {
     VIRTIOFS_CAPABILITY = 2 /* that of root in a capability */
 };
 
-/* Memory for one entry of an access control list. The caller need not set it: a call
-   overwrites it, and what it leaves there means nothing. */
+/* Memory for one entry of an access control list. The caller need not set the members, and
+   what they contain after a call means nothing. */
 struct virtiofs_entry_room {
     uint16_t tag;
     uint32_t id;
@@ -483,14 +482,17 @@ uint32_t virtiofs_map_fault_text(const struct virtiofs_fault *fault,
 
 /* ---- the sentence of a fault ---- */
 
-/* The sentence for a fault, as `specification 1: Parameter map:0:4294967290:10: Range
-   overflow` or `rule 2: the rule is incomplete`. It has the specification's place from 0, or
-   the number of the rule, and then what the library says of such a fault. `quoted` is the
-   buffer that the call quoted to, with its length; as many of its bytes are read as the
-   fault tells. Where the text at fault was not quoted, for want of room, `...` stands in its
-   place. OK: the sentence is in `out`. NO_ROOM: the first `room` bytes of it are, and *len is
-   the length of the whole; a character may be cut. Any fault has a sentence, also one that no
-   call told; VIRTIOFS_FAULT_NONE and numbers that are no kind have one that says so. */
+/* Writes the sentence for a fault, such as `specification 1: Parameter
+   map:0:4294967290:10: Range overflow` or `rule 2: the rule is incomplete`. It begins with
+   the place of the fault, if there is one: the index of the specification or of the entry,
+   from 0, or the number of the rule. Then comes what the library says of such a fault.
+   `quoted` is the buffer to which the call that reported the fault copied the wrong text,
+   and `quoted_len` its length. No more of its bytes are used than the fault says were
+   copied. If the buffer was too short for the wrong text, `...` stands in the sentence in
+   place of that text. OK: the sentence is in `out`. NO_ROOM: `out` has the first `room` bytes
+   of the sentence, and *len is the length of the whole sentence; the last character may be
+   incomplete. Any content of the struct has a sentence, even one that no call wrote. For
+   VIRTIOFS_FAULT_NONE, and for a number that is no kind, the sentence says so. */
 VIRTIOFS_CHECKED((1, 6))
 static inline uint32_t virtiofs_fault_text(const struct virtiofs_fault *fault,
                                            const uint8_t *quoted, size_t quoted_len,
@@ -503,7 +505,7 @@ static inline uint32_t virtiofs_fault_text(const struct virtiofs_fault *fault,
 /* ---- maps of ids ----
  *
  * virtiofs_uids_.. are for users and virtiofs_gids_.. for groups. The two differ only in the
- * types of their maps, so that a compiler rejects one in place of the other.
+ * types of their maps, so that a compiler rejects a map of the one where the other is needed.
  */
 
 /* The most words that a map of `count` user specifications takes. A buffer of that
@@ -519,7 +521,7 @@ static inline size_t virtiofs_gids_bound(size_t count)
     return virtiofs_map_ids_bound(count);
 }
 
-/* Makes a map from the array of specifications, in `words` with room for `room` words.
+/* Makes a map from the array of specifications, in the buffer `words` of `room` words.
    OK: the first *wanted words are the map, and the others are unchanged. NO_ROOM: the
    map takes *wanted words, and none is written. REFUSED: no map can be made from this array,
    *wanted is 0, and *fault is its first fault: KIND, OVERFLOW or INTERSECTS, with the
@@ -586,9 +588,10 @@ static inline uint32_t virtiofs_ids_make_texts(const struct virtiofs_text *texts
 }
 
 /* Makes a map from an array of texts, each of which is a specification. It has the codes
-   and faults of virtiofs_uids_make, and before these the faults of virtiofs_spec_read: all
-   texts are read first. UTF8, PREFIX, LENGTH and VALUE have the index of the first text that
-   is no specification, and for PREFIX and VALUE the part that is wrong is quoted in `quoted`. */
+   and the faults of virtiofs_uids_make, and also the faults of virtiofs_spec_read. All texts
+   are read first, so a fault of virtiofs_spec_read is reported first: UTF8, PREFIX, LENGTH or
+   VALUE, with the index of the first text that is no specification. For PREFIX and VALUE the
+   part that is wrong is quoted in `quoted`. */
 VIRTIOFS_CHECKED((5, 6))
 static inline uint32_t virtiofs_uids_make_texts(const struct virtiofs_text *texts, size_t count,
                                                 uint32_t *words, size_t room, size_t *wanted,
@@ -646,19 +649,19 @@ static inline uint32_t virtiofs_gids_host(struct virtiofs_gids map, uint32_t hos
 /* ---- decisions about all ids ----
  *
  * Each decision is about all ids of the guest from 0 to 4294967294 that the
- * specifications do not forbid; 4294967295 is no id to Linux. It takes the array of which
- * a map is made, of users or of groups. OK: *yes is the answer, and where an id shows it,
- * *found has the least one. REFUSED: no map is made of the array, and *fault is its first
- * fault, as virtiofs_uids_make tells it. NO_MEMORY. Where the code is not OK, *yes is
- * false. Where no id is told, *found is as it was.
+ * specifications do not forbid; 4294967295 is no id to Linux. It takes the array from which
+ * a map is made, of users or of groups. OK: *yes is the answer; if an id shows this answer,
+ * *found has the least such id. REFUSED: no map can be made from the array, and *fault is its
+ * first fault, as virtiofs_uids_make reports it. NO_MEMORY. If the code is not OK, *yes is
+ * false. If no id is given, *found is unchanged.
  *
- * The time grows as n log n with the number of specifications. For 100,000 of them it is
- * of the order of a tenth of a second.
+ * With n specifications the time grows as n log n. For 100,000 specifications it is of the
+ * order of a tenth of a second.
  */
 
-/* Whether each id comes back: what it becomes on the host becomes that id again. Where
-   *yes is false, *found has the least id that does not, what it becomes on the host, and
-   in `other` what that becomes in the guest. */
+/* Does each id come back: does what it becomes on the host become the same id again? If
+   *yes is false, *found has the least id that does not come back, what it becomes on the
+   host, and in `other` what that host id becomes in the guest. */
 VIRTIOFS_CHECKED((3, 4, 5))
 static inline uint32_t virtiofs_ids_come_back(const struct virtiofs_spec *specs, size_t count,
                                               bool *yes, struct virtiofs_ids_found *found,
@@ -668,9 +671,9 @@ static inline uint32_t virtiofs_ids_come_back(const struct virtiofs_spec *specs,
                                       yes, found, fault);
 }
 
-/* Whether each id has an id of the host of its own: no two ids become one. Where *yes is
-   false, *found has the least id that shares its id of the host, that id of the host, and
-   in `other` the least id with which it shares. */
+/* Does each id have an id of the host of its own, so that no two ids become the same? If
+   *yes is false, *found has the least id that shares its id of the host, that id of the
+   host, and in `other` the least id with which it shares it. */
 VIRTIOFS_CHECKED((3, 4, 5))
 static inline uint32_t virtiofs_ids_alone(const struct virtiofs_spec *specs, size_t count,
                                           bool *yes, struct virtiofs_ids_found *found,
@@ -680,9 +683,9 @@ static inline uint32_t virtiofs_ids_alone(const struct virtiofs_spec *specs, siz
                                   yes, found, fault);
 }
 
-/* Whether some id becomes an id of the host from `first` to `last`: whether the guest can
-   act as one of these. Where *yes is true, *found has the least id that does, and what it
-   becomes on the host; `other` is 0. Where `last` is less than `first`, *yes is false. */
+/* Does some id become an id of the host from `first` to `last`, so that the guest can act
+   as one of these? If *yes is true, *found has the least id that does, and what it becomes
+   on the host; `other` is 0. If `last` is less than `first`, *yes is false. */
 VIRTIOFS_CHECKED((5, 6, 7))
 static inline uint32_t virtiofs_ids_reach(const struct virtiofs_spec *specs, size_t count,
                                           uint32_t first, uint32_t last, bool *yes,
@@ -693,11 +696,12 @@ static inline uint32_t virtiofs_ids_reach(const struct virtiofs_spec *specs, siz
                                   first, last, yes, found, fault);
 }
 
-/* Whether two guests are apart on the host: no id of the host is reached by both. Where
+/* Are two guests apart on the host, so that there is no id of the host that both reach? If
    *yes is false, *found has the least id of the first guest whose id of the host the second
    reaches too, that id of the host, and in `other` the least id of the second guest that
-   becomes it. REFUSED: the place in *fault is below `count` where the first array is at
-   fault. Else the second is, at that place less `count`. Both may be the same array. */
+   becomes it. REFUSED: if `place` in *fault is less than `count`, it is the index in the first
+   array. Otherwise the second array is at fault, at the index `place` - `count`. Both may be
+   the same array. */
 VIRTIOFS_CHECKED((5, 6, 7))
 static inline uint32_t virtiofs_ids_apart(const struct virtiofs_spec *specs, size_t count,
                                           const struct virtiofs_spec *others, size_t other_count,
@@ -734,14 +738,15 @@ static inline uint32_t virtiofs_range_read(const uint8_t *text, size_t text_len,
  * details, and what a `map` rule stands for.
  */
 
-/* The most bytes that a map of a text of that length takes. A buffer of that many is always
-   enough; tests show that, it is not proved. SIZE_MAX: there can be no such buffer. */
+/* The most bytes that a map of a text of `text_len` bytes takes. A buffer of that many bytes
+   is always enough; tests show this, but it is not proved. SIZE_MAX: there can be no such
+   buffer. */
 static inline size_t virtiofs_names_bound(size_t text_len)
 {
     return virtiofs_map_names_bound(text_len);
 }
 
-/* Makes a map from a text of rules, in `bytes` with room for `room` bytes. OK: the first
+/* Makes a map from a text of rules, in the buffer `bytes` of `room` bytes. OK: the first
    *wanted bytes are the map, and the others are unchanged. NO_ROOM: the map takes
    *wanted bytes, and none is written. REFUSED: no map can be made from this text, *wanted is 0,
    and *fault is its first fault: SCOPE, TYPE, INCOMPLETE, MAP_RULE, NUL_KEY or NUL_PREPEND
@@ -777,7 +782,7 @@ static inline uint32_t virtiofs_names_client(struct virtiofs_names map,
 /* Makes the list that the guest gets for the host's list of names: each name with a zero
    after it, or one zero if no name is left. OK: the list is in `out`. It is never empty, and
    at most one byte longer than the host's list, so a buffer that is one byte longer than
-   that is always enough. NO_ROOM. UNTERMINATED: no rule decides one of the names, and
+   the host's list is always enough. NO_ROOM. UNTERMINATED: no rule decides one of the names, and
    there is no list, however long `out` is. NO_MAP. If the code is not OK, `out` may contain
    anything. */
 VIRTIOFS_CHECKED((6))
@@ -803,13 +808,13 @@ static inline uint32_t virtiofs_names_server(struct virtiofs_names map,
  * `map` rule that does not list it.
  *
  * The time of `.._audit`, `.._audit_listed`, `.._apart` and `.._share_none` grows with the
- * square of the number of rules. For 6,400 rules it is of the order of seconds: 1.5 were
- * seen, and up to 8 on a busy machine. So call them when a map is made, and not while a
+ * square of the number of rules. For 6,400 rules it is of the order of seconds: we measured
+ * 1.5, and up to 8 on a busy machine. So call these when a map is made, and not while a
  * guest waits.
  */
 
-/* Does every name of the guest, and every name in a list of the host, have a rule? If so, the
-   code is never UNTERMINATED. OK; NO_MAP. */
+/* Does every name of the guest, and every name in a list of the host, have a rule? If so,
+   lookups in this map never return UNTERMINATED. OK; NO_MAP. */
 VIRTIOFS_CHECKED((2))
 static inline uint32_t virtiofs_names_terminated(struct virtiofs_names map, bool *yes)
 {
@@ -854,11 +859,11 @@ static inline uint32_t virtiofs_names_apart(struct virtiofs_names first,
                                     yes, VIRTIOFS_SLICE(uint8_t, out, room), len);
 }
 
-/* Does it hold that no non-empty name of the host is reached by both guests? virtiofs_names_apart
-   is about what lists show, and this call about which attributes of the host a guest opens by
-   name: neither answer follows from the other. OK: if *yes is false, `out` has the least name
-   of the first guest that leads to a non-empty name of the host which the second guest reaches
-   too. NO_ROOM; NO_MEMORY. NO_MAP: one of the two is no map. Both may be the same map. */
+/* Is there no non-empty name of the host that both guests reach? virtiofs_names_apart is about
+   what lists show, and this call is about which attributes of the host a guest can open by name:
+   neither answer follows from the other. OK: if *yes is false, `out` has the least name of the
+   first guest that leads to a non-empty name of the host which the second guest reaches too.
+   NO_ROOM; NO_MEMORY. NO_MAP: one of the two is no map. Both may be the same map. */
 VIRTIOFS_CHECKED((3, 6))
 static inline uint32_t virtiofs_names_share_none(struct virtiofs_names first,
                                                  struct virtiofs_names second, bool *yes,
