@@ -9,8 +9,8 @@
  *
  * MAPS. A map is plain numbers in the caller's memory: words (of 32 bits) for ids,
  * bytes for names. A `make` writes them. All other calls only read them. There is
- * nothing to lock and nothing to free but that memory. It may be copied, moved and
- * mapped at another address; words must be aligned for their type.
+ * nothing to lock and nothing to free but that memory. A map may be copied, moved and
+ * mapped at another address; its words must be aligned for their type.
  *
  * THREADS. Any number of threads may use one map at once. Its memory may be
  * read-only, and may be shared with processes that only read it. Nobody may write to
@@ -19,16 +19,17 @@
  *
  * WHAT IS NO MAP. The first number of a map says its kind and its version. So these
  * are no map: a struct of zeros, a length of 0, memory of zeros, a map of the other
- * kind (ids instead of names, or names instead of ids), a map of another version. A
- * call that is given one returns VIRTIOFS_NO_MAP; only if it is the second of two maps
- * of names may the code be VIRTIOFS_NO_MEMORY instead. None of these is ever treated as
- * the map that changes no id. To get that map, make a map from no specifications. If
- * the numbers begin as a map does, but the rest was not written by a `make` or was
- * changed since, the result means nothing. Whatever the numbers are, a call returns,
- * reads nothing outside of them, and writes nothing outside of its results.
+ * kind (ids instead of names, or names instead of ids), a map of another version. None
+ * of these is ever treated as the map that changes no id. To get that map, make a map
+ * from no specifications. A call that is given one of these returns VIRTIOFS_NO_MAP.
+ * There is one exception: if a call takes two maps of names, and only the second is no
+ * map, the code may be VIRTIOFS_NO_MEMORY instead. If the numbers begin as a map does,
+ * but the rest was not written by a `make` or was changed since, the result means
+ * nothing. Whatever the numbers are, a call returns, reads nothing outside of them, and
+ * writes nothing outside of its results.
  *
- * What the numbers mean is private to a version of the library. They are in the byte
- * order of the machine. They are no format for files, and nothing to send to another
+ * What the numbers mean is private to a version of the library, and they are in the byte
+ * order of the machine. So do not store them in files, and do not send them to another
  * machine.
  *
  * POINTERS. The caller must ensure, for each call:
@@ -48,11 +49,11 @@
  * to 16 bytes. So these calls must not be made in a signal handler, or in the child of a
  * fork of a program with threads. All other calls may be made there.
  *
- * BUFFERS. A result in bytes goes to the caller's buffer: `out` with `room` bytes,
- * and `*len` is its length. If the result is longer than `room`, the code is
+ * BUFFERS. A result in bytes goes to the caller's buffer `out` of `room` bytes, and
+ * `*len` is the length of the result. If the result is longer than `room`, the code is
  * VIRTIOFS_NO_ROOM, and `*len` is the length that is needed; call again with a buffer
- * of that length. If a call has no bytes to give, `*len` is 0 (so also with
- * VIRTIOFS_AS_IT_IS, and for an audit whose answer is yes). No zero is put after
+ * of that length. If a call has no bytes to give, `*len` is 0. Examples are the code
+ * VIRTIOFS_AS_IT_IS, and an audit whose answer is yes. No zero is put after
  * the bytes. The rest of the buffer, and every other output that the comment of the
  * function does not mention, is unchanged. Where something else holds, the comment says so.
  *
@@ -90,7 +91,7 @@ extern "C" {
 #endif
 
 /* The version of this header. A header and an archive of the same version belong together;
-   virtiofs_map_version() returns the archive's. */
+   virtiofs_map_version() returns the version of the archive. */
 #define VIRTIOFS_MAP_VERSION 1
 
 /* Attributes of a function, for compilers that know them: the caller must use its code, and
@@ -764,11 +765,11 @@ static inline uint32_t virtiofs_names_make(const uint8_t *text, size_t text_len,
                                    VIRTIOFS_SLICE(uint8_t, quoted, quoted_room));
 }
 
-/* Finds the host's name for a name that the guest uses. OK: `out` has it, the name with a
-   prepend before it. NO_ROOM: it does not fit. These two codes are returned only if a `prefix`
-   or a `map` rule puts its prepend before the name, even an empty prepend. AS_IT_IS: the host
-   has the same name; nothing is copied. DENIED; UNSUPPORTED; UNTERMINATED; NO_NAME;
-   NO_MAP. */
+/* Finds the host's name for a name that the guest uses. OK: `out` has the host's name, which is
+   the guest's name with a prepend before it. NO_ROOM: it does not fit. These two codes are
+   returned only if a `prefix` or a `map` rule puts its prepend before the name, even an empty
+   prepend. AS_IT_IS: the host has the same name; nothing is copied. DENIED; UNSUPPORTED;
+   UNTERMINATED; NO_NAME; NO_MAP. */
 VIRTIOFS_CHECKED((6))
 static inline uint32_t virtiofs_names_client(struct virtiofs_names map,
                                              const uint8_t *name, size_t name_len,
@@ -822,9 +823,9 @@ static inline uint32_t virtiofs_names_terminated(struct virtiofs_names map, bool
 }
 
 /* Take each non-empty name of the guest that leads to a name of the host. If the host then
-   lists that name, does the guest see its own name again? OK: if *yes is false, `out` has the
-   least name for which it does not. NO_ROOM: there is such a name, and it does not fit.
-   NO_MEMORY; NO_MAP. */
+   lists that name, does the guest see the name that it used? OK: if *yes is false, `out` has
+   the least name of the guest for which it does not. NO_ROOM: there is such a name, and it
+   does not fit. NO_MEMORY; NO_MAP. */
 VIRTIOFS_CHECKED((2, 5))
 static inline uint32_t virtiofs_names_audit(struct virtiofs_names map, bool *yes,
                                             uint8_t *out, size_t room, size_t *len)
@@ -880,7 +881,7 @@ static inline uint32_t virtiofs_names_share_none(struct virtiofs_names first,
  * a right that the guest gives to its user 1000 goes to the host's user 1000. Except for the
  * calls `.._in_revision_3`, each call changes the ids in place and no other byte, and a value
  * keeps its length. The whole value is tested first: if the code is not OK, no byte of it has
- * changed, and *fault has the first fault (nothing, if the code is NO_MAP). No call allocates.
+ * changed, and *fault has the first fault (no fault if the code is NO_MAP). No call allocates.
  */
 
 /* Which ids the values of an attribute contain: one of enum virtiofs_value_kind. `name` is the
