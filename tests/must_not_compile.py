@@ -36,7 +36,7 @@ UNCOUNTED = {
     "soft_idmap.rt": ("map_guest", "map_host"),
     "soft_idmap/image.rt": ("look_up",),
     "soft_idmap/stretches.rt": ("stretch",),
-    "xattrmap/walk.rt": ("look_up",),
+    "xattrmap/trie/walk.rt": ("look_up",),
 }
 LOST = "fn find(steps: &mut Steps) {\n    read(0, &mut Steps::new());\n    let mut spare = Steps::new();\n}\n"
 

@@ -7,7 +7,7 @@ use Rattle.virtiofs_map.specs.BranchParts.{IsChild, IsReadable, IsSmall, LeadsNo
 use Rattle.virtiofs_map.specs.FirstRule.{shared}
 use Rattle.virtiofs_map.specs.Names.{begins}
 use Rattle.virtiofs_map.specs.Steps.{count_after}
-use Rattle.virtiofs_map.specs.declared.xattrmap.branches.Branch.{Branch}
+use Rattle.virtiofs_map.specs.declared.xattrmap.trie.branch.Branch.{Branch}
 
 -- ---- places
 

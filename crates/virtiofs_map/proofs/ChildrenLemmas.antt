@@ -6,8 +6,8 @@ use Rattle.std.proofs.lemmas.List.{length_push, get_or_past}
 use Rattle.std.proofs.lemmas.Option.{slice_get_within}
 use Rattle.virtiofs_map.specs.GrowthParts.{text, AreReady, IsLeast, IsUpto, IsPart, IsPlace, IsKid, HasKid, AreAdded}
 use Rattle.virtiofs_map.specs.GrowthParts.{AreHoles, IsLonger, hole}
-use Rattle.virtiofs_map.specs.declared.xattrmap.growth.Part.{Part}
-use Rattle.virtiofs_map.specs.declared.xattrmap.patterns.Pattern.{Pattern}
+use Rattle.virtiofs_map.specs.declared.xattrmap.trie.growth.Part.{Part}
+use Rattle.virtiofs_map.specs.declared.xattrmap.trie.patterns.Pattern.{Pattern}
 use Rattle.virtiofs_map.proofs.KidLemmas.{IsCut, kid_is, kid_place}
 use Rattle.virtiofs_map.proofs.PatternOrderLemmas.{no_zero, goes_on, rising}
 use Rattle.virtiofs_map.proofs.PlaceLemmas.{push_cases, push_last, IsLonger-refl, IsLonger-push, IsLonger-trans}

@@ -18,9 +18,9 @@ use Rattle.virtiofs_map.specs.GrowthParts.{text, number, start_of, AreReady, IsL
 use Rattle.virtiofs_map.specs.GrowthParts.{IsGrown, AreGrown}
 use Rattle.virtiofs_map.specs.Names.{begins, fits}
 use Rattle.virtiofs_map.specs.Rule.{MappingRule, type_number, RuleType, Prefix, Okay, Bad, Unsupported}
-use Rattle.virtiofs_map.specs.declared.xattrmap.branches.Branch.{Branch}
-use Rattle.virtiofs_map.specs.declared.xattrmap.growth.Part.{Part}
-use Rattle.virtiofs_map.specs.declared.xattrmap.patterns.Pattern.{Pattern}
+use Rattle.virtiofs_map.specs.declared.xattrmap.trie.branch.Branch.{Branch}
+use Rattle.virtiofs_map.specs.declared.xattrmap.trie.growth.Part.{Part}
+use Rattle.virtiofs_map.specs.declared.xattrmap.trie.patterns.Pattern.{Pattern}
 use Rattle.virtiofs_map.specs.declared.xattrmap.scopes.Side.{Side}
 use Rattle.virtiofs_map.proofs.AnswerLemmas.{IsLeast-same}
 use Rattle.virtiofs_map.proofs.BeginsLemmas.{begins_split, begins_from, begins_length}

@@ -8,9 +8,9 @@ use Rattle.std.proofs.lemmas.Option.{slice_get_read, slice_get_within}
 use Rattle.virtiofs_map.specs.GrowthParts.{text, start_of, AreReady, IsLeast, IsLeastOf, IsInside, IsUpto, IsPart}
 use Rattle.virtiofs_map.specs.GrowthParts.{IsPlace, ArePlaces, IsLonger, AreKids, AreAdded, AreDeep, IsGrown}
 use Rattle.virtiofs_map.specs.GrowthParts.{IsBranched}
-use Rattle.virtiofs_map.specs.declared.xattrmap.branches.Branch.{Branch}
-use Rattle.virtiofs_map.specs.declared.xattrmap.growth.Part.{Part}
-use Rattle.virtiofs_map.specs.declared.xattrmap.patterns.Pattern.{Pattern}
+use Rattle.virtiofs_map.specs.declared.xattrmap.trie.branch.Branch.{Branch}
+use Rattle.virtiofs_map.specs.declared.xattrmap.trie.growth.Part.{Part}
+use Rattle.virtiofs_map.specs.declared.xattrmap.trie.patterns.Pattern.{Pattern}
 use Rattle.virtiofs_map.proofs.AnswerLemmas.{IsLeast-with, IsLeast-same}
 use Rattle.virtiofs_map.proofs.ChildrenLemmas.{longer_on}
 use Rattle.virtiofs_map.proofs.PatternOrderLemmas.{no_zero}

@@ -5,7 +5,7 @@ use Rattle.std.specs.Option.{option_map_or}
 use Rattle.std.proofs.lemmas.Option.{slice_get-get_or}
 use Rattle.virtiofs_map.specs.BranchParts.{no_answer}
 use Rattle.virtiofs_map.specs.GrowthParts.{text, number, start_of}
-use Rattle.virtiofs_map.specs.declared.xattrmap.patterns.Pattern.{Pattern}
+use Rattle.virtiofs_map.specs.declared.xattrmap.trie.patterns.Pattern.{Pattern}
 
 pub text-here : (patterns : List Pattern) (i : ℕ) (one : Pattern) → slice_get patterns i ≡ Some one
     → text patterns i ≡ one.bytes.now

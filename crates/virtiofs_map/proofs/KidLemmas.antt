@@ -4,8 +4,8 @@ use Rattle.std.proofs.Common.{arith}
 use Rattle.std.proofs.lemmas.Bool.{cases_lt}
 use Rattle.std.proofs.lemmas.List.{take-take, take_more_same}
 use Rattle.virtiofs_map.specs.GrowthParts.{text, AreReady, IsLeast, IsInside, IsUpto, IsPart, IsPlace, IsKid}
-use Rattle.virtiofs_map.specs.declared.xattrmap.growth.Part.{Part}
-use Rattle.virtiofs_map.specs.declared.xattrmap.patterns.Pattern.{Pattern}
+use Rattle.virtiofs_map.specs.declared.xattrmap.trie.growth.Part.{Part}
+use Rattle.virtiofs_map.specs.declared.xattrmap.trie.patterns.Pattern.{Pattern}
 use Rattle.virtiofs_map.proofs.AnswerLemmas.{IsLeast-same}
 use Rattle.virtiofs_map.proofs.PatternOrderLemmas.{shorter, same_byte, no_zero, goes_on, between}
 

@@ -9,9 +9,9 @@ use Rattle.std.proofs.lemmas.Option.{slice_get_cases, slice_get_within}
 use Rattle.virtiofs_map.specs.BranchParts.{no_answer}
 use Rattle.virtiofs_map.specs.GrowthParts.{AreReady, IsPart, IsPlace, ArePlaces, IsLonger, AreDeep, IsGrown, AreGrown}
 use Rattle.virtiofs_map.specs.GrowthParts.{IsBranched}
-use Rattle.virtiofs_map.specs.declared.xattrmap.branches.Branch.{Branch}
-use Rattle.virtiofs_map.specs.declared.xattrmap.growth.Part.{Part}
-use Rattle.virtiofs_map.specs.declared.xattrmap.patterns.Pattern.{Pattern}
+use Rattle.virtiofs_map.specs.declared.xattrmap.trie.branch.Branch.{Branch}
+use Rattle.virtiofs_map.specs.declared.xattrmap.trie.growth.Part.{Part}
+use Rattle.virtiofs_map.specs.declared.xattrmap.trie.patterns.Pattern.{Pattern}
 use Rattle.virtiofs_map.proofs.ChildrenLemmas.{still_kid}
 use Rattle.virtiofs_map.proofs.PatternOrderLemmas.{ends}
 use Rattle.virtiofs_map.proofs.PlaceLemmas.{push_cases}

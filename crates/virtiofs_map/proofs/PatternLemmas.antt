@@ -17,7 +17,7 @@ use Rattle.virtiofs_map.specs.BranchParts.{IsPattern, IsPatternAt, ArePatterns, 
 use Rattle.virtiofs_map.specs.FirstRule.{acts, pattern}
 use Rattle.virtiofs_map.specs.GrowthParts.{AreReady}
 use Rattle.virtiofs_map.specs.Rule.{HasNoZero, MappingRule, type_number}
-use Rattle.virtiofs_map.specs.declared.xattrmap.patterns.Pattern.{Pattern}
+use Rattle.virtiofs_map.specs.declared.xattrmap.trie.patterns.Pattern.{Pattern}
 use Rattle.virtiofs_map.specs.declared.xattrmap.scopes.Side.{Side}
 use Rattle.virtiofs_map.proofs.WayLemmas.{pattern_no_zero}
 

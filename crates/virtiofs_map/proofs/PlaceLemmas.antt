@@ -5,7 +5,7 @@ use Rattle.std.specs.List.{slice_get}
 use Rattle.std.proofs.lemmas.List.{length_push}
 use Rattle.std.proofs.lemmas.Option.{slice_get_within}
 use Rattle.virtiofs_map.specs.GrowthParts.{IsLonger}
-use Rattle.virtiofs_map.specs.declared.xattrmap.growth.Part.{Part}
+use Rattle.virtiofs_map.specs.declared.xattrmap.trie.growth.Part.{Part}
 
 -- an element of a list with one more is one of the list, or the last
 pub push_cases : {X : Type 0} (xs : List X) (y : X) (k : ℕ) (z : X) → slice_get (xs ++ y ∷ []) k ≡ Some z

@@ -4,7 +4,7 @@ use Rattle.std.proofs.Common.{length, ap, ◌∙◌, arith, append_assoc}
 use Rattle.std.proofs.lemmas.Bool.Decides.{nat_tests}
 use Rattle.virtiofs_map.specs.BranchParts.{HasBytes, IsSmall, row_of}
 use Rattle.virtiofs_map.specs.ByteWordParts.{word_at, word_bytes}
-use Rattle.virtiofs_map.specs.declared.xattrmap.branches.Branch.{Branch}
+use Rattle.virtiofs_map.specs.declared.xattrmap.trie.branch.Branch.{Branch}
 use Rattle.virtiofs_map.proofs.ByteWordLemmas.{first_of_three, second_of_three, third_of_three, length-three}
 use Rattle.virtiofs_map.proofs.ByteWordLemmas.{shared_low, shared_high, shared_fits}
 

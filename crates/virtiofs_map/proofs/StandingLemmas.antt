@@ -11,7 +11,7 @@ use Rattle.virtiofs_map.specs.FirstRule.{acts, pattern, deciding_length, most_sh
 use Rattle.virtiofs_map.specs.Names.{begins, fits, first}
 use Rattle.virtiofs_map.specs.Rule.{MappingRule}
 use Rattle.virtiofs_map.specs.Steps.{count_after}
-use Rattle.virtiofs_map.specs.declared.xattrmap.branches.Branch.{Branch}
+use Rattle.virtiofs_map.specs.declared.xattrmap.trie.branch.Branch.{Branch}
 use Rattle.virtiofs_map.specs.declared.xattrmap.scopes.Side.{Side}
 use Rattle.virtiofs_map.proofs.BeginsLemmas.{begins_length}
 use Rattle.virtiofs_map.proofs.FittingLemmas.{begins_front, deciding_within, fits_is, front_more, label_begins}

@@ -9,8 +9,8 @@ use Rattle.virtiofs_map.specs.Names.{begins, first}
 use Rattle.virtiofs_map.specs.Rule.{MappingRule, HasNoZero, type_number}
 use Rattle.virtiofs_map.specs.Steps.{count_after}
 use Rattle.virtiofs_map.specs.ByteWordParts.{word_bytes}
-use Rattle.virtiofs_map.specs.declared.xattrmap.branches.Branch.{Branch}
-use Rattle.virtiofs_map.specs.declared.xattrmap.patterns.Pattern.{Pattern}
+use Rattle.virtiofs_map.specs.declared.xattrmap.trie.branch.Branch.{Branch}
+use Rattle.virtiofs_map.specs.declared.xattrmap.trie.patterns.Pattern.{Pattern}
 use Rattle.virtiofs_map.specs.declared.xattrmap.scopes.Side.{Side}
 use Rattle.virtiofs_map.specs.declared.xattrmap.spans.Span.{Span}
 

@@ -3,9 +3,9 @@ use Rattle.std.specs.Prelude.{◌≡◌, ◌≢◌, ◌⊎◌, ℕ, ◌+◌, ◌
 use Rattle.std.specs.Prelude.{Some, slice_get, slice_index}
 use Rattle.std.specs.Option.{option_map_or}
 use Rattle.virtiofs_map.specs.BranchParts.{no_answer, AreInOrder}
-use Rattle.virtiofs_map.specs.declared.xattrmap.branches.Branch.{Branch}
-use Rattle.virtiofs_map.specs.declared.xattrmap.growth.Part.{Part}
-use Rattle.virtiofs_map.specs.declared.xattrmap.patterns.Pattern.{Pattern}
+use Rattle.virtiofs_map.specs.declared.xattrmap.trie.branch.Branch.{Branch}
+use Rattle.virtiofs_map.specs.declared.xattrmap.trie.growth.Part.{Part}
+use Rattle.virtiofs_map.specs.declared.xattrmap.trie.patterns.Pattern.{Pattern}
 
 -- ---- patterns
 

@@ -34,7 +34,6 @@ mod piece;
 mod pieces;
 mod placed;
 mod row;
-mod search;
 mod stretches;
 mod texts;
 mod words;

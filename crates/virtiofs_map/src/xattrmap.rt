@@ -38,25 +38,18 @@ ghost use Rattle.virtiofs_map.specs.Rule.{MappingRule};
 ghost use Rattle.virtiofs_map.specs.RuleText.{SaysRules, CountsRules};
 ghost use Rattle.virtiofs_map.specs.RulesFault.{RulesFault, HasRulesFault, rules_fault_of};
 
-mod branches;
 mod client;
 mod errors;
-mod fronts;
-mod growth;
 pub mod image;
 pub mod laws;
 mod listed;
 mod lookup;
 mod names;
-mod patterns;
 mod reader;
-mod rows;
 pub(crate) mod rules;
 mod scopes;
-mod server;
 mod spans;
-mod trie_rows;
-mod walk;
+mod trie;
 mod words;
 mod written;
 
@@ -69,7 +62,7 @@ use rules::Rules;
 pub use scopes::Side;
 use std::alloc::{AllocError, Allocator, Global};
 use std::marker::Model;
-use trie_rows::trie_rows;
+use trie::trie_rows;
 
 /// A map of attribute names: its rules, in order. In contracts it is the list of its rules, where
 /// each `map` rule is replaced by the two or three rules that it is short for.

@@ -10,8 +10,8 @@ ghost use Rattle.virtiofs_map.specs.declared.soft_idmap.entry.Direction.{Directi
 ghost use Rattle.virtiofs_map.specs.declared.soft_idmap.entry.Entry.{Entry};
 
 use super::entry::Entry;
+use super::lookup::last_from;
 use super::piece::{Outcome, Piece};
-use super::search::last_from;
 use super::words::Ranges;
 use crate::Steps;
 

@@ -12,11 +12,10 @@ ghost use Rattle.virtiofs_map.specs.declared.xattrmap.scopes.Side.{Side};
 
 use crate::steps::Steps;
 use crate::xattrmap::XattrMap;
-use crate::xattrmap::branches::{NO_ANSWER, Trie};
 use crate::xattrmap::names::XattrName;
 use crate::xattrmap::rules::{RuleKind, RuleRef};
 use crate::xattrmap::scopes::Side;
-use crate::xattrmap::walk::{first_place, look_up};
+use crate::xattrmap::trie::{NO_ANSWER, Trie, first_place, look_up};
 use std::alloc::Allocator;
 
 /// The type and the place of the rule for which an answer of a trie stands.

@@ -7,10 +7,9 @@ ghost use Rattle.virtiofs_map.specs.Rule.{HasNoZero, MappingRule};
 use crate::xattrmap::XattrMap;
 use crate::xattrmap::image::header::{is_image, part};
 use crate::xattrmap::image::stored::read_rule;
-use crate::xattrmap::rows::ROW;
 use crate::xattrmap::rules::Rules;
 use crate::xattrmap::scopes::Side;
-use crate::xattrmap::trie_rows::trie_rows;
+use crate::xattrmap::trie::{ROW, trie_rows};
 use std::alloc::{AllocError, Allocator};
 
 /// Whether a zero is among the bytes.

@@ -9,12 +9,11 @@ ghost use Rattle.virtiofs_map.specs.NamesImageParts.{ArePartsOf};
 ghost use Rattle.virtiofs_map.specs.Rule.{MappingRule};
 ghost use Rattle.virtiofs_map.specs.declared.xattrmap.scopes.Side.{Side};
 
-use crate::xattrmap::branches::{NO_ANSWER, Trie};
 use crate::xattrmap::image::Decision;
 use crate::xattrmap::image::header::{is_image, part};
 use crate::xattrmap::image::stored::prepend_at;
 use crate::xattrmap::scopes::Side;
-use crate::xattrmap::walk::look_up;
+use crate::xattrmap::trie::{NO_ANSWER, Trie, look_up};
 
 /// The parts of an image that decide the names of a side.
 #[derive(Clone, Copy)]

@@ -8,9 +8,9 @@ ghost use Rattle.virtiofs_map.specs.Rule.{MappingRule, type_number};
 ghost use Rattle.virtiofs_map.specs.RuleParts.{rule_meant, type_of};
 ghost use Rattle.virtiofs_map.specs.declared.xattrmap.spans.Span.{Span};
 
-use crate::xattrmap::rows::{ROW, SHARE};
 use crate::xattrmap::rules::{RuleKind, RuleRef};
 use crate::xattrmap::scopes::Scope;
+use crate::xattrmap::trie::{ROW, SHARE};
 use crate::xattrmap::words::word_at;
 use bitflags::Flags;
 

@@ -10,10 +10,10 @@ ghost use Rattle.virtiofs_map.specs.declared.xattrmap.scopes.Side.TheVariants.{C
 
 use crate::xattrmap::image::fill::{put, put_word};
 use crate::xattrmap::image::header::{HEADER, KIND};
-use crate::xattrmap::rows::{ROW, SHARE};
 use crate::xattrmap::rules::{RuleRef, Rules};
 use crate::xattrmap::scopes::Side;
 use crate::xattrmap::spans::Span;
+use crate::xattrmap::trie::{ROW, SHARE};
 use std::alloc::Allocator;
 
 /// Every place of an image is below this.

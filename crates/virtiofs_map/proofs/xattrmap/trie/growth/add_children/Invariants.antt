@@ -1,0 +1,15 @@
+use Rattle.std.proofs.Common.{◌≤◌, ◌-◌}
+use Rattle.virtiofs_map.specs.GrowthParts.{AreAdded}
+use Rattle.virtiofs_map.proofs.xattrmap.trie.growth.add_children.Given as goal
+
+-- the children so far
+abbrev pub invariant-loop-low : goal.invariant-loop-low
+invariant-loop-low g l = record {
+  from : l.from ≤ l.low;
+  upto : l.low ≤ l.part.high;
+  added : AreAdded l.patterns l.initial.parts.items l.parts.items l.part l.lowest l.scattered l.low;
+}
+
+-- what is left
+abbrev pub decreases-loop-low : goal.decreases-loop-low
+decreases-loop-low g l = l.part.high - l.low
