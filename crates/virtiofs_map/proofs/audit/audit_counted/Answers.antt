@@ -4,9 +4,9 @@ use Rattle.virtiofs_map.specs.AuditParts.{none_tried, is_lost, within, guest_nam
 use Rattle.virtiofs_map.specs.Steps.{count_after}
 use Rattle.virtiofs_map.specs.declared.xattrmap.scopes.Side.TheVariants.{Server}
 use Rattle.virtiofs_map.proofs.AuditAlikeLemmas.{cover_all}
-use Rattle.virtiofs_map.proofs.AuditCountLemmas.{counts_between}
-use Rattle.virtiofs_map.proofs.AuditLeastLemmas.{found_least, answers_all, yes_where_none}
-use Rattle.virtiofs_map.proofs.AuditLostLemmas.{lost_decide, sound_where_none, none_where_sound}
+use Rattle.virtiofs_map.proofs.audit.AuditCountLemmas.{counts_between}
+use Rattle.virtiofs_map.proofs.audit.AuditLeastLemmas.{found_least, answers_all, yes_where_none}
+use Rattle.virtiofs_map.proofs.audit.AuditLostLemmas.{lost_decide, sound_where_none, none_where_sound}
 use Rattle.virtiofs_map.proofs.audit.audit_counted.Goals as goal
 
 pub returns : goal.returns

@@ -1,6 +1,6 @@
 use Rattle.virtiofs_map.specs.Audit.{OpensListed, IsStray}
-use Rattle.virtiofs_map.proofs.AuditLeastLemmas.{answers_all, if_ok_weaker, yes_where_none}
-use Rattle.virtiofs_map.proofs.AuditStrayLemmas.{opens_where_none, none_where_opens}
+use Rattle.virtiofs_map.proofs.audit.AuditLeastLemmas.{answers_all, if_ok_weaker, yes_where_none}
+use Rattle.virtiofs_map.proofs.audit.AuditStrayLemmas.{opens_where_none, none_where_opens}
 use Rattle.virtiofs_map.proofs.audit.audit_listed.Goals as goal
 
 pub returns : goal.returns

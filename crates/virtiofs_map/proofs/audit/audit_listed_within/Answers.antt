@@ -1,8 +1,8 @@
 use Rattle.std.proofs.Common.{◌∷◌, ◌++◌}
 use Rattle.virtiofs_map.specs.Audit.{Within, IsStray}
 use Rattle.virtiofs_map.specs.AuditParts.{is_stray, within, host_names, one_byte_names}
-use Rattle.virtiofs_map.proofs.AuditLeastLemmas.{finds_least, if_ok_weaker}
-use Rattle.virtiofs_map.proofs.AuditStrayLemmas.{stray_decide}
+use Rattle.virtiofs_map.proofs.audit.AuditLeastLemmas.{finds_least, if_ok_weaker}
+use Rattle.virtiofs_map.proofs.audit.AuditStrayLemmas.{stray_decide}
 use Rattle.virtiofs_map.proofs.audit.audit_listed_within.Goals as goal
 
 pub returns : goal.returns

@@ -3,8 +3,8 @@ use Rattle.virtiofs_map.specs.Audit.{Within, IsLost}
 use Rattle.virtiofs_map.specs.AuditParts.{is_lost, within, guest_names, one_byte_names}
 use Rattle.virtiofs_map.specs.declared.xattrmap.scopes.Side.TheVariants.{Server}
 use Rattle.virtiofs_map.proofs.AuditAlikeLemmas.{cover_within}
-use Rattle.virtiofs_map.proofs.AuditLeastLemmas.{finds_least, if_ok_given}
-use Rattle.virtiofs_map.proofs.AuditLostLemmas.{lost_decide}
+use Rattle.virtiofs_map.proofs.audit.AuditLeastLemmas.{finds_least, if_ok_given}
+use Rattle.virtiofs_map.proofs.audit.AuditLostLemmas.{lost_decide}
 use Rattle.virtiofs_map.proofs.audit.audit_within.Goals as goal
 
 pub returns : goal.returns

@@ -1,7 +1,7 @@
 use Rattle.virtiofs_map.specs.Audit.{Apart, Isolated, IsSeen}
-use Rattle.virtiofs_map.proofs.AuditLeastLemmas.{answers_all, if_ok_weaker, yes_where_none}
-use Rattle.virtiofs_map.proofs.AuditSeenLemmas.{apart_where_none, none_where_apart, isolated_where_apart}
-use Rattle.virtiofs_map.proofs.AuditSeenLemmas.{none_where_isolated}
+use Rattle.virtiofs_map.proofs.audit.AuditLeastLemmas.{answers_all, if_ok_weaker, yes_where_none}
+use Rattle.virtiofs_map.proofs.audit.AuditSeenLemmas.{apart_where_none, none_where_apart, isolated_where_apart}
+use Rattle.virtiofs_map.proofs.audit.AuditSeenLemmas.{none_where_isolated}
 use Rattle.virtiofs_map.proofs.audit.keeps_apart.Goals as goal
 
 pub returns : goal.returns

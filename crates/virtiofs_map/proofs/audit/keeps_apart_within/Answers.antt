@@ -2,8 +2,8 @@ use Rattle.std.proofs.Common.{◌∷◌, ◌++◌}
 use Rattle.virtiofs_map.specs.Audit.{Within, IsSeen}
 use Rattle.virtiofs_map.specs.AuditParts.{is_seen, within, guest_names, one_byte_names}
 use Rattle.virtiofs_map.specs.declared.xattrmap.scopes.Side.TheVariants.{Server}
-use Rattle.virtiofs_map.proofs.AuditLeastLemmas.{finds_least, if_ok_given}
-use Rattle.virtiofs_map.proofs.AuditSeenLemmas.{seen_decide}
+use Rattle.virtiofs_map.proofs.audit.AuditLeastLemmas.{finds_least, if_ok_given}
+use Rattle.virtiofs_map.proofs.audit.AuditSeenLemmas.{seen_decide}
 use Rattle.virtiofs_map.proofs.audit.keeps_apart_within.Goals as goal
 
 pub returns : goal.returns

@@ -1,6 +1,6 @@
 use Rattle.virtiofs_map.specs.Audit.{SharesNoName, IsShared}
-use Rattle.virtiofs_map.proofs.AuditLeastLemmas.{answers_all, if_ok_weaker, yes_where_none}
-use Rattle.virtiofs_map.proofs.AuditSharedLemmas.{disjoint_where_none, none_where_disjoint, disjoint_both_ways}
+use Rattle.virtiofs_map.proofs.audit.AuditLeastLemmas.{answers_all, if_ok_weaker, yes_where_none}
+use Rattle.virtiofs_map.proofs.audit.AuditSharedLemmas.{disjoint_where_none, none_where_disjoint, disjoint_both_ways}
 use Rattle.virtiofs_map.proofs.audit.shares_no_name.Goals as goal
 
 pub returns : goal.returns

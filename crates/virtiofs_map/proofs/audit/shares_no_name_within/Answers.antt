@@ -2,8 +2,8 @@ use Rattle.std.proofs.Common.{◌∷◌, ◌++◌}
 use Rattle.virtiofs_map.specs.Audit.{Within, IsShared}
 use Rattle.virtiofs_map.specs.AuditParts.{is_shared, within, guest_names, one_byte_names}
 use Rattle.virtiofs_map.specs.declared.xattrmap.scopes.Side.TheVariants.{Client}
-use Rattle.virtiofs_map.proofs.AuditLeastLemmas.{finds_least, if_ok_given}
-use Rattle.virtiofs_map.proofs.AuditSharedLemmas.{shared_decide}
+use Rattle.virtiofs_map.proofs.audit.AuditLeastLemmas.{finds_least, if_ok_given}
+use Rattle.virtiofs_map.proofs.audit.AuditSharedLemmas.{shared_decide}
 use Rattle.virtiofs_map.proofs.audit.shares_no_name_within.Goals as goal
 
 pub returns : goal.returns

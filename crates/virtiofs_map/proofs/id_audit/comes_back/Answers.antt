@@ -1,4 +1,4 @@
-use Rattle.virtiofs_map.proofs.IdAuditLemmas.{ComesBack-none, no_where_bad}
+use Rattle.virtiofs_map.proofs.id_audit.IdAuditLemmas.{ComesBack-none, no_where_bad}
 use Rattle.virtiofs_map.specs.IdAudit.{IsAstray, ComesBack}
 use Rattle.virtiofs_map.proofs.id_audit.comes_back.Goals as goal
 

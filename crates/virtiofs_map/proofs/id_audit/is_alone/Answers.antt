@@ -1,6 +1,6 @@
 use Rattle.std.proofs.Common.{Some, None, refl}
 use Rattle.virtiofs_map.specs.IdAudit.{IsShared, IsAlone}
-use Rattle.virtiofs_map.proofs.IdAuditLemmas.{no_where_bad, IsAlone-all, IsAlone-none, IsLeastIfAny-shared}
+use Rattle.virtiofs_map.proofs.id_audit.IdAuditLemmas.{no_where_bad, IsAlone-all, IsAlone-none, IsLeastIfAny-shared}
 use Rattle.virtiofs_map.proofs.id_audit.is_alone.Goals as goal
 
 pub returns-in_default-clause-answer : goal.returns-in_default-clause-answer

@@ -1,4 +1,4 @@
-use Rattle.virtiofs_map.proofs.IdAuditLemmas.{reached_all}
+use Rattle.virtiofs_map.proofs.id_audit.IdAuditLemmas.{reached_all}
 use Rattle.virtiofs_map.proofs.id_audit.reached.Goals as goal
 
 pub returns : goal.returns

@@ -1,5 +1,5 @@
 use Rattle.std.proofs.Common.{Some, None}
-use Rattle.virtiofs_map.proofs.IdAuditLemmas.{IsLeastIfAny-range}
+use Rattle.virtiofs_map.proofs.id_audit.IdAuditLemmas.{IsLeastIfAny-range}
 use Rattle.virtiofs_map.proofs.id_audit.reaches.Goals as goal
 
 pub returns-in_default : goal.returns-in_default

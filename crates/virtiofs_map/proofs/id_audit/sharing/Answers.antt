@@ -1,6 +1,6 @@
 use Rattle.std.proofs.Common.{◌+◌, Some, None, refl}
 use Rattle.virtiofs_map.specs.IdAudit.{GoesTo}
-use Rattle.virtiofs_map.proofs.IdAuditLemmas.{IsLeastIfAny-only, SharedAs-next, shares_later}
+use Rattle.virtiofs_map.proofs.id_audit.IdAuditLemmas.{IsLeastIfAny-only, SharedAs-next, shares_later}
 use Rattle.virtiofs_map.proofs.MappingLawLemmas.{Becomes-forbidden}
 use Rattle.virtiofs_map.proofs.id_audit.sharing.Goals as goal
 

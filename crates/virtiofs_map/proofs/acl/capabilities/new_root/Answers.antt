@@ -1,5 +1,5 @@
 use Rattle.std.proofs.lemmas.Result.{err_from_is_err_and}
-use Rattle.virtiofs_map.proofs.AclCapabilityLemmas.{HasRootFault-any, stays-any}
+use Rattle.virtiofs_map.proofs.acl.AclCapabilityLemmas.{HasRootFault-any, stays-any}
 use Rattle.virtiofs_map.proofs.acl.capabilities.new_root.Goals as goal
 
 pub returns-in_err-root-clause-refused : goal.returns-in_err-root-clause-refused

@@ -1,8 +1,8 @@
 use Rattle.std.proofs.Common.{◌≡◌, inl, ℕ, Some, refl, sym, ◌∙◌, subst}
 use Rattle.std.proofs.lemmas.Result.{err_from_is_err_and}
-use Rattle.virtiofs_map.proofs.AclCapabilityLemmas.{with_field, without_field, root_of-none, root_of-zero}
-use Rattle.virtiofs_map.proofs.AclCapabilityLemmas.{other_revision, HasCapabilityFault-root}
-use Rattle.virtiofs_map.proofs.AclChangeLemmas.{ChangesRoot-done, ChangesRoot-refused}
+use Rattle.virtiofs_map.proofs.acl.AclCapabilityLemmas.{with_field, without_field, root_of-none, root_of-zero}
+use Rattle.virtiofs_map.proofs.acl.AclCapabilityLemmas.{other_revision, HasCapabilityFault-root}
+use Rattle.virtiofs_map.proofs.acl.AclChangeLemmas.{ChangesRoot-done, ChangesRoot-refused}
 use Rattle.virtiofs_map.specs.Capability.{root_of}
 use Rattle.virtiofs_map.specs.Mapping.{Becomes}
 use Rattle.virtiofs_map.proofs.acl.capabilities.translate_root.Goals as goal

@@ -1,5 +1,5 @@
 use Rattle.std.proofs.lemmas.Result.{err_from_is_err_and}
-use Rattle.virtiofs_map.proofs.AclChangeLemmas.{WritesRevision3-done, WritesRevision3-refused}
+use Rattle.virtiofs_map.proofs.acl.AclChangeLemmas.{WritesRevision3-done, WritesRevision3-refused}
 use Rattle.virtiofs_map.proofs.acl.capabilities.write_revision_3.Goals as goal
 
 pub returns-in_err-root-clause-change : goal.returns-in_err-root-clause-change

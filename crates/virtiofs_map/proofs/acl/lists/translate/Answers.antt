@@ -1,7 +1,7 @@
 use Rattle.std.proofs.lemmas.Result.{err_from_is_err_and}
-use Rattle.virtiofs_map.proofs.AclChangeLemmas.{ChangesList-done, ChangesList-refused}
-use Rattle.virtiofs_map.proofs.AclFaultLemmas.{HasAclFault-size, HasAclFault-unsound_below}
-use Rattle.virtiofs_map.proofs.AclWriteLemmas.{IsTranslated-written}
+use Rattle.virtiofs_map.proofs.acl.AclChangeLemmas.{ChangesList-done, ChangesList-refused}
+use Rattle.virtiofs_map.proofs.acl.AclFaultLemmas.{HasAclFault-size, HasAclFault-unsound_below}
+use Rattle.virtiofs_map.proofs.acl.AclWriteLemmas.{IsTranslated-written}
 use Rattle.virtiofs_map.proofs.acl.lists.translate.Goals as goal
 
 pub returns-in_err-count-clause-change : goal.returns-in_err-count-clause-change

@@ -1,7 +1,7 @@
 use Rattle.std.proofs.Common.{◌≡◌, sym, ◌∙◌, arith}
 use Rattle.std.proofs.lemmas.Bool.{false≢true}
-use Rattle.virtiofs_map.proofs.AclMergeLemmas.{Accepted-for}
-use Rattle.virtiofs_map.proofs.AclWriteLemmas.{IsWritten-tag, IsWritten-id, IsWritten-pass, IsWritten-more}
+use Rattle.virtiofs_map.proofs.acl.AclMergeLemmas.{Accepted-for}
+use Rattle.virtiofs_map.proofs.acl.AclWriteLemmas.{IsWritten-tag, IsWritten-id, IsWritten-pass, IsWritten-more}
 use Rattle.virtiofs_map.proofs.MappingLawLemmas.{Becomes-forbidden}
 use Rattle.virtiofs_map.proofs.acl.lists.write_entries.Goals as goal
 use Rattle.virtiofs_map.proofs.acl.lists.write_entries.Goals.{then-has_id+in-Some, then-has_id+in_default, else-has_id}

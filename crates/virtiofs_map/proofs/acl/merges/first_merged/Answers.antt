@@ -1,4 +1,4 @@
-use Rattle.virtiofs_map.proofs.AclMergeLemmas.{Places-permutation, AreInOrder-sorted, none_found, first_found, in_value}
+use Rattle.virtiofs_map.proofs.acl.AclMergeLemmas.{Places-permutation, AreInOrder-sorted, none_found, first_found, in_value}
 use Rattle.virtiofs_map.proofs.acl.merges.first_merged.Goals as goal
 
 pub least_clash-requires-clause-in_value : goal.least_clash-requires-clause-in_value

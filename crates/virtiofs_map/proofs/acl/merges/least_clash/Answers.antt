@@ -1,6 +1,6 @@
 use Rattle.std.proofs.Common.{ℕ, ◌≤◌, Some, None, IfSome, IsSomeAnd, inl, inr, Option, sym, ◌∙◌, arith}
 use Rattle.std.proofs.lemmas.Bool.{false≢true}
-use Rattle.virtiofs_map.proofs.AclMergeLemmas.{MeetsClashes-more, HasClash-here}
+use Rattle.virtiofs_map.proofs.acl.AclMergeLemmas.{MeetsClashes-more, HasClash-here}
 use Rattle.virtiofs_map.proofs.acl.merges.least_clash.Goals as goal
 use Rattle.virtiofs_map.proofs.acl.merges.least_clash.Goals.{then-clash, else-clash}
 

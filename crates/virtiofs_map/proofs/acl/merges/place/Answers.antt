@@ -1,7 +1,7 @@
 use Rattle.std.proofs.Common.{◌≡◌, ◌<◌, length, refl, sym, ◌∙◌, arith}
 use Rattle.std.proofs.lemmas.Bool.{false≢true}
 use Rattle.std.proofs.lemmas.List.{take_more_set}
-use Rattle.virtiofs_map.proofs.AclMergeLemmas.{Accepted-for, Places-pass, Places-push, entries-more, entries-push}
+use Rattle.virtiofs_map.proofs.acl.AclMergeLemmas.{Accepted-for, Places-pass, Places-push, entries-more, entries-push}
 use Rattle.virtiofs_map.proofs.MappingLawLemmas.{Becomes-forbidden}
 use Rattle.virtiofs_map.proofs.acl.merges.place.Goals as goal
 use Rattle.virtiofs_map.proofs.acl.merges.place.Goals.{then-has_id+in-Some, then-has_id+in_default, else-has_id}

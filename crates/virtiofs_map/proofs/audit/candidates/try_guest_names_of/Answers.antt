@@ -1,6 +1,6 @@
 use Rattle.virtiofs_map.specs.AuditParts.{bad, rest_of}
 use Rattle.virtiofs_map.specs.RuleParts.{rule_meant}
-use Rattle.virtiofs_map.proofs.AuditLoopLemmas.{option_more}
+use Rattle.virtiofs_map.proofs.audit.AuditLoopLemmas.{option_more}
 use Rattle.virtiofs_map.proofs.audit.candidates.try_guest_names_of.Goals as goal
 
 pub loop-place-preserved : goal.loop-place-preserved

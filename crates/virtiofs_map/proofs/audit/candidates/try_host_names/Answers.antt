@@ -2,8 +2,8 @@ use Rattle.std.proofs.Common.{sym, ap, ◌∙◌, arith}
 use Rattle.std.proofs.lemmas.Result.{on_ok_weaker}
 use Rattle.virtiofs_map.specs.AuditParts.{bad, after, host_names_of, host_names, one_byte_names}
 use Rattle.virtiofs_map.specs.RuleParts.{rule_meant}
-use Rattle.virtiofs_map.proofs.AuditLeastLemmas.{after-append}
-use Rattle.virtiofs_map.proofs.AuditLoopLemmas.{flat_more, flat_all}
+use Rattle.virtiofs_map.proofs.audit.AuditLeastLemmas.{after-append}
+use Rattle.virtiofs_map.proofs.audit.AuditLoopLemmas.{flat_more, flat_all}
 use Rattle.virtiofs_map.proofs.audit.candidates.try_host_names.Goals as goal
 
 pub loop-place-preserved : goal.loop-place-preserved

@@ -4,7 +4,7 @@ use Rattle.std.specs.List.{cons_option}
 use Rattle.virtiofs_map.specs.AuditParts.{bad, after, try_one, whole_of}
 use Rattle.virtiofs_map.specs.RuleParts.{rule_meant}
 use Rattle.virtiofs_map.proofs.AuditFrontLemmas.{front_of_no_zero}
-use Rattle.virtiofs_map.proofs.AuditLoopLemmas.{option_more}
+use Rattle.virtiofs_map.proofs.audit.AuditLoopLemmas.{option_more}
 use Rattle.virtiofs_map.proofs.NoZeroLemmas.{IsNotZero}
 use Rattle.virtiofs_map.proofs.audit.candidates.try_host_names_of.Goals as goal
 use Rattle.virtiofs_map.proofs.audit.candidates.try_host_names_of.Goals.{then-has+in_ok-put_together+in_ok-try_name-2}

@@ -1,5 +1,5 @@
 use Rattle.std.proofs.Common.{◌≡◌, ◌+◌, arith}
-use Rattle.virtiofs_map.proofs.AuditLoopLemmas.{bytes_none, bytes_more, bytes_all}
+use Rattle.virtiofs_map.proofs.audit.AuditLoopLemmas.{bytes_none, bytes_more, bytes_all}
 use Rattle.virtiofs_map.specs.AuditParts.{bad}
 use Rattle.virtiofs_map.proofs.audit.candidates.try_one_byte_names.Goals as goal
 

@@ -1,6 +1,6 @@
 use Rattle.std.proofs.Common.{◌≡◌}
 use Rattle.virtiofs_map.specs.AuditParts.{bad, after}
-use Rattle.virtiofs_map.proofs.AuditLoopLemmas.{bytes_below}
+use Rattle.virtiofs_map.proofs.audit.AuditLoopLemmas.{bytes_below}
 use Rattle.virtiofs_map.proofs.audit.candidates.try_one_byte_names.Given as goal
 
 abbrev pub invariant-loop-byte : goal.invariant-loop-byte

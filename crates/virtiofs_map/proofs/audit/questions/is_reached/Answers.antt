@@ -1,7 +1,7 @@
 use Rattle.std.proofs.Common.{sym, ◌∙◌, arith}
 use Rattle.virtiofs_map.specs.AuditParts.{passes_as}
 use Rattle.virtiofs_map.specs.RuleParts.{rule_meant}
-use Rattle.virtiofs_map.proofs.AuditLoopLemmas.{any_here, any_more, any_all}
+use Rattle.virtiofs_map.proofs.audit.AuditLoopLemmas.{any_here, any_more, any_all}
 use Rattle.virtiofs_map.proofs.audit.questions.is_reached.Goals as goal
 
 pub loop-place-preserved : goal.loop-place-preserved

@@ -1,7 +1,7 @@
 use Rattle.std.proofs.Common.{◌≡◌, true, not, sym, ap, ◌∙◌}
 use Rattle.virtiofs_map.specs.AuditParts.{some_byte, all_bytes}
-use Rattle.virtiofs_map.proofs.AuditPassLemmas.{all_bytes_below, where_result}
-use Rattle.virtiofs_map.proofs.AuditSeenLemmas.{is_shown}
+use Rattle.virtiofs_map.proofs.audit.AuditPassLemmas.{all_bytes_below, where_result}
+use Rattle.virtiofs_map.proofs.audit.AuditSeenLemmas.{is_shown}
 use Rattle.virtiofs_map.proofs.audit.questions.is_seen.Goals as goal
 
 pub returns-then-not-is_empty : goal.returns-then-not-is_empty

@@ -1,6 +1,6 @@
 use Rattle.std.proofs.Common.{◌≡◌, true, not, sym, ap, ◌∙◌}
 use Rattle.virtiofs_map.specs.AuditParts.{some_byte, all_bytes, is_reached}
-use Rattle.virtiofs_map.proofs.AuditPassLemmas.{all_bytes_below, where_result}
+use Rattle.virtiofs_map.proofs.audit.AuditPassLemmas.{all_bytes_below, where_result}
 use Rattle.virtiofs_map.proofs.audit.questions.is_shared.Goals as goal
 
 pub returns-then-not-is_empty : goal.returns-then-not-is_empty

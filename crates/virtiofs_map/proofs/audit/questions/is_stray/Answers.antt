@@ -3,7 +3,7 @@ use Rattle.std.proofs.lemmas.List.{take_rest}
 use Rattle.std.proofs.lemmas.Option.{MatchOption-at_none}
 use Rattle.virtiofs_map.specs.AuditParts.{some_byte}
 use Rattle.virtiofs_map.proofs.AuditFrontLemmas.{none_is}
-use Rattle.virtiofs_map.proofs.AuditStrayLemmas.{stray_none, stray_some, front_length}
+use Rattle.virtiofs_map.proofs.audit.AuditStrayLemmas.{stray_none, stray_some, front_length}
 use Rattle.virtiofs_map.proofs.audit.questions.is_stray.Goals as goal
 
 pub slice_bounds-front-count : goal.slice_bounds-front-count

@@ -4,7 +4,7 @@ use Rattle.std.proofs.lemmas.Option.{MatchOption-at_none}
 use Rattle.virtiofs_map.specs.AuditParts.{adds}
 use Rattle.virtiofs_map.specs.RuleParts.{rule_meant}
 use Rattle.virtiofs_map.proofs.AuditFrontLemmas.{none_is}
-use Rattle.virtiofs_map.proofs.AuditSharedLemmas.{passes_at}
+use Rattle.virtiofs_map.proofs.audit.AuditSharedLemmas.{passes_at}
 use Rattle.virtiofs_map.proofs.audit.questions.passes_as.Goals as goal
 
 pub returns-in_default-front : goal.returns-in_default-front

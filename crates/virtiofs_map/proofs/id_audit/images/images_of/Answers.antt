@@ -1,7 +1,7 @@
 use Rattle.std.proofs.Common.{rules, arith}
 use Rattle.std.proofs.lemmas.List.Sorted.{IsNonDecreasingBy-from_sort_by_key}
 use Rattle.virtiofs_map.specs.declared.id_audit.spans.Span.{Span}
-use Rattle.virtiofs_map.proofs.ImageLemmas.{CountsSoFar-more, piece_given, AreImages-sorted}
+use Rattle.virtiofs_map.proofs.id_audit.ImageLemmas.{CountsSoFar-more, piece_given, AreImages-sorted}
 use Rattle.virtiofs_map.proofs.id_audit.images.images_of.Goals as goal
 
 pub loop-piece-preserved : goal.loop-piece-preserved

@@ -1,6 +1,6 @@
 use Rattle.std.proofs.Common.{All}
 use Rattle.virtiofs_map.specs.IdAuditParts.{IsSpan}
-use Rattle.virtiofs_map.proofs.ImageLemmas.{CountsSoFar}
+use Rattle.virtiofs_map.proofs.id_audit.ImageLemmas.{CountsSoFar}
 use Rattle.virtiofs_map.proofs.id_audit.images.images_of.Given as goal
 
 -- the spans are those of the pieces so far

@@ -2,7 +2,7 @@ use Rattle.std.proofs.Common.{rules}
 use Rattle.std.proofs.lemmas.List.Sorted.{All-permutation, IsNonDecreasingBy-from_sort_by_key}
 use Rattle.virtiofs_map.specs.IdAuditParts.{IsSpan}
 use Rattle.virtiofs_map.specs.declared.id_audit.spans.Span.{Span}
-use Rattle.virtiofs_map.proofs.AgainLemmas.{kept_without, kept_with, kept_sorted}
+use Rattle.virtiofs_map.proofs.id_audit.images.AgainLemmas.{kept_without, kept_with, kept_sorted}
 use Rattle.virtiofs_map.proofs.id_audit.images.in_order.Goals as goal
 
 pub loop-span-preserved-then-span : goal.loop-span-preserved-then-span

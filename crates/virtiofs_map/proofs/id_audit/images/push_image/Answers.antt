@@ -1,5 +1,5 @@
 use Rattle.std.proofs.Common.{refl, sym, ◌∙◌, arith}
-use Rattle.virtiofs_map.proofs.ImageLemmas.{counts-forbidden, counts-each, counts-one, counts-two}
+use Rattle.virtiofs_map.proofs.id_audit.ImageLemmas.{counts-forbidden, counts-each, counts-one, counts-two}
 use Rattle.virtiofs_map.proofs.id_audit.images.push_image.Goals as goal
 
 pub returns-in_default-clause-counts : goal.returns-in_default-clause-counts

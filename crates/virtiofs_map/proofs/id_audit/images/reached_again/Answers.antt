@@ -1,7 +1,7 @@
 use Rattle.std.proofs.Common.{◌≡◌, ◌<◌, length, get_or, refl, arith}
 use Rattle.std.proofs.lemmas.List.{get_or_default}
 use Rattle.virtiofs_map.specs.declared.id_audit.spans.Span.{Span}
-use Rattle.virtiofs_map.proofs.AgainLemmas.{SweptTo-start, SweptTo-pass, SweptTo-push, SweptTo-end}
+use Rattle.virtiofs_map.proofs.id_audit.images.AgainLemmas.{SweptTo-start, SweptTo-pass, SweptTo-push, SweptTo-end}
 use Rattle.virtiofs_map.proofs.id_audit.images.reached_again.Goals as goal
 use Rattle.virtiofs_map.proofs.id_audit.images.reached_again.Goals.{then-from-reached+in_ok-push, else-from-reached}
 

@@ -1,4 +1,4 @@
-use Rattle.virtiofs_map.proofs.AgainLemmas.{SweptTo}
+use Rattle.virtiofs_map.proofs.id_audit.images.AgainLemmas.{SweptTo}
 use Rattle.virtiofs_map.proofs.id_audit.images.reached_again.Given as goal
 
 -- what the images so far have again

@@ -1,5 +1,5 @@
 use Rattle.std.proofs.Common.{ℕ, ◌+◌, ◌-◌, Some, sym, ◌∙◌, arith}
-use Rattle.virtiofs_map.proofs.RoundTripLemmas.{ReturnsBy-all, ReturnsBy-each, back-each, back-all}
+use Rattle.virtiofs_map.proofs.id_audit.round_trips.RoundTripLemmas.{ReturnsBy-all, ReturnsBy-each, back-each, back-all}
 use Rattle.virtiofs_map.proofs.id_audit.round_trips.round_trip.Goals as goal
 
 pub returns-then-not-is_one_to_one-clause-returns : goal.returns-then-not-is_one_to_one-clause-returns

@@ -1,4 +1,4 @@
-use Rattle.virtiofs_map.proofs.SpanLemmas.{NoneSoFar-more, NoneSoFar-found, NoneSoFar-end}
+use Rattle.virtiofs_map.proofs.id_audit.spans.SpanLemmas.{NoneSoFar-more, NoneSoFar-found, NoneSoFar-end}
 use Rattle.virtiofs_map.proofs.id_audit.spans.least_into.Goals as goal
 
 pub returns-in-Some-least_of-clause-least : goal.returns-in-Some-least_of-clause-least

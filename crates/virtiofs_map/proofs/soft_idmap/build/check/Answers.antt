@@ -1,5 +1,5 @@
 use Rattle.std.proofs.lemmas.Result.{err_from_is_err_and}
-use Rattle.virtiofs_map.proofs.BuildLemmas.{Accepted-more, HasFirstFault-here}
+use Rattle.virtiofs_map.proofs.soft_idmap.build.BuildLemmas.{Accepted-more, HasFirstFault-here}
 use Rattle.virtiofs_map.proofs.soft_idmap.build.check.Goals as goal
 
 pub returns-in_err-check_direction : goal.returns-in_err-check_direction

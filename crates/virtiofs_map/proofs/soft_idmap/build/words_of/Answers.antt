@@ -1,5 +1,5 @@
 use Rattle.virtiofs_map.specs.declared.soft_idmap.entry.Direction.TheVariants.{GuestToHost, HostToGuest}
-use Rattle.virtiofs_map.proofs.WrittenLemmas.{placed-count}
+use Rattle.virtiofs_map.proofs.soft_idmap.WrittenLemmas.{placed-count}
 use Rattle.virtiofs_map.proofs.soft_idmap.build.words_of.Goals as goal
 
 pub of-requires-clause-guests : goal.of-requires-clause-guests

@@ -2,7 +2,7 @@ use Rattle.std.proofs.lemmas.Result.{err_from_is_err_and}
 use Rattle.virtiofs_map.specs.Build.{HasFirstFault}
 use Rattle.virtiofs_map.proofs.BuildFaultLemmas.{Accepted-no_fault, HasFirstFault-one}
 use Rattle.virtiofs_map.proofs.ReaderLemmas.{out_of_memory, told_fault}
-use Rattle.virtiofs_map.proofs.WrittenLemmas.{placed-count}
+use Rattle.virtiofs_map.proofs.soft_idmap.WrittenLemmas.{placed-count}
 use Rattle.virtiofs_map.specs.declared.soft_idmap.entry.Direction.TheVariants.{GuestToHost, HostToGuest}
 use Rattle.virtiofs_map.proofs.soft_idmap.image.write_image.Goals as goal
 

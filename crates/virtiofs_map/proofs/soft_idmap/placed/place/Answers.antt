@@ -1,7 +1,7 @@
 use Rattle.std.proofs.Common.{rules}
 use Rattle.std.proofs.lemmas.List.Sorted.{IsNonDecreasingBy-from_sort_by_key}
 use Rattle.virtiofs_map.specs.Mapping.{first_of}
-use Rattle.virtiofs_map.proofs.PlacedLemmas.{Places-permutation}
+use Rattle.virtiofs_map.proofs.soft_idmap.placed.PlacedLemmas.{Places-permutation}
 use Rattle.virtiofs_map.proofs.soft_idmap.placed.place.Goals as goal
 
 pub returns : goal.returns

@@ -1,6 +1,6 @@
 use Rattle.std.proofs.Common.{◌≡◌, ◌≤◌, ℕ, ◌∙◌, sym, refl, arith}
 use Rattle.std.proofs.lemmas.Bool.{false≢true}
-use Rattle.virtiofs_map.proofs.PlacedLemmas.{Places-add, Places-empty, Places-no_entry}
+use Rattle.virtiofs_map.proofs.soft_idmap.placed.PlacedLemmas.{Places-add, Places-empty, Places-no_entry}
 use Rattle.virtiofs_map.proofs.soft_idmap.placed.placed_of.Goals as goal
 use Rattle.virtiofs_map.proofs.soft_idmap.placed.placed_of.Goals.{in-Some+then-not-is_empty+in_ok-push}
 use Rattle.virtiofs_map.proofs.soft_idmap.placed.placed_of.Goals.{in-Some+else-not-is_empty, in_default}

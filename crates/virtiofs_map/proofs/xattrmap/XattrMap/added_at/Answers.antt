@@ -1,6 +1,6 @@
 use Rattle.std.proofs.Common.{sym, ap}
 use Rattle.virtiofs_map.specs.RuleParts.{rule_meant, type_of}
-use Rattle.virtiofs_map.proofs.AddedLemmas.{its_prepend}
+use Rattle.virtiofs_map.proofs.xattrmap.AddedLemmas.{its_prepend}
 use Rattle.virtiofs_map.proofs.xattrmap.XattrMap.added_at.Goals as goal
 
 pub returns-in-Prefix : goal.returns-in-Prefix

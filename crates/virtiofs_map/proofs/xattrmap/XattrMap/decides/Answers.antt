@@ -1,7 +1,7 @@
 use Rattle.std.proofs.Common.{inl, inr, sym, ◌∙◌}
 use Rattle.std.proofs.lemmas.Bool.{true≢false, false_from_ne_true}
 use Rattle.virtiofs_map.specs.declared.xattrmap.scopes.Side.TheVariants.{Client, Server}
-use Rattle.virtiofs_map.proofs.DecidingLemmas.{on_a_side, shadowed_on_both, shadowed_decides_none}
+use Rattle.virtiofs_map.proofs.xattrmap.DecidingLemmas.{on_a_side, shadowed_on_both, shadowed_decides_none}
 use Rattle.virtiofs_map.proofs.xattrmap.XattrMap.decides.Goals as goal
 
 pub returns-then-decides_on-clause-patterns : goal.returns-then-decides_on-clause-patterns

@@ -3,7 +3,7 @@ use Rattle.std.proofs.lemmas.Bool.{true≢false}
 use Rattle.virtiofs_map.specs.FirstRule.{pattern}
 use Rattle.virtiofs_map.specs.Names.{first}
 use Rattle.virtiofs_map.specs.RuleParts.{rule_meant}
-use Rattle.virtiofs_map.proofs.DecidingLemmas.{own_pattern_decided, none_decided_past, taken_where_not_first}
+use Rattle.virtiofs_map.proofs.xattrmap.DecidingLemmas.{own_pattern_decided, none_decided_past, taken_where_not_first}
 use Rattle.virtiofs_map.proofs.xattrmap.XattrMap.decides_on.Goals as goal
 
 pub returns-in-Some-clause-names : goal.returns-in-Some-clause-names

@@ -3,7 +3,7 @@ use Rattle.std.specs.List.{slice_get}
 use Rattle.std.specs.Option.{option_map}
 use Rattle.virtiofs_map.specs.Rule.{MappingRule}
 use Rattle.virtiofs_map.specs.declared.xattrmap.scopes.Side.TheVariants.{Server}
-use Rattle.virtiofs_map.proofs.FirstNameLemmas.{deciding_of_list}
+use Rattle.virtiofs_map.proofs.xattrmap.FirstNameLemmas.{deciding_of_list}
 use Rattle.virtiofs_map.proofs.xattrmap.XattrMap.deciding_first.Goals as goal
 
 pub returns-clause-kind : goal.returns-clause-kind

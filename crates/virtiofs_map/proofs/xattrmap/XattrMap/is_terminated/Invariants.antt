@@ -1,4 +1,4 @@
-use Rattle.virtiofs_map.proofs.TerminatedLemmas.{BytesDecided}
+use Rattle.virtiofs_map.proofs.xattrmap.TerminatedLemmas.{BytesDecided}
 use Rattle.virtiofs_map.proofs.xattrmap.XattrMap.is_terminated.Given as goal
 
 abbrev pub invariant-loop-byte : goal.invariant-loop-byte

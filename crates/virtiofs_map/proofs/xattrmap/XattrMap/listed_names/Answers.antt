@@ -1,4 +1,4 @@
-use Rattle.virtiofs_map.proofs.ListingLemmas.{list_of-listing}
+use Rattle.virtiofs_map.proofs.xattrmap.ListingLemmas.{list_of-listing}
 use Rattle.virtiofs_map.proofs.xattrmap.XattrMap.listed_names.Goals as goal
 
 pub returns-clause-whole_list : goal.returns-clause-whole_list

@@ -1,6 +1,6 @@
 use Rattle.std.proofs.Common.{arith}
 use Rattle.std.proofs.lemmas.Bool.Decides.{nat_tests}
-use Rattle.virtiofs_map.proofs.ListingLemmas.{IsSoFar-first, IsSoFar-name, IsSoFar-length}
+use Rattle.virtiofs_map.proofs.xattrmap.ListingLemmas.{IsSoFar-first, IsSoFar-name, IsSoFar-length}
 use Rattle.virtiofs_map.proofs.MapRuleLemmas.{guests_apart}
 use Rattle.virtiofs_map.proofs.xattrmap.XattrMap.map_server_xattrlist.Goals as goal
 use Rattle.virtiofs_map.proofs.xattrmap.XattrMap.map_server_xattrlist.Goals.{then-is_empty+in_ok-push, else-is_empty}

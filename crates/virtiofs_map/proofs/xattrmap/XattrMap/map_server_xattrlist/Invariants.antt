@@ -1,4 +1,4 @@
-use Rattle.virtiofs_map.proofs.ListingLemmas.{IsSoFar}
+use Rattle.virtiofs_map.proofs.xattrmap.ListingLemmas.{IsSoFar}
 use Rattle.virtiofs_map.proofs.xattrmap.XattrMap.map_server_xattrlist.Given as goal
 
 abbrev pub invariant-names : goal.invariant-names

@@ -1,6 +1,6 @@
 use Rattle.std.proofs.Common.{◌+◌, ◌≤◌, sym, subst}
 use Rattle.virtiofs_map.specs.AddedParts.{IsAddedBelow}
-use Rattle.virtiofs_map.proofs.AddedLemmas.{none_so_far, one_more, one_longer, all_of_them}
+use Rattle.virtiofs_map.proofs.xattrmap.AddedLemmas.{none_so_far, one_more, one_longer, all_of_them}
 use Rattle.virtiofs_map.proofs.xattrmap.XattrMap.most_added.Goals as goal
 use Rattle.virtiofs_map.proofs.xattrmap.XattrMap.most_added.Goals.{then-added-most, else-added-most}
 

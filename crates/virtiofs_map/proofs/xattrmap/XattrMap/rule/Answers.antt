@@ -1,5 +1,5 @@
 use Rattle.virtiofs_map.specs.Rule.{HasNoZero}
-use Rattle.virtiofs_map.proofs.KeptRuleLemmas.{lent_has}
+use Rattle.virtiofs_map.proofs.xattrmap.KeptRuleLemmas.{lent_has}
 use Rattle.virtiofs_map.proofs.xattrmap.XattrMap.rule.Goals as goal
 
 pub returns-clause-no_zero : goal.returns-clause-no_zero

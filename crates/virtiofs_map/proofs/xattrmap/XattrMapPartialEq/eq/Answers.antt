@@ -1,6 +1,6 @@
 use Rattle.std.proofs.Common.{◌≡◌}
 use Rattle.virtiofs_map.specs.Rule.{same_rules}
-use Rattle.virtiofs_map.proofs.RuleEqualityLemmas.{same_rules-Decides}
+use Rattle.virtiofs_map.proofs.xattrmap.RuleEqualityLemmas.{same_rules-Decides}
 use Rattle.virtiofs_map.proofs.xattrmap.XattrMapPartialEq.eq.Goals as goal
 
 pub returns-clause-equal : goal.returns-clause-equal

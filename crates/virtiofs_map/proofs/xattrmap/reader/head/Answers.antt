@@ -6,7 +6,7 @@ use Rattle.virtiofs_map.specs.RuleParts.{type_of}
 use Rattle.virtiofs_map.specs.RuleText.{Fields, type_word}
 use Rattle.virtiofs_map.proofs.CutLemmas.{field_here}
 use Rattle.virtiofs_map.proofs.RuleFieldLemmas.{unfinished_none, unfinished_type, fields_append}
-use Rattle.virtiofs_map.proofs.RuleWordLemmas.{chars_word, word_from_chars, is_word}
+use Rattle.virtiofs_map.proofs.xattrmap.RuleWordLemmas.{chars_word, word_from_chars, is_word}
 use Rattle.virtiofs_map.proofs.xattrmap.reader.head.Goals as goal
 
 pub returns-in_default-clause-err : goal.returns-in_default-clause-err

@@ -3,7 +3,7 @@ use Rattle.std.specs.Char.{encode_utf8}
 use Rattle.std.specs.Str.{chars}
 use Rattle.virtiofs_map.specs.Rule.{Prefix, Okay, Bad, Unsupported}
 use Rattle.virtiofs_map.specs.RuleText.{type_word}
-use Rattle.virtiofs_map.proofs.RuleWordLemmas.{chars_word, word_from_chars}
+use Rattle.virtiofs_map.proofs.xattrmap.RuleWordLemmas.{chars_word, word_from_chars}
 use Rattle.virtiofs_map.proofs.xattrmap.reader.kind_of.Goals as goal
 
 pub returns-in-prefix-clause-found : goal.returns-in-prefix-clause-found

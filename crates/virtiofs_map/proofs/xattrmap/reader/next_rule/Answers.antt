@@ -6,7 +6,7 @@ use Rattle.virtiofs_map.specs.RuleParts.{head_of, as_written, IsOpened}
 use Rattle.virtiofs_map.specs.RuleText as texts
 use Rattle.virtiofs_map.specs.declared.xattrmap.written.Head.TheVariants.{Map}
 use Rattle.virtiofs_map.proofs.RuleFieldLemmas.{opens_at, empty_is_not_opened, fault_from}
-use Rattle.virtiofs_map.proofs.RuleWordLemmas.{chars_nonempty}
+use Rattle.virtiofs_map.proofs.xattrmap.RuleWordLemmas.{chars_nonempty}
 use Rattle.virtiofs_map.proofs.xattrmap.reader.next_rule.Goals as goal
 
 pub returns-in_default-clause-err : goal.returns-in_default-clause-err

@@ -5,9 +5,9 @@ use Rattle.virtiofs_map.specs.RuleParts.{KeptRules, as_written}
 use Rattle.virtiofs_map.specs.RuleText.{SaysRules}
 use Rattle.virtiofs_map.proofs.ReadSoFarLemmas.{start, opened, refused_at, not_out_of_memory, step, finish, nothing}
 use Rattle.virtiofs_map.proofs.ReadSoFarLemmas.{rule_shorter, items_none, items_some}
-use Rattle.virtiofs_map.proofs.MadeRuleLemmas.{head_is_map}
+use Rattle.virtiofs_map.proofs.xattrmap.MadeRuleLemmas.{head_is_map}
 use Rattle.virtiofs_map.proofs.TrimLemmas.{chars-trim, skips}
-use Rattle.virtiofs_map.proofs.RuleWordLemmas.{chars_empty, chars_nonempty}
+use Rattle.virtiofs_map.proofs.xattrmap.RuleWordLemmas.{chars_empty, chars_nonempty}
 use Rattle.virtiofs_map.proofs.xattrmap.reader.read_rules.Goals as goal
 
 pub loop-number-init : goal.loop-number-init

@@ -2,7 +2,7 @@ use Rattle.std.proofs.Common.{◌≡◌, refl}
 use Rattle.std.specs.Char.{encode_utf8}
 use Rattle.std.specs.Str.{chars}
 use Rattle.virtiofs_map.specs.RuleText.{All, Client, Server, scope_word}
-use Rattle.virtiofs_map.proofs.RuleWordLemmas.{chars_word, word_from_chars}
+use Rattle.virtiofs_map.proofs.xattrmap.RuleWordLemmas.{chars_word, word_from_chars}
 use Rattle.virtiofs_map.proofs.xattrmap.reader.scope_word_of.Goals as goal
 
 pub returns-in-all-clause-found : goal.returns-in-all-clause-found

@@ -1,4 +1,4 @@
-use Rattle.virtiofs_map.proofs.PatternLemmas.{AreReady-made}
+use Rattle.virtiofs_map.proofs.xattrmap.trie.PatternLemmas.{AreReady-made}
 use Rattle.virtiofs_map.proofs.xattrmap.trie.trie_rows.Goals as goal
 
 pub grow-requires : goal.grow-requires

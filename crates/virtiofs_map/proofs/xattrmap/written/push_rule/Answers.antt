@@ -1,6 +1,6 @@
 use Rattle.std.proofs.Common.{◌++◌, ◌∷◌, [], ap, ◌∙◌}
 use Rattle.std.proofs.lemmas.Result.{on_ok_weaker}
-use Rattle.virtiofs_map.proofs.MadeRuleLemmas.{made-rule_of}
+use Rattle.virtiofs_map.proofs.xattrmap.MadeRuleLemmas.{made-rule_of}
 use Rattle.virtiofs_map.proofs.xattrmap.written.push_rule.Goals as goal
 
 pub returns : goal.returns

@@ -1,5 +1,5 @@
-use Rattle.virtiofs_map.proofs.MadeRuleLemmas.{pushed_two, pushed_three}
-use Rattle.virtiofs_map.proofs.RuleWordLemmas.{chars_empty, chars_nonempty}
+use Rattle.virtiofs_map.proofs.xattrmap.MadeRuleLemmas.{pushed_two, pushed_three}
+use Rattle.virtiofs_map.proofs.xattrmap.RuleWordLemmas.{chars_empty, chars_nonempty}
 use Rattle.virtiofs_map.proofs.xattrmap.written.push_rules.Goals as goal
 
 pub returns-in_ok-push_rule-in-Map-2 : goal.returns-in_ok-push_rule-in-Map-2

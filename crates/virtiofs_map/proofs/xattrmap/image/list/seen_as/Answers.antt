@@ -1,5 +1,5 @@
 use Rattle.std.proofs.Common.{arith}
-use Rattle.virtiofs_map.proofs.NamesDecisionLemmas.{prefix_within}
+use Rattle.virtiofs_map.proofs.xattrmap.image.list.NamesDecisionLemmas.{prefix_within}
 use Rattle.virtiofs_map.proofs.xattrmap.image.list.seen_as.Goals as goal
 
 pub returns-else-prepend-name-clause-seen : goal.returns-else-prepend-name-clause-seen

@@ -2,7 +2,7 @@ use Rattle.std.proofs.Common.{◌≡◌, ◌+◌, ◌<◌, ◌≤◌, List, leng
 use Rattle.virtiofs_map.specs.NamesImageParts.{ArePartsOf}
 use Rattle.virtiofs_map.specs.Rule.{MappingRule}
 use Rattle.virtiofs_map.specs.declared.xattrmap.scopes.Side.TheVariants.{Server}
-use Rattle.virtiofs_map.proofs.NamesListLemmas.{IsListedSoFar}
+use Rattle.virtiofs_map.proofs.xattrmap.image.list.NamesListLemmas.{IsListedSoFar}
 use Rattle.virtiofs_map.proofs.xattrmap.image.list.write_list.Given as goal
 
 -- what was written, with the names that are left, comes to the whole list

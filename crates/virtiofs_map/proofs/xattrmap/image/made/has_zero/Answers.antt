@@ -1,4 +1,4 @@
-use Rattle.virtiofs_map.proofs.NamesMadeLemmas.{any_zero}
+use Rattle.virtiofs_map.proofs.xattrmap.image.made.NamesMadeLemmas.{any_zero}
 use Rattle.virtiofs_map.proofs.xattrmap.image.made.has_zero.Goals as goal
 
 pub returns : goal.returns

@@ -3,7 +3,7 @@ use Rattle.std.proofs.lemmas.List.{take_all}
 use Rattle.std.proofs.lemmas.List.Elements.{All-push}
 use Rattle.virtiofs_map.specs.Rule.{HasNoZero}
 use Rattle.virtiofs_map.specs.RuleParts.{rule_meant}
-use Rattle.virtiofs_map.proofs.NamesMadeLemmas.{as_many, one_more, not_missing, has_none}
+use Rattle.virtiofs_map.proofs.xattrmap.image.made.NamesMadeLemmas.{as_many, one_more, not_missing, has_none}
 use Rattle.virtiofs_map.proofs.xattrmap.image.made.rules_of.Goals as goal
 use Rattle.virtiofs_map.proofs.xattrmap.image.made.rules_of.Goals.{then-has_zero-via-then-has_zero}
 use Rattle.virtiofs_map.proofs.xattrmap.image.made.rules_of.Goals.{then-has_zero-via-else-has_zero+then-has_zero-2}

@@ -1,4 +1,4 @@
-use Rattle.virtiofs_map.proofs.NamesImageLemmas.{has_image}
+use Rattle.virtiofs_map.proofs.xattrmap.image.write.NamesImageLemmas.{has_image}
 use Rattle.virtiofs_map.proofs.xattrmap.image.write.places_of.Goals as goal
 use Rattle.std.proofs.Common.{ap, arith, length}
 

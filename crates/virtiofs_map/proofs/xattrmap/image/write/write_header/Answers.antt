@@ -3,8 +3,8 @@ use Rattle.std.proofs.Common.{length-append}
 use Rattle.virtiofs_map.specs.ByteWordParts.{word_bytes}
 use Rattle.virtiofs_map.specs.NamesImage.{image_kind}
 use Rattle.virtiofs_map.specs.NamesImageParts.{Holds}
-use Rattle.virtiofs_map.proofs.ByteWordLemmas.{length-word_bytes}
-use Rattle.virtiofs_map.proofs.NamesImageLemmas.{holds_none}
+use Rattle.virtiofs_map.proofs.xattrmap.ByteWordLemmas.{length-word_bytes}
+use Rattle.virtiofs_map.proofs.xattrmap.image.write.NamesImageLemmas.{holds_none}
 use Rattle.virtiofs_map.proofs.xattrmap.image.write.write_header.Goals as goal
 
 -- a number more has eight bytes more

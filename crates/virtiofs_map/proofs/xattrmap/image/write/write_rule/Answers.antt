@@ -1,8 +1,8 @@
 use Rattle.std.proofs.Common.{ℕ, ◌+◌, ◌*◌, List, ◌++◌, length-append, arith}
 use Rattle.virtiofs_map.specs.ByteWordParts.{word_bytes}
 use Rattle.virtiofs_map.specs.RuleParts.{rule_meant}
-use Rattle.virtiofs_map.proofs.ByteWordLemmas.{length-word_bytes}
-use Rattle.virtiofs_map.proofs.RuleRowLemmas.{three_written}
+use Rattle.virtiofs_map.proofs.xattrmap.ByteWordLemmas.{length-word_bytes}
+use Rattle.virtiofs_map.proofs.xattrmap.image.RuleRowLemmas.{three_written}
 use Rattle.virtiofs_map.proofs.xattrmap.image.write.write_rule.Goals as goal
 
 pub returns-clause-holds : goal.returns-clause-holds

@@ -2,7 +2,7 @@ use Rattle.std.proofs.Common.{ℕ, List, ◌++◌, take, subst, arith, length-ap
 use Rattle.virtiofs_map.specs.NamesImage.{rule_rows}
 use Rattle.virtiofs_map.specs.NamesImageParts.{Holds}
 use Rattle.virtiofs_map.specs.RuleParts.{rule_meant}
-use Rattle.virtiofs_map.proofs.RuleRowLemmas.{length-rows_upto, rule_rows-next, rule_rows-whole}
+use Rattle.virtiofs_map.proofs.xattrmap.image.RuleRowLemmas.{length-rows_upto, rule_rows-next, rule_rows-whole}
 use Rattle.virtiofs_map.proofs.xattrmap.image.write.write_rules.Goals as goal
 
 pub loop-place-preserved : goal.loop-place-preserved

@@ -6,7 +6,7 @@ use Rattle.virtiofs_map.specs.Rule.{MappingRule}
 use Rattle.virtiofs_map.specs.declared.xattrmap.errors.ErrorKind.TheVariants.{UnterminatedMapping}
 use Rattle.virtiofs_map.specs.declared.xattrmap.scopes.Side.TheVariants.{Server}
 use Rattle.virtiofs_map.proofs.ServerListLemmas.{is_name, IsCut}
-use Rattle.virtiofs_map.proofs.ListingLemmas.{listing_shown, listing_hidden, listing_undecided, one_less}
+use Rattle.virtiofs_map.proofs.xattrmap.ListingLemmas.{listing_shown, listing_hidden, listing_undecided, one_less}
 use Rattle.virtiofs_map.proofs.xattrmap.listed.ListedNamesIterator.next.Goals as goal
 
 -- what decides the name is what decides the first name of the list

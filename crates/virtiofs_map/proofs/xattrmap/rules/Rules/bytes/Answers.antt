@@ -1,7 +1,7 @@
 use Rattle.std.proofs.Common.{subst}
 use Rattle.virtiofs_map.specs.BranchParts.{AreSpans}
 use Rattle.virtiofs_map.specs.RuleParts.{KeptRules}
-use Rattle.virtiofs_map.proofs.KeptRuleLemmas.{spans_are}
+use Rattle.virtiofs_map.proofs.xattrmap.KeptRuleLemmas.{spans_are}
 use Rattle.virtiofs_map.proofs.xattrmap.rules.Rules.bytes.Goals as goal
 
 pub returns-clause-spans : goal.returns-clause-spans

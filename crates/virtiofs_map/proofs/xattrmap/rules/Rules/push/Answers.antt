@@ -1,6 +1,6 @@
 use Rattle.std.proofs.Common.{refl, ap, ◌++◌, ◌∷◌, [], ◌∙◌}
 use Rattle.virtiofs_map.specs.RuleParts.{KeptRules, rule_with}
-use Rattle.virtiofs_map.proofs.KeptRuleLemmas.{among_pushed, list_pushed}
+use Rattle.virtiofs_map.proofs.xattrmap.KeptRuleLemmas.{among_pushed, list_pushed}
 use Rattle.virtiofs_map.proofs.xattrmap.rules.Rules.push.Goals as goal
 
 pub invariant_of-self-2 : goal.invariant_of-self-2

@@ -1,5 +1,5 @@
 use Rattle.std.proofs.Common.{arith}
-use Rattle.virtiofs_map.proofs.SharedLemmas.{shared_ended}
+use Rattle.virtiofs_map.proofs.xattrmap.trie.SharedLemmas.{shared_ended}
 use Rattle.virtiofs_map.proofs.xattrmap.trie.fronts.shared_length.Goals as goal
 
 pub returns-after-loop-count : goal.returns-after-loop-count

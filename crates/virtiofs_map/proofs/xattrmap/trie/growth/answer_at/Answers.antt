@@ -1,4 +1,4 @@
-use Rattle.virtiofs_map.proofs.GrowthTextLemmas.{number-read}
+use Rattle.virtiofs_map.proofs.xattrmap.trie.growth.GrowthTextLemmas.{number-read}
 use Rattle.virtiofs_map.proofs.xattrmap.trie.growth.answer_at.Goals as goal
 
 pub returns : goal.returns

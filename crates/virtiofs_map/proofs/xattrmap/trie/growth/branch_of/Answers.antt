@@ -1,10 +1,10 @@
 use Rattle.std.proofs.Common.{◌+◌, ◌-◌, ◌<◌, sym, subst, arith}
 use Rattle.virtiofs_map.specs.GrowthParts.{IsBranched, AreAdded}
 use Rattle.virtiofs_map.specs.declared.xattrmap.trie.branch.Branch.{Branch}
-use Rattle.virtiofs_map.proofs.GrowthLemmas.{branched_bare, branched_ended, branched_on, least_ended, place_here}
-use Rattle.virtiofs_map.proofs.GrowthLemmas.{part_here}
-use Rattle.virtiofs_map.proofs.ChildrenLemmas.{row}
-use Rattle.virtiofs_map.proofs.PatternOrderLemmas.{ends}
+use Rattle.virtiofs_map.proofs.xattrmap.trie.growth.GrowthLemmas.{branched_bare, branched_ended, branched_on, least_ended, place_here}
+use Rattle.virtiofs_map.proofs.xattrmap.trie.growth.GrowthLemmas.{part_here}
+use Rattle.virtiofs_map.proofs.xattrmap.trie.growth.ChildrenLemmas.{row}
+use Rattle.virtiofs_map.proofs.xattrmap.trie.growth.PatternOrderLemmas.{ends}
 use Rattle.virtiofs_map.proofs.xattrmap.trie.growth.branch_of.Goals as goal
 
 pub returns-then-part : goal.returns-then-part

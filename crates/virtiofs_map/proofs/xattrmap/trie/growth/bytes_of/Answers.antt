@@ -1,4 +1,4 @@
-use Rattle.virtiofs_map.proofs.GrowthTextLemmas.{text-read}
+use Rattle.virtiofs_map.proofs.xattrmap.trie.growth.GrowthTextLemmas.{text-read}
 use Rattle.virtiofs_map.proofs.xattrmap.trie.growth.bytes_of.Goals as goal
 
 pub returns : goal.returns

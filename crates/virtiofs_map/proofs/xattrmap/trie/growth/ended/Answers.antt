@@ -1,7 +1,7 @@
 use Rattle.std.proofs.Common.{◌≡◌, length, inl, inr, sym, ap, ◌∙◌, arith}
 use Rattle.std.proofs.lemmas.Bool.{cases_lt}
 use Rattle.virtiofs_map.specs.GrowthParts.{text}
-use Rattle.virtiofs_map.proofs.AnswerLemmas.{IsLeastOf-more}
+use Rattle.virtiofs_map.proofs.xattrmap.trie.growth.AnswerLemmas.{IsLeastOf-more}
 use Rattle.virtiofs_map.proofs.xattrmap.trie.growth.ended.Goals as goal
 
 pub loop-at-preserved : goal.loop-at-preserved

@@ -1,6 +1,6 @@
 use Rattle.std.proofs.Common.{◌≡◌, length, arith}
-use Rattle.virtiofs_map.proofs.GrownTrieLemmas.{is_trie, are_bounded}
-use Rattle.virtiofs_map.proofs.LevelLemmas.{levels_fall}
+use Rattle.virtiofs_map.proofs.xattrmap.trie.growth.GrownTrieLemmas.{is_trie, are_bounded}
+use Rattle.virtiofs_map.proofs.xattrmap.trie.growth.LevelLemmas.{levels_fall}
 use Rattle.virtiofs_map.proofs.xattrmap.trie.growth.grow.Goals as goal
 
 pub loop-parts-smaller : goal.loop-parts-smaller

@@ -1,6 +1,6 @@
 use Rattle.std.proofs.Common.{◌+◌, ◌-◌, length, drop}
 use Rattle.virtiofs_map.specs.GrowthParts.{ArePlaces, AreGrown}
-use Rattle.virtiofs_map.proofs.LevelLemmas.{shallowest}
+use Rattle.virtiofs_map.proofs.xattrmap.trie.growth.LevelLemmas.{shallowest}
 use Rattle.virtiofs_map.proofs.xattrmap.trie.growth.grow.Given as goal
 
 -- the first parts have branches

@@ -1,7 +1,7 @@
 use Rattle.std.proofs.Common.{◌≡◌, ◌<◌, ◌+◌, length, sym, ap, ◌∙◌, subst, arith}
 use Rattle.std.proofs.lemmas.List.{length_push}
 use Rattle.virtiofs_map.specs.GrowthParts.{AreGrown, AreDeep}
-use Rattle.virtiofs_map.proofs.LevelLemmas.{grown_more, deep_more, deeper_more, deep_none}
+use Rattle.virtiofs_map.proofs.xattrmap.trie.growth.LevelLemmas.{grown_more, deep_more, deeper_more, deep_none}
 use Rattle.virtiofs_map.proofs.xattrmap.trie.growth.grow_level.Goals as goal
 
 pub loop-at-init : goal.loop-at-init

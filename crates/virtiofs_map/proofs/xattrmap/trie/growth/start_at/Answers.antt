@@ -1,4 +1,4 @@
-use Rattle.virtiofs_map.proofs.GrowthTextLemmas.{start_of-read}
+use Rattle.virtiofs_map.proofs.xattrmap.trie.growth.GrowthTextLemmas.{start_of-read}
 use Rattle.virtiofs_map.proofs.xattrmap.trie.growth.start_at.Goals as goal
 
 pub returns : goal.returns

@@ -1,5 +1,5 @@
 use Rattle.std.proofs.Common.{arith}
-use Rattle.virtiofs_map.proofs.PatternLemmas.{patterns_whole}
+use Rattle.virtiofs_map.proofs.xattrmap.trie.PatternLemmas.{patterns_whole}
 use Rattle.virtiofs_map.proofs.xattrmap.trie.patterns.patterns_as_written.Goals as goal
 
 pub returns : goal.returns

@@ -3,7 +3,7 @@ use Rattle.std.specs.Cmp.Lexicographic.{slice_cmp, nat_list_cmp_total}
 use Rattle.std.specs.Ordering.{nat_cmp, is_lt}
 use Rattle.std.proofs.lemmas.List.Sorted.{ranks_by, answers_always}
 use Rattle.virtiofs_map.specs.declared.xattrmap.trie.patterns.Pattern.{Pattern}
-use Rattle.virtiofs_map.proofs.PatternLemmas.{patterns-permutation, AreInOrder-sorted}
+use Rattle.virtiofs_map.proofs.xattrmap.trie.PatternLemmas.{patterns-permutation, AreInOrder-sorted}
 use Rattle.virtiofs_map.proofs.xattrmap.trie.patterns.patterns_of.Goals as goal
 
 pub returns-clause-patterns : goal.returns-clause-patterns

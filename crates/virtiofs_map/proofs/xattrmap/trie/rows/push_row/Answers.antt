@@ -1,6 +1,6 @@
 use Rattle.std.proofs.Common.{◌≡◌, ℕ, if◌then◌else◌, List, sym, ap, subst, ◌∙◌}
 use Rattle.std.specs.Result.{OnOk}
-use Rattle.virtiofs_map.proofs.RowLemmas.{pushed_row}
+use Rattle.virtiofs_map.proofs.xattrmap.trie.rows.RowLemmas.{pushed_row}
 use Rattle.virtiofs_map.proofs.xattrmap.trie.rows.push_row.Goals as goal
 use Rattle.virtiofs_map.proofs.xattrmap.trie.rows.push_row.Goals.{then-branch, else-branch}
 

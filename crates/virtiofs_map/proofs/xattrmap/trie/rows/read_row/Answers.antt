@@ -1,8 +1,8 @@
 use Rattle.std.proofs.Common.{◌≡◌, ◌+◌, ◌-◌, ◌<◌, ◌*◌, ℕ, List, Some, length, take, drop, sym, ap, ◌∙◌, arith}
 use Rattle.std.proofs.lemmas.Option.{slice_get_past, slice_get-get_or}
 use Rattle.virtiofs_map.specs.BranchParts.{row_of}
-use Rattle.virtiofs_map.proofs.RowLemmas.{length-row_of}
-use Rattle.virtiofs_map.proofs.ByteWordLemmas.{row_at, length-rows}
+use Rattle.virtiofs_map.proofs.xattrmap.trie.rows.RowLemmas.{length-row_of}
+use Rattle.virtiofs_map.proofs.xattrmap.ByteWordLemmas.{row_at, length-rows}
 use Rattle.virtiofs_map.proofs.xattrmap.trie.rows.read_row.Goals as goal
 
 pub returns-then-at-rows : goal.returns-then-at-rows

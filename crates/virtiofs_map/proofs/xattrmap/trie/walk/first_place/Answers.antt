@@ -1,6 +1,6 @@
 use Rattle.std.proofs.Common.{refl, sym}
-use Rattle.virtiofs_map.proofs.SharedLemmas.{counted_on, lookup_counted}
-use Rattle.virtiofs_map.proofs.WalkAnswerLemmas.{place_none, place_some}
+use Rattle.virtiofs_map.proofs.xattrmap.trie.SharedLemmas.{counted_on, lookup_counted}
+use Rattle.virtiofs_map.proofs.xattrmap.WalkAnswerLemmas.{place_none, place_some}
 use Rattle.virtiofs_map.proofs.xattrmap.trie.walk.first_place.Goals as goal
 
 pub returns-then-answer-eq-NO_ANSWER-clause-first : goal.returns-then-answer-eq-NO_ANSWER-clause-first

@@ -1,6 +1,6 @@
 use Rattle.std.proofs.Common.{◌∙◌}
 use Rattle.std.specs.List.{before_first}
-use Rattle.virtiofs_map.proofs.FirstNameLemmas.{answer_of_list}
+use Rattle.virtiofs_map.proofs.xattrmap.FirstNameLemmas.{answer_of_list}
 use Rattle.virtiofs_map.proofs.ServerListLemmas.{is_zero}
 use Rattle.virtiofs_map.proofs.xattrmap.image.parts.Parts.decide_first.Goals as goal
 

@@ -1,5 +1,5 @@
 use Rattle.std.proofs.Common.{sym, ◌∙◌, arith}
-use Rattle.virtiofs_map.proofs.BranchLemmas.{past_slots, empty_slot, other_slot}
+use Rattle.virtiofs_map.proofs.xattrmap.trie.reading.BranchLemmas.{past_slots, empty_slot, other_slot}
 use Rattle.virtiofs_map.proofs.xattrmap.trie.reading.Trie.child_in_slot.Goals as goal
 
 pub returns-then-behind-parent : goal.returns-then-behind-parent

@@ -1,8 +1,8 @@
 use Rattle.std.proofs.Common.{◌+◌, length, refl, sym, ap, ◌∙◌, arith}
 use Rattle.std.proofs.lemmas.Bool.{false≢true}
 use Rattle.virtiofs_map.specs.Steps.{count_after}
-use Rattle.virtiofs_map.proofs.BranchLemmas.{stays_at_end, stays_nowhere, stays_unlike}
-use Rattle.virtiofs_map.proofs.SharedLemmas.{shared_within}
+use Rattle.virtiofs_map.proofs.xattrmap.trie.reading.BranchLemmas.{stays_at_end, stays_nowhere, stays_unlike}
+use Rattle.virtiofs_map.proofs.xattrmap.trie.SharedLemmas.{shared_within}
 use Rattle.virtiofs_map.proofs.xattrmap.trie.reading.Trie.enter.Goals as goal
 use Rattle.virtiofs_map.proofs.xattrmap.trie.reading.Trie.enter.Goals.{then-whole_count, else-whole_count}
 

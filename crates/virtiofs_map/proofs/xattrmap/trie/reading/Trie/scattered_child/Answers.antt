@@ -1,5 +1,5 @@
 use Rattle.std.proofs.Common.{◌+◌, slice_get, sym, ap, ◌∙◌, arith}
-use Rattle.virtiofs_map.proofs.BranchLemmas.{before_none, nowhere, place_fits}
+use Rattle.virtiofs_map.proofs.xattrmap.trie.reading.BranchLemmas.{before_none, nowhere, place_fits}
 use Rattle.virtiofs_map.proofs.xattrmap.trie.reading.Trie.scattered_child.Goals as goal
 
 pub returns-in_err-child : goal.returns-in_err-child

@@ -1,0 +1,6 @@
+mod AclCapabilityLemmas
+mod AclChangeLemmas
+mod AclFaultLemmas
+mod AclLawLemmas
+mod AclMergeLemmas
+mod AclWriteLemmas

@@ -1,0 +1,8 @@
+mod AuditCountLemmas
+mod AuditLeastLemmas
+mod AuditLoopLemmas
+mod AuditLostLemmas
+mod AuditPassLemmas
+mod AuditSeenLemmas
+mod AuditSharedLemmas
+mod AuditStrayLemmas

@@ -1,0 +1,198 @@
+-- Names that pass and do not list back: what the test says of them, and that the names tried decide.
+use Rattle.std.proofs.Common.{◌≡◌, ◌≢◌, ℕ, ◌<◌, Bool, true, false, not, List, [], ◌∷◌, ◌++◌, length, drop, Option, Some}
+use Rattle.std.proofs.Common.{None, inl, inr, refl, sym, ap, ◌∙◌, subst, arith}
+use Rattle.std.specs.List.{All}
+use Rattle.std.specs.Option.{option_map_or, option_and_then}
+use Rattle.std.proofs.lemmas.Bool.{and_parts, and_from, cases_Bool, false≢true, true≢false, not-true, not_from_false}
+use Rattle.std.proofs.lemmas.Bool.{eqb-true, eq-eqb, ne_eqb, false_from_ne_true}
+use Rattle.std.proofs.lemmas.List.{length-append, length-drop, drop_at}
+use Rattle.std.proofs.lemmas.List.Elements.{All-append, All-head}
+use Rattle.virtiofs_map.specs.Audit.{Within, Sound, IsLost}
+use Rattle.virtiofs_map.specs.AuditParts.{front_of, front, some_byte, cuts, is_lost, within, guest_names}
+use Rattle.virtiofs_map.specs.MapRule.{IsName}
+use Rattle.virtiofs_map.specs.Names.{begins, HostAnswer, IsListed, IsHidden, IsUndecided, host_answer, server_answer}
+use Rattle.virtiofs_map.specs.Names.{ListsBack}
+use Rattle.virtiofs_map.specs.Rule.{MappingRule, HasNoZero}
+use Rattle.virtiofs_map.specs.declared.xattrmap.scopes.Side.TheVariants.{Client, Server}
+use Rattle.virtiofs_map.proofs.AuditAlikeLemmas.{Cover, FareAlike, fare_alike, server_alike}
+use Rattle.virtiofs_map.proofs.AuditFrontLemmas.{passes_front, front_passes, listed_front, front_listed, answer_to_one}
+use Rattle.virtiofs_map.proofs.AuditFrontLemmas.{server_one, front_no_zero}
+use Rattle.virtiofs_map.proofs.audit.AuditLeastLemmas.{Decide, HasBadFront, decide_within}
+use Rattle.virtiofs_map.proofs.MapRuleLemmas.{not_zero_name}
+use Rattle.virtiofs_map.proofs.NoZeroLemmas.{IsNotZero}
+
+pub some_byte_from : (name : List ℕ) → name ≢ [] → some_byte name ≡ true
+some_byte_from [] some = absurd (some refl)
+some_byte_from (x ∷ xs) some = ap not (ne_eqb (length (x ∷ xs)) 0 (λ e. absurd (omega arith)))
+
+pub some_byte_is : (name : List ℕ) → some_byte name ≡ true → name ≢ []
+some_byte_is name e none = let zero = ap some_byte none in absurd (true≢false (sym e ∙ zero))
+
+-- what a name becomes holds no zero, and is not empty
+pub host_no_zero : (rules : List MappingRule) (name added : List ℕ) → All HasNoZero rules → IsName name
+    → front Client rules name ≡ Some added → All IsNotZero (added ++ name)
+host_no_zero rules name added no_zero is e =
+    All-append IsNotZero added name (front_no_zero Client rules name added no_zero e) (not_zero_name name is)
+
+pub host_not_empty : (added name : List ℕ) → name ≢ [] → added ++ name ≢ []
+host_not_empty [] name some e = some e
+host_not_empty (x ∷ added) name some e = cc
+
+-- ---- listed back
+
+cuts_is : (added : List ℕ) (o : Option (List ℕ)) → cuts added o ≡ true
+    → (cut : List ℕ) × (o ≡ Some cut) × (length cut ≡ length added)
+cuts_is added None e = absurd (false≢true e)
+cuts_is added (Some cut) e = (cut, refl, eqb-true (length cut) (length added) e)
+
+-- a name of which just as much is taken off as was put before it lists back
+pub back_where_cut : (rules : List MappingRule) (name added : List ℕ) → All HasNoZero rules → IsName name → name ≢ []
+    → front Client rules name ≡ Some added → cuts added (front Server rules (added ++ name)) ≡ true
+    → ListsBack rules name
+back_where_cut rules name added no_zero is some e c =
+    let (cut, at, long) = cuts_is added (front Server rules (added ++ name)) c in
+    let listed = front_listed rules (added ++ name) cut at in
+    let rest : drop (length cut) (added ++ name) ≡ name = drop_at added name (length cut) (sym long) in
+    record {
+      becomes = added ++ name;
+      passes = front_passes rules name added e;
+      lists = server_one rules (added ++ name) (host_not_empty added name some)
+          (host_no_zero rules name added no_zero is e) ∙ ap answer_to_one (listed ∙ ap IsListed rest);
+    }
+
+length_back : (added name cut : List ℕ) → name ≢ [] → length (drop (length cut) (added ++ name)) ≡ length name
+    → length cut ≡ length added
+length_back added [] cut some e = absurd (some refl)
+length_back added (x ∷ xs) cut some e =
+    omega (arith, length-drop (length cut) (added ++ x ∷ xs), length-append added (x ∷ xs), e)
+
+one_longer : (m n : List ℕ) → m ++ 0 ∷ [] ≡ n ++ 0 ∷ [] → length m ≡ length n
+one_longer m n e = omega (arith, ap length e, length-append m (0 ∷ []), length-append n (0 ∷ []))
+
+-- what the guest gets for the host name is the list of the name
+listed_as : (answer : HostAnswer) (name : List ℕ) → name ≢ [] → answer_to_one answer ≡ Some (name ++ 0 ∷ [])
+    → (shown : List ℕ) × (answer ≡ IsListed shown) × (length shown ≡ length name)
+listed_as (IsListed shown) name some e =
+    (shown, refl, one_longer shown name (let same : shown ++ 0 ∷ [] ≡ name ++ 0 ∷ [] = cc in same))
+listed_as IsHidden [] some e = absurd (some refl)
+listed_as IsHidden (x ∷ xs) some e =
+    let same : 0 ∷ [] ≡ x ∷ xs ++ 0 ∷ [] = cc in absurd (omega (arith, ap length same, length-append xs (0 ∷ [])))
+listed_as IsUndecided name some e = absurd (cc)
+
+-- a name that lists back is one of which just as much is taken off
+pub cut_where_back : (rules : List MappingRule) (name added : List ℕ) → All HasNoZero rules → IsName name → name ≢ []
+    → front Client rules name ≡ Some added → ListsBack rules name
+    → cuts added (front Server rules (added ++ name)) ≡ true
+cut_where_back rules name added no_zero is some e back =
+    let passes = front_passes rules name added e in
+    let same : back.becomes ≡ added ++ name = (let both = sym back.passes ∙ passes in cc) in
+    let lists = subst (λ host. server_answer rules (host ++ 0 ∷ []) ≡ Some (name ++ 0 ∷ [])) same back.lists in
+    let one =
+    server_one rules (added ++ name) (host_not_empty added name some)
+    (host_no_zero rules name added no_zero is e) in
+    let (shown, listed, long) = listed_as (host_answer rules (added ++ name)) name some (sym one ∙ lists) in
+    let by = listed_front rules (added ++ name) shown listed in
+    let cut = length_back added name by.cut some (sym (ap length by.name_is) ∙ long) in
+    ap (cuts added) by.is ∙ eq-eqb (length by.cut) (length added) cut
+
+-- ---- the test
+
+-- the test, at what is put before the name
+lost_by : List MappingRule → List ℕ → Option (List ℕ) → Bool
+lost_by rules name o =
+    option_map_or (λ added. not (cuts added (front Server rules (added ++ name)))) o false
+
+pub lost_at : (rules : List MappingRule) (name added : List ℕ) → name ≢ [] → front Client rules name ≡ Some added
+    → is_lost rules name ≡ not (cuts added (front Server rules (added ++ name)))
+lost_at rules name added some e = rw (some_byte_from name some, e) refl
+
+lost_front : (rules : List MappingRule) (name : List ℕ) (o : Option (List ℕ))
+    → option_map_or (λ added. not (cuts added (front Server rules (added ++ name)))) o false ≡ true
+    → (added : List ℕ) × (o ≡ Some added)
+lost_front rules name None e = absurd (false≢true e)
+lost_front rules name (Some added) e = (added, refl)
+
+pub lost_test : (rules : List MappingRule) → All HasNoZero rules → (name : List ℕ) → IsLost rules name
+    → is_lost rules name ≡ true
+lost_test rules no_zero name lost =
+    let by = passes_front rules name lost.host lost.passes in
+    lost_at rules name by.added lost.not_empty by.is
+    ∙ not_from_false (cuts by.added (front Server rules (by.added ++ name)))
+    (false_from_ne_true (cuts by.added (front Server rules (by.added ++ name)))
+    (λ c. lost.not_back (back_where_cut rules name by.added no_zero lost.is_name lost.not_empty by.is c)))
+
+pub test_lost : (rules : List MappingRule) → All HasNoZero rules → (name : List ℕ) → IsName name
+    → is_lost rules name ≡ true → IsLost rules name
+test_lost rules no_zero name is e =
+    let parts =
+    and_parts (some_byte name)
+    (option_map_or (λ added. not (cuts added (front Server rules (added ++ name)))) (front Client rules name) false)
+    e in
+    let some = some_byte_is name parts.0 in
+    let (added, at) = lost_front rules name (front Client rules name) parts.1 in
+    record {
+      is_name = is;
+      not_empty = some;
+      host = added ++ name;
+      passes = front_passes rules name added at;
+      not_back = λ back.
+          (let c = cut_where_back rules name added no_zero is some at back in
+          let n = not-true (cuts added (front Server rules (added ++ name)))
+          (sym (lost_at rules name added some at) ∙ e) in
+          true≢false (sym c ∙ n));
+    }
+
+-- ---- the names tried decide
+
+lost_alike : (rules : List MappingRule) (name c added : List ℕ) → name ≢ [] → c ≢ []
+    → FareAlike Server rules rules name c → front Client rules name ≡ Some added → is_lost rules c ≡ is_lost rules name
+lost_alike rules name c added some other alike e =
+    let at = ap (option_and_then front_of) (sym alike.client) ∙ e in
+    let same = server_alike rules (added ++ name) (added ++ c) (alike.hosts added e) in
+    lost_at rules c added other at ∙ ap (λ o. not (cuts added (option_and_then front_of o))) (sym same)
+    ∙ sym (lost_at rules name added some e)
+
+lost_front_tried : (rules : List MappingRule) → All HasNoZero rules → (beginning : List ℕ) (tried : List (List ℕ))
+    → Cover beginning (guest_names Server rules rules) tried
+    → (name : List ℕ) → IsLost rules name → begins beginning name ≡ true
+    → HasBadFront (within beginning (is_lost rules)) tried name
+lost_front_tried rules no_zero beginning tried cover [] lost b = absurd (lost.not_empty refl)
+lost_front_tried rules no_zero beginning tried cover (x ∷ xs) lost b =
+    let bounds = All-head (λ byte. (0 < byte) × (byte < 256)) x xs lost.is_name in
+    let found = cover x xs bounds.0 bounds.1 b in
+    let by = passes_front rules (x ∷ xs) lost.host lost.passes in
+    let alike = fare_alike Server rules rules tried (x ∷ xs) found.by found.stands in
+    record {
+      by = found.by;
+      is_front = found.stands.is_front;
+      is_bad = and_from (begins beginning found.by) (is_lost rules found.by) found.front
+          (lost_alike rules (x ∷ xs) found.by by.added lost.not_empty found.stands.not_empty alike by.is
+          ∙ lost_test rules no_zero (x ∷ xs) lost);
+      is_tried = found.stands.is_tried;
+    }
+
+pub lost_decide : (rules : List MappingRule) → All HasNoZero rules → (beginning : List ℕ) (tried : List (List ℕ))
+    → Cover beginning (guest_names Server rules rules) tried → Decide (Within beginning (IsLost rules))
+    (within beginning (is_lost rules)) tried
+lost_decide rules no_zero beginning tried cover =
+    decide_within beginning (IsLost rules) (is_lost rules) tried (test_lost rules no_zero)
+    (lost_front_tried rules no_zero beginning tried cover)
+
+-- ---- sound
+
+pub sound_where_none : (rules : List MappingRule) → All HasNoZero rules → ((name : List ℕ) → ¬ IsLost rules name)
+    → Sound rules
+sound_where_none rules no_zero none name host is some passes =
+    let by = passes_front rules name host passes in
+    elim (cases_Bool (cuts by.added (front Server rules (by.added ++ name)))) [
+      | inl c ↦ back_where_cut rules name by.added no_zero is some by.is c
+      | inr c ↦ absurd
+          (none name
+          (test_lost rules no_zero name is
+          (lost_at rules name by.added some by.is
+          ∙ not_from_false (cuts by.added (front Server rules (by.added ++ name))) c)))
+    ]
+
+pub none_where_sound : (rules : List MappingRule) → Sound rules → (name : List ℕ) → ¬ IsLost rules name
+none_where_sound rules sound name lost =
+    lost.not_back (sound name lost.host lost.is_name lost.not_empty lost.passes)

@@ -1,0 +1,211 @@
+-- Names whose host name another map does not hide: that the names tried decide, and what they mean for lists.
+use Rattle.std.proofs.Common.{◌≡◌, ◌≢◌, ℕ, ◌<◌, Bool, true, false, ◌&&◌, not, cond, List, [], ◌∷◌, ◌++◌, length, filter}
+use Rattle.std.proofs.Common.{Option, Some, None, inl, inr, refl, sym, ap, ◌∙◌, subst, arith}
+use Rattle.std.specs.List.{All, cons_option, list_all, filter_map}
+use Rattle.std.specs.Option.{option_map_or, is_none}
+use Rattle.std.proofs.lemmas.Bool.{cases_Bool, true≢false, not-true, not_from_false, false_from_ne_true, ne_eqb}
+use Rattle.std.proofs.lemmas.List.{length-append}
+use Rattle.std.proofs.lemmas.List.Elements.{All-nil, All-cons, All-append, All-weaker}
+use Rattle.std.proofs.lemmas.List.Splits.{slice_split_at}
+use Rattle.virtiofs_map.specs.Audit.{Within, Reached, Apart, IsSeen, Leaves, IsList, Isolated}
+use Rattle.virtiofs_map.specs.AuditParts.{front_of, is_hidden, is_seen, within, guest_names, one_byte_names}
+use Rattle.virtiofs_map.specs.MapRule.{IsName}
+use Rattle.virtiofs_map.specs.Names.{HostAnswer, IsListed, IsHidden, IsUndecided, host_answer, is_decided, listed_name}
+use Rattle.virtiofs_map.specs.Names.{names, as_list, server_answer}
+use Rattle.virtiofs_map.specs.Rule.{MappingRule, HasNoZero}
+use Rattle.virtiofs_map.specs.declared.xattrmap.scopes.Side.TheVariants.{Server}
+use Rattle.virtiofs_map.proofs.AuditAlikeLemmas.{server_alike}
+use Rattle.virtiofs_map.proofs.AuditFrontLemmas.{passes_front, front_passes, hidden_test, test_hidden}
+use Rattle.virtiofs_map.proofs.audit.AuditLeastLemmas.{Decide}
+use Rattle.virtiofs_map.proofs.audit.AuditPassLemmas.{IsByteOfName, all_bytes_from, PassesWhere, where_is_name, HoldsOfFronts}
+use Rattle.virtiofs_map.proofs.audit.AuditPassLemmas.{AreThose, where_decide}
+use Rattle.virtiofs_map.proofs.MapRuleLemmas.{not_zero_name, some_name}
+use Rattle.virtiofs_map.proofs.NoZeroLemmas.{IsNotZero}
+use Rattle.virtiofs_map.proofs.ServerListLemmas.{is_name, is_zero}
+
+-- ---- the test
+
+-- the others do not hide the host name
+abbrev pub is_shown : List MappingRule → List ℕ → Bool
+is_shown others host = not (is_hidden others host)
+
+those_seen : (rules others : List MappingRule) → All HasNoZero rules
+    → AreThose (IsSeen rules others) (is_shown others) rules
+those_seen rules others no_zero = record {
+  only = λ name is passes. record {
+    is_name = is;
+    host = passes.added ++ name;
+    is_host = where_is_name (is_shown others) rules no_zero name is passes;
+    not_empty = passes.some;
+    passes = front_passes rules name passes.added passes.is;
+    not_hidden =
+        λ k. true≢false
+        (sym (hidden_test others (passes.added ++ name) k)
+        ∙ not-true (is_hidden others (passes.added ++ name)) passes.holds);
+  };
+  all = λ name seen. (seen.is_name, of_seen name seen);
+} where
+  of_seen : (name : List ℕ) → IsSeen rules others name → PassesWhere (is_shown others) rules name
+  of_seen name seen =
+      let by = passes_front rules name seen.host seen.passes in
+      let shown =
+      false_from_ne_true (is_hidden others (by.added ++ name))
+      (λ k. seen.not_hidden (ap (host_answer others) by.host_is ∙ test_hidden others (by.added ++ name) k)) in
+      record {
+        added = by.added;
+        is = by.is;
+        some = λ none. seen.not_empty (by.host_is ∙ none);
+        bytes = all_bytes_from (by.added ++ name) (subst IsName by.host_is seen.is_host);
+        holds = not_from_false (is_hidden others (by.added ++ name)) shown;
+      }
+
+-- the names tried decide
+shown_of_fronts : (others : List MappingRule) → HoldsOfFronts (is_shown others) Server others
+shown_of_fronts others host other front both shown =
+    ap (λ o. not (option_map_or (λ rule. is_none (front_of rule)) o false)) (sym (server_alike others host other both))
+    ∙ shown
+
+pub seen_decide : (rules others : List MappingRule) → All HasNoZero rules → (beginning : List ℕ)
+    → Decide (Within beginning (IsSeen rules others)) (within beginning (is_seen rules others))
+    (beginning ∷ guest_names Server others rules ++ one_byte_names)
+seen_decide rules others no_zero =
+    where_decide (IsSeen rules others) (is_shown others) Server rules others (those_seen rules others no_zero)
+    (shown_of_fronts others)
+
+-- ---- apart
+
+pub apart_where_none : (rules others : List MappingRule) → ((name : List ℕ) → ¬ IsSeen rules others name)
+    → Apart rules others
+apart_where_none rules others none host reached =
+    elim (cases_Bool (is_hidden others host)) [
+      | inl k ↦ test_hidden others host k
+      | inr k ↦ absurd (none reached.name (record {
+        is_name = reached.is_name;
+        host = host;
+        is_host = reached.is_host;
+        not_empty = reached.not_empty;
+        passes = reached.passes;
+        not_hidden = λ h. true≢false (sym (hidden_test others host h) ∙ k);
+      }))
+    ]
+
+reached_by : (rules others : List MappingRule) (name : List ℕ) (seen : IsSeen rules others name)
+    → Reached rules seen.host
+reached_by rules others name seen = record {
+  is_host = seen.is_host;
+  not_empty = seen.not_empty;
+  name = name;
+  is_name = seen.is_name;
+  passes = seen.passes;
+}
+
+pub none_where_apart : (rules others : List MappingRule) → Apart rules others → (name : List ℕ)
+    → ¬ IsSeen rules others name
+none_where_apart rules others apart name seen =
+    seen.not_hidden (apart seen.host (reached_by rules others name seen))
+
+-- ---- isolated
+
+abbrev all_decided : List MappingRule → List (List ℕ) → Bool
+all_decided rules names = list_all (λ name. is_decided (host_answer rules name)) names
+
+abbrev all_listed : List MappingRule → List (List ℕ) → List (List ℕ)
+all_listed rules names = filter_map (λ name. listed_name (host_answer rules name)) names
+
+-- hidden names may be left out
+record SameWithout (rules : List MappingRule) (all rest : List (List ℕ)) : Type 0 where
+  decided : all_decided rules all ≡ all_decided rules rest
+  listed : all_listed rules all ≡ all_listed rules rest
+
+same_without : (rules : List MappingRule) (set : List ℕ → Type 0)
+    → ((name : List ℕ) → set name → host_answer rules name ≡ IsHidden) → (all rest : List (List ℕ))
+    → Leaves set all rest → SameWithout rules all rest
+same_without rules set hides [] rest e =
+    record { decided = ap (all_decided rules) (sym e); listed = ap (all_listed rules) (sym e) }
+same_without rules set hides (name ∷ all) rest (inl (within, leaves)) =
+    let more = same_without rules set hides all rest leaves in
+    let hidden = hides name within in
+    record {
+      decided = ap (λ answer. is_decided answer && all_decided rules all) hidden ∙ more.decided;
+      listed = ap (λ answer. cons_option (listed_name answer) (all_listed rules all)) hidden ∙ more.listed;
+    }
+same_without rules set hides (name ∷ all) rest (inr (out, others, e, leaves)) =
+    let more = same_without rules set hides all others leaves in
+    record {
+      decided = ap (λ b. is_decided (host_answer rules name) && b) more.decided ∙ ap (all_decided rules) (sym e);
+      listed = ap (cons_option (listed_name (host_answer rules name))) more.listed ∙ ap (all_listed rules) (sym e);
+    }
+
+answer_of : Bool → List (List ℕ) → Option (List ℕ)
+answer_of decided listed = cond decided (Some (as_list listed)) None
+
+same_answer : (rules : List MappingRule) (list other : List ℕ)
+    → all_decided rules (names list) ≡ all_decided rules (names other)
+    → all_listed rules (names list) ≡ all_listed rules (names other)
+    → server_answer rules list ≡ server_answer rules other
+same_answer rules list other d l = rw (d, l) refl
+
+pub isolated_where_apart : (rules others : List MappingRule) → Apart rules others → Isolated rules others
+isolated_where_apart rules others apart list other is also (rest, leaves, left) =
+    let one = same_without others (Reached rules) apart (names list) rest leaves in
+    let two = same_without others (Reached rules) apart (names other) rest left in
+    same_answer others list other (one.decided ∙ sym two.decided) (one.listed ∙ sym two.listed)
+
+-- a host name that is not hidden, twice in a list, shows in the answer
+abbrev twice : List ℕ → List ℕ
+twice host = host ++ 0 ∷ (host ++ 0 ∷ [])
+
+first_name : (host rest : List ℕ) → host ≢ [] → All IsNotZero host → names (host ++ 0 ∷ rest) ≡ host ∷ names rest
+first_name [] rest some no_zero = absurd (some refl)
+first_name (x ∷ xs) rest some no_zero =
+    ap (filter is_name)
+    (slice_split_at is_zero (x ∷ xs) 0 rest
+    (All-weaker IsNotZero (λ byte. is_zero byte ≡ false) (λ byte h. ne_eqb byte 0 h) (x ∷ xs) no_zero) refl)
+    ∙ ap (λ b. cond b ((x ∷ xs) ∷ names rest) (names rest)) (some_name x xs)
+
+names_twice : (host : List ℕ) → host ≢ [] → All IsNotZero host → names (twice host) ≡ host ∷ host ∷ []
+names_twice host some no_zero =
+    first_name host (host ++ 0 ∷ []) some no_zero ∙ ap (λ all. host ∷ all) (first_name host [] some no_zero)
+
+answer_to_two : HostAnswer → Option (List ℕ)
+answer_to_two answer =
+    cond (is_decided answer && (is_decided answer && true))
+    (Some (as_list (cons_option (listed_name answer) (cons_option (listed_name answer) [])))) None
+
+shown_twice : (answer : HostAnswer) → answer ≢ IsHidden
+    → cond (is_decided answer && (is_decided answer && true))
+    (Some (as_list (cons_option (listed_name answer) (cons_option (listed_name answer) [])))) None ≡ Some (0 ∷ []) → ⊥
+shown_twice (IsListed name) fails e =
+    let same : (name ++ 0 ∷ []) ++ ((name ++ 0 ∷ []) ++ []) ≡ 0 ∷ [] = cc in
+    omega (
+      arith,
+      ap length same,
+      length-append (name ++ 0 ∷ []) ((name ++ 0 ∷ []) ++ []),
+      length-append (name ++ 0 ∷ []) [],
+      length-append name (0 ∷ []),
+    )
+shown_twice IsHidden fails e = fails refl
+shown_twice IsUndecided fails e = cc
+
+is_list : (host : List ℕ) → IsName host → IsList host
+is_list host is = All-weaker IsByteOfName (λ byte. byte < 256) (λ byte h. h.1) host is
+
+is_list_twice : (host : List ℕ) → IsName host → IsList (twice host)
+is_list_twice host is =
+    let end = All-cons (λ byte. byte < 256) 0 [] (omega arith) (All-nil (λ byte. byte < 256)) in
+    All-append (λ byte. byte < 256) host (0 ∷ (host ++ 0 ∷ [])) (is_list host is)
+    (All-cons (λ byte. byte < 256) 0 (host ++ 0 ∷ []) (omega arith)
+    (All-append (λ byte. byte < 256) host (0 ∷ []) (is_list host is) end))
+
+pub none_where_isolated : (rules others : List MappingRule) → Isolated rules others → (name : List ℕ)
+    → ¬ IsSeen rules others name
+none_where_isolated rules others isolated name seen =
+    let host = seen.host in
+    let reached = reached_by rules others name seen in
+    let two = names_twice host seen.not_empty (not_zero_name host seen.is_host) in
+    let leaves : Leaves (Reached rules) (names (twice host)) [] =
+    subst (λ all. Leaves (Reached rules) all []) (sym two) (inl (reached, inl (reached, refl))) in
+    let same =
+    isolated [] (twice host) (All-nil (λ byte. byte < 256)) (is_list_twice host seen.is_host) ([], refl, leaves) in
+    shown_twice (host_answer others host) seen.not_hidden
+    (sym (ap (λ all. cond (all_decided others all) (Some (as_list (all_listed others all))) None) two) ∙ sym same)

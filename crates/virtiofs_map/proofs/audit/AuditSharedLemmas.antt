@@ -1,0 +1,246 @@
+-- Names whose host name another map reaches too: what the test of host names says of them, and that the names tried
+-- decide.
+use Rattle.std.proofs.Common.{◌≡◌, ◌≢◌, ℕ, Bool, true, false, ◌&&◌, ◌||◌, List, [], ◌∷◌, ◌++◌, length, drop, Option}
+use Rattle.std.proofs.Common.{Some, None, inl, inr, refl, sym, ap, ◌∙◌, subst}
+use Rattle.std.specs.List.{All, AllByRecursion, find, list_any}
+use Rattle.std.specs.Option.{option_map, option_map_or, option_and_then}
+use Rattle.std.proofs.lemmas.Bool.{and_parts, and_from, cases_Bool, cond_both, false≢true}
+use Rattle.std.proofs.lemmas.List.{append_assoc, drop_at}
+use Rattle.std.proofs.lemmas.List.Elements.{All-drop}
+use Rattle.virtiofs_map.specs.Audit.{Within, Reached, SharesNoName, IsShared}
+use Rattle.virtiofs_map.specs.AuditParts.{front_of, front, adds, passes_as, is_reached, is_shared, within, guest_names}
+use Rattle.virtiofs_map.specs.AuditParts.{one_byte_names}
+use Rattle.virtiofs_map.specs.MapRule.{IsName}
+use Rattle.virtiofs_map.specs.Names.{begins, fits, deciding, Passes}
+use Rattle.virtiofs_map.specs.Rule.{MappingRule, HasNoZero}
+use Rattle.virtiofs_map.specs.declared.xattrmap.scopes.Side.TheVariants.{Client}
+use Rattle.virtiofs_map.proofs.AuditAlikeLemmas.{Member, all_member, begins-append_both, decides_front, BeginsBoth}
+use Rattle.virtiofs_map.proofs.AuditFrontLemmas.{passes_front, front_passes}
+use Rattle.virtiofs_map.proofs.audit.AuditLeastLemmas.{Decide}
+use Rattle.virtiofs_map.proofs.audit.AuditPassLemmas.{IsByteOfName, all_bytes_from, PassesWhere, where_is_name, HoldsOfFronts}
+use Rattle.virtiofs_map.proofs.audit.AuditPassLemmas.{AreThose, where_decide}
+use Rattle.virtiofs_map.proofs.audit.AuditStrayLemmas.{adds_is, bytes_same}
+use Rattle.virtiofs_map.proofs.BeginsLemmas.{begins_split, begins-append, deciding_fits}
+use Rattle.virtiofs_map.proofs.FirstRuleLemmas.{deciding-find}
+
+-- ---- a rule that leads to a host name
+
+-- the rule decides a name, and what it puts before the name makes the host name
+pub record LeadsTo (rules : List MappingRule) (host : List ℕ) : Type 0 where
+  pub rule : MappingRule
+  pub added : List ℕ
+  pub name : List ℕ
+  pub decides : deciding Client rules name ≡ Some rule
+  pub puts : front_of rule ≡ Some added
+  pub host_is : host ≡ added ++ name
+
+rule_of : (o : Option MappingRule) (added : List ℕ) → option_and_then front_of o ≡ Some added
+    → (rule : MappingRule) × (o ≡ Some rule) × (front_of rule ≡ Some added)
+rule_of None added e = absurd (cc)
+rule_of (Some rule) added e = (rule, refl, e)
+
+leads_from : (rules : List MappingRule) (name added host : List ℕ) → front Client rules name ≡ Some added
+    → host ≡ added ++ name → LeadsTo rules host
+leads_from rules name added host e is =
+    let (rule, decides, puts) = rule_of (deciding Client rules name) added e in
+    record { rule = rule; added = added; name = name; decides = decides; puts = puts; host_is = is }
+
+-- ---- the test of host names
+
+any_member : {X : Type 0} (p : X → Bool) (x : X) (xs : List X) → Member x xs → p x ≡ true → list_any p xs ≡ true
+any_member p x [] m e = absurd m
+any_member p x (y ∷ ys) (inl same) e = ap (λ b. b || list_any p ys) (ap p (sym same) ∙ e)
+any_member p x (y ∷ ys) (inr m) e = rw (any_member p x ys m e) (or_true (p y)) where
+  or_true : (b : Bool) → (b || true) ≡ true
+  or_true true = refl
+  or_true false = refl
+
+any_some : {X : Type 0} (p : X → Bool) (xs : List X) → list_any p xs ≡ true → (x : X) × (p x ≡ true)
+any_some p [] e = absurd (false≢true e)
+any_some p (x ∷ xs) e =
+    elim (cases_Bool (p x)) [ inl passes ↦ (x, passes) | inr fails ↦ any_some p xs (rw fails at e) ]
+
+found_member : {X : Type 0} (p : X → Bool) (xs : List X) (x : X) → find p xs ≡ Some x → Member x xs
+found_member p [] x e = absurd (cc)
+found_member p (y ∷ ys) x e =
+    cond_both (p y) (Some y) (find p ys) (λ o. o ≡ Some x → Member x (y ∷ ys))
+    (λ _ k. inl (let same : x ≡ y = cc in same)) (λ _ k. inr (found_member p ys x k)) e
+
+rule_member : (rules : List MappingRule) (host : List ℕ) (leads : LeadsTo rules host) → Member leads.rule rules
+rule_member rules host leads =
+    found_member (fits Client leads.name) rules leads.rule (sym (deciding-find Client rules leads.name) ∙ leads.decides)
+
+-- the rule acts for the client, and its key begins the name
+rule_fits : (rules : List MappingRule) (host : List ℕ) (leads : LeadsTo rules host)
+    → (leads.rule.client ≡ true) × (begins leads.rule.key leads.name ≡ true)
+rule_fits rules host leads =
+    and_parts leads.rule.client (begins leads.rule.key leads.name)
+    (deciding_fits Client rules leads.name leads.rule (sym leads.decides))
+
+-- what is left of the host name is the name
+rest_is : (rules : List MappingRule) (host : List ℕ) (leads : LeadsTo rules host)
+    → drop (length leads.added) host ≡ leads.name
+rest_is rules host leads =
+    ap (drop (length leads.added)) leads.host_is ∙ drop_at leads.added leads.name (length leads.added) refl
+
+front_is : (rules : List MappingRule) (host : List ℕ) (leads : LeadsTo rules host)
+    → front Client rules leads.name ≡ Some leads.added
+front_is rules host leads = ap (option_and_then front_of) leads.decides ∙ leads.puts
+
+-- the test, at what the rule puts before a name
+abbrev passes_by : List MappingRule → List ℕ → MappingRule → List ℕ → Bool
+passes_by rules host rule added =
+    begins added host &&
+    (begins rule.key (drop (length added) host) && adds added (front Client rules (drop (length added) host)))
+
+-- the answers of the code
+pub passes_at : (rules : List MappingRule) (host : List ℕ) (rule : MappingRule) (added rest : List ℕ)
+    → rule.client ≡ true → front_of rule ≡ Some added → begins added host ≡ true → rest ≡ drop (length added) host
+    → begins rule.key rest ≡ true → passes_as rules host rule ≡ adds added (front Client rules rest)
+passes_at rules host rule added rest on puts begun is keyed =
+    let left = drop (length added) host in
+    ap (λ b. b && option_map_or (passes_by rules host rule) (front_of rule) false) on
+    ∙ ap (λ o. option_map_or (passes_by rules host rule) o false) puts
+    ∙ ap (λ b. b && (begins rule.key left && adds added (front Client rules left))) begun
+    ∙ ap (λ n. begins rule.key n && adds added (front Client rules n)) (sym is)
+    ∙ ap (λ b. b && adds added (front Client rules rest)) keyed
+
+leads_passes : (rules : List MappingRule) (host : List ℕ) (leads : LeadsTo rules host)
+    → passes_as rules host leads.rule ≡ true
+leads_passes rules host leads =
+    let rule = leads.rule in
+    let added = leads.added in
+    let fit = rule_fits rules host leads in
+    let begun = ap (begins added) leads.host_is ∙ begins-append added leads.name in
+    passes_at rules host rule added leads.name fit.0 leads.puts begun (sym (rest_is rules host leads)) fit.1
+    ∙ ap (adds added) (front_is rules host leads) ∙ bytes_same added
+
+puts_some : (rules : List MappingRule) (host : List ℕ) (rule : MappingRule) (o : Option (List ℕ))
+    → option_map_or (passes_by rules host rule) o false ≡ true
+    → (added : List ℕ) × (passes_by rules host rule added ≡ true)
+puts_some rules host rule None e = absurd (false≢true e)
+puts_some rules host rule (Some added) e = (added, e)
+
+passes_leads : (rules : List MappingRule) (host : List ℕ) (rule : MappingRule) → passes_as rules host rule ≡ true
+    → LeadsTo rules host
+passes_leads rules host rule e =
+    let (added, by) =
+    puts_some rules host rule (front_of rule)
+    (and_parts rule.client (option_map_or (passes_by rules host rule) (front_of rule) false) e).1 in
+    let rest = drop (length added) host in
+    let parts = and_parts (begins added host) (begins rule.key rest && adds added (front Client rules rest)) by in
+    let more = and_parts (begins rule.key rest) (adds added (front Client rules rest)) parts.1 in
+    leads_from rules rest added host (adds_is added (front Client rules rest) more.1) (begins_split added host parts.0)
+
+leads_test : (rules : List MappingRule) (host : List ℕ) → LeadsTo rules host → is_reached rules host ≡ true
+leads_test rules host leads =
+    any_member (passes_as rules host) leads.rule rules (rule_member rules host leads) (leads_passes rules host leads)
+
+test_leads : (rules : List MappingRule) (host : List ℕ) → is_reached rules host ≡ true → LeadsTo rules host
+test_leads rules host e =
+    let (rule, passes) = any_some (passes_as rules host) rules e in passes_leads rules host rule passes
+
+-- ---- reached
+
+reached_leads : (rules : List MappingRule) (host : List ℕ) → Reached rules host → LeadsTo rules host
+reached_leads rules host reached =
+    let by = passes_front rules reached.name host reached.passes in
+    leads_from rules reached.name by.added host by.is by.host_is
+
+leads_reached : (rules : List MappingRule) (host : List ℕ) → IsName host → host ≢ [] → LeadsTo rules host
+    → Reached rules host
+leads_reached rules host is some leads = record {
+  is_host = is;
+  not_empty = some;
+  name = leads.name;
+  is_name = subst IsName (rest_is rules host leads) (All-drop IsByteOfName (length leads.added) host is);
+  passes = front_passes rules leads.name leads.added (front_is rules host leads) ∙ ap Passes (sym leads.host_is);
+}
+
+-- a rule that leads to a host name leads to each front of it that its pattern for host names begins
+leads_front : (rules : List MappingRule) (host other : List ℕ) → begins other host ≡ true
+    → AllByRecursion (BeginsBoth Client host other) rules → LeadsTo rules host → LeadsTo rules other
+leads_front rules host other front both leads =
+    let rule = leads.rule in
+    let added = leads.added in
+    let fit = rule_fits rules host leads in
+    let alike =
+    all_member (BeginsBoth Client host other) rule rules both (rule_member rules host leads) fit.0
+    (added ++ rule.key) (ap (option_map (λ a. a ++ rule.key)) leads.puts) in
+    let begun : begins (added ++ rule.key) host ≡ true = ap (begins (added ++ rule.key)) leads.host_is
+    ∙ begins-append_both added rule.key leads.name ∙ fit.1 in
+    let rest = drop (length (added ++ rule.key)) other in
+    let left : other ≡ added ++ (rule.key ++ rest) = begins_split (added ++ rule.key) other (sym alike ∙ begun)
+    ∙ append_assoc added rule.key rest in
+    let shorter : begins (rule.key ++ rest) leads.name ≡ true =
+    sym (begins-append_both added (rule.key ++ rest) leads.name)
+    ∙ ap (begins (added ++ (rule.key ++ rest))) (sym leads.host_is) ∙ ap (λ h. begins h host) (sym left) ∙ front in
+    let fits_left = and_from rule.client (begins rule.key (rule.key ++ rest)) fit.0 (begins-append rule.key rest) in
+    record {
+      rule = rule;
+      added = added;
+      name = rule.key ++ rest;
+      decides = decides_front Client rules (rule.key ++ rest) leads.name rule shorter leads.decides fits_left;
+      puts = leads.puts;
+      host_is = left;
+    }
+
+-- ---- the names tried decide
+
+those_shared : (rules others : List MappingRule) → All HasNoZero rules
+    → AreThose (IsShared rules others) (is_reached others) rules
+those_shared rules others no_zero = record {
+  only = λ name is passes. record {
+    is_name = is;
+    host = passes.added ++ name;
+    passes = front_passes rules name passes.added passes.is;
+    reached =
+        leads_reached others (passes.added ++ name) (where_is_name (is_reached others) rules no_zero name is passes)
+        passes.some (test_leads others (passes.added ++ name) passes.holds);
+  };
+  all = λ name shared. (shared.is_name, of_shared name shared);
+} where
+  of_shared : (name : List ℕ) → IsShared rules others name → PassesWhere (is_reached others) rules name
+  of_shared name shared =
+      let by = passes_front rules name shared.host shared.passes in
+      record {
+        added = by.added;
+        is = by.is;
+        some = λ none. shared.reached.not_empty (by.host_is ∙ none);
+        bytes = all_bytes_from (by.added ++ name) (subst IsName by.host_is shared.reached.is_host);
+        holds = ap (is_reached others) (sym by.host_is)
+            ∙ leads_test others shared.host (reached_leads others shared.host shared.reached);
+      }
+
+reached_of_fronts : (others : List MappingRule) → HoldsOfFronts (is_reached others) Client others
+reached_of_fronts others host other front both holds =
+    leads_test others other (leads_front others host other front both (test_leads others host holds))
+
+pub shared_decide : (rules others : List MappingRule) → All HasNoZero rules → (beginning : List ℕ)
+    → Decide (Within beginning (IsShared rules others)) (within beginning (is_shared rules others))
+    (beginning ∷ guest_names Client others rules ++ one_byte_names)
+shared_decide rules others no_zero =
+    where_decide (IsShared rules others) (is_reached others) Client rules others (those_shared rules others no_zero)
+    (reached_of_fronts others)
+
+-- ---- no name is shared
+
+pub disjoint_where_none : (rules others : List MappingRule) → ((name : List ℕ) → ¬ IsShared rules others name)
+    → SharesNoName rules others
+disjoint_where_none rules others none host reached also =
+    none reached.name (record { is_name = reached.is_name; host = host; passes = reached.passes; reached = also })
+
+pub none_where_disjoint : (rules others : List MappingRule) → SharesNoName rules others → (name : List ℕ)
+    → ¬ IsShared rules others name
+none_where_disjoint rules others disjoint name shared =
+    disjoint shared.host (record {
+      is_host = shared.reached.is_host;
+      not_empty = shared.reached.not_empty;
+      name = name;
+      is_name = shared.is_name;
+      passes = shared.passes;
+    }) shared.reached
+
+-- the other way round it is the same
+pub disjoint_both_ways : (rules others : List MappingRule) → SharesNoName rules others → SharesNoName others rules
+disjoint_both_ways rules others disjoint host reached also = disjoint host also reached

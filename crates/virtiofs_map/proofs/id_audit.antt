@@ -1,0 +1,3 @@
+mod IdAuditLemmas
+mod ImageLemmas
+mod PieceLemmas

@@ -1,0 +1,146 @@
+-- What was written for the entries that were placed is the image of a map.
+use Rattle.std.proofs.Common.{◌≡◌, ℕ, ◌+◌, ◌*◌, ◌<◌, ◌≤◌, List, ◌++◌, length, drop, map, slice_index, slice_get, Some}
+use Rattle.std.proofs.Common.{refl, sym, ap, ◌∙◌, arith}
+use Rattle.std.proofs.Math.Seq.{take-length, take-append_seam, drop-append_seam}
+use Rattle.std.proofs.lemmas.List.{length-map}
+use Rattle.std.proofs.lemmas.List.Sums.{count_by-le-length}
+use Rattle.std.proofs.lemmas.Option.{slice_get_within}
+use Rattle.virtiofs_map.specs.Build.{Accepted}
+use Rattle.virtiofs_map.specs.Image.{IsImage, image_length, IsWritten}
+use Rattle.virtiofs_map.specs.LookupSteps.{covers_some, acting}
+use Rattle.virtiofs_map.specs.Mapping.{entry_of}
+use Rattle.virtiofs_map.specs.RangeParts.{PlacesInOrder, ArePlaced}
+use Rattle.virtiofs_map.specs.WordParts.{AreFirstsBelow, AreRowsBelow, KeepsBefore, IsAt, HasRanges}
+use Rattle.virtiofs_map.specs.declared.cmdline.IdMap.{IdMap}
+use Rattle.virtiofs_map.specs.declared.soft_idmap.entry.Direction.{Direction}
+use Rattle.virtiofs_map.specs.declared.soft_idmap.entry.Direction.TheVariants.{GuestToHost, HostToGuest}
+use Rattle.virtiofs_map.specs.declared.soft_idmap.entry.Entry.{Entry}
+use Rattle.virtiofs_map.specs.declared.soft_idmap.placed.Placed.{Placed}
+use Rattle.virtiofs_map.proofs.soft_idmap.FrontLemmas.{AreRanges-placed, Stores-placed}
+use Rattle.virtiofs_map.proofs.WordLemmas.{AreRanges-count}
+
+-- the ranges of what was placed
+abbrev pub entries : List Placed → List Entry
+entries placed = map (λ one. one.entry) placed
+
+-- what was written before that place stays
+pub firsts_kept : (old new : List ℕ) (start at : ℕ) (ranges : List Entry) (count : ℕ)
+    → AreFirstsBelow old start ranges count → KeepsBefore at old new → start + count ≤ at
+    → AreFirstsBelow new start ranges count
+firsts_kept old new start at ranges count are keeps within k range below here = keeps (start + k) (omega arith)
+    ∙ are k range below here
+
+pub rows_kept : (old new : List ℕ) (start at : ℕ) (ranges : List Entry) (count : ℕ)
+    → AreRowsBelow old start ranges count → KeepsBefore at old new → start + 3 * count ≤ at
+    → AreRowsBelow new start ranges count
+rows_kept old new start at ranges count are keeps within k range below here =
+    rw (
+      keeps (start + 3 * k) (omega arith),
+      keeps (start + 3 * k + 1) (omega arith),
+      keeps (start + 3 * k + 2) (omega arith),
+    ) (are k range below here)
+
+pub keeps_further : (old middle new : List ℕ) (at next : ℕ) → KeepsBefore at old middle → KeepsBefore next middle new
+    → at ≤ next → KeepsBefore at old new
+keeps_further old middle new at next first second order k below = second k (omega arith) ∙ first k below
+
+-- the ranges of a direction stand there
+has_ranges : (specs : List IdMap) (direction : Direction) (placed : List Placed) (words : List ℕ)
+    (firsts rows count : ℕ)
+    → Accepted specs → PlacesInOrder specs direction placed → length placed ≡ count
+    → AreFirstsBelow words firsts (entries placed) (length placed)
+    → AreRowsBelow words rows (entries placed) (length placed)
+    → HasRanges specs direction (record { words = words; firsts = firsts; rows = rows; count = count })
+has_ranges specs direction placed words firsts rows count accepted sorted counted are_firsts are_rows = record {
+  ranges = entries placed;
+  stores = Stores-placed specs direction placed sorted;
+  ordered = AreRanges-placed specs direction placed accepted sorted;
+  stand = record { counted = length-map placed (λ (one : Placed). one.entry) ∙ counted; each = each };
+} where
+  each : (k : ℕ) (range : Entry) → slice_get (entries placed) k ≡ Some range
+      → IsAt (record { words = words; firsts = firsts; rows = rows; count = count }) k range
+  each k range here =
+      let below : k < length placed =
+      omega (
+        arith,
+        slice_get_within (entries placed) k range here,
+        length-map placed (λ (one : Placed). one.entry),
+      ) in
+      record { first = are_firsts k range below here; row = are_rows k range below here }
+
+-- the words are those of both directions
+pub IsImage-written : (specs : List IdMap) (guests hosts : List Placed) (words : List ℕ)
+    → Accepted specs → PlacesInOrder specs GuestToHost guests → PlacesInOrder specs HostToGuest hosts
+    → slice_index words 0 ≡ 1768190721 → slice_index words 1 ≡ length guests → slice_index words 2 ≡ length hosts
+    → 3 + 4 * length guests + 4 * length hosts ≤ length words
+    → AreFirstsBelow words 3 (entries guests) (length guests)
+    → AreFirstsBelow words (3 + length guests) (entries hosts) (length hosts)
+    → AreRowsBelow words (3 + length guests + length hosts) (entries guests) (length guests)
+    → AreRowsBelow words (3 + length guests + length hosts + 3 * length guests) (entries hosts) (length hosts)
+    → IsImage specs words
+IsImage-written specs guests hosts words accepted from_guest from_host kind many_guests many_hosts room guest_firsts
+    host_firsts guest_rows host_rows = record {
+      kind = kind;
+      room = omega arith;
+      held = record {
+        accepted = accepted;
+        room = λ some. omega arith;
+        guests =
+            has_ranges specs GuestToHost guests words 3 _ _ accepted from_guest (sym many_guests) guest_firsts
+            (rw (many_guests, many_hosts) guest_rows);
+        hosts = has_ranges specs HostToGuest hosts words _ _ _ accepted from_host (sym many_hosts)
+            (rw many_guests host_firsts) (rw (many_guests, many_hosts) host_rows);
+      };
+    }
+
+-- what is placed is less than a word can count
+pub placed-count : (specs : List IdMap) (direction : Direction) (placed : List Placed) → Accepted specs
+    → PlacesInOrder specs direction placed → length placed < 4294967296
+placed-count specs direction placed accepted sorted =
+    omega (
+      arith,
+      AreRanges-count (entries placed) (AreRanges-placed specs direction placed accepted sorted),
+      length-map placed (λ (one : Placed). one.entry),
+    )
+
+-- and as many as specifications act
+pub placed-acting : (specs : List IdMap) (direction : Direction) (placed : List Placed)
+    → PlacesInOrder specs direction placed → length placed ≡ acting specs direction
+placed-acting specs direction placed sorted = sorted.places.counted
+    ∙ ap (λ (list : List IdMap). acting list direction) (take-length specs)
+
+-- how long an image is
+pub image-length : (specs : List IdMap) (guests hosts : List Placed) (len : ℕ) → ArePlaced specs guests hosts
+    → len ≡ 3 + 4 * length guests + 4 * length hosts → len ≡ image_length specs
+image-length specs guests hosts len placed is =
+    rw (
+      placed-acting specs GuestToHost guests placed.from_guest,
+      placed-acting specs HostToGuest hosts placed.from_host,
+    ) at is
+
+pub image-bound : (specs : List IdMap) → image_length specs ≤ 3 + 8 * length specs
+image-bound specs =
+    let guests : acting specs GuestToHost ≤ length specs =
+    count_by-le-length (λ (spec : IdMap). covers_some (entry_of spec GuestToHost)) specs in
+    let hosts : acting specs HostToGuest ≤ length specs =
+    count_by-le-length (λ (spec : IdMap). covers_some (entry_of spec HostToGuest)) specs in
+    omega arith
+
+-- an image that was written to a front
+pub IsWritten-front : (specs : List IdMap) (old front new : List ℕ) (len : ℕ) → len ≡ image_length specs
+    → len ≤ length old → length front ≡ len → new ≡ front ++ drop len old → IsImage specs front
+    → IsWritten specs old new
+IsWritten-front specs old front new len is within long made image = record {
+  image = λ _. rw (← is, made, ← long, take-append_seam) image;
+  rest = λ _. rw (← is, made, ← long) (drop-append_seam front (drop (length front) old));
+  no_room = λ short. absurd (omega arith);
+}
+
+-- and where there is no room for one
+pub IsWritten-none : (specs : List IdMap) (words : List ℕ) (len : ℕ) → len ≡ image_length specs → length words < len
+    → IsWritten specs words words
+IsWritten-none specs words len is short = record {
+  image = λ within. absurd (omega arith);
+  rest = λ within. absurd (omega arith);
+  no_room = λ _. refl;
+}

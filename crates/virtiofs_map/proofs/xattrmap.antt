@@ -1,0 +1,13 @@
+mod AddedLemmas
+mod ByteWordLemmas
+mod DecidingLemmas
+mod FirstNameLemmas
+mod FittingLemmas
+mod KeptRuleLemmas
+mod ListingLemmas
+mod MadeRuleLemmas
+mod RuleEqualityLemmas
+mod RuleWordLemmas
+mod TerminatedLemmas
+mod WalkAnswerLemmas
+mod WayLemmas

@@ -1,0 +1,155 @@
+-- Rules whose patterns stand in one memory.
+use Rattle.std.proofs.Common.{◌≡◌, ℕ, ◌+◌, ◌-◌, ◌≤◌, Bool, true, false, List, [], ◌∷◌, ◌++◌, map, length, take, drop}
+use Rattle.std.proofs.Common.{get_or, Option, Some, None, IfSome, Decides, refl, sym, ap, subst, ◌∙◌, arith}
+use Rattle.std.proofs.Common.{length-append, length-drop}
+use Rattle.std.specs.List.{All, slice_get}
+use Rattle.std.specs.Option.{option_map}
+use Rattle.std.proofs.lemmas.List.{take-append-le, drop-append-le, map-append, length-map, take_more, take_all}
+use Rattle.std.proofs.lemmas.List.Elements.{All-head, All-tail, All-push}
+use Rattle.std.proofs.lemmas.Option.{slice_get-map, slice_get_within, get_or_from_slice_get}
+use Rattle.virtiofs_map.specs.BranchParts.{AreSpans, IsSpan}
+use Rattle.virtiofs_map.specs.Rule.{MappingRule, same_rule, same_rules}
+use Rattle.virtiofs_map.specs.RuleParts.{rule_with, rule_meant, rule_kept, IsAmong}
+use Rattle.virtiofs_map.specs.declared.xattrmap.rules.RuleEntry.{RuleEntry}
+use Rattle.virtiofs_map.specs.declared.xattrmap.rules.RuleKind.{RuleKind}
+use Rattle.virtiofs_map.specs.declared.xattrmap.rules.RuleRef.{RuleRef}
+use Rattle.virtiofs_map.specs.declared.xattrmap.scopes.Scope.{Scope}
+use Rattle.virtiofs_map.specs.declared.xattrmap.spans.Span.{Span}
+use Rattle.virtiofs_map.proofs.xattrmap.RuleEqualityLemmas.{same_rule-Decides, same_rules-Decides}
+
+the_same : {X : Type 0} (x y : X) → Some x ≡ Some y → x ≡ y
+the_same x y e = cc
+
+-- a part of some bytes is a part of more bytes
+part_more : (bytes more : List ℕ) (from to : ℕ) → from ≤ to → to ≤ length bytes
+    → take (to - from) (drop from (bytes ++ more)) ≡ take (to - from) (drop from bytes)
+part_more bytes more from to rising within =
+    let size = length-drop from bytes in
+    ap (λ xs. take (to - from) xs) (drop-append-le from bytes more (omega (arith, rising, within)))
+    ∙ take-append-le (to - from) (drop from bytes) more (omega (arith, size, rising, within))
+
+same_patterns : (kind : RuleKind) (scope : Scope) (k l p q : List ℕ) → k ≡ l → p ≡ q
+    → rule_with kind scope k p ≡ rule_with kind scope l q
+same_patterns kind scope k l p q ek ep = rw (ek, ep) refl
+
+kept_more : (bytes more : List ℕ) (entry : RuleEntry) → IsAmong bytes entry
+    → rule_kept (bytes ++ more) entry ≡ rule_kept bytes entry
+kept_more bytes more entry among =
+    same_patterns entry.kind entry.scope _ _ _ _
+    (part_more bytes more entry.span.key entry.span.prepend among.rising (omega (arith, among.rising_on, among.within)))
+    (part_more bytes more entry.span.prepend entry.span.end among.rising_on among.within)
+
+among_more : (bytes more : List ℕ) (entry : RuleEntry) → IsAmong bytes entry → IsAmong (bytes ++ more) entry
+among_more bytes more entry among = record {
+  key = refl;
+  prepend = refl;
+  rising = among.rising;
+  rising_on = among.rising_on;
+  within = let size = length-append bytes more in omega (arith, size, among.within);
+}
+
+all_more : (bytes more : List ℕ) (entries : List RuleEntry) → All (IsAmong bytes) entries
+    → All (IsAmong (bytes ++ more)) entries
+all_more bytes more entries all = λ k d l. among_more bytes more _ (all k d l)
+
+list_more : (bytes more : List ℕ) (entries : List RuleEntry) → All (IsAmong bytes) entries
+    → map (rule_kept (bytes ++ more)) entries ≡ map (rule_kept bytes) entries
+list_more bytes more [] all = refl
+list_more bytes more (entry ∷ entries) all =
+    ap (λ rule. rule ∷ map (rule_kept (bytes ++ more)) entries)
+    (kept_more bytes more entry (All-head (IsAmong bytes) entry entries all))
+    ∙ ap (λ rules. rule_kept bytes entry ∷ rules)
+    (list_more bytes more entries (All-tail (IsAmong bytes) entry entries all))
+
+-- more bytes, and no rule more
+pub among_grown : (bytes new : List ℕ) (entries : List RuleEntry) (grown : (more : List ℕ) × (new ≡ bytes ++ more))
+    → All (IsAmong bytes) entries → All (IsAmong new) entries
+among_grown bytes new entries (more, are) all =
+    subst (λ b. All (IsAmong b) entries) (sym are) (all_more bytes more entries all)
+
+-- more bytes, and a rule more
+module _ (bytes new : List ℕ) (entries entries' : List RuleEntry) (entry : RuleEntry) (key prepend : List ℕ)
+    (grown : (more : List ℕ) × (new ≡ bytes ++ more)) (pushed : entries' ≡ entries ++ entry ∷ [])
+    (all : All (IsAmong bytes) entries)
+    (span : IsSpan new (rule_with entry.kind entry.scope key prepend) entry.span) where
+  pub among_pushed : All (IsAmong new) entries'
+  among_pushed =
+      subst (All (IsAmong new)) (sym pushed)
+      (All-push (IsAmong new) entries entry (among_grown bytes new entries grown all)
+      (record { key = refl; prepend = refl; rising = span.rising; rising_on = span.rising_on; within = span.within }))
+
+  pub list_pushed : map (rule_kept new) entries' ≡ map (rule_kept bytes) entries
+      ++ rule_with entry.kind entry.scope key prepend ∷ []
+  list_pushed =
+      let (more, are) = grown in
+      ap (map (rule_kept new)) pushed ∙ map-append (rule_kept new) entries (entry ∷ [])
+      ∙ ap (λ rules. rules ++ rule_kept new entry ∷ [])
+      (ap (λ b. map (rule_kept b) entries) are ∙ list_more bytes more entries all)
+      ∙ ap (λ rule. map (rule_kept bytes) entries ++ rule ∷ [])
+      (same_patterns entry.kind entry.scope _ _ _ _ span.key span.prepend)
+
+-- where the patterns of each rule stand
+span_is : (bytes : List ℕ) (entries : List RuleEntry) (place : ℕ) (rule : MappingRule) (span : Span)
+    (found : Option RuleEntry) → All (IsAmong bytes) entries → slice_get entries place ≡ found
+    → option_map (rule_kept bytes) found ≡ Some rule → option_map (λ (entry : RuleEntry). entry.span) found ≡ Some span
+    → IsSpan bytes rule span
+span_is bytes entries place rule span None all e er es = absurd (cc)
+span_is bytes entries place rule span (Some entry) all e er es =
+    let among : IsAmong bytes entry =
+    subst (IsAmong bytes) (get_or_from_slice_get entries place entry entry e)
+    (all place entry (slice_get_within entries place entry e)) in
+    subst (λ r. IsSpan bytes r span) (the_same (rule_kept bytes entry) rule er)
+    (subst (λ s. IsSpan bytes (rule_kept bytes entry) s) (the_same entry.span span es) among)
+
+pub spans_are : (bytes : List ℕ) (entries : List RuleEntry) → All (IsAmong bytes) entries
+    → AreSpans bytes (map (rule_kept bytes) entries) (map (λ entry. entry.span) entries)
+spans_are bytes entries all = record {
+  counted = length-map entries (λ (entry : RuleEntry). entry.span) ∙ sym (length-map entries (rule_kept bytes));
+  each = λ place rule span er es.
+      span_is bytes entries place rule span (slice_get entries place) all refl
+      (sym (slice_get-map (rule_kept bytes) entries place) ∙ er)
+      (sym (slice_get-map (λ (entry : RuleEntry). entry.span) entries place) ∙ es);
+}
+
+-- ---- whether rules are the same, place by place
+
+false_is : {P : Type 0} (r : Bool) → Decides r P → (P → ⊥) → false ≡ r
+false_is false decides never = refl
+false_is true decides never = absurd (never (decides.0 refl))
+
+module _ (one other : List MappingRule) (place : ℕ) (x y : MappingRule) (here : Some x ≡ slice_get one place)
+    (there : Some y ≡ slice_get other place) where
+  -- rules that differ at a place
+  pub differ_at : (r : Bool) → r ≡ false → r ≡ same_rule x y → false ≡ same_rules one other
+  differ_at r fails is =
+      false_is (same_rules one other) (same_rules-Decides one other _ refl) λ e.
+      (let same : same_rule x y ≡ true =
+      (same_rule-Decides x y).1 (the_same x y (here ∙ ap (λ rules. slice_get rules place) e ∙ sym there)) in
+      cc (fails, is, same))
+
+  -- one place more where they are the same
+  pub same_more : (r : Bool) → r ≡ true → r ≡ same_rule x y → take place one ≡ take place other
+      → take (place + 1) one ≡ take (place + 1) other
+  same_more r holds is so_far =
+      let same : x ≡ y = (same_rule-Decides x y).0 (sym is ∙ holds) in
+      take_more one place x (slice_get_within one place x (sym here))
+      ∙ ap (λ rule. take place one ++ rule ∷ [])
+      (get_or_from_slice_get one place x x (sym here) ∙ same ∙ sym (get_or_from_slice_get other place y y (sym there)))
+      ∙ ap (λ rules. rules ++ get_or other place y ∷ []) so_far
+      ∙ sym (take_more other place y (slice_get_within other place y (sym there)))
+
+-- and no more places
+pub same_all : (one other : List MappingRule) (place : ℕ) → length one ≤ place → length other ≡ length one
+    → take place one ≡ take place other → true ≡ same_rules one other
+same_all one other place past long so_far =
+    let same : one ≡ other = sym (take_all place one past) ∙ so_far
+    ∙ take_all place other (omega (arith, long, past)) in
+    sym ((same_rules-Decides one other _ refl).1 same)
+
+-- what holds of each rule holds of the one that is lent
+pub lent_has : (P : MappingRule → Type 0) (rules : List MappingRule) (place : ℕ) (lent : Option RuleRef) → All P rules
+    → option_map rule_meant lent ≡ slice_get rules place → IfSome lent (λ rule. P (rule_meant rule))
+lent_has P rules place None all e = tt
+lent_has P rules place (Some rule) all e =
+    subst P (get_or_from_slice_get rules place (rule_meant rule) (rule_meant rule) (sym e))
+    (all place (rule_meant rule) (slice_get_within rules place (rule_meant rule) (sym e)))

@@ -1,0 +1,2 @@
+mod NamesDecisionLemmas
+mod NamesListLemmas

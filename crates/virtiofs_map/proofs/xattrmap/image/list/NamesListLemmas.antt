@@ -1,0 +1,187 @@
+-- The list that is written name by name.
+use Rattle.std.proofs.Common.{◌≡◌, ◌≢◌, ℕ, zero, suc, ◌+◌, ◌<◌, ◌≤◌, true, false, if◌then◌else◌, List, [], ◌∷◌, ◌++◌}
+use Rattle.std.proofs.Common.{length, drop, Some, None, refl, sym, ap, subst, ◌∙◌, arith, append-nil, length-append}
+use Rattle.virtiofs_map.specs.Listing.{listing}
+use Rattle.virtiofs_map.specs.Names.{IsListed, IsHidden, IsUndecided, as_list, host_answer, server_answer}
+use Rattle.virtiofs_map.specs.NamesImageParts.{Holds}
+use Rattle.virtiofs_map.specs.Rule.{MappingRule}
+use Rattle.virtiofs_map.proofs.xattrmap.ListingLemmas.{IsSoFar, IsSoFar-first, IsSoFar-name, Item, all_ok, names_of, zeros_of}
+use Rattle.virtiofs_map.proofs.xattrmap.ListingLemmas.{list_of-listing, listing_none, listing_shown, listing_hidden}
+use Rattle.virtiofs_map.proofs.xattrmap.ListingLemmas.{listing_undecided}
+use Rattle.virtiofs_map.proofs.ServerListLemmas.{IsCut, is_name, with_zeros}
+
+-- any type serves for the allocator that errors name
+abbrev Items : List MappingRule → List ℕ → List (Item ℕ)
+Items rules list = listing {A = ℕ} rules list
+
+-- so many bytes were listed, and are held as far as there is room; with the names of the rest they are the whole list
+pub record IsListedSoFar (rules : List MappingRule) (list rest : List ℕ) (count : ℕ) (old new : List ℕ) : Type 0 where
+  pub so_far : List ℕ
+  pub counted : count ≡ length so_far
+  pub holds : Holds so_far old new
+  pub left : IsSoFar {A = ℕ} rules list so_far (Items rules rest)
+
+pub listed_first : (rules : List MappingRule) (list old : List ℕ) → IsListedSoFar rules list list 0 old old
+listed_first rules list old = record {
+  so_far = [];
+  counted = refl;
+  holds = record { same = refl; are = λ _. refl };
+  left = IsSoFar-first {A = ℕ} rules list [] (Items rules list) refl refl;
+}
+
+module _ (rules : List MappingRule) (list rest name left : List ℕ) (count : ℕ) (old new : List ℕ)
+    (cut : IsCut rest name left) (so_far : IsListedSoFar rules list rest count old new) where
+  -- an empty name
+  pub listed_none : is_name name ≡ false → IsListedSoFar rules list left count old new
+  listed_none none = record {
+    so_far = so_far.so_far;
+    counted = so_far.counted;
+    holds = so_far.holds;
+    left = subst (IsSoFar {A = ℕ} rules list so_far.so_far) (listing_none {A = ℕ} rules rest name left cut none)
+        so_far.left;
+  }
+
+  -- a hidden name
+  pub listed_hidden : is_name name ≡ true → host_answer rules name ≡ IsHidden
+      → IsListedSoFar rules list left count old new
+  listed_hidden named hidden = record {
+    so_far = so_far.so_far;
+    counted = so_far.counted;
+    holds = so_far.holds;
+    left = subst (IsSoFar {A = ℕ} rules list so_far.so_far)
+        (listing_hidden {A = ℕ} rules rest name left cut named hidden) so_far.left;
+  }
+
+  -- a name that is listed, and was written with a zero behind what stood there
+  pub listed_shown : (shown : List ℕ) (next : ℕ) (after : List ℕ) → is_name name ≡ true
+      → host_answer rules name ≡ IsListed shown
+      → next ≡ count + length shown + 1
+      → ((so_far first : List ℕ) → Holds so_far first new → count ≡ length so_far
+      → Holds (so_far ++ shown ++ 0 ∷ []) first after)
+      → IsListedSoFar rules list left next old after
+  listed_shown shown next after named seen behind put =
+      let a = length-append so_far.so_far shown in
+      let b = length-append (so_far.so_far ++ shown) (0 ∷ []) in
+      record {
+        so_far = so_far.so_far ++ shown ++ 0 ∷ [];
+        counted = omega (arith, behind, so_far.counted, a, b);
+        holds = put so_far.so_far old so_far.holds so_far.counted;
+        left = IsSoFar-name {A = ℕ} rules list so_far.so_far (so_far.so_far ++ shown ++ 0 ∷ []) shown (Items rules rest)
+            (Items rules left) so_far.left (listing_shown {A = ℕ} rules rest name left shown cut named seen) refl;
+      }
+
+  -- a name that no rule decides leaves no list
+  pub listed_undecided : is_name name ≡ true → host_answer rules name ≡ IsUndecided → server_answer rules list ≡ None
+  listed_undecided named seen =
+      let last = listing_undecided {A = ℕ} rules rest name left cut named seen in
+      let none : all_ok (Items rules list) ≡ false = sym so_far.left.ok ∙ ap all_ok last in
+      sym (list_of-listing ℕ rules list)
+      ∙ ap (λ b. if b then Some (as_list (names_of (Items rules list))) else None) none
+
+-- ---- the end
+
+nil_from : (l : List ℕ) → length l ≡ 0 → l ≡ []
+nil_from [] e = refl
+nil_from (x ∷ l) e = absurd (omega (arith, e))
+
+-- the whole list has so many bytes, and is held as far as there is room
+pub record IsWhole (rules : List MappingRule) (list : List ℕ) (count : ℕ) (old new : List ℕ) : Type 0 where
+  pub answer : List ℕ
+  pub is : server_answer rules list ≡ Some answer
+  pub counted : count ≡ length answer
+  pub holds : Holds answer old new
+
+zeros_as_list : (parts : List (List ℕ)) → with_zeros parts ≢ [] → as_list parts ≡ with_zeros parts
+zeros_as_list [] some = absurd (some refl)
+zeros_as_list (part ∷ parts) some = refl
+
+none_as_list : (parts : List (List ℕ)) → length (with_zeros parts) ≡ 0 → as_list parts ≡ 0 ∷ []
+none_as_list [] none = refl
+none_as_list (part ∷ parts) none =
+    absurd
+    (let a = length-append (part ++ 0 ∷ []) (with_zeros parts) in
+    let b = length-append part (0 ∷ []) in
+    omega (arith, none, a, b))
+
+module _ (rules : List MappingRule) (list rest : List ℕ) (count : ℕ) (old new : List ℕ)
+    (so_far : IsListedSoFar rules list rest count old new) (none_left : length rest ≡ 0) where
+  past : rest ≡ []
+  past = nil_from rest none_left
+
+  abbrev all_names : List (List ℕ)
+  all_names = names_of (Items rules list)
+
+  answer_is : server_answer rules list ≡ Some (as_list all_names)
+  answer_is =
+      let whole : all_ok (Items rules list) ≡ true = sym so_far.left.ok ∙ ap (λ r. all_ok (Items rules r)) past in
+      sym (list_of-listing ℕ rules list) ∙ ap (λ b. if b then Some (as_list all_names) else None) whole
+
+  all_is : so_far.so_far ≡ with_zeros all_names
+  all_is = sym (append-nil so_far.so_far) ∙ ap (λ r. so_far.so_far ++ zeros_of (Items rules r)) (sym past)
+      ∙ so_far.left.zeros
+
+  -- some names were listed
+  pub listed_all : count ≢ 0 → IsWhole rules list count old new
+  listed_all some =
+      let long : count ≡ length (with_zeros all_names) = so_far.counted ∙ ap length all_is in
+      let same : as_list all_names ≡ with_zeros all_names = zeros_as_list all_names (λ e. some (long ∙ ap length e)) in
+      record {
+        answer = with_zeros all_names;
+        is = answer_is ∙ ap Some same;
+        counted = long;
+        holds =
+            subst (λ (l : List ℕ). Holds l old new) all_is so_far.holds;
+      }
+
+  -- none was
+  pub listed_no_name : (next : ℕ) (after : List ℕ) → count ≡ 0 → next ≡ 1
+      → ((so_far first : List ℕ) → Holds so_far first new → 0 ≡ length so_far
+      → Holds (so_far ++ [] ++ 0 ∷ []) first after)
+      → IsWhole rules list next old after
+  listed_no_name next after none behind put =
+      let long : length (with_zeros all_names) ≡ 0 = ap length (sym all_is) ∙ sym so_far.counted ∙ none in
+      let same : as_list all_names ≡ 0 ∷ [] = none_as_list all_names long in
+      let empty : so_far.so_far ≡ [] = nil_from so_far.so_far (sym so_far.counted ∙ none) in
+      let held = put so_far.so_far old so_far.holds (omega (arith, so_far.counted, none)) in
+      record {
+        answer = 0 ∷ [];
+        is = answer_is ∙ ap Some same;
+        counted = behind;
+        holds =
+            subst (λ (l : List ℕ). Holds (l ++ [] ++ 0 ∷ []) old after) empty held;
+      }
+
+module _ (rules : List MappingRule) (list old new : List ℕ) (count : ℕ) (whole : IsWhole rules list count old new) where
+  -- it stands at the front, where there is room
+  pub whole_fits : count ≤ length new
+      → (answer : List ℕ) × (server_answer rules list ≡ Some answer) × (count ≡ length answer)
+      × (new ≡ answer ++ drop count old)
+  whole_fits room =
+      let stands = whole.holds.are (omega (arith, whole.counted, room, whole.holds.same)) in
+      (whole.answer, whole.is, whole.counted, stands ∙ ap (λ (n : ℕ). whole.answer ++ drop n old) (sym whole.counted))
+
+  -- else its length is told
+  pub whole_too_long : length new < count
+      → (answer : List ℕ) × (server_answer rules list ≡ Some answer) × (count ≡ length answer) × (length old < count)
+  whole_too_long long = (whole.answer, whole.is, whole.counted, omega (arith, long, whole.holds.same))
+
+-- ---- how long it is
+
+-- a name more, of a list with so many bytes left, of which these are the name and what is behind it
+pub short_more : (count name left rest list shown next : ℕ) → next ≡ count + shown + 1 → shown ≤ name → 0 < rest
+    → (0 < rest → count + rest ≤ list)
+    → name + left ≤ rest → (0 < left → name + left < rest) → next + left ≤ list + 1
+short_more count name zero rest list shown next is short some room within apart = let b = room some in
+    omega (arith, is, short, within, b)
+short_more count name (suc left) rest list shown next is short some room within apart =
+    let a = apart (omega arith) in
+    let b = room some in
+    omega (arith, is, short, a, b)
+
+pub shorter_more : (count name left rest list shown next : ℕ) → next ≡ count + shown + 1 → shown ≤ name → 0 < rest
+    → (0 < rest → count + rest ≤ list)
+    → (0 < left → name + left < rest) → 0 < left → next + left ≤ list
+shorter_more count name left rest list shown next is short some room apart more =
+    let a = apart more in
+    let b = room some in
+    omega (arith, is, short, a, b)

@@ -1,0 +1,239 @@
+-- The parts of an image, and what is written as one.
+use Rattle.std.proofs.Common.{◌≡◌, ℕ, ◌+◌, ◌-◌, ◌*◌, ◌^◌, ◌<◌, ◌≤◌, zero, suc, List, [], ◌∷◌, ◌++◌, All, length, get_or}
+use Rattle.std.proofs.Common.{take, drop, refl, ap, sym, subst, ◌∙◌, arith, append_assoc, append-nil, length-append}
+use Rattle.std.proofs.Math.Seq.{drop-append_seam, take-append_seam}
+use Rattle.std.proofs.lemmas.List.Elements.{All-cons, All-nil}
+use Rattle.virtiofs_map.specs.BranchParts.{AreSpans, IsTrieIn}
+use Rattle.virtiofs_map.specs.ByteWordParts.{word_at}
+use Rattle.virtiofs_map.specs.NamesImage.{HasImage, HasPart, IsImage, image_kind, part, part_end, part_start, rule_rows}
+use Rattle.virtiofs_map.specs.NamesImageParts.{ArePlaces, Holds, header_of, numbers_of}
+use Rattle.virtiofs_map.specs.Rule.{MappingRule, HasNoZero}
+use Rattle.virtiofs_map.specs.declared.xattrmap.image.write.Places.{Places}
+use Rattle.virtiofs_map.specs.declared.xattrmap.scopes.Side.TheVariants.{Client, Server}
+use Rattle.virtiofs_map.specs.declared.xattrmap.spans.Span.{Span}
+use Rattle.virtiofs_map.proofs.xattrmap.ByteWordLemmas.{length-words, word_of_words}
+use Rattle.virtiofs_map.proofs.xattrmap.image.RuleRowLemmas.{length-rule_rows}
+
+-- ---- parts, as they are written
+
+-- what is appended is the part behind the bytes
+part_here : (front one back : List ℕ) (from to : ℕ) → from ≡ length front → to ≡ from + length one
+    → take (to - from) (drop from ((front ++ one) ++ back)) ≡ one
+part_here front one back from to is_from is_to =
+    let size : to - from ≡ length one = omega (arith, is_to) in
+    ap (λ (n : ℕ). take n (drop from ((front ++ one) ++ back))) size
+    ∙ ap (λ (n : ℕ). take (length one) (drop n ((front ++ one) ++ back))) is_from
+    ∙ ap (λ (l : List ℕ). take (length one) (drop (length front) l)) (append_assoc front one back)
+    ∙ ap (take (length one)) (drop-append_seam front (one ++ back))
+    ∙ take-append_seam one back
+
+-- a part of that number, with these bytes
+pub record IsPartAt (image : List ℕ) (which : ℕ) (bytes : List ℕ) : Type 0 where
+  pub has : HasPart image which
+  pub is : part image which ≡ bytes
+
+-- what stands between two places that the header names is that part
+part_laid : (image front one back : List ℕ) (which from to : ℕ) → image ≡ (front ++ one) ++ back
+    → from ≡ length front → to ≡ from + length one → part_start image which ≡ from → part_end image which ≡ to
+    → IsPartAt image which one
+part_laid image front one back which from to is is_from is_to starts ends =
+    let size = ap length is ∙ length-append (front ++ one) back in
+    let sizes = length-append front one in
+    record {
+      has = record {
+        rising = omega (arith, starts, ends, is_to);
+        within =
+            omega (arith, ends, is_to, is_from, size, sizes);
+      };
+      is = rw (starts, ends, is) (part_here front one back from to is_from is_to);
+    }
+
+numbers_fit : (places : Places) → places.server < 2 ^ 64 → places.rules < 2 ^ 64 → places.bytes < 2 ^ 64
+    → places.end < 2 ^ 64
+    → All (λ w. w < 2 ^ 64) (numbers_of places)
+numbers_fit places a b c d =
+    let Fits : ℕ → Type 0 = λ w. w < 2 ^ 64 in
+    let one = All-cons Fits places.end [] d (All-nil Fits) in
+    let two = All-cons Fits places.bytes (places.end ∷ []) c one in
+    let three = All-cons Fits places.rules (places.bytes ∷ places.end ∷ []) b two in
+    let four = All-cons Fits places.server (places.rules ∷ places.bytes ∷ places.end ∷ []) a three in
+    let five = All-cons Fits 48 (places.server ∷ places.rules ∷ places.bytes ∷ places.end ∷ []) (omega arith) four in
+    All-cons Fits image_kind (48 ∷ places.server ∷ places.rules ∷ places.bytes ∷ places.end ∷ []) (omega arith) five
+
+-- ---- the image of a map
+
+-- all that is written
+abbrev pub content : Places → List ℕ → List ℕ → List ℕ → List ℕ → List ℕ
+content places client server rows bytes = header_of places ++ client ++ server ++ rows ++ bytes
+
+module _ (places : Places) (client server rows bytes : List ℕ) (rules : ℕ)
+    (are : ArePlaces (length client) (length server) rules (length bytes) places)
+    (long : length rows ≡ 24 * rules) where
+  pub header_length : length (header_of places) ≡ 48
+  header_length = length-words (numbers_of places)
+
+  pub content_length : length (content places client server rows bytes) ≡ places.end
+  content_length =
+      let a = length-append (header_of places) client in
+      let b = length-append (header_of places ++ client) server in
+      let c = length-append (header_of places ++ client ++ server) rows in
+      let d = length-append (header_of places ++ client ++ server ++ rows) bytes in
+      omega (arith, a, b, c, d, header_length, are.first, are.second, are.third, are.last, long)
+
+  content_word : (k : ℕ) → k < 6
+      → word_at (content places client server rows bytes) (8 * k) ≡ get_or (numbers_of places) k 0
+  content_word k below =
+      let fit =
+      numbers_fit places (omega (arith, are.first, are.second, are.third, are.last, are.short))
+      (omega (arith, are.second, are.third, are.last, are.short)) (omega (arith, are.third, are.last, are.short))
+      (omega (arith, are.last, are.short)) in
+      let apart : content places client server rows bytes ≡ header_of places
+      ++ (client ++ (server ++ (rows ++ bytes))) = simp append_assoc in
+      ap (λ (l : List ℕ). word_at l (8 * k)) apart
+      ∙ word_of_words (numbers_of places) (client ++ (server ++ (rows ++ bytes))) k below fit
+
+  pub content_kind : word_at (content places client server rows bytes) 0 ≡ image_kind
+  content_kind = content_word 0 (omega arith)
+
+  pub first_part : IsPartAt (content places client server rows bytes) 0 client
+  first_part =
+      part_laid (content places client server rows bytes) (header_of places) client (server ++ rows ++ bytes) 0 48
+      places.server
+      (simp append_assoc) (sym header_length) are.first (content_word 1 (omega arith)) (content_word 2 (omega arith))
+
+  pub second_part : IsPartAt (content places client server rows bytes) 1 server
+  second_part =
+      let a = length-append (header_of places) client in
+      part_laid (content places client server rows bytes) (header_of places ++ client) server (rows ++ bytes) 1
+      places.server places.rules
+      (simp append_assoc) (omega (arith, a, header_length, are.first)) are.second (content_word 2 (omega arith))
+      (content_word 3 (omega arith))
+
+  pub third_part : IsPartAt (content places client server rows bytes) 2 rows
+  third_part =
+      let a = length-append (header_of places) client in
+      let b = length-append (header_of places ++ client) server in
+      part_laid (content places client server rows bytes) (header_of places ++ client ++ server) rows bytes 2
+      places.rules places.bytes
+      refl (omega (arith, a, b, header_length, are.first, are.second)) (omega (arith, are.third, long))
+      (content_word 3 (omega arith)) (content_word 4 (omega arith))
+
+  pub fourth_part : IsPartAt (content places client server rows bytes) 3 bytes
+  fourth_part =
+      let a = length-append (header_of places) client in
+      let b = length-append (header_of places ++ client) server in
+      let c = length-append (header_of places ++ client ++ server) rows in
+      part_laid (content places client server rows bytes) (header_of places ++ client ++ server ++ rows) bytes [] 3
+      places.bytes places.end
+      (sym (append-nil (content places client server rows bytes)))
+      (omega (arith, a, b, c, header_length, are.first, are.second, are.third, long)) are.last
+      (content_word 4 (omega arith)) (content_word 5 (omega arith))
+
+  pub every_part : (which : ℕ) → which < 4 → HasPart (content places client server rows bytes) which
+  every_part zero below = first_part.has
+  every_part (suc zero) below = second_part.has
+  every_part (suc (suc zero)) below = third_part.has
+  every_part (suc (suc (suc zero))) below = fourth_part.has
+  every_part (suc (suc (suc (suc n)))) below = absurd (omega arith)
+
+module _ (rules : List MappingRule) (spans : List Span) (client server bytes : List ℕ) (places : Places)
+    (are : ArePlaces (length client) (length server) (length rules) (length bytes) places)
+    (stand : AreSpans bytes rules spans)
+    (no_zero : All HasNoZero rules) (clients : IsTrieIn Client rules client bytes)
+    (servers : IsTrieIn Server rules server bytes) where
+  rows_long : length (rule_rows rules spans) ≡ 24 * length rules
+  rows_long = length-rule_rows rules spans stand.counted
+
+  -- it is an image of the map
+  pub content_image : IsImage rules (content places client server (rule_rows rules spans) bytes)
+  content_image =
+      let rows : List ℕ = rule_rows rules spans in
+      let one = first_part places client server rows bytes (length rules) are rows_long in
+      let two = second_part places client server rows bytes (length rules) are rows_long in
+      let three = third_part places client server rows bytes (length rules) are rows_long in
+      let four = fourth_part places client server rows bytes (length rules) are rows_long in
+      let size = content_length places client server rows bytes (length rules) are rows_long in
+      record {
+        begun = omega (arith, size, are.first, are.second, are.third, are.last);
+        kind = content_kind places client server rows bytes (length rules) are rows_long;
+        parts = every_part places client server rows bytes (length rules) are rows_long;
+        client = rw (one.is, four.is) clients;
+        server = rw (two.is, four.is) servers;
+        stored =
+            rw (three.is, four.is)
+            record { spans = spans; stand = stand; are = refl; few = omega (arith, are.last, are.short) };
+        no_zero = no_zero;
+      }
+
+  pub has_image : HasImage rules places.end
+  has_image = (
+    content places client server (rule_rows rules spans) bytes,
+    content_length places client server (rule_rows rules spans) bytes (length rules) are rows_long,
+    content_image,
+  )
+
+  module _ (old new : List ℕ) (room : places.end ≤ length old)
+      (holds : Holds (content places client server (rule_rows rules spans) bytes) old new) where
+    -- where it was written, it stands at the front
+    pub image_written : IsImage rules (take places.end new)
+    image_written =
+        let all : List ℕ = content places client server (rule_rows rules spans) bytes in
+        let size = content_length places client server (rule_rows rules spans) bytes (length rules) are rows_long in
+        let whole = holds.are (omega (arith, size, room)) in
+        subst (IsImage rules)
+        (sym (ap (take places.end) whole ∙ ap (λ (n : ℕ). take n (all ++ drop (length all) old)) (sym size)
+        ∙ take-append_seam all (drop (length all) old)))
+        content_image
+
+-- and what was behind it stays
+pub rest_kept : (places : Places) (client server rows bytes : List ℕ) (rules : ℕ)
+    → ArePlaces (length client) (length server) rules (length bytes) places → length rows ≡ 24 * rules
+    → (old new : List ℕ) → places.end ≤ length old → Holds (content places client server rows bytes) old new
+    → drop places.end new ≡ drop places.end old
+rest_kept places client server rows bytes rules are long old new room holds =
+    let all : List ℕ = content places client server rows bytes in
+    let size = content_length places client server rows bytes rules are long in
+    let whole = holds.are (omega (arith, size, room)) in
+    ap (drop places.end) whole
+    ∙ ap (λ (n : ℕ). drop n (all ++ drop (length all) old)) (sym size)
+    ∙ drop-append_seam all (drop (length all) old)
+    ∙ ap (λ (n : ℕ). drop n old) size
+
+-- ---- what is written, part by part
+
+-- before anything is written
+pub holds_none : (old : List ℕ) → Holds [] old old
+holds_none old = record { same = refl; are = λ _. refl }
+
+-- the bytes were appended at that place, whatever stood before them
+abbrev pub Puts : ℕ → List ℕ → List ℕ → List ℕ → Type 0
+Puts at bytes before after = (so_far first : List ℕ) → Holds so_far first before → at ≡ length so_far
+    → Holds (so_far ++ bytes) first after
+
+pub puts_same : (at : ℕ) (bytes other before after : List ℕ) → bytes ≡ other → Puts at bytes before after
+    → Puts at other before after
+puts_same at bytes other before after same puts so_far first holds place =
+    subst (λ (l : List ℕ). Holds (so_far ++ l) first after) same (puts so_far first holds place)
+
+-- the parts, one after the other
+pub parts_written : (rules : List MappingRule) (spans : List Span) (client server bytes : List ℕ) (places : Places)
+    → ArePlaces (length client) (length server) (length rules) (length bytes) places → AreSpans bytes rules spans
+    → (old one two three four five : List ℕ) → Holds (header_of places) old one
+    → Puts 48 client one two → Puts places.server server two three
+    → Puts places.rules (rule_rows rules spans) three four → Puts places.bytes bytes four five
+    → Holds (content places client server (rule_rows rules spans) bytes) old five
+parts_written rules spans client server bytes places are stand old one two three four five header first second third
+    fourth =
+    let rows : List ℕ = rule_rows rules spans in
+    let long = length-rule_rows rules spans stand.counted in
+    let size = header_length places client server rows bytes (length rules) are long in
+    let a = length-append (header_of places) client in
+    let b = length-append (header_of places ++ client) server in
+    let c = length-append (header_of places ++ client ++ server) rows in
+    let with_client = first (header_of places) old header (omega (arith, size)) in
+    let with_server = second (header_of places ++ client) old with_client (omega (arith, size, a, are.first)) in
+    let with_rules =
+    third (header_of places ++ client ++ server) old with_server
+    (omega (arith, size, a, b, are.first, are.second)) in
+    fourth (header_of places ++ client ++ server ++ rows) old with_rules
+    (omega (arith, size, a, b, c, long, are.first, are.second, are.third))

@@ -1,0 +1,157 @@
+-- The patterns of a side, gathered rule by rule, and in any order.
+use Rattle.std.proofs.Common.{◌≡◌, ◌≢◌, ◌⊎◌, ℕ, zero, suc, ◌+◌, ◌*◌, ◌<◌, ◌≤◌, Bool, true, false, cond, eqb, ltb, List}
+use Rattle.std.proofs.Common.{[], ◌∷◌, ◌++◌, length, take, get_or, Some, inl, inr, refl, sym, ap, subst, ◌∙◌, eq-eqb}
+use Rattle.std.proofs.Common.{arith}
+use Rattle.std.specs.Cmp.Lexicographic.{slice_cmp, nat_list_cmp_total}
+use Rattle.std.specs.List.{All, Contains, slice_get}
+use Rattle.std.specs.List.Sorted.{IsPermutation, IsSortedBy}
+use Rattle.std.specs.Ordering.{nat_cmp, ordering_then, is_lt}
+use Rattle.std.specs.declared.cmp.Ordering.{Ordering}
+use Rattle.std.specs.declared.cmp.Ordering.TheVariants.{Less, Equal, Greater}
+use Rattle.std.proofs.lemmas.Bool.{true≢false, cases_lt, lt-ltb}
+use Rattle.std.proofs.lemmas.Bool.Decides.{nat_tests}
+use Rattle.std.proofs.lemmas.List.Sorted.{All-permutation, Contains-permutation, ranks_by, sorted_far}
+use Rattle.std.proofs.lemmas.List.Elements.{All-contains, All-push, Contains-append_left, Contains-push}
+use Rattle.std.proofs.lemmas.Option.{same_Some, slice_get_past, slice_get_within, get_or_from_slice_get}
+use Rattle.virtiofs_map.specs.BranchParts.{IsPattern, IsPatternAt, ArePatterns, ArePatternsBelow, AreInOrder}
+use Rattle.virtiofs_map.specs.FirstRule.{acts, pattern}
+use Rattle.virtiofs_map.specs.GrowthParts.{AreReady}
+use Rattle.virtiofs_map.specs.Rule.{HasNoZero, MappingRule, type_number}
+use Rattle.virtiofs_map.specs.declared.xattrmap.trie.patterns.Pattern.{Pattern}
+use Rattle.virtiofs_map.specs.declared.xattrmap.scopes.Side.{Side}
+use Rattle.virtiofs_map.proofs.xattrmap.WayLemmas.{pattern_no_zero}
+
+-- the rule at the place has a pattern
+pub patterns_more : (side : Side) (rules : List MappingRule) (bytes : List ℕ) (place : ℕ) (patterns : List Pattern)
+    (one : Pattern)
+    → ArePatternsBelow side rules bytes place patterns → IsPatternAt side rules bytes place one
+    → ArePatternsBelow side rules bytes (place + 1) (patterns ++ one ∷ [])
+patterns_more side rules bytes place patterns one below is = record {
+  each = All-push (IsPattern side rules bytes) patterns one below.each (record { place = place; is = is });
+  every = λ at rule before here acting. elim (cases_lt at place) [
+    | inl earlier ↦
+        (let (other, stored, same, answer) = below.every at rule earlier here acting in
+        (other, Contains-append_left patterns (one ∷ []) other stored, same, answer))
+    | inr later ↦
+        (let now : at ≡ place = omega (arith, before, later) in
+        let rule_is : is.rule ≡ rule = same_Some _ _ (sym is.here ∙ ap (slice_get rules) (sym now) ∙ here) in (
+          one,
+          Contains-push patterns one,
+          is.are ∙ ap (pattern side) rule_is,
+          is.stands_for
+              ∙ ap (λ n. 4 * n + type_number is.rule.kind) (sym now)
+              ∙ ap (λ (r : MappingRule). 4 * at + type_number r.kind) rule_is,
+        ))
+  ];
+}
+
+-- it has none
+pub patterns_same : (side : Side) (rules : List MappingRule) (bytes : List ℕ) (place : ℕ) (patterns : List Pattern)
+    → ArePatternsBelow side rules bytes place patterns
+    → ((rule : MappingRule) → slice_get rules place ≡ Some rule → acts side rule ≡ false)
+    → ArePatternsBelow side rules bytes (place + 1) patterns
+patterns_same side rules bytes place patterns below none = record {
+  each = below.each;
+  every = λ at rule before here acting. elim (cases_lt at place) [
+    | inl earlier ↦ below.every at rule earlier here acting
+    | inr later ↦
+        absurd (let now : at ≡ place = omega (arith, before, later) in
+        true≢false (sym acting ∙ none rule (ap (slice_get rules) (sym now) ∙ here)))
+  ];
+}
+
+pub patterns_whole : (side : Side) (rules : List MappingRule) (bytes : List ℕ) (end : ℕ) (patterns : List Pattern)
+    → ArePatternsBelow side rules bytes end patterns → length rules ≤ end → ArePatterns side rules bytes patterns
+patterns_whole side rules bytes end patterns below past = record {
+  each = below.each;
+  every = λ at rule here acting. elim (cases_lt at (length rules)) [
+    | inl before ↦ below.every at rule (omega (arith, before, past)) here acting
+    | inr after ↦ absurd (cc (slice_get_past rules at after))
+  ];
+}
+
+-- in any order they are the patterns
+pub patterns-permutation : (side : Side) (rules : List MappingRule) (bytes : List ℕ) (patterns others : List Pattern)
+    → IsPermutation patterns others → ArePatterns side rules bytes patterns → ArePatterns side rules bytes others
+patterns-permutation side rules bytes patterns others moved are = record {
+  each = All-permutation (IsPattern side rules bytes) patterns others moved are.each;
+  every = λ at rule here acting.
+      let (one, stored, same, answer) = are.every at rule here acting in
+      (one, Contains-permutation patterns others one moved stored, same, answer);
+}
+
+-- ---- the order of bytes
+
+-- a lesser byte decides
+less : (y x : ℕ) (rest : Ordering) → y < x → is_lt (ordering_then (nat_cmp y x) rest) ≡ true
+less y x rest below = by (ltb y x) (lt-ltb y x below) where
+  by : (b : Bool) → b ≡ true → is_lt (ordering_then (cond b Less (cond (eqb y x) Equal Greater)) rest) ≡ true
+  by true e = refl
+  by false e = absurd (true≢false (sym e))
+
+-- the same byte leaves it to the rest
+level : (y : ℕ) (rest : Ordering) → is_lt (ordering_then (nat_cmp y y) rest) ≡ is_lt rest
+level y rest = by (ltb y y) (eqb y y) not_below (eq-eqb y y refl) where
+  not_below : ltb y y ≡ false
+  not_below = grind (arith, nat_tests)
+
+  by : (b e : Bool) → b ≡ false → e ≡ true
+      → is_lt (ordering_then (cond b Less (cond e Equal Greater)) rest) ≡ is_lt rest
+  by false true b e = refl
+  by true e b f = absurd (true≢false b)
+  by false false b e = absurd (true≢false (sym e))
+
+-- the bytes of one pattern do not come after those of another: where they share a front, nor does its next byte
+later_byte : (one other : List ℕ) (depth : ℕ) → take depth one ≡ take depth other
+    → is_lt (slice_cmp nat_cmp other one) ≡ false
+    → get_or one depth 0 ≤ get_or other depth 0
+later_byte [] other depth same order = omega arith
+later_byte (x ∷ one) [] zero same order = absurd (true≢false order)
+later_byte (x ∷ one) [] (suc depth) same order = absurd (cc)
+later_byte (x ∷ one) (y ∷ other) zero same order = first (cases_lt y x) where
+  first : (y < x) ⊎ (x ≤ y) → x ≤ y
+  first (inl below) = absurd (true≢false (sym (less y x (slice_cmp nat_cmp other one) below) ∙ order))
+  first (inr above) = above
+later_byte (x ∷ one) (y ∷ other) (suc depth) same order =
+    let head : x ≡ y = cc in
+    let rest : take depth one ≡ take depth other = cc in
+    let lower : is_lt (ordering_then (nat_cmp y y) (slice_cmp nat_cmp other one)) ≡ false =
+    subst (λ (b : ℕ). is_lt (ordering_then (nat_cmp y b) (slice_cmp nat_cmp other one)) ≡ false) head order in
+    later_byte one other depth rest (sym (level y (slice_cmp nat_cmp other one)) ∙ lower)
+
+pub AreInOrder-sorted : (patterns : List Pattern)
+    → IsSortedBy (λ (a b : Pattern). is_lt (slice_cmp nat_cmp a.bytes.now b.bytes.now)) patterns → AreInOrder patterns
+AreInOrder-sorted patterns sorted = record {
+  rising = λ i j depth one other before here there same.
+      let inside : j < length patterns = slice_get_within patterns j other there in
+      let far =
+      sorted_far (λ (a b : Pattern). is_lt (slice_cmp nat_cmp a.bytes.now b.bytes.now))
+      (ranks_by nat_list_cmp_total (λ (a : Pattern). a.bytes.now)) patterns sorted i j one (omega (arith, before))
+      inside in
+      let at_i : get_or patterns i one ≡ one = get_or_from_slice_get patterns i one one here in
+      let at_j : get_or patterns j one ≡ other = get_or_from_slice_get patterns j other one there in
+      later_byte one.bytes.now other.bytes.now depth same
+      (subst (λ (a : Pattern). is_lt (slice_cmp nat_cmp other.bytes.now a.bytes.now) ≡ false) at_i
+      (subst (λ (b : Pattern). is_lt (slice_cmp nat_cmp b.bytes.now (get_or patterns i one).bytes.now) ≡ false) at_j
+      far));
+}
+
+-- ---- patterns of which a trie can be made
+
+pub AreReady-made : (side : Side) (rules : List MappingRule) (bytes : List ℕ) (patterns : List Pattern)
+    → ArePatterns side rules bytes patterns → All HasNoZero rules → AreInOrder patterns
+    → AreReady (length bytes) patterns
+AreReady-made side rules bytes patterns are plain order = record {
+  each = λ k d below.
+      let of_rule = are.each k d below in
+      let is = of_rule.is in
+      let stored : Contains rules is.rule = (
+        of_rule.place,
+        slice_get_within rules of_rule.place is.rule is.here,
+        get_or_from_slice_get rules of_rule.place is.rule is.rule is.here,
+      ) in
+      let none : All (λ byte. byte ≢ 0) (pattern side is.rule) =
+      pattern_no_zero side is.rule (All-contains HasNoZero rules is.rule plain stored) in
+      record { within = is.within; full = subst (λ (s : List ℕ). All (λ byte. byte ≢ 0) s) (sym is.are) none };
+  order = order;
+}

@@ -1,0 +1,200 @@
+-- How many bytes a name shares with patterns.
+use Rattle.std.proofs.Common.{◌≡◌, ◌≢◌, ℕ, zero, suc, ◌+◌, ◌<◌, ◌≤◌, true, false, ◌&&◌, cond, eqb, List, [], ◌∷◌, ◌++◌}
+use Rattle.std.proofs.Common.{length, get_or, take, drop, max, min, Contains, Option, Some, None, inl, inr, refl, sym}
+use Rattle.std.proofs.Common.{ap, subst, ◌∙◌, arith, append_assoc, append-nil}
+use Rattle.std.specs.List.{slice_get}
+use Rattle.std.specs.Option.{option_and_then, option_map_or}
+use Rattle.std.proofs.lemmas.Bool.{cases_Bool, cond_both, and_from, and_parts, eqb-true, ne_eqb, true≢false}
+use Rattle.std.proofs.lemmas.Bool.Decides.{Decides-eqb}
+use Rattle.std.proofs.lemmas.List.{length-drop}
+use Rattle.std.proofs.lemmas.List.Sums.{common_prefix_len-le, common_prefix_len-drop_yes, common_prefix_len-drop_no}
+use Rattle.std.proofs.lemmas.Option.{get_or_from_slice_get, slice_get_read, slice_get_within}
+use Rattle.virtiofs_map.specs.FirstRule.{CountsLookup, acts, pattern, deciding_length, longest, shared, most_shared}
+use Rattle.virtiofs_map.specs.Names.{begins, deciding, first}
+use Rattle.virtiofs_map.specs.Rule.{MappingRule}
+use Rattle.virtiofs_map.specs.Steps.{count_after}
+use Rattle.virtiofs_map.specs.declared.xattrmap.scopes.Side.{Side}
+use Rattle.virtiofs_map.proofs.BeginsLemmas.{begins_split, deciding_fits}
+use Rattle.virtiofs_map.proofs.xattrmap.FittingLemmas.{fits_is}
+use Rattle.virtiofs_map.proofs.xattrmap.WayLemmas.{no_longer}
+
+-- ---- two rows
+
+-- no more than either of them has
+pub shared_within : (one other : List ℕ) → (shared one other ≤ length one) × (shared one other ≤ length other)
+shared_within one other = common_prefix_len-le eqb one other
+
+-- what they begin with alike, and then what the rests share
+pub shared_past : (front one other : List ℕ) → shared (front ++ one) (front ++ other) ≡ length front + shared one other
+shared_past [] one other = omega arith
+shared_past (x ∷ front) one other =
+    ap (λ b. cond b (1 + shared (front ++ one) (front ++ other)) 0) ((Decides-eqb x x).1 refl)
+    ∙ (let more = shared_past front one other in omega (arith, more))
+
+-- all of a row that begins the other
+pub shared_whole : (one other : List ℕ) → begins one other ≡ true → shared one other ≡ length one
+shared_whole one other b =
+    let past = shared_past one [] (drop (length one) other) in
+    let alone = ap (λ row. shared row (one ++ drop (length one) other)) (append-nil one) in
+    ap (shared one) (begins_split one other b) ∙ sym alone ∙ omega (arith, past)
+
+-- where a label does not begin a row, what goes on after the label shares no more
+pub shared_label : (label more left : List ℕ) → begins label left ≡ false
+    → shared (label ++ more) left ≡ shared label left
+shared_label [] more left unlike = absurd (true≢false unlike)
+shared_label (x ∷ label) more [] unlike = refl
+shared_label (x ∷ label) more (y ∷ left) unlike =
+    elim (cases_Bool (eqb x y)) [
+      | inl e ↦
+          ap (λ b. cond b (1 + shared (label ++ more) left) 0) e
+          ∙ ap (λ n. 1 + n) (shared_label label more left (sym (ap (λ b. b && begins label left) e) ∙ unlike))
+          ∙ sym (ap (λ b. cond b (1 + shared label left) 0) e)
+      | inr e ↦ ap (λ b. cond b (1 + shared (label ++ more) left) 0) e
+          ∙ sym (ap (λ b. cond b (1 + shared label left) 0) e)
+    ]
+
+-- a front that is shared begins the other
+pub shared_front : (one other : List ℕ) (k : ℕ) → k ≤ shared one other → begins (take k other) one ≡ true
+shared_front one other zero low = refl
+shared_front one [] (suc k) low = refl
+shared_front [] (y ∷ other) (suc k) low = absurd (omega (arith, low))
+shared_front (x ∷ one) (y ∷ other) (suc k) low =
+    cond_both (eqb x y) (1 + shared one other) 0 (λ n. suc k ≤ n → begins (take (suc k) (y ∷ other)) (x ∷ one) ≡ true)
+    (λ e below. and_from (eqb y x) (begins (take k other) one) ((Decides-eqb y x).1 (sym (eqb-true x y e)))
+    (shared_front one other k (omega (arith, below))))
+    (λ _ below. absurd (omega (arith, below))) low
+
+-- at a place up to which two rows are the same: they share a byte more there, or differ, or one of them has ended
+pub shared_more : (one other : List ℕ) (n : ℕ) → n < length one → n < length other → get_or one n 0 ≡ get_or other n 0
+    → n + shared (drop n one) (drop n other) ≡ shared one other
+    → n + 1 + shared (drop (n + 1) one) (drop (n + 1) other) ≡ shared one other
+shared_more one other n inside inside_other same so_far =
+    let step = common_prefix_len-drop_yes eqb one other n 0 0 inside inside_other
+    ((Decides-eqb (get_or one n 0) (get_or other n 0)).1 same) in
+    omega (arith, step, so_far)
+
+pub shared_differ : (one other : List ℕ) (n : ℕ) → n < length one → n < length other → get_or one n 0 ≢ get_or other n 0
+    → n + shared (drop n one) (drop n other) ≡ shared one other → n ≡ shared one other
+shared_differ one other n inside inside_other unlike so_far =
+    let step = common_prefix_len-drop_no eqb one other n 0 0 inside inside_other
+    (ne_eqb (get_or one n 0) (get_or other n 0) unlike) in
+    omega (arith, step, so_far)
+
+pub shared_ended : (one other : List ℕ) (n : ℕ) → min (length one) (length other) ≤ n
+    → n + shared (drop n one) (drop n other) ≡ shared one other → n ≡ shared one other
+shared_ended one other n past so_far =
+    let within = shared_within (drop n one) (drop n other) in
+    omega (arith, within.0, within.1, length-drop n one, length-drop n other, past, so_far)
+
+-- ---- a way and a label
+
+module _ (way label left name p : List ℕ) (byte : ℕ) where
+  -- a pattern that goes on with a label, which does not begin what is left of the name
+  pub shared_misses : name ≡ way ++ byte ∷ left → begins (way ++ byte ∷ label) p ≡ true → begins label left ≡ false
+      → shared p name ≡ length way + (1 + shared label left)
+  shared_misses split goes_on unlike =
+      let more = drop (length (way ++ byte ∷ label)) p in
+      let whole : p ≡ way ++ (byte ∷ (label ++ more)) = begins_split (way ++ byte ∷ label) p goes_on
+      ∙ append_assoc way (byte ∷ label) more in
+      ap (λ row. shared row name) whole
+      ∙ ap (shared (way ++ (byte ∷ (label ++ more)))) split
+      ∙ shared_past way (byte ∷ (label ++ more)) (byte ∷ left)
+      ∙ ap (λ n. length way + n) (shared_past (byte ∷ []) (label ++ more) left
+      ∙ ap (λ n. 1 + n) (shared_label label more left unlike))
+
+-- a pattern that goes on after the way
+pub shared_way : (way rest name p : List ℕ) → name ≡ way ++ rest → begins way p ≡ true → length way ≤ shared p name
+shared_way way rest name p split goes_on =
+    let more = drop (length way) p in
+    let same = ap (λ row. shared row name) (begins_split way p goes_on) ∙ ap (shared (way ++ more)) split
+    ∙ shared_past way more rest in
+    omega (arith, same)
+
+-- ---- the patterns of all rules
+
+-- a pattern shares no more than the most
+most_at_place : (side : Side) (rules : List MappingRule) (name : List ℕ) (at : ℕ) (rule : MappingRule)
+    → slice_get rules at ≡ Some rule → acts side rule ≡ true
+    → shared (pattern side rule) name ≤ most_shared side rules name
+most_at_place side [] name at rule e acting = absurd cc
+most_at_place side (r ∷ rules) name zero rule e acting =
+    let same : r ≡ rule = cc in
+    subst (λ one. shared (pattern side rule) name
+    ≤ cond (acts side one) (max (shared (pattern side one) name) (most_shared side rules name))
+    (most_shared side rules name)) (sym same)
+    (subst (λ b. shared (pattern side rule) name
+    ≤ cond b (max (shared (pattern side rule) name) (most_shared side rules name)) (most_shared side rules name))
+    (sym acting) (omega arith))
+most_at_place side (r ∷ rules) name (suc at) rule e acting =
+    let later = most_at_place side rules name at rule e acting in
+    cond_both (acts side r) (max (shared (pattern side r) name) (most_shared side rules name))
+    (most_shared side rules name) (λ n. shared (pattern side rule) name ≤ n) (λ _. omega (arith, later)) (λ _. later)
+
+pub most_at_least : (side : Side) (rules : List MappingRule) (name : List ℕ) (rule : MappingRule) → Contains rules rule
+    → acts side rule ≡ true → shared (pattern side rule) name ≤ most_shared side rules name
+most_at_least side rules name rule within acting =
+    most_at_place side rules name within.0 rule
+    (slice_get_read rules (length rules) within.0 rule refl within.1 (sym within.2)) acting
+
+-- what is no less than each is no less than the most
+most_below : (side : Side) (rules : List MappingRule) (name : List ℕ) (top : ℕ)
+    → ((at : ℕ) (rule : MappingRule) → slice_get rules at ≡ Some rule → acts side rule ≡ true
+    → shared (pattern side rule) name ≤ top) → most_shared side rules name ≤ top
+most_below side [] name top each = omega arith
+most_below side (r ∷ rules) name top each =
+    let later = most_below side rules name top (λ at rule e acting. each (suc at) rule e acting) in
+    cond_both (acts side r) (max (shared (pattern side r) name) (most_shared side rules name))
+    (most_shared side rules name) (λ n. n ≤ top)
+    (λ acting. let here = each 0 r refl acting in omega (arith, later, here)) (λ _. later)
+
+pub most_at_most : (side : Side) (rules : List MappingRule) (name : List ℕ) (top : ℕ)
+    → ((rule : MappingRule) → Contains rules rule → acts side rule ≡ true → shared (pattern side rule) name ≤ top)
+    → most_shared side rules name ≤ top
+most_at_most side rules name top each =
+    most_below side rules name top
+    (λ at rule here acting. each rule
+    (at, slice_get_within rules at rule here, get_or_from_slice_get rules at rule rule here) acting)
+
+module _ (side : Side) (rules : List MappingRule) (name : List ℕ) where
+  -- the pattern that decides is shared whole
+  deciding_shared : deciding_length side rules name ≤ most_shared side rules name
+  deciding_shared = by_rule (deciding side rules name) refl where
+    by_rule : (o : Option MappingRule) → deciding side rules name ≡ o
+        → option_map_or (λ rule. length (pattern side rule)) o 0 ≤ most_shared side rules name
+    by_rule None e = omega arith
+    by_rule (Some rule) e = by_place (first side rules name) refl where
+      by_place : (place : Option ℕ) → first side rules name ≡ place
+          → length (pattern side rule) ≤ most_shared side rules name
+      by_place None none = absurd (let never = ap (option_and_then (slice_get rules)) none in cc)
+      by_place (Some at) some =
+          let here : slice_get rules at ≡ Some rule = sym (ap (option_and_then (slice_get rules)) some) ∙ e in
+          let both = and_parts (acts side rule) (begins (pattern side rule) name)
+          (sym (fits_is side name rule) ∙ deciding_fits side rules name rule (sym e)) in
+          let whole = shared_whole (pattern side rule) name both.1 in
+          let low = most_at_place side rules name at rule here both.0 in
+          omega (arith, whole, low)
+
+  most_within : most_shared side rules name ≤ length name
+  most_within = most_below side rules name (length name)
+      (λ at rule here acting. (shared_within (pattern side rule) name).1)
+
+  most_longest : most_shared side rules name ≤ longest side rules
+  most_longest =
+      most_below side rules name (longest side rules)
+      (λ at rule here acting. (let a = (shared_within (pattern side rule) name).0 in
+      let b = no_longer side rules at rule here acting in omega (arith, a, b)))
+
+  -- so the count is between the least and the most
+  pub lookup_counted : (before after : ℕ) → after ≡ count_after before (most_shared side rules name + 1)
+      → CountsLookup side rules name before after
+  lookup_counted before after e = record {
+    steps = most_shared side rules name + 1;
+    at_least = let low = deciding_shared in omega (arith, low);
+    at_most = let a = most_within in let b = most_longest in omega (arith, a, b);
+    counted = e;
+  }
+
+-- a count that is added to another
+pub counted_on : (before none counted after n : ℕ) → none ≡ 0 → counted ≡ count_after none n
+    → after ≡ count_after before counted → after ≡ count_after before n
+counted_on before none counted after n begun count added = omega (arith, begun, count, added)

@@ -1,0 +1,9 @@
+mod AnswerLemmas
+mod ChildrenLemmas
+mod GrownTrieLemmas
+mod GrowthLemmas
+mod GrowthTextLemmas
+mod KidLemmas
+mod LevelLemmas
+mod PatternOrderLemmas
+mod PlaceLemmas

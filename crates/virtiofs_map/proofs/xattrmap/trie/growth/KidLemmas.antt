@@ -1,0 +1,159 @@
+-- The child of a part to which a byte leads: the patterns of the part that go on with the byte.
+use Rattle.std.proofs.Common.{◌≡◌, ℕ, ◌+◌, ◌-◌, ◌<◌, ◌≤◌, List, length, take, get_or, inl, inr, sym, ap, subst, ◌∙◌}
+use Rattle.std.proofs.Common.{arith}
+use Rattle.std.proofs.lemmas.Bool.{cases_lt}
+use Rattle.std.proofs.lemmas.List.{take-take, take_more_same}
+use Rattle.virtiofs_map.specs.GrowthParts.{text, AreReady, IsLeast, IsInside, IsUpto, IsPart, IsPlace, IsKid}
+use Rattle.virtiofs_map.specs.declared.xattrmap.trie.growth.Part.{Part}
+use Rattle.virtiofs_map.specs.declared.xattrmap.trie.patterns.Pattern.{Pattern}
+use Rattle.virtiofs_map.proofs.xattrmap.trie.growth.AnswerLemmas.{IsLeast-same}
+use Rattle.virtiofs_map.proofs.xattrmap.trie.growth.PatternOrderLemmas.{shorter, same_byte, no_zero, goes_on, between}
+
+-- the child has the patterns of a part from one place to another, which are all those with that byte
+pub record IsCut (patterns : List Pattern) (part kid : Part) (answer : ℕ) : Type 0 where
+  pub from : part.low ≤ kid.low
+  pub some : kid.low < kid.high
+  pub upto : kid.high ≤ part.high
+  pub answered : kid.answer ≡ answer
+  pub head : kid.head ≡ get_or (text patterns kid.low) part.depth 0
+  pub depth : kid.depth ≡ part.depth + 1 + kid.length
+  pub size : kid.length < 65536
+  pub long : kid.depth ≤ length (text patterns kid.low)
+  pub same : take (part.depth + 1) (text patterns kid.low) ≡ take (part.depth + 1) (text patterns (kid.high - 1))
+      → take kid.depth (text patterns kid.low) ≡ take kid.depth (text patterns (kid.high - 1))
+  pub bytes : (i : ℕ) → kid.low ≤ i → i < kid.high
+      → get_or (text patterns i) part.depth 0 ≡ get_or (text patterns kid.low) part.depth 0
+  pub group : (i : ℕ) → part.low ≤ i → i < part.high
+      → get_or (text patterns i) part.depth 0 ≡ get_or (text patterns kid.low) part.depth 0
+      → (kid.low ≤ i) × (i < kid.high)
+
+-- a front of a front
+front_of : (s t : List ℕ) (m n : ℕ) → m ≤ n → (w : List ℕ) → take n s ≡ take n t → take m s ≡ w → take m t ≡ w
+front_of s t m n l w e f = sym (shorter s t n m l e) ∙ f
+
+module _ (most : ℕ) (patterns : List Pattern) (ready : AreReady most patterns) (part kid : Part) (answer : ℕ)
+    (is : IsPart patterns part) (least : IsLeast patterns (IsUpto patterns part) answer)
+    (cut : IsCut patterns part kid answer) where
+  inner : (i : ℕ) → kid.low ≤ i → i < kid.high → (part.low ≤ i) × (i < part.high)
+  inner i l u = let a = cut.from in let b = cut.upto in (omega (arith, a, l), omega (arith, b, u))
+
+  front : (i : ℕ) → kid.low ≤ i → i < kid.high
+      → take part.depth (text patterns i) ≡ take part.depth (text patterns kid.low)
+  front i l u =
+      let a = inner i l u in
+      let s = cut.some in
+      let b = inner kid.low (omega arith) s in
+      is.same i a.0 a.1 ∙ sym (is.same kid.low b.0 b.1)
+
+  deeper : part.depth < kid.depth
+  deeper = let d = cut.depth in omega (arith, d)
+
+  -- the last pattern shares the byte with the first
+  one_more : (i : ℕ) → kid.low ≤ i → i < kid.high
+      → take (part.depth + 1) (text patterns i) ≡ take (part.depth + 1) (text patterns kid.low)
+  one_more i l u =
+      let d = deeper in
+      let s = cut.some in
+      let a = cut.upto in
+      let b = is.within in
+      let long = cut.long in
+      let below : part.depth < length (text patterns kid.low) = omega (arith, d, long) in
+      let full = no_zero most patterns ready kid.low part.depth (omega (arith, s, a, b)) below in
+      let byte = cut.bytes i l u in
+      let more = goes_on most patterns ready i part.depth (λ z. full (sym byte ∙ z)) in
+      take_more_same (text patterns i) (text patterns kid.low) part.depth 0 more below (front i l u) byte
+
+  last : take kid.depth (text patterns kid.low) ≡ take kid.depth (text patterns (kid.high - 1))
+  last = let s = cut.some in cut.same (sym (one_more (kid.high - 1) (omega (arith, s)) (omega (arith, s))))
+
+  pub all_same : (i : ℕ) → kid.low ≤ i → i < kid.high
+      → (take kid.depth (text patterns i) ≡ take kid.depth (text patterns kid.low))
+      × (kid.depth ≤ length (text patterns i))
+  all_same i l u =
+      let a = cut.upto in
+      let b = is.within in
+      between most patterns ready kid.depth kid.low i (kid.high - 1) l (omega (arith, u)) (omega (arith, a, b, u))
+      cut.long last
+
+  whole : (i : ℕ) → i < length patterns → take kid.depth (text patterns i) ≡ take kid.depth (text patterns kid.low)
+      → (kid.low ≤ i) × (i < kid.high)
+  whole i within e =
+      let d = deeper in
+      let s = cut.some in
+      let k = inner kid.low (omega arith) s in
+      let less = shorter (text patterns i) (text patterns kid.low) kid.depth part.depth (omega (arith, d)) e in
+      let here = is.whole i within (less ∙ is.same kid.low k.0 k.1) in
+      cut.group i here.0 here.1 (same_byte (text patterns i) (text patterns kid.low) kid.depth part.depth d e)
+
+  to_kid : (i : ℕ) → IsUpto patterns part i → IsInside patterns kid i
+  to_kid i u = record {
+    within = u.within;
+    short = let a = u.short in let d = deeper in omega (arith, a, d);
+    front = let s = cut.some in let k = inner kid.low (omega arith) s in
+        front_of (text patterns part.low) (text patterns kid.low) (length (text patterns i)) part.depth u.short
+        (text patterns i) (sym (is.same kid.low k.0 k.1)) u.front;
+  }
+
+  from_kid : (i : ℕ) → IsInside patterns kid i → IsUpto patterns part i
+  from_kid i n = elim (cases_lt part.depth (length (text patterns i))) [
+    | inr short ↦ record {
+      within = n.within;
+      short = short;
+      front = let s = cut.some in let k = inner kid.low (omega arith) s in
+          front_of (text patterns kid.low) (text patterns part.low) (length (text patterns i)) part.depth short
+          (text patterns i) (is.same kid.low k.0 k.1) n.front;
+    }
+    | inl longer ↦
+        absurd (
+        let more : take (part.depth + 1) (text patterns i) ≡ take (part.depth + 1) (text patterns kid.low) =
+        sym (ap (take (part.depth + 1)) n.front)
+        ∙ take-take (part.depth + 1) (length (text patterns i)) (text patterns kid.low) (omega (arith, longer)) in
+        let s = cut.some in
+        let k = inner kid.low (omega arith) s in
+        let less = shorter (text patterns i) (text patterns kid.low) (part.depth + 1) part.depth (omega arith) more in
+        let here = is.whole i n.within (less ∙ is.same kid.low k.0 k.1) in
+        let there =
+        cut.group i here.0 here.1
+        (same_byte (text patterns i) (text patterns kid.low) (part.depth + 1) part.depth (omega arith) more) in
+        let long = (all_same i there.0 there.1).1 in
+        let short = n.short in
+        omega (arith, long, short))
+  ]
+
+  kid_part : IsPart patterns kid
+  kid_part = record {
+    some = inr cut.some;
+    rising = let s = cut.some in omega (arith, s);
+    within = let a = cut.upto in let b = is.within in omega (arith, a, b);
+    long = λ i l u. (all_same i l u).1;
+    same = λ i l u. (all_same i l u).0;
+    whole = whole;
+    least = IsLeast-same patterns (IsUpto patterns part) (IsInside patterns kid) kid.answer
+        (subst (IsLeast patterns (IsUpto patterns part)) (sym cut.answered) least) to_kid from_kid;
+  }
+
+  pub kid_place : (at : ℕ) → IsPlace patterns at kid
+  kid_place at = record {
+    is = inl kid_part;
+    deep = inr
+        (record {
+          at = kid.low;
+          within = let s = cut.some in let a = cut.upto in let b = is.within in
+              omega (arith, a, b, s);
+          long = cut.long;
+        });
+    label = let d = cut.depth in omega (arith, d);
+    size = cut.size;
+    answer = let t = least.top in let e = cut.answered in omega (arith, t, e);
+    empty = λ e. absurd (let s = cut.some in omega (arith, s, e));
+  }
+
+  pub kid_is : IsKid patterns part kid
+  kid_is = record {
+    from = cut.from;
+    some = cut.some;
+    upto = cut.upto;
+    depth = cut.depth;
+    head = sym cut.head;
+    group = λ i l u e. cut.group i l u (e ∙ cut.head);
+  }
