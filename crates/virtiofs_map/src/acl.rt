@@ -22,7 +22,8 @@
 ghost use Rattle.std.specs.Prelude.{◌≡◌, ◌↔◌, IsOk, IfErr, IsErrAnd, OnOk, OnErr, Some, length};
 ghost use Rattle.virtiofs_map.specs.Acl.{IdsBecome, KeepsRest, GoesAcross, HasAclFault};
 ghost use Rattle.virtiofs_map.specs.AclLaws.{AllMapped, ComesBack};
-ghost use Rattle.virtiofs_map.specs.Capability.{root_of, RootBecomes, KeepsFront, IsInRevision3, HasRoot, RootGoesAcross, HasRootFault, HasCapabilityFault, RootComesBack};
+ghost use Rattle.virtiofs_map.specs.Capability.{root_of, RootBecomes, KeepsFront, IsInRevision3, HasRoot};
+ghost use Rattle.virtiofs_map.specs.Capability.{RootGoesAcross, HasRootFault, HasCapabilityFault, RootComesBack};
 ghost use Rattle.virtiofs_map.specs.MappingLaws.{IsMappedBothWays};
 ghost use Rattle.virtiofs_map.specs.ValueKinds.{HasLists, HasCapability};
 ghost use Rattle.virtiofs_map.specs.declared.acl.errors.AclError.{AclError};

@@ -33,7 +33,8 @@
 //! are treated alike. The names to try are found from the patterns, and are tried one after the
 //! other.
 ghost use Rattle.std.specs.Prelude.{◌≡◌, ◌↔◌, IfOk, OnOk, OnErr};
-ghost use Rattle.virtiofs_map.specs.Audit.{AnswersLeast, Within, Sound, IsLost, most_tried, OpensListed, IsStray, Apart, Isolated, IsSeen, SharesNoName, IsShared};
+ghost use Rattle.virtiofs_map.specs.Audit.{AnswersLeast, Within, Sound, IsLost, most_tried, OpensListed, IsStray};
+ghost use Rattle.virtiofs_map.specs.Audit.{Apart, Isolated, IsSeen, SharesNoName, IsShared};
 ghost use Rattle.virtiofs_map.specs.Steps.{CountsBetween};
 ghost use Rattle.virtiofs_map.specs.declared.audit.answer.Audit.TheVariants.{Yes};
 

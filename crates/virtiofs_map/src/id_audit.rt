@@ -21,7 +21,9 @@
 //! With m specifications an audit takes as long as m lookups and a sort of m numbers.
 ghost use Rattle.std.specs.Prelude.{◌≡◌, ◌↔◌, ℕ, IfOk};
 ghost use Rattle.std.specs.Option.{option_map};
-ghost use Rattle.virtiofs_map.specs.IdAudit.{IsLeastId, IsLeastIfAny, AnswersLeastId, IfNo, ComesBack, IsAstray, WanderTo, IsAlone, IsShared, SharedAs, GoesInto, Between, AreIdsApart, ReachedBy, Hold};
+ghost use Rattle.virtiofs_map.specs.IdAudit.{IsLeastId, IsLeastIfAny, AnswersLeastId, IfNo, ComesBack, IsAstray};
+ghost use Rattle.virtiofs_map.specs.IdAudit.{WanderTo, IsAlone, IsShared, SharedAs, GoesInto, Between, AreIdsApart};
+ghost use Rattle.virtiofs_map.specs.IdAudit.{ReachedBy, Hold};
 ghost use Rattle.virtiofs_map.specs.declared.id_audit.answer.IdAudit.TheVariants.{Yes};
 
 mod answer;

@@ -67,7 +67,8 @@ impl From<ParseIntError> for IdMapError {
 impl UidMap {
     ghost use Rattle.std.specs.Prelude.{◌≡◌, ℕ, IfOk, IfErr, IsOkAnd, IsErrAnd};
     ghost use Rattle.std.specs.Str.{chars};
-    ghost use Rattle.virtiofs_map.specs.NamespaceText.{SaysNamespace, NamespaceFault, HasNamespaceFault, namespace_fault_of};
+    ghost use Rattle.virtiofs_map.specs.NamespaceText.{SaysNamespace, NamespaceFault, HasNamespaceFault};
+    ghost use Rattle.virtiofs_map.specs.NamespaceText.{namespace_fault_of};
 
     /// Reads a range of user ids. It takes no memory.
     ///
@@ -101,7 +102,8 @@ impl UidMap {
 impl GidMap {
     ghost use Rattle.std.specs.Prelude.{◌≡◌, ℕ, IfOk, IfErr, IsOkAnd, IsErrAnd};
     ghost use Rattle.std.specs.Str.{chars};
-    ghost use Rattle.virtiofs_map.specs.NamespaceText.{SaysNamespace, NamespaceFault, HasNamespaceFault, namespace_fault_of};
+    ghost use Rattle.virtiofs_map.specs.NamespaceText.{SaysNamespace, NamespaceFault, HasNamespaceFault};
+    ghost use Rattle.virtiofs_map.specs.NamespaceText.{namespace_fault_of};
 
     /// Reads a range of group ids, from the same texts and with the same errors as
     /// [`UidMap::from_str`]. It takes no memory.

@@ -1,6 +1,7 @@
 -- What a call answers that changes the ids in a value: where it is done, and where it is refused.
 use Rattle.std.proofs.Common.{ℕ, List, Ok, Err, refl}
-use Rattle.virtiofs_map.proofs.acl.AclCapabilityLemmas.{HasRoot-no_fault, RootGoesAcross-no_fault, HasCapabilityFault-one}
+use Rattle.virtiofs_map.proofs.acl.AclCapabilityLemmas.{HasRoot-no_fault, RootGoesAcross-no_fault}
+use Rattle.virtiofs_map.proofs.acl.AclCapabilityLemmas.{HasCapabilityFault-one}
 use Rattle.virtiofs_map.proofs.acl.AclCapabilityLemmas.{HasRootFault-one, RootComesBack-mapped}
 use Rattle.virtiofs_map.proofs.acl.AclFaultLemmas.{GoesAcross-no_fault, HasAclFault-one}
 use Rattle.virtiofs_map.proofs.acl.AclLawLemmas.{ComesBack-mapped}

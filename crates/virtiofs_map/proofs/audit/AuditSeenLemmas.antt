@@ -17,7 +17,8 @@ use Rattle.virtiofs_map.specs.declared.xattrmap.scopes.Side.TheVariants.{Server}
 use Rattle.virtiofs_map.proofs.AuditAlikeLemmas.{server_alike}
 use Rattle.virtiofs_map.proofs.AuditFrontLemmas.{passes_front, front_passes, hidden_test, test_hidden}
 use Rattle.virtiofs_map.proofs.audit.AuditLeastLemmas.{Decide}
-use Rattle.virtiofs_map.proofs.audit.AuditPassLemmas.{IsByteOfName, all_bytes_from, PassesWhere, where_is_name, HoldsOfFronts}
+use Rattle.virtiofs_map.proofs.audit.AuditPassLemmas.{IsByteOfName, all_bytes_from, PassesWhere, where_is_name}
+use Rattle.virtiofs_map.proofs.audit.AuditPassLemmas.{HoldsOfFronts}
 use Rattle.virtiofs_map.proofs.audit.AuditPassLemmas.{AreThose, where_decide}
 use Rattle.virtiofs_map.proofs.MapRuleLemmas.{not_zero_name, some_name}
 use Rattle.virtiofs_map.proofs.NoZeroLemmas.{IsNotZero}

@@ -17,7 +17,8 @@ use Rattle.virtiofs_map.specs.declared.xattrmap.scopes.Side.TheVariants.{Client}
 use Rattle.virtiofs_map.proofs.AuditAlikeLemmas.{Member, all_member, begins-append_both, decides_front, BeginsBoth}
 use Rattle.virtiofs_map.proofs.AuditFrontLemmas.{passes_front, front_passes}
 use Rattle.virtiofs_map.proofs.audit.AuditLeastLemmas.{Decide}
-use Rattle.virtiofs_map.proofs.audit.AuditPassLemmas.{IsByteOfName, all_bytes_from, PassesWhere, where_is_name, HoldsOfFronts}
+use Rattle.virtiofs_map.proofs.audit.AuditPassLemmas.{IsByteOfName, all_bytes_from, PassesWhere, where_is_name}
+use Rattle.virtiofs_map.proofs.audit.AuditPassLemmas.{HoldsOfFronts}
 use Rattle.virtiofs_map.proofs.audit.AuditPassLemmas.{AreThose, where_decide}
 use Rattle.virtiofs_map.proofs.audit.AuditStrayLemmas.{adds_is, bytes_same}
 use Rattle.virtiofs_map.proofs.BeginsLemmas.{begins_split, begins-append, deciding_fits}

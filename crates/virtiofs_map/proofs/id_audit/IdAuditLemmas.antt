@@ -286,7 +286,8 @@ module _ (others : List IdMap) (images again : List Span) (are : AreImages other
 -- ---- spans of the caller's
 
 -- the spans that come of the images of a map have the ids that the guest reaches
-pub reached_all : {A E : Type 0} (r : Result (Vec Span A) E) (specs : List IdMap) (images : List Span) → AreImages specs images
+pub reached_all : {A E : Type 0} (r : Result (Vec Span A) E) (specs : List IdMap) (images : List Span)
+    → AreImages specs images
     → IfOk r (λ again. (id : ℕ) → Hold again.items id ↔ (2 ≤ times images id + once_below 4294967296 id))
     → IfOk r (λ again. (host : ℕ) → Hold again.items host ↔ ReachedBy specs host)
 reached_all (Ok again) specs images are all =
@@ -297,7 +298,8 @@ reached_all (Err e) specs images are all = tt
 module _ (spans sorted merged : List Span) (some : All IsSpan sorted) (same : (id : ℕ) → Hold sorted id ↔ Hold spans id)
     (all : (id : ℕ) → Hold merged id ↔ (2 ≤ times sorted id + once_below 4294967296 id)) where
   merged_spans : (id : ℕ) → Hold merged id → Hold spans id
-  merged_spans id held = (same id).0 ((times_hold sorted id).0 (let twice = (all id).0 held in grind (arith, nat_tests)))
+  merged_spans id held =
+      (same id).0 ((times_hold sorted id).0 (let twice = (all id).0 held in grind (arith, nat_tests)))
 
   spans_merged : (id : ℕ) → Hold spans id → Hold merged id
   spans_merged id held =

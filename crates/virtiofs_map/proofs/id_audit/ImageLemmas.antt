@@ -102,7 +102,8 @@ CountsGuests-append specs low mid high host a b up over first second =
                 let some : 1 ≤ a = first.one.1 (n, from, before, goes) in
                 elim (cases_order m mid) [
                   | inl same ↦ (let more : 1 ≤ b = second.one.1 (m, omega arith, below, goes') in omega arith)
-                  | inr (inl early) ↦ (let two : 2 ≤ a = first.two.1 (n, m, from, less, early, goes, goes') in omega arith)
+                  | inr (inl early) ↦
+                      (let two : 2 ≤ a = first.two.1 (n, m, from, less, early, goes, goes') in omega arith)
                   | inr (inr late) ↦ (let more : 1 ≤ b = second.one.1 (m, omega arith, below, goes') in omega arith)
                 ]
             | inr (inr after) ↦ later (omega arith)
@@ -391,7 +392,9 @@ times-bounded spans id all some = has_bounded spans id (recursion_from_All IsSpa
 hold_front : (span : Span) (spans : List Span) (id : ℕ) → Hold (span ∷ spans) id ↔ (Has span id ⊎ Hold spans id)
 hold_front span spans id = (
   (λ (other, listed, has). elim (Contains-append_cases (span ∷ []) spans other listed) [
-    | inl front ↦ inl (rw (All-contains (λ s. s ≡ span) (span ∷ []) other (All-cons (λ s. s ≡ span) span [] refl (All-nil (λ s. s ≡ span))) front) at has)
+    | inl front ↦
+        inl (rw (All-contains (λ s. s ≡ span) (span ∷ []) other
+        (All-cons (λ s. s ≡ span) span [] refl (All-nil (λ s. s ≡ span))) front) at has)
     | inr later ↦ inr (other, later, has)
   ]),
   (λ held. elim held [

@@ -16,8 +16,9 @@ use Rattle.virtiofs_map.proofs.xattrmap.DecidingLemmas.{first_at}
 -- ---- one rule
 
 -- the rule at that place answers for the names that it decides
-answered : (rules : List MappingRule) (place : ℕ) (rule : MappingRule) (name : List ℕ) → slice_get rules place ≡ Some rule
-    → first Client rules name ≡ Some place → client_answer rules name ≡ answer_by rule.kind rule.prepend name
+answered : (rules : List MappingRule) (place : ℕ) (rule : MappingRule) (name : List ℕ)
+    → slice_get rules place ≡ Some rule → first Client rules name ≡ Some place
+    → client_answer rules name ≡ answer_by rule.kind rule.prepend name
 answered rules place rule name here is =
     let by : MappingRule → _ = λ one. answer_by one.kind one.prepend name in
     ap (λ at. option_map_or by (option_and_then (slice_get rules) at) IsUnterminated) is
@@ -116,7 +117,8 @@ decided_by rules name host None is passes =
 pub all_of_them : (rules : List MappingRule) (count most : ℕ) → length rules ≤ count → IsAddedBelow rules count most
     → IsMostAdded rules most
 all_of_them rules count most all below = record {
-  at_most = λ name host is_name passes. (let (place, is) = decided_by rules name host (first Client rules name) refl passes in
+  at_most = λ name host is_name passes.
+      (let (place, is) = decided_by rules name host (first Client rules name) refl passes in
       let at = first_at Client rules name place is in
       let within = slice_get_within rules place at.rule at.here in
       below.at_most name host place is_name (omega (arith, within, all)) is passes);

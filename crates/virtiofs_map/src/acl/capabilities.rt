@@ -2,7 +2,8 @@
 ghost use Rattle.std.specs.Prelude.{◌≡◌, ◌≢◌, ◌↔◌, IfErr, IfOk, IfSome, IsNone, OnOk, OnErr, Some};
 ghost use Rattle.virtiofs_map.specs.AclLaws.{AreBytes};
 ghost use Rattle.virtiofs_map.specs.AclParts.{OfRanges};
-ghost use Rattle.virtiofs_map.specs.Capability.{IsRevision, HasSize, root_of, IsCapability, IsInRevision3, HasRootFault};
+ghost use Rattle.virtiofs_map.specs.Capability.{IsRevision, HasSize, root_of, IsCapability, IsInRevision3};
+ghost use Rattle.virtiofs_map.specs.Capability.{HasRootFault};
 ghost use Rattle.virtiofs_map.specs.CapabilityParts.{IsFaultOfAny};
 ghost use Rattle.virtiofs_map.specs.Mapping.{Becomes};
 ghost use Rattle.virtiofs_map.specs.ValueChanges.{ChangesRoot, WritesRevision3};

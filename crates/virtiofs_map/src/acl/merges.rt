@@ -2,8 +2,10 @@
 //!
 //! Entries of one tag whose ids become the same number stand beside each other once they are sorted
 //! by what their ids become. So neighbours are enough to see whether two ids would merge.
-ghost use Rattle.std.specs.Prelude.{◌≡◌, ◌⊎◌, ◌↔◌, ℕ, ◌+◌, ◌*◌, ◌<◌, ◌≤◌, All, IsTrue, IfNone, IfSome, Some, length, take};
-ghost use Rattle.virtiofs_map.specs.AclParts.{AllSoundBelow, Places, AreInOrder, Clashes, HasClash, MeetsClashes, NoneMerges, IsFirstToMerge, OfWays};
+ghost use Rattle.std.specs.Prelude.{◌≡◌, ◌⊎◌, ◌↔◌, ℕ, ◌+◌, ◌*◌, ◌<◌, ◌≤◌, All, IsTrue, IfNone, IfSome, Some, length};
+ghost use Rattle.std.specs.Prelude.{take};
+ghost use Rattle.virtiofs_map.specs.AclParts.{AllSoundBelow, Places, AreInOrder, Clashes, HasClash, MeetsClashes};
+ghost use Rattle.virtiofs_map.specs.AclParts.{NoneMerges, IsFirstToMerge, OfWays};
 
 use crate::acl::entries::entry_at;
 use crate::acl::ways::Ways;

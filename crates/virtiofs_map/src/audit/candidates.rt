@@ -10,7 +10,8 @@
 
 ghost use Rattle.std.specs.List.{cons_option};
 ghost use Rattle.std.specs.Prelude.{◌≡◌, ◌≢◌, ◌++◌, [], ◌∷◌, All, IfOk, OnOk};
-ghost use Rattle.virtiofs_map.specs.AuditParts.{bad, after, FindsLeast, rest_after, rest_of, guest_names_of, guest_names, host_names_of, host_names, one_byte_names};
+ghost use Rattle.virtiofs_map.specs.AuditParts.{bad, after, FindsLeast, rest_after, rest_of, guest_names_of};
+ghost use Rattle.virtiofs_map.specs.AuditParts.{guest_names, host_names_of, host_names, one_byte_names};
 ghost use Rattle.virtiofs_map.specs.Rule.{HasNoZero};
 ghost use Rattle.virtiofs_map.specs.RuleParts.{rule_meant};
 

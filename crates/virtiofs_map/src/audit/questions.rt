@@ -1,7 +1,8 @@
 //! What an audit asks of a name.
 
 ghost use Rattle.std.specs.Prelude.{◌≡◌, ◌++◌, Some, None, MatchOption, IfOk, OnOk};
-ghost use Rattle.virtiofs_map.specs.AuditParts.{front_of, front, is_lost, is_hidden, is_seen, passes_as, is_reached, is_shared, is_stray};
+ghost use Rattle.virtiofs_map.specs.AuditParts.{front_of, front, is_lost, is_hidden, is_seen, passes_as, is_reached};
+ghost use Rattle.virtiofs_map.specs.AuditParts.{is_shared, is_stray};
 ghost use Rattle.virtiofs_map.specs.RuleParts.{rule_meant};
 
 use crate::xattrmap::rules::{RuleKind, RuleRef};

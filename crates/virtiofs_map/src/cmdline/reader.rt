@@ -5,8 +5,11 @@ ghost use Rattle.std.specs.Str.{chars};
 ghost use Rattle.virtiofs_map.specs.Numeral.{IsNumeral};
 ghost use Rattle.virtiofs_map.specs.Refusal.{IsOutOfMemory, OutOfMemoryOr};
 ghost use Rattle.virtiofs_map.specs.Separator.{split_at_each};
-ghost use Rattle.virtiofs_map.specs.SpecificationParts.{IsLoweredCut, IsFieldFault, IsFieldsFault, IsCountFault, IsWordFault};
-ghost use Rattle.virtiofs_map.specs.SpecificationText.{is_word_character, word_of, numbers_of, HasNoSeparator, Says, SpecificationFault, HasSpecificationFault, specification_fault_of, IsExplained};
+ghost use Rattle.virtiofs_map.specs.SpecificationParts.{IsLoweredCut, IsFieldFault, IsFieldsFault, IsCountFault};
+ghost use Rattle.virtiofs_map.specs.SpecificationParts.{IsWordFault};
+ghost use Rattle.virtiofs_map.specs.SpecificationText.{is_word_character, word_of, numbers_of, HasNoSeparator, Says};
+ghost use Rattle.virtiofs_map.specs.SpecificationText.{SpecificationFault, HasSpecificationFault};
+ghost use Rattle.virtiofs_map.specs.SpecificationText.{specification_fault_of, IsExplained};
 ghost use Rattle.virtiofs_map.specs.declared.cmdline.IdMap.{IdMap as Specification};
 ghost use Rattle.virtiofs_map.specs.declared.cmdline.IdMap.TheVariants.{Bidirectional, ForbidGuest};
 

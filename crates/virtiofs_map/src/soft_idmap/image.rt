@@ -2,7 +2,8 @@
 //!
 //! [`write_image`] writes an image into the caller's memory, and [`look_up`] only reads it. What
 //! the numbers mean is private, and may change with the version of the library.
-ghost use Rattle.std.specs.Prelude.{◌≡◌, ℕ, ◌+◌, ◌*◌, ◌≤◌, List, length, min, Option, IfOk, IfErr, OnOk, OnErr, MatchResult, ⊤};
+ghost use Rattle.std.specs.Prelude.{◌≡◌, ℕ, ◌+◌, ◌*◌, ◌≤◌, List, length, min, Option, IfOk, IfErr, OnOk, OnErr};
+ghost use Rattle.std.specs.Prelude.{MatchResult, ⊤};
 ghost use Rattle.virtiofs_map.specs.Build.{Accepted, BuildFault, HasFirstFault, build_fault_of};
 ghost use Rattle.virtiofs_map.specs.Image.{HasKind, IsImage, image_length, IsWritten};
 ghost use Rattle.virtiofs_map.specs.ImageAnswer.{SaysValue, SaysIn, SaysLeadsBack};

@@ -3,7 +3,9 @@
 
 ghost use Rattle.std.specs.List.{before_first, after_first};
 ghost use Rattle.std.specs.Option.{option_map};
-ghost use Rattle.std.specs.Prelude.{◌≡◌, ◌≢◌, ◌==◌, ◌⊎◌, ◌+◌, ◌<◌, ◌≤◌, ℕ, List, [], ◌∷◌, ◌++◌, None, Some, length, take, drop, slice_get, position, vec_len, All, IfOk, IfErr, IsErr, OnOk, IfSome, IsSome, IsSomeAnd, MatchOption, MatchResult};
+ghost use Rattle.std.specs.Prelude.{◌≡◌, ◌≢◌, ◌==◌, ◌⊎◌, ◌+◌, ◌<◌, ◌≤◌, ℕ, List, [], ◌∷◌, ◌++◌, None, Some, length};
+ghost use Rattle.std.specs.Prelude.{take, drop, slice_get, position, vec_len, All, IfOk, IfErr, IsErr, OnOk, IfSome};
+ghost use Rattle.std.specs.Prelude.{IsSome, IsSomeAnd, MatchOption, MatchResult};
 ghost use Rattle.virtiofs_map.specs.Listing.{listing, list_of};
 ghost use Rattle.virtiofs_map.specs.LookupAnswers.{of_no_rule};
 ghost use Rattle.virtiofs_map.specs.MapRule.{KeepsGuestsApart};

@@ -4,8 +4,10 @@ ghost use Rattle.std.specs.Prelude.{◌≡◌, ◌≢◌, ◌∷◌, [], IfSome,
 ghost use Rattle.std.specs.Str.{chars, IsUtf8};
 ghost use Rattle.virtiofs_map.specs.Refusal.{OutOfMemoryOr};
 ghost use Rattle.virtiofs_map.specs.Rule.{RuleType};
-ghost use Rattle.virtiofs_map.specs.RuleParts.{type_of, scope_of, head_of, as_written, IsOpened, BeginsWithFault, HasPatternFault, TellsFault};
-ghost use Rattle.virtiofs_map.specs.RuleText.{ScopeName, type_word, scope_word, head_fields, rule_fields, Fields, HasNoNul, RuleThen, SaysRules, CountsRules};
+ghost use Rattle.virtiofs_map.specs.RuleParts.{type_of, scope_of, head_of, as_written, IsOpened, BeginsWithFault};
+ghost use Rattle.virtiofs_map.specs.RuleParts.{HasPatternFault, TellsFault};
+ghost use Rattle.virtiofs_map.specs.RuleText.{ScopeName, type_word, scope_word, head_fields, rule_fields, Fields};
+ghost use Rattle.virtiofs_map.specs.RuleText.{HasNoNul, RuleThen, SaysRules, CountsRules};
 ghost use Rattle.virtiofs_map.specs.RulesFault.{HasRuleFault, HasRulesFault, rule_fault_of, rules_fault_of};
 ghost use Rattle.virtiofs_map.specs.Separator.{Lacks};
 

@@ -1,6 +1,7 @@
 use Rattle.std.proofs.Common.{Some, None, refl}
 use Rattle.virtiofs_map.specs.IdAudit.{GoesInto, ReachedBy, AreIdsApart}
-use Rattle.virtiofs_map.proofs.id_audit.IdAuditLemmas.{no_where_bad, AreIdsApart-all, AreIdsApart-none, IsLeastIfAny-reached}
+use Rattle.virtiofs_map.proofs.id_audit.IdAuditLemmas.{no_where_bad, AreIdsApart-all, AreIdsApart-none}
+use Rattle.virtiofs_map.proofs.id_audit.IdAuditLemmas.{IsLeastIfAny-reached}
 use Rattle.virtiofs_map.proofs.id_audit.ids_apart.Goals as goal
 
 pub returns-in_default-clause-answer : goal.returns-in_default-clause-answer

@@ -2,7 +2,9 @@
 
 ghost use Rattle.std.specs.Prelude.{◌≡◌, ◌≢◌, ◌<◌, ◌≤◌, ◌+◌, ◌-◌, ℕ, List, take, length, slice_index, All, IfOk, OnOk};
 ghost use Rattle.virtiofs_map.specs.BranchParts.{AreFew, ArePatterns, IsTrie, IsBounded};
-ghost use Rattle.virtiofs_map.specs.GrowthParts.{text, number, start_of, AreReady, IsLeast, IsLeastOf, IsUpto, IsPart, ArePlaces, AreAdded, AreHoles, IsBranched, AreGrown, AreDeep, childless_of};
+ghost use Rattle.virtiofs_map.specs.GrowthParts.{text, number, start_of, AreReady, IsLeast, IsLeastOf, IsUpto, IsPart};
+ghost use Rattle.virtiofs_map.specs.GrowthParts.{ArePlaces, AreAdded, AreHoles, IsBranched, AreGrown, AreDeep};
+ghost use Rattle.virtiofs_map.specs.GrowthParts.{childless_of};
 ghost use Rattle.virtiofs_map.specs.Rule.{MappingRule};
 ghost use Rattle.virtiofs_map.specs.declared.xattrmap.scopes.Side.{Side};
 

@@ -1,7 +1,9 @@
 //! Reading a trie: from a branch to its child.
 
-ghost use Rattle.std.specs.Prelude.{◌≡◌, ◌≤◌, ◌<◌, ◌+◌, false, List, length, slice_get, Some, IfSome, IsSome, MatchOption};
-ghost use Rattle.virtiofs_map.specs.BranchParts.{AreRowsOf, IsReadable, LeadsNowhere, LeadsTo, StaysAt, StepsTo, label_of};
+ghost use Rattle.std.specs.Prelude.{◌≡◌, ◌≤◌, ◌<◌, ◌+◌, false, List, length, slice_get, Some, IfSome, IsSome};
+ghost use Rattle.std.specs.Prelude.{MatchOption};
+ghost use Rattle.virtiofs_map.specs.BranchParts.{AreRowsOf, IsReadable, LeadsNowhere, LeadsTo, StaysAt, StepsTo};
+ghost use Rattle.virtiofs_map.specs.BranchParts.{label_of};
 ghost use Rattle.virtiofs_map.specs.Steps.{count_after};
 ghost use Rattle.virtiofs_map.specs.declared.xattrmap.trie.branch.Branch.{Branch};
 

@@ -1,4 +1,5 @@
-use Rattle.virtiofs_map.proofs.acl.AclMergeLemmas.{Places-permutation, AreInOrder-sorted, none_found, first_found, in_value}
+use Rattle.virtiofs_map.proofs.acl.AclMergeLemmas.{Places-permutation, AreInOrder-sorted, none_found, first_found}
+use Rattle.virtiofs_map.proofs.acl.AclMergeLemmas.{in_value}
 use Rattle.virtiofs_map.proofs.acl.merges.first_merged.Goals as goal
 
 pub least_clash-requires-clause-in_value : goal.least_clash-requires-clause-in_value

@@ -17,7 +17,8 @@ loop-span-preserved g c =
 
 pub returns-clause-spans : goal.returns-clause-spans
 returns-clause-spans g c =
-    All-permutation IsSpan c.loop-span.sorted.items _ c.sort_unstable_by_key.ensures.permutation c.loop-span.invariant.some
+    All-permutation IsSpan c.loop-span.sorted.items _ c.sort_unstable_by_key.ensures.permutation
+    c.loop-span.invariant.some
 
 pub returns-clause-firsts : goal.returns-clause-firsts
 returns-clause-firsts g c =

@@ -2,7 +2,8 @@ use Rattle.std.proofs.Common.{◌≡◌, ◌<◌, ◌≤◌, ◌-◌, Some, slic
 use Rattle.std.proofs.lemmas.Option.{same_Some}
 use Rattle.virtiofs_map.specs.Mapping.{first_of}
 use Rattle.virtiofs_map.specs.WordParts.{Searches}
-use Rattle.virtiofs_map.proofs.soft_idmap.stretches.StretchLemmas.{range_at, next_above, no_next, IsStretch-covered, IsStretch-kept}
+use Rattle.virtiofs_map.proofs.soft_idmap.stretches.StretchLemmas.{range_at, next_above, no_next, IsStretch-covered}
+use Rattle.virtiofs_map.proofs.soft_idmap.stretches.StretchLemmas.{IsStretch-kept}
 use Rattle.virtiofs_map.proofs.soft_idmap.stretches.stretch.Goals as goal
 
 pub returns-in-Some-clause-stretch : goal.returns-in-Some-clause-stretch

@@ -12,7 +12,8 @@ returns-clause-kind g c =
     let list = c.args.list.now in
     let trie = c.patterns.ensures.trie in
     let answers = (c.look_up-answer.ensures.passes Server rules trie).walks.answers in
-    ap (option_map (λ (rule : MappingRule). rule.kind)) (sym (deciding_of_list Server rules list c.patterns.ensures.no_zero))
+    ap (option_map (λ (rule : MappingRule). rule.kind))
+    (sym (deciding_of_list Server rules list c.patterns.ensures.no_zero))
     ∙ c.type_and_place.ensures.kind Server rules list trie.few answers
 
 pub returns-clause-place : goal.returns-clause-place

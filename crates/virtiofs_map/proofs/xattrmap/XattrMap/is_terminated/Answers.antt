@@ -3,7 +3,8 @@ use Rattle.std.specs.Option.{option_map}
 use Rattle.std.proofs.lemmas.Bool.{true≢false}
 use Rattle.virtiofs_map.specs.RuleParts.{rule_meant}
 use Rattle.virtiofs_map.specs.declared.xattrmap.rules.RuleRef.{RuleRef}
-use Rattle.virtiofs_map.proofs.xattrmap.TerminatedLemmas.{BytesDecided, bytes_more, terminated_from, empty_from, byte_from}
+use Rattle.virtiofs_map.proofs.xattrmap.TerminatedLemmas.{BytesDecided, bytes_more, terminated_from, empty_from}
+use Rattle.virtiofs_map.proofs.xattrmap.TerminatedLemmas.{byte_from}
 use Rattle.virtiofs_map.proofs.xattrmap.XattrMap.is_terminated.Goals as goal
 
 meant_some : (o : Option RuleRef) → is_some (option_map rule_meant o) ≡ is_some o

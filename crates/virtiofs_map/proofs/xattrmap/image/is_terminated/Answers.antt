@@ -2,7 +2,8 @@ use Rattle.std.proofs.Common.{◌≡◌, ◌+◌, ◌∷◌, [], is_some, true, 
 use Rattle.std.proofs.lemmas.Bool.{true≢false}
 use Rattle.virtiofs_map.specs.declared.xattrmap.scopes.Side.TheVariants.{Client, Server}
 use Rattle.virtiofs_map.specs.Names.{deciding}
-use Rattle.virtiofs_map.proofs.xattrmap.TerminatedLemmas.{BytesDecided, bytes_more, terminated_from, empty_from, byte_from}
+use Rattle.virtiofs_map.proofs.xattrmap.TerminatedLemmas.{BytesDecided, bytes_more, terminated_from, empty_from}
+use Rattle.virtiofs_map.proofs.xattrmap.TerminatedLemmas.{byte_from}
 use Rattle.virtiofs_map.proofs.xattrmap.image.is_terminated.Goals as goal
 
 pub returns-then-not-is_decided-clause-terminated : goal.returns-then-not-is_decided-clause-terminated

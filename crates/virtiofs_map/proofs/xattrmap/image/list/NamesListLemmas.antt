@@ -5,7 +5,8 @@ use Rattle.virtiofs_map.specs.Listing.{listing}
 use Rattle.virtiofs_map.specs.Names.{IsListed, IsHidden, IsUndecided, as_list, host_answer, server_answer}
 use Rattle.virtiofs_map.specs.NamesImageParts.{Holds}
 use Rattle.virtiofs_map.specs.Rule.{MappingRule}
-use Rattle.virtiofs_map.proofs.xattrmap.ListingLemmas.{IsSoFar, IsSoFar-first, IsSoFar-name, Item, all_ok, names_of, zeros_of}
+use Rattle.virtiofs_map.proofs.xattrmap.ListingLemmas.{IsSoFar, IsSoFar-first, IsSoFar-name, Item, all_ok, names_of}
+use Rattle.virtiofs_map.proofs.xattrmap.ListingLemmas.{zeros_of}
 use Rattle.virtiofs_map.proofs.xattrmap.ListingLemmas.{list_of-listing, listing_none, listing_shown, listing_hidden}
 use Rattle.virtiofs_map.proofs.xattrmap.ListingLemmas.{listing_undecided}
 use Rattle.virtiofs_map.proofs.ServerListLemmas.{IsCut, is_name, with_zeros}

@@ -10,7 +10,8 @@ use Rattle.virtiofs_map.specs.declared.xattrmap.trie.growth.Part.{Part}
 use Rattle.virtiofs_map.specs.declared.xattrmap.trie.patterns.Pattern.{Pattern}
 use Rattle.virtiofs_map.proofs.xattrmap.trie.growth.KidLemmas.{IsCut, kid_is, kid_place}
 use Rattle.virtiofs_map.proofs.xattrmap.trie.growth.PatternOrderLemmas.{no_zero, goes_on, rising}
-use Rattle.virtiofs_map.proofs.xattrmap.trie.growth.PlaceLemmas.{push_cases, push_last, IsLonger-refl, IsLonger-push, IsLonger-trans}
+use Rattle.virtiofs_map.proofs.xattrmap.trie.growth.PlaceLemmas.{push_cases, push_last, IsLonger-refl, IsLonger-push}
+use Rattle.virtiofs_map.proofs.xattrmap.trie.growth.PlaceLemmas.{IsLonger-trans}
 use Rattle.virtiofs_map.proofs.xattrmap.trie.growth.PlaceLemmas.{still_there}
 
 -- a child is one still where places were appended

@@ -16,7 +16,8 @@ use Rattle.virtiofs_map.specs.declared.xattrmap.scopes.Side.{Side}
 use Rattle.virtiofs_map.proofs.BeginsLemmas.{begins_length}
 use Rattle.virtiofs_map.proofs.xattrmap.FittingLemmas.{begins_front, deciding_within, fits_is, front_more, label_begins}
 use Rattle.virtiofs_map.proofs.xattrmap.FittingLemmas.{same_deciding, same_first}
-use Rattle.virtiofs_map.proofs.xattrmap.trie.SharedLemmas.{most_at_least, most_at_most, shared_front, shared_misses, shared_way}
+use Rattle.virtiofs_map.proofs.xattrmap.trie.SharedLemmas.{most_at_least, most_at_most, shared_front, shared_misses}
+use Rattle.virtiofs_map.proofs.xattrmap.trie.SharedLemmas.{shared_way}
 use Rattle.virtiofs_map.proofs.xattrmap.trie.SharedLemmas.{shared_whole, shared_within}
 use Rattle.virtiofs_map.proofs.xattrmap.WayLemmas.{way_no_zero, way_short}
 

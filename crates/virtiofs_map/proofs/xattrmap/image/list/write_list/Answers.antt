@@ -3,8 +3,10 @@ use Rattle.virtiofs_map.specs.NamesImage.{Says}
 use Rattle.virtiofs_map.specs.Rule.{MappingRule}
 use Rattle.virtiofs_map.specs.declared.xattrmap.image.Decision.{Decision}
 use Rattle.virtiofs_map.specs.declared.xattrmap.scopes.Side.TheVariants.{Server}
-use Rattle.virtiofs_map.proofs.xattrmap.image.list.NamesListLemmas.{listed_none, listed_hidden, listed_shown, listed_undecided, listed_all}
-use Rattle.virtiofs_map.proofs.xattrmap.image.list.NamesListLemmas.{listed_no_name, short_more, shorter_more, IsWhole, whole_fits}
+use Rattle.virtiofs_map.proofs.xattrmap.image.list.NamesListLemmas.{listed_none, listed_hidden, listed_shown}
+use Rattle.virtiofs_map.proofs.xattrmap.image.list.NamesListLemmas.{listed_undecided, listed_all}
+use Rattle.virtiofs_map.proofs.xattrmap.image.list.NamesListLemmas.{listed_no_name, short_more, shorter_more, IsWhole}
+use Rattle.virtiofs_map.proofs.xattrmap.image.list.NamesListLemmas.{whole_fits}
 use Rattle.virtiofs_map.proofs.xattrmap.image.list.NamesListLemmas.{whole_too_long}
 use Rattle.virtiofs_map.proofs.ServerListLemmas.{is_name, IsCut}
 use Rattle.virtiofs_map.proofs.xattrmap.image.list.write_list.Goals as goal

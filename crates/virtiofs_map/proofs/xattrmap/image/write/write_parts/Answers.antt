@@ -1,6 +1,7 @@
 use Rattle.std.proofs.Common.{length}
 use Rattle.virtiofs_map.specs.NamesImage.{rule_rows}
-use Rattle.virtiofs_map.proofs.xattrmap.image.write.NamesImageLemmas.{image_written, parts_written, puts_same, rest_kept}
+use Rattle.virtiofs_map.proofs.xattrmap.image.write.NamesImageLemmas.{image_written, parts_written, puts_same}
+use Rattle.virtiofs_map.proofs.xattrmap.image.write.NamesImageLemmas.{rest_kept}
 use Rattle.virtiofs_map.proofs.xattrmap.image.RuleRowLemmas.{length-rule_rows}
 use Rattle.virtiofs_map.proofs.xattrmap.image.write.write_parts.Goals as goal
 

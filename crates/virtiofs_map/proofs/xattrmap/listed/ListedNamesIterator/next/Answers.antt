@@ -17,8 +17,9 @@ listed_as-requires g c =
     let found = c.deciding_first-found.ensures in
     record {
       kind = ap (λ name. option_map (λ (rule : MappingRule). rule.kind) (deciding Server rules name)) name ∙ found.kind;
-      place = subst (λ name. IfSome c.deciding_first-found.result.0 (λ found. deciding Server rules name ≡ slice_get rules found.1))
-          (sym name) found.place;
+      place =
+          subst (λ name. IfSome c.deciding_first-found.result.0
+          (λ found. deciding Server rules name ≡ slice_get rules found.1)) (sym name) found.place;
     }
 
 pub names-preserved : goal.names-preserved

@@ -1,6 +1,7 @@
 use Rattle.std.proofs.Common.{◌≡◌, ◌+◌, ◌<◌, ◌≤◌, length, get_or, sym, subst, ap, arith}
 use Rattle.virtiofs_map.specs.GrowthParts.{text, AreAdded}
-use Rattle.virtiofs_map.proofs.xattrmap.trie.growth.ChildrenLemmas.{added_none, added_holes, added_kid, cut_is, AreSet, longer_on, row}
+use Rattle.virtiofs_map.proofs.xattrmap.trie.growth.ChildrenLemmas.{added_none, added_holes, added_kid, cut_is, AreSet}
+use Rattle.virtiofs_map.proofs.xattrmap.trie.growth.ChildrenLemmas.{longer_on, row}
 use Rattle.virtiofs_map.proofs.xattrmap.trie.growth.PatternOrderLemmas.{ends}
 use Rattle.virtiofs_map.proofs.xattrmap.trie.growth.add_children.Goals as goal
 use Rattle.virtiofs_map.proofs.xattrmap.trie.growth.add_children.Goals.{then-not-scattered+in_ok-add_holes}

@@ -1,7 +1,8 @@
 use Rattle.std.proofs.Common.{◌+◌, ◌-◌, ◌<◌, sym, subst, arith}
 use Rattle.virtiofs_map.specs.GrowthParts.{IsBranched, AreAdded}
 use Rattle.virtiofs_map.specs.declared.xattrmap.trie.branch.Branch.{Branch}
-use Rattle.virtiofs_map.proofs.xattrmap.trie.growth.GrowthLemmas.{branched_bare, branched_ended, branched_on, least_ended, place_here}
+use Rattle.virtiofs_map.proofs.xattrmap.trie.growth.GrowthLemmas.{branched_bare, branched_ended, branched_on}
+use Rattle.virtiofs_map.proofs.xattrmap.trie.growth.GrowthLemmas.{least_ended, place_here}
 use Rattle.virtiofs_map.proofs.xattrmap.trie.growth.GrowthLemmas.{part_here}
 use Rattle.virtiofs_map.proofs.xattrmap.trie.growth.ChildrenLemmas.{row}
 use Rattle.virtiofs_map.proofs.xattrmap.trie.growth.PatternOrderLemmas.{ends}

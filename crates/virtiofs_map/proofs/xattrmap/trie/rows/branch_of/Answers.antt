@@ -1,6 +1,7 @@
 use Rattle.std.proofs.Common.{List, ℕ, ap, ◌∙◌}
 use Rattle.virtiofs_map.specs.ByteWordParts.{word_at}
-use Rattle.virtiofs_map.proofs.xattrmap.trie.rows.RowLemmas.{first_word_of, second_word_of, third_word_of, branch_from_words}
+use Rattle.virtiofs_map.proofs.xattrmap.trie.rows.RowLemmas.{first_word_of, second_word_of, third_word_of}
+use Rattle.virtiofs_map.proofs.xattrmap.trie.rows.RowLemmas.{branch_from_words}
 use Rattle.virtiofs_map.proofs.xattrmap.trie.rows.branch_of.Goals as goal
 
 pub returns : goal.returns

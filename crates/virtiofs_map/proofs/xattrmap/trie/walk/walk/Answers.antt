@@ -1,5 +1,6 @@
 use Rattle.std.proofs.Common.{arith}
-use Rattle.virtiofs_map.proofs.xattrmap.trie.walk.StandingLemmas.{stands_at_root, stands_on, stands_readable, stands_passed}
+use Rattle.virtiofs_map.proofs.xattrmap.trie.walk.StandingLemmas.{stands_at_root, stands_on, stands_readable}
+use Rattle.virtiofs_map.proofs.xattrmap.trie.walk.StandingLemmas.{stands_passed}
 use Rattle.virtiofs_map.proofs.xattrmap.trie.walk.StandingLemmas.{stands_counted}
 use Rattle.virtiofs_map.proofs.xattrmap.trie.walk.walk.Goals as goal
 
