@@ -1,12 +1,8 @@
 //! Printed forms, and the texts of faults.
-ghost use Rattle.std.specs.Prelude.{IfOk, string_bytes};
-ghost use Rattle.std.specs.Str.{chars};
-ghost use Rattle.virtiofs_map.specs.SpecificationText.{Says};
-ghost use Rattle.virtiofs_map.specs.declared.cmdline.IdMap.TheVariants.{ForbidGuest};
 
-use std::alloc::{AllocError, Global};
 use std::test::Fail;
-use virtiofs_map::cmdline::{IdMap, IdMapError, laws};
+use virtiofs_map::cmdline::{IdMap, IdMapError};
+use virtiofs_map_callers::texts::forbidding;
 
 /// Each text, and the printed form of the specification that it says.
 static PRINTED: [(&str, &str); 11] = [
@@ -55,16 +51,6 @@ static REFUSED: [(&str, &str); 8] = [
         "Invalid ID map length (expected 1 elements, got 0 elements)",
     ),
 ];
-
-/// A text that forbids guest ids, proved from the law.
-fn forbidding(alloc: Global, from_guest: u32, count: u32) -> Result<String, AllocError>
-    ensures { IfOk result (λ text.
-        Says (chars (string_bytes text)) (ForbidGuest from_guest count)) }
-{
-    let spec = IdMap::ForbidGuest { from_guest, count };
-    laws::reads_back();
-    spec.to_string(alloc)
-}
 
 #[test]
 fn prints_to_say_it(rt: HostRuntime) -> Result<(), Fail> {

@@ -1,11 +1,8 @@
 //! Texts of ranges: which are read and as what, and what is wrong with the others.
-ghost use Rattle.std.specs.Prelude.{IfOk, string_bytes};
-ghost use Rattle.std.specs.Str.{chars};
-ghost use Rattle.virtiofs_map.specs.NamespaceText.{SaysNamespace};
 
-use std::alloc::{AllocError, Global};
 use std::test::Fail;
-use virtiofs_map::idmap::{GidMap, IdMapError, UidMap, laws};
+use virtiofs_map::idmap::{GidMap, IdMapError, UidMap};
+use virtiofs_map_callers::texts::printed;
 
 /// A text, the three numbers that it says, and what these are printed as.
 static READ: [(&str, (u32, u32, u32), &str); 9] = [
@@ -53,20 +50,6 @@ fn name_of(fault: &IdMapError) -> &'static str {
         IdMapError::IncompleteMap => "IncompleteMap",
         IdMapError::InvalidValue(_) => "InvalidValue",
     }
-}
-
-/// The printed form of a range of user ids, proved from the law.
-fn printed(alloc: Global, map: &UidMap) -> Result<String, AllocError>
-    ensures { IfOk result (λ text. SaysNamespace (chars (string_bytes text))
-        map.now.inside_uid map.now.outside_uid map.now.count) }
-{
-    let UidMap {
-        inside_uid: _inside,
-        outside_uid: _outside,
-        count: _count,
-    } = *map;
-    laws::reads_back();
-    map.to_string(alloc)
 }
 
 #[test]

@@ -2,8 +2,8 @@
 //! alone.
 //!
 //! `acl`, `cmdline`, `id_audit`, `id_types`, `idmap` and `soft_idmap` have known inputs of the
-//! library's module of that name, each with its answer. The modules `acl::example` and
-//! `soft_idmap::example` show how a daemon calls the library, with contracts of their own.
+//! library's module of that name, each with its answer. They also run the code of the crate
+//! `virtiofs_map_callers`, which calls the library as a daemon does: its contracts are proved there.
 //!
 //! The crate `virtiofs_map_name_tests` has the tests on names, and `virtiofs_map_limits` those with
 //! refused memory and with hostile texts. There is nothing here but tests.

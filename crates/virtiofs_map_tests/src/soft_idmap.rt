@@ -5,7 +5,6 @@ mod example;
 pub(crate) mod image;
 mod pieces;
 
-use crate::id_types::projects::{GuestProject, HostProject, ProjectNumber};
 use std::alloc::Global;
 use std::process::Abort;
 use std::test::Fail;
@@ -13,6 +12,7 @@ use virtiofs_map::cmdline::IdMapError;
 use virtiofs_map::id_types::{GuestGid, GuestId, GuestUid, HostGid, HostId, HostUid, Id};
 use virtiofs_map::soft_idmap::{Direction, IdMap, IdMapBuildError, MapError, RangeEnd, SpecsError};
 use virtiofs_map::{Steps, cmdline};
+use virtiofs_map_callers::projects::{GuestProject, HostProject, ProjectNumber};
 
 /// The specifications that the texts say.
 fn specs_of(alloc: Global, texts: &[&str]) -> Result<Vec<cmdline::IdMap>, Fail> {

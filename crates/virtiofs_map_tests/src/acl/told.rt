@@ -1,5 +1,4 @@
 //! What the calls make of values that are written in hexadecimal.
-ghost use Rattle.std.specs.Prelude.{◌<◌};
 
 use std::alloc::{AllocError, Global};
 use std::test::Fail;
@@ -9,6 +8,7 @@ use virtiofs_map::acl::{
 };
 use virtiofs_map::id_types::{GuestGid, GuestUid, HostGid, HostUid};
 use virtiofs_map::soft_idmap::{Direction, IdMap};
+pub(super) use virtiofs_map_callers::hexadecimal::value_of;
 
 /// The maps of users and of groups, by their specifications.
 #[derive(Clone, Copy)]
@@ -22,41 +22,6 @@ pub(super) const SHIFTED: Maps = Maps {
     users: &["map:0:100000:65536"],
     groups: &["map:0:200000:65536"],
 };
-
-/// What a digit in hexadecimal stands for.
-fn digit(c: u8) -> u8
-    ensures { result < 16 }
-{
-    match c {
-        b'0'..=b'9' => c - b'0',
-        b'a'..=b'f' => c - b'a' + 10,
-        _ => 0,
-    }
-}
-
-/// Adds the bytes of a text.
-fn push_part(value: &mut Vec<u8>, part: &str) -> Result<(), AllocError> {
-    let mut high = None;
-    for c in part.as_bytes() {
-        match high {
-            None => high = Some(digit(*c)),
-            Some(first) => {
-                value.push((first << 4) | digit(*c))?;
-                high = None;
-            }
-        }
-    }
-    Ok(())
-}
-
-/// The bytes that some texts say, one after the other.
-pub(super) fn value_of(alloc: Global, parts: &[&str]) -> Result<Vec<u8>, AllocError> {
-    let mut value = Vec::new(alloc);
-    for part in parts {
-        push_part(&mut value, part)?;
-    }
-    Ok(value)
-}
 
 /// Whether a value is what some texts say.
 pub(super) fn is_value(alloc: Global, value: &[u8], parts: &[&str]) -> Result<bool, AllocError> {

@@ -1,14 +1,13 @@
 //! The texts and the kinds of faults.
-ghost use Rattle.std.specs.Prelude.{◌≡◌, IfOk, string_bytes};
-ghost use Rattle.virtiofs_map.specs.Printed.{map_error_text};
 
-use crate::id_types::projects::{GuestProject, ProjectNumber};
 use crate::soft_idmap::specs_of;
-use std::alloc::{AllocError, Global};
+use std::alloc::Global;
 use std::process::Abort;
 use std::test::Fail;
-use virtiofs_map::id_types::{GuestId, GuestUid, HostId, HostUid, Id};
+use virtiofs_map::id_types::{GuestId, GuestUid, HostId, HostUid};
 use virtiofs_map::soft_idmap::{FaultKind, IdMap, IdMapBuildError, MapError};
+use virtiofs_map_callers::projects::{GuestProject, ProjectNumber};
+use virtiofs_map_callers::texts::text_of;
 
 /// Two specifications of which the second meets the first, and the text of the fault.
 static MEETING: [(&str, &str, &str); 7] = [
@@ -127,13 +126,6 @@ fn prints_want_of_memory(rt: HostRuntime) -> Result<(), Fail> {
     assert_eq!(rt; fault.to_string(rt.alloc())?.as_str(), "Out of memory");
     assert_eq!(rt; fault.kind(), FaultKind::OutOfMemory);
     Ok(())
-}
-
-/// The text of a fault, as its contract has it for every type of id.
-fn text_of<Source: Id>(alloc: Global, fault: &MapError<Source>) -> Result<String, AllocError>
-    ensures { IfOk result (λ text. string_bytes text ≡ map_error_text Source.number fault.now) }
-{
-    fault.to_string(alloc)
 }
 
 /// What a map that forbids guest id 8 says of it.

@@ -1,46 +1,8 @@
-//! How a daemon calls the maps of ids. The README shows a part of this file.
-ghost use Rattle.std.specs.Prelude.{◌≡◌, None, Some, IfOk, MatchOption};
-ghost use Rattle.virtiofs_map.specs.Mapping.{Becomes};
-ghost use Rattle.virtiofs_map.specs.Specifications.{texts_of, AllSay};
-ghost use Rattle.virtiofs_map.specs.declared.soft_idmap.entry.Direction.TheVariants.{GuestToHost};
+//! The calls of a daemon on maps of ids.
 
-use std::alloc::Global;
 use std::test::Fail;
 use virtiofs_map::id_types::{GuestUid, HostUid};
-use virtiofs_map::soft_idmap::{IdMap, SpecsError, laws};
-
-/// The map that a daemon's settings ask for.
-fn users(alloc: Global, texts: &[&str]) -> Result<IdMap<GuestUid, HostUid>, SpecsError>
-    ensures { IfOk result (AllSay (texts_of texts.now)) }
-{
-    IdMap::from_specs(alloc, texts)
-}
-
-/// The map that the settings ask for when they are read again. Where they still say what the map
-/// was made of, it is the same map.
-fn users_again(
-    alloc: Global,
-    texts: &[&str],
-    before: &IdMap<GuestUid, HostUid>,
-) -> Result<IdMap<GuestUid, HostUid>, SpecsError>
-    ensures { AllSay (texts_of texts.now) before.now
-        → IfOk result (λ again. again ≡ before.now) }
-{
-    laws::texts_one_value();
-    users(alloc, texts)
-}
-
-/// Who owns a file on the host that the guest gave to this user; `None` where that is forbidden.
-fn owner(map: &IdMap<GuestUid, HostUid>, user: GuestUid) -> Option<HostUid>
-    ensures { MatchOption result
-        (Becomes map.now GuestToHost user None)
-        (λ owner. Becomes map.now GuestToHost user (Some owner)) }
-{
-    match map.map_guest(user) {
-        Ok(owner) => Some(owner),
-        Err(_) => None,
-    }
-}
+use virtiofs_map_callers::users::{owner, users, users_again};
 
 #[test]
 fn a_forbidden_user_owns_nothing(rt: HostRuntime) -> Result<(), Fail> {

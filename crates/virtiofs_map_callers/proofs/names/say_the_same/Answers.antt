@@ -3,7 +3,7 @@ use Rattle.std.proofs.lemmas.Bool.Decides.{Decides-eqb}
 use Rattle.std.proofs.lemmas.Slice.Eq.{slice_eq-Decides}
 use Rattle.std.specs.Str.{chars}
 use Rattle.virtiofs_map.specs.RuleText.{SaysRules}
-use Rattle.virtiofs_map_name_tests.proofs.xattrmap.example.say_the_same.Goals as goal
+use Rattle.virtiofs_map_callers.proofs.names.say_the_same.Goals as goal
 
 pub returns : goal.returns
 returns c = λ is rules more says too.

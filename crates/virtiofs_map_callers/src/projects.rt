@@ -1,4 +1,5 @@
-//! Ids of a kind that the library does not have, for the tests of what is generic in the kind.
+//! Ids of projects: a pair of id types that the library does not have, with the laws of its traits
+//! proved.
 //!
 //! A project id is made of a [`ProjectNumber`] and not of a `u32`, has an offset of its own, and is
 //! printed as `project 7`. So code that works with it rests on the traits alone.
@@ -10,7 +11,7 @@ use virtiofs_map::id_types::{GuestId, HostId, Id, IdNumber, IdOffset};
 
 /// What a project id is made of.
 #[derive(Clone, Copy, Debug, PartialEq, Eq, PartialOrd, Ord)]
-pub(crate) struct ProjectNumber(pub(crate) u32);
+pub struct ProjectNumber(pub u32);
 
 impl IdNumber for ProjectNumber {
     ghost number = { λ n. n.0 };
@@ -32,7 +33,7 @@ impl IdNumber for ProjectNumber {
 
 /// The distance between two project ids of one side.
 #[derive(Clone, Copy)]
-pub(crate) struct ProjectOffset(u32);
+pub struct ProjectOffset(pub u32);
 
 impl IdOffset for ProjectOffset {
     ghost number = { λ offset. offset.0 };
@@ -46,7 +47,7 @@ impl IdOffset for ProjectOffset {
 
 /// The id of a project in the guest.
 #[derive(Clone, Copy, Debug, PartialEq, Eq, PartialOrd, Ord)]
-pub(crate) struct GuestProject(ProjectNumber);
+pub struct GuestProject(pub ProjectNumber);
 
 impl From<ProjectNumber> for GuestProject {
     ghost from_gives = { λ n id. id.0 ≡ n };
@@ -128,7 +129,7 @@ impl GuestId for GuestProject {
 
 /// The id of a project on the host.
 #[derive(Clone, Copy, Debug, PartialEq, Eq, PartialOrd, Ord)]
-pub(crate) struct HostProject(ProjectNumber);
+pub struct HostProject(pub ProjectNumber);
 
 impl From<ProjectNumber> for HostProject {
     ghost from_gives = { λ n id. id.0 ≡ n };

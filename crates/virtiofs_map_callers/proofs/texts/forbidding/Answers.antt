@@ -6,7 +6,7 @@ use Rattle.virtiofs_map.specs.Printed.{specification_text}
 use Rattle.virtiofs_map.specs.SpecificationText.{Says}
 use Rattle.virtiofs_map.specs.declared.cmdline.IdMap.{IdMap}
 use Rattle.virtiofs_map.specs.declared.cmdline.IdMap.TheVariants.{ForbidGuest}
-use Rattle.virtiofs_map_tests.proofs.cmdline.forbidding.Goals as goal
+use Rattle.virtiofs_map_callers.proofs.texts.forbidding.Goals as goal
 
 says_it : {S E : Type 0} (bytes : S → List ℕ) (spec : IdMap) (r : Result S E)
     → Says (chars (specification_text spec)) spec → IfOk r (λ text. bytes text ≡ specification_text spec)
