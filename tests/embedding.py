@@ -261,6 +261,7 @@ def in_rust(tally, with_, linked):
         ("ids inside values in Rust", "values.rs", "--test"),
         ("decisions about all ids in Rust", "ids_audits.rs", "--test"),
         ("sentences of faults in Rust", "sentences.rs", "--test"),
+        ("large texts in Rust", "large.rs", "--test"),
         ("shared pages and changed numbers in Rust", "pages.rs"),
         ("refused memory in Rust", "refused.rs", "-C", f"link-arg={WRAPPED}"),
     ):

@@ -1,5 +1,6 @@
 //! Texts of 16 MiB. Where a character takes some microseconds in a build that is not optimized,
-//! 1 MiB is read first, and 16 MiB only if that took less than a second.
+//! 1 MiB is read first, and 16 MiB only if that took less than a second. `tests/embedding/large.rs`
+//! reads all of these texts at 16 MiB, in an optimized build.
 
 use crate::hostile::grammars::{Grammar, fault_of};
 use Grammar::{Namespace, Rules, Specification};
