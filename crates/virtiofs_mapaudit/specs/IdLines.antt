@@ -82,8 +82,8 @@ root_lines one option it = root_line one it ++ root_mend one option it
 -- an id that becomes one which the namespace of the daemon lacks
 abbrev pub lacking_line : List ℕ → IdFound → List ℕ
 lacking_line one it =
-    one ++ codes " " ++ decimal it.guest ++ codes " is " ++ one ++ codes " " ++ decimal it.host
-    ++ codes " in the daemon's namespace, which lacks it: calls with it fail\n"
+    one ++ codes " " ++ decimal it.guest ++ codes " becomes " ++ one ++ codes " " ++ decimal it.host
+    ++ codes ", which the daemon's namespace does not have: calls with it fail\n"
 
 abbrev pub lacking_mend : List ℕ → List ℕ → List ℕ → IdFound → List ℕ
 lacking_mend one option range it =

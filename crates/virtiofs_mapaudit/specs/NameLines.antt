@@ -47,7 +47,7 @@ lost_lines found =
 abbrev pub stray_lines : {A : Type 0} → LeastName A → List ℕ
 stray_lines found =
     lines_round (codes "lists show ") found found.all
-    (codes " of the host under a name that leads elsewhere\n  fix: put a rule before the others that hides what begins so, for example :bad:server::NAME:\n")
+    (codes " of the host under a name that leads elsewhere\n  fix: before the other rules, put one that hides names with this beginning, for example :bad:server::NAME:\n")
 
 -- a rule that decides no name; rules are counted from 1
 abbrev pub idle_lines : ℕ → List ℕ

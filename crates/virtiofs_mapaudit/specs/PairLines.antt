@@ -33,10 +33,10 @@ own_prefix = codes "\n  fix: give each guest a prefix of its own, for example --
 
 -- a name that one guest sets and the other finds in lists
 abbrev pub seen_before : ℕ → List ℕ
-seen_before setter = codes "guest " ++ decimal setter ++ codes " sets "
+seen_before setter = codes "guest " ++ decimal setter ++ codes " can set the name "
 
 abbrev pub seen_after : ℕ → List ℕ
-seen_after lister = codes ", and lists of guest " ++ decimal lister ++ codes " show it" ++ own_prefix
+seen_after lister = codes ", and lists then show it to guest " ++ decimal lister ++ own_prefix
 
 -- a name by which one guest reaches what the other reaches too
 abbrev pub shared_before : ℕ → List ℕ

@@ -139,14 +139,14 @@ const OWN_PREFIX: &str =
 fn seen_before<A: Allocator>(alloc: A, setter: usize) -> Result<String<A>, AllocError>
     ensures { IfOk result (λ text. string_bytes text ≡ seen_before setter) }
 {
-    format!(in alloc; "guest {setter} sets ")
+    format!(in alloc; "guest {setter} can set the name ")
 }
 
 /// What stands after such a name, which lists of the guest of that number show.
 fn seen_after<A: Allocator>(alloc: A, lister: usize) -> Result<String<A>, AllocError>
     ensures { IfOk result (λ text. string_bytes text ≡ seen_after lister) }
 {
-    format!(in alloc; ", and lists of guest {lister} show it{OWN_PREFIX}")
+    format!(in alloc; ", and lists then show it to guest {lister}{OWN_PREFIX}")
 }
 
 /// What stands before a name by which the guest of that number reaches what another reaches too.

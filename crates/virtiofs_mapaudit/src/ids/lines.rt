@@ -195,7 +195,7 @@ fn push_lacking_line<A: Allocator>(
     let IdFound { guest, host, .. } = it;
     writeln!(
         text,
-        "{one} {guest} is {one} {host} in the daemon's namespace, which lacks it: calls with it fail"
+        "{one} {guest} becomes {one} {host}, which the daemon's namespace does not have: calls with it fail"
     )
 }
 

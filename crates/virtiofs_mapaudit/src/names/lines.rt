@@ -138,7 +138,7 @@ pub(crate) fn push_names<A: Allocator>(
         text,
         "lists show ",
         &found.stray,
-        " of the host under a name that leads elsewhere\n  fix: put a rule before the others that hides what begins so, for example :bad:server::NAME:\n",
+        " of the host under a name that leads elsewhere\n  fix: before the other rules, put one that hides names with this beginning, for example :bad:server::NAME:\n",
     )?;
     push_all_idle(text, found.idle.as_slice())
 }
