@@ -1,7 +1,9 @@
 """Reads must-fail edits, and tells those that lie in bodies of functions.
 
 An edit is a file with a line 'file: src/lib.rt', and then pairs of lines 'old: TEXT' and 'new: TEXT'. The old text stands
-in that file exactly once. Both are parts of one line, so an edit moves no line.
+in that file exactly once. Both are parts of one line, so an edit moves no line. A line '# at: GOAL PARAMETERS' names a
+goal of the edited function that the edit leaves open, with the names of what the goal takes. Of an edit that is tried
+alone, a line '# only: PATH' names a function whose proof shows that it is refused.
 """
 import os
 import re
@@ -57,6 +59,27 @@ def pairs_of(edit):
             new = line[len("new:") :]
             found.append((path, old, new[1:] if new.startswith(" ") else new))
     return found
+
+
+def goals_of(edit):
+    """The goals that an edit names, each with the names of what it takes."""
+    return dict(re.findall(r"^# at: (\S+) (.+)$", text_of(edit), re.M))
+
+
+def only_of(edit):
+    """The functions that a check of the edit alone is to read, where it says so."""
+    return re.findall(r"^# only: (\S+)$", text_of(edit), re.M)
+
+
+def answered(folder, path, crate, goals):
+    """The text of a function's proof file, with a plain search as the answer to these goals."""
+    text = text_of(f"{folder}/{path}") if os.path.isfile(f"{folder}/{path}") else ""
+    uses = ["use Rattle.std.proofs.Common.{rules}", f"use Rattle.{crate}.{path[: -len('/Answers.antt')].replace('/', '.')}.Goals as goal"]
+    if re.search(r"^use Rattle\.std\.proofs\.Common\.\{[^}]*\brules\b", text, re.M):
+        uses = uses[1:]
+    added = [it for it in uses if it not in text]
+    found = [f"\npub {goal} : goal.{goal}\n{goal} {names} = search rules\n" for goal, names in sorted(goals.items())]
+    return "\n".join([*added, text]) + "".join(found)
 
 
 def with_pair(texts, folder, path, old, new):

@@ -1,7 +1,7 @@
 #!/usr/bin/env python3
 """Tries every edit crates/NAME/must-fail/*.edit, many in one check: the prover must refuse each.
 
-usage: must_fail.py [--lanes N] [--archives FOLDER] [--proved TREE] [TOP]
+usage: must_fail.py [--lanes N] [--proved TREE] [TOP]
 
 TOP is the top of a repository; if it is left out, this one.
 
@@ -11,11 +11,14 @@ function is open. That its function calls another refused one counts for nothing
 refused is tried alone, as is every edit that touches more than bodies: in its own modules, and then by the kit's own
 judge. Where a check shows nothing, its halves are tried first.
 
-Each library that has edits, or that a crate with edits uses, is proved first, and of each program what its edits touch.
-That is a proof from nothing, but the rt of rattle-kit-13f begins with what it has kept of the same crate in another
-checkout on this machine, if there is any. TREE is a copy of the repository in which `rt ci` is at work: a library that it
-proves there is not proved again, but taken from there, and then checked. Each check starts from a copy of what was
-proved. The archives of static libraries that this builds go to FOLDER.
+A check begins with a copy of what is proved of its crate. TREE is a copy of the repository in which tests/prove.py is at
+work: what it proves there is taken from there. What it has not proved, and all where no TREE is given, is proved here: of
+each library all, and of each program what its edits touch.
+
+Most of the time of a check would go into a search for proofs that cannot be there. An edit can therefore name goals that
+it leaves open, each in a line '# at: GOAL PARAMETERS'. In the checks of edits the answer to such a goal is one plain
+search. The last check of a crate has no edit, and the same answers: all must be proved there, or else a refusal would
+show nothing.
 
 Each edit has a line. The last line is 'N passed, N failed', and the exit status is 0 where none failed.
 """
@@ -32,8 +35,8 @@ from collections import Counter
 from concurrent.futures import FIRST_COMPLETED, ThreadPoolExecutor, wait
 from typing import NamedTuple
 
-from edited_bodies import bodies_of, edits_in, is_body_of, merged, pairs_of
-from running import cores, kit, made_room, run, say, shown
+from edited_bodies import answered, bodies_of, edits_in, goals_of, is_body_of, merged, only_of, pairs_of
+from running import cores, functions_in, kit, made_room, run, say, shown
 
 HERE = os.path.dirname(os.path.abspath(__file__))
 # The most edits of one check. A check that changes nothing costs as much as two edits, so that few large checks cost less
@@ -76,7 +79,6 @@ class Task(NamedTuple):
     kind: str
     crate: Crate
     edits: tuple
-    jobs: int = 1
 
     def __str__(self):
         what = f"{len(self.edits)} edits of {self.crate.name} in one check"
@@ -168,11 +170,6 @@ def refused_at(name, said):
     return f"fn {name} ({', '.join(sorted({it.rpartition('-clause-')[2] for it in goals}))})"
 
 
-def functions_in(said):
-    """The functions, closures among them, that a check says a line of."""
-    return frozenset(re.findall(r"^fn (\S+): ", said, re.M))
-
-
 def named(body, every):
     """Those of these functions that can be the one with this body."""
     return [it for it in every if is_body_of(it, body) and "::fn::" not in it]
@@ -188,12 +185,13 @@ def only(edits, folder, every):
 
 
 def modules(edit, folder):
-    """The words by which a check reads the modules alone that an edit touches. There are none where it touches more than
-    modules below the root, or cannot be made."""
+    """The words by which a check reads alone what an edit says in a line '# only: PATH', or else the modules that it
+    touches. There are none where it touches more than modules below the root, or cannot be made."""
     paths = {path for path, _, _ in pairs_of(edit)}
     if not all(re.match(r"src/(?!lib\.rt|main\.rt)", it) for it in paths) or merged([edit], folder) is None:
         return []
-    return [word for it in sorted(paths) for word in ("--only", it[len("src/") : -len(".rt")].replace("/", "::"))]
+    read = only_of(edit) or [it[len("src/") : -len(".rt")].replace("/", "::") for it in sorted(paths)]
+    return [word for it in read for word in ("--only", it)]
 
 
 def touched(edits, folder):
@@ -208,6 +206,30 @@ def touched(edits, folder):
             return []
         found |= own
     return [word for it in sorted(found) for word in ("--only", it)]
+
+
+def answers(task, folder, every):
+    """The texts of the proof files of functions with the goals that the edits of a task name, with an answer to each."""
+    goals = {}
+    for edit in task.edits:
+        for body in goals_of(edit) and bodies_of(edit, folder) or ():
+            found = named(body, every)
+            if len(found) != 1:
+                raise RuntimeError(f"{label(task.crate, edit)} names a goal, and no function is known by the name of the edited one")
+            goals.setdefault(found[0], {}).update(goals_of(edit))
+    texts = {}
+    for function, answered_goals in goals.items():
+        path = f"proofs/{'/'.join(function.split('::')[1:])}/Answers.antt"
+        texts[path] = answered(folder, path, task.crate.name, answered_goals)
+    return texts
+
+
+def link_or_copy(file, to):
+    """Gives a file a second name, where that can be. What is linked is never written into: rt removes such a file first."""
+    try:
+        os.link(file, to)
+    except OSError:
+        shutil.copy2(file, to)
 
 
 def told_apart(edits, folder, said, every):
@@ -231,8 +253,8 @@ def told_apart(edits, folder, said, every):
 class Run:
     """One run over a repository."""
 
-    def __init__(self, top, room, lanes, archives=None, tree=None):
-        self.top, self.room, self.lanes, self.archives, self.tree = top, room, lanes, archives, tree
+    def __init__(self, top, room, lanes, tree=None):
+        self.top, self.room, self.lanes, self.tree = top, room, lanes, tree
         self.proved = f"{room}/proved"
         self.begun, self.at, self.refused = time.time(), {}, {}
         self.unproved, self.done, self.functions, self.words = crates_of(top), [], {}, {}
@@ -269,7 +291,7 @@ class Run:
         def copy(file, to):
             # (rt reads a built library, or takes it away whole, and the prover writes a module as a new file. That no check
             # has changed what the others start from is seen by the check with no edit, which comes last)
-            (os.link if "/out/rlib/" in file or file.endswith(".oantt") else shutil.copy2)(file, to)
+            (link_or_copy if "/out/rlib/" in file or file.endswith(".oantt") else shutil.copy2)(file, to)
 
         top = tempfile.mkdtemp(prefix="edited-", dir=self.room)
         return shutil.copytree(self.proved, f"{top}/copy", ignore=unread, copy_function=copy)
@@ -277,21 +299,26 @@ class Run:
     def go(self):
         """Proves the crates and tries their edits. A lane that dies is a failure of all that it held."""
         self.lay_out()
-        # (beside the first proofs there is nothing else to do)
-        first, *others = self.to_prove()
-        waiting, running = [first._replace(jobs=self.lanes), *others], {}
+        waiting, running, told = self.to_prove(), {}, time.time()
         with ThreadPoolExecutor(self.lanes) as pool:
             while waiting or running:
                 waiting.sort(key=lambda task: (KINDS.index(task.kind), -len(task.edits)))
-                while waiting and len(running) < self.lanes:
-                    task = waiting.pop(0)
+                for task in [*filter(self.can_begin, waiting)][: self.lanes - len(running)]:
+                    waiting.remove(task)
                     running[pool.submit(self.in_lane, task)] = task
-                ended = wait(running, SECONDS_BETWEEN_LINES, FIRST_COMPLETED).done
-                if not ended:
-                    at = [f"{task} for {shown(time.time() - since)}" for task, since in [*self.at.items()]]
-                    self.tell(f"{len(self.refused)} edits done. At {'; '.join(at)}")
-                for it in ended:
+                time.sleep(0 if running else 1)
+                for it in wait(running, 1, FIRST_COMPLETED).done:
                     waiting += self.left_to_do(running.pop(it), it)
+                if time.time() - told > SECONDS_BETWEEN_LINES:
+                    at = [f"{task} for {shown(time.time() - since)}" for task, since in [*self.at.items()]]
+                    self.tell(f"{len(self.refused)} edits done. At {'; '.join(at) or 'nothing'}")
+                    told = time.time()
+
+    def can_begin(self, task):
+        """Whether a task can begin. What is proved in the other tree is waited for without a lane."""
+        if task.kind != "prove" or not self.tree:
+            return True
+        return any(map(os.path.exists, (f"{self.tree}/crates/{task.crate.name}/out/proved", f"{self.tree}.ended")))
 
     def in_lane(self, task):
         self.at[task] = time.time()
@@ -322,21 +349,13 @@ class Run:
             return []
 
     def prove(self, task):
-        """Proves a crate, in a copy of its own, since rt keeps others out of all that it uses. Of a program, which no other
-        crate uses, it proves what edits touch, and what that calls."""
+        """Takes over what is proved of a crate, or proves it, in a copy of its own, since rt keeps others out of all that it
+        uses."""
         crate, begun, top = task.crate, time.time(), self.copied(task.crate)
         try:
             folder = f"{top}/crates/{crate.name}"
-            is_program = os.path.isfile(f"{folder}/src/main.rt")
-            verb = "check" if is_program or self.take_over(crate, folder) else "lib"
-            self.words[crate.name] = touched(crate.edits, folder) if is_program else []
-            ended = run(["rt", verb, "--jobs", str(task.jobs), *self.words[crate.name]], folder)
-            if ended.status:
-                said = f"rt {verb} ended with {ended.status}: {ended.said[-600:]}"
-                raise RuntimeError(f"{crate.name} was not proved, {said}")
-            # (of a library that rt has taken from another checkout it names no function, and a check does)
-            functions = functions_in(ended.said) or functions_in(run(["rt", "check", "--jobs", "1"], folder).said)
-            self.hand_over(f"{folder}/out/lib{crate.name}.a")
+            self.words[crate.name] = []
+            functions = self.take_over(crate, folder) or self.prove_here(crate, folder)
             os.rename(f"{folder}/out", f"{self.proved}/crates/{crate.name}/out")
         finally:
             shutil.rmtree(os.path.dirname(top), ignore_errors=True)
@@ -345,56 +364,67 @@ class Run:
         self.tell(f"{crate.name} proved, in {shown(time.time() - begun)}")
         for it in crate.misnamed:
             self.answer(crate, it, False, "BAD EDIT: rt takes no file of this name in must-fail/")
-        copies = [Task("copy", crate, ())] if crate.edits else []
+        copies = [Task("copy", crate, crate.edits)] if crate.edits else []
         return planned(crate, f"{self.top}/crates/{crate.name}") + copies
 
+    def prove_here(self, crate, folder):
+        """Proves a crate, of a program what edits touch, and what that calls. Returns the names of its functions."""
+        verb, jobs = "check", 1
+        if crate.name in self.libraries:
+            verb, jobs = "lib", self.lanes
+        elif os.path.isfile(f"{folder}/src/main.rt"):
+            self.words[crate.name] = touched(crate.edits, folder)
+        ended = run(["rt", verb, "--jobs", str(jobs), *self.words[crate.name]], folder)
+        if ended.status:
+            raise RuntimeError(f"{crate.name} was not proved, rt {verb} ended with {ended.status}: {ended.said[-600:]}")
+        # (of a library that is built already it names no function, and a check does)
+        return functions_in(ended.said) or functions_in(run(["rt", "check", "--jobs", str(jobs)], folder).said)
+
     def take_over(self, crate, folder):
-        """Lays into this folder what `rt ci` proves of the library in the other tree, once it is there. Answers whether there
-        is such a thing: if not, `rt ci` has ended without it, or has kept no proofs."""
-        if self.tree is None or crate.name not in self.libraries:
-            return False
-        made = f"{self.tree}/crates/{crate.name}/out/rlib"
-        while not os.path.isfile(f"{made}/stamp"):
-            if os.path.exists(f"{self.tree}.ended"):
-                return False
-            time.sleep(1)
-        of_library = f"{made}/{crate.name}.rlib/toolchain"
-        if not os.path.isfile(f"{of_library}/checked.a"):
-            return False
-        shutil.copytree(made, f"{folder}/out/rlib", copy_function=os.link)
+        """Lays into this folder what is proved of the crate in the other tree, and returns the names of its functions. There
+        are none where it is not proved there, or where rt has kept it from an earlier run."""
+        made = f"{self.tree}/crates/{crate.name}/out"
+        if not self.tree or not os.path.isfile(f"{made}/proved"):
+            return frozenset()
+        with open(f"{made}/proved", encoding="utf-8") as lines:
+            functions = frozenset(lines.read().split())
+        if os.path.isdir(f"{made}/rlib"):
+            shutil.copytree(f"{made}/rlib", f"{folder}/out/rlib", copy_function=link_or_copy)
+            self.unpack(crate, folder)
+        elif functions:
+            shutil.copytree(f"{made}/incremental", f"{folder}/out/incremental", copy_function=link_or_copy)
+        return functions
+
+    def unpack(self, crate, folder):
+        """Lays out the proofs of a built library as a check keeps them."""
         # (this makes the folder in which a check keeps its work)
         run(["rt", "check", "--only", ""], folder)
-        kept = [it.path for it in os.scandir(f"{folder}/out/incremental") if it.name.startswith("antt-checked")]
-        if len(kept) != 1:
-            return False
+        (kept,) = [it.path for it in os.scandir(f"{folder}/out/incremental") if it.name.startswith("antt-checked")]
+        of_library = f"{folder}/out/rlib/{crate.name}.rlib/toolchain"
         with open(f"{of_library}/checked.json", encoding="utf-8") as lines, open(f"{of_library}/checked.a", "rb") as archive:
             for name, at, size in map(json.loads, lines):
                 if "/" not in name:
                     archive.seek(at)
-                    with open(f"{kept[0]}/{name}.oantt", "wb") as it:
+                    with open(f"{kept}/{name}.oantt", "wb") as it:
                         it.write(archive.read(size))
-        return True
-
-    def hand_over(self, archive):
-        """Hands over the archive of a static library, whole or not at all."""
-        if self.archives and os.path.isfile(archive):
-            made = f"{self.archives}/{os.path.basename(archive)}"
-            shutil.copyfile(archive, f"{made}.new")
-            os.rename(f"{made}.new", made)
 
     def copy(self, task):
-        """A copy of a proved crate with no edit must be proved too: else a refusal shows nothing."""
-        ended = self.checked(task.crate, [], self.words[task.crate.name])
+        """A copy of a proved crate with no edit must be proved too, with the same answers: else a refusal shows nothing."""
+        ended = self.checked(task, self.words[task.crate.name], is_edited=False)
         if ended.status:
             raise RuntimeError(f"a copy of {task.crate.name} with no edit was not proved: {ended.said[-600:]}")
         return []
 
-    def checked(self, crate, edits, words=()):
-        """Checks a copy of the crate under these edits."""
-        top = self.copied(crate)
+    def checked(self, task, words=(), is_edited=True):
+        """Checks a copy of the crate under the edits of a task, or without them, with the answers for their goals."""
+        top = self.copied(task.crate)
         try:
-            folder = f"{top}/crates/{crate.name}"
-            for path, text in merged(edits, folder).items():
+            folder = f"{top}/crates/{task.crate.name}"
+            texts = answers(task, folder, self.functions[task.crate.name])
+            if is_edited:
+                texts.update(merged(task.edits, folder))
+            for path, text in texts.items():
+                os.makedirs(os.path.dirname(f"{folder}/{path}"), exist_ok=True)
                 with open(f"{folder}/{path}", "w", encoding="utf-8") as it:
                     it.write(text)
             return run(["rt", "check", "--jobs", "1", *words], folder)
@@ -405,7 +435,7 @@ class Run:
         """Tries edits together, and returns what is left to do for those that were not told apart."""
         crate, edits, begun = task.crate, task.edits, time.time()
         folder, every = f"{self.top}/crates/{crate.name}", self.functions[crate.name]
-        ended = self.checked(crate, edits, only(edits, folder, every))
+        ended = self.checked(task, only(edits, folder, every))
         is_judged = ended.status == 1 and JUDGED.search(ended.said)
         told = {}
         if is_judged and not TEXT_ERROR.search(ended.said):
@@ -425,7 +455,7 @@ class Run:
         """Tries one edit in its own modules, and has the kit judge it over kept work where no function of these is refused
         for itself. What is not refused so is tried once more, from nothing."""
         words = modules(task.edits[0], f"{self.top}/crates/{task.crate.name}")
-        said = self.checked(task.crate, task.edits, words).said if words else ""
+        said = self.checked(task, words).said if words else ""
         if JUDGED.search(said) and not TEXT_ERROR.search(said):
             for function, (_, shows) in open_functions(said).items():
                 if shows:
@@ -470,17 +500,15 @@ def judge(edit, kept):
 def main(words):
     if words[:1] == ["--judge"]:
         return judge(*words[1:])
-    lanes, archives, tree = cores(), None, None
+    lanes, tree = cores(), None
     if words[:1] == ["--lanes"]:
         lanes, words = int(words[1]), words[2:]
-    if words[:1] == ["--archives"]:
-        archives, words = words[1], words[2:]
     if words[:1] == ["--proved"]:
         tree, words = words[1], words[2:]
     top = os.path.abspath(words[0] if words else os.path.dirname(HERE))
     room = made_room("must-fail")
     try:
-        started = Run(top, room, lanes, archives, tree)
+        started = Run(top, room, lanes, tree)
         started.go()
     finally:
         shutil.rmtree(room, ignore_errors=True)

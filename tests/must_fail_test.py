@@ -9,7 +9,7 @@ import sys
 from concurrent.futures import ThreadPoolExecutor
 
 from edited_bodies import bodies_of
-from must_fail import crates_of, functions_in, modules, only, told_apart
+from must_fail import Crate, Task, answers, crates_of, functions_in, modules, only, told_apart
 from running import cores, made_room, run, say
 
 HERE = os.path.dirname(os.path.abspath(__file__))
@@ -69,15 +69,6 @@ pub fn lower(f: usize) -> usize
     f
 }
 """
-EXPORT = """
-/// Is for C.
-#[unsafe(no_mangle)]
-pub extern "C" fn tiny_same(e: usize) -> usize
-    ensures { result ≡ e }
-{
-    e
-}
-"""
 PROOF = """use Rattle.tiny.proofs.by_hand.Goals as goal
 
 pub returns : goal.returns
@@ -98,6 +89,8 @@ EDITS = {
     "has_no_place": ("    no_such_text", "    0", "BAD EDIT: an 'old:' text is in src/lib.rt 0 times"),
 }
 TWO = ["in_an_impl", "is_refused"]
+# What the edit in an impl leaves open.
+GOALS = {"in_an_impl": "# at: returns c\n"}
 NUMBER_ALONE = ["--only", "Number::number"]
 # What a check says of the functions above.
 PROVED = "".join(
@@ -114,31 +107,31 @@ def write(file, text):
         it.write(text)
 
 
-def lay_out(top, edits, source=SOURCE, crates="tiny:\n"):
-    write(f"{top}/crates.txt", crates)
+def lay_out(top, edits, source=SOURCE):
+    write(f"{top}/crates.txt", "tiny:\n")
     write(f"{top}/crates/tiny/src/lib.rt", source)
     write(f"{top}/crates/tiny/src/low.rt", LOW)
     write(f"{top}/crates/tiny/proofs/by_hand/Answers.antt", PROOF)
     for name in edits:
         old, new, _ = EDITS[name]
         file = "low" if name.endswith("_in_a_module") else "lib"
-        write(edit_of(top, name), f"file: src/{file}.rt\nold: {old}\nnew: {new}\n")
+        write(edit_of(top, name), f"file: src/{file}.rt\nold: {old}\nnew: {new}\n{GOALS.get(name, '')}")
 
 
 def edit_of(top, name):
     return f"{top}/crates/tiny/must-fail/{name}.edit"
 
 
-def tried(top, edits, source=SOURCE, before_rt=":", crates="tiny:\n"):
-    """Runs the runner over a repository with these edits, where a line of shell stands before each call of rt. Tells its
-    status, what it said, and the archives that it made."""
-    lay_out(top, edits, source, crates)
-    os.makedirs(f"{top}-archives")
+def tried(top, edits, source=SOURCE, before_rt=":"):
+    """Runs the runner over a repository with these edits, where a line of shell stands before each call of rt. It is told
+    of another tree, in which nothing was proved. Tells its status, and what it said."""
+    lay_out(top, edits, source)
+    write(f"{top}-tree.ended", "")
     write(f"{top}-bin/rt", f'#!/bin/sh\n{before_rt}\nexec {shutil.which("rt")} "$@"\n')
     os.chmod(f"{top}-bin/rt", 0o755)
-    words = [f"{HERE}/must_fail.py", "--lanes", "2", "--archives", f"{top}-archives", top]
+    words = [f"{HERE}/must_fail.py", "--lanes", "2", "--proved", f"{top}-tree", top]
     ended = run(words, PATH=f"{top}-bin:{os.environ['PATH']}")
-    return ended.status, ended.said, os.listdir(f"{top}-archives")
+    return ended.status, ended.said
 
 
 def told(room, edits, *lines):
@@ -159,6 +152,14 @@ def checked_alone(room, edits, said):
     """The functions that a check of these edits reads alone, where what proved the crate said this."""
     lay_out(room, edits)
     return only([edit_of(room, it) for it in edits], f"{room}/crates/tiny", functions_in(said))
+
+
+def answered(room):
+    """The proof files that a check of two edits writes, and whether each ends in a plain search."""
+    lay_out(room, TWO)
+    task = Task("batch", Crate("tiny", frozenset(), (), ()), [edit_of(room, it) for it in TWO])
+    texts = answers(task, f"{room}/crates/tiny", functions_in(PROVED))
+    return {path: text.endswith("\npub returns : goal.returns\nreturns c = search rules\n") for path, text in texts.items()}
 
 
 def read_alone(room, name):
@@ -192,6 +193,7 @@ def unit_tests(room):
     yield "one that is not edited fails too", told(room, one, is_open("called", 6), is_open("unrelated", 44)) == []
     yield "its open goal is in another function", told(room, one, is_open("called", 44)) == []
     yield "its proof is shared in a cycle", told(room, one, shared) == []
+    yield "a goal that an edit names gets an answer", answered(room) == {"proofs/Number/number/Answers.antt": True}
     in_cycle = SOURCE.replace("pub fn called", "#[cycle(both)]\npub fn called")
     lay_out(room, one, in_cycle)
     yield "its function is in a cycle", bodies_of(edit_of(room, one[0]), f"{room}/crates/tiny") is None
@@ -203,7 +205,7 @@ def runs(room):
     given = {
         "every edit": (EDITS,),
         "no judge": ([*TWO, "of_a_contract"], SOURCE, NO_JUDGE),
-        "no batch": (TWO, SOURCE + EXPORT, NO_BATCH, "tiny staticlib:\n"),
+        "no batch": (TWO, SOURCE, NO_BATCH),
         "no proof": (TWO, not_proved),
     }
     with ThreadPoolExecutor(max(1, cores() // 2)) as pool:
@@ -211,15 +213,13 @@ def runs(room):
     for name, (_, _, wanted) in EDITS.items():
         said = ended["every edit"][1]
         yield f"edit {name}", f"must-fail tiny/{name}.edit: {wanted}" in said, said
-    _, said, archives = ended["no batch"]
-    yield "the archive of a static library is handed over", archives == ["libtiny.a"], said
     for group, what, status, last in (
         ("every edit", "what is not refused fails the run", 1, "5 passed, 4 failed"),
         ("no judge", "a lane whose judge is killed is a failure", 1, "2 passed, 1 failed"),
         ("no batch", "what was killed in one check is tried again", 0, "2 passed, 0 failed"),
         ("no proof", "a crate that is not proved is a failure", 1, "0 passed, 3 failed"),
     ):
-        found, said, _ = ended[group]
+        found, said = ended[group]
         yield what, found == status and said.endswith(f"\n{last}\n"), said
 
 
