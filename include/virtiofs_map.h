@@ -43,8 +43,8 @@
  *
  * MEMORY. Only these calls allocate: `.._make`, `.._make_texts`, `virtiofs_spec_read`, the
  * audits `virtiofs_names_audit`, `.._audit_listed`, `.._apart` and `.._share_none`, and the
- * decisions `virtiofs_ids_come_back`, `.._alone`, `.._reach` and `.._apart`. They free all
- * that they allocated before they return. They use malloc, realloc and free, which must be
+ * decisions `virtiofs_ids_come_back`, `.._alone`, `.._reach` and `.._apart`. Before they
+ * return, they free all that they allocated. They use malloc, realloc and free, which must be
  * the C library's, or replacements that belong to one allocator and return memory aligned
  * to 16 bytes. So these calls must not be made in a signal handler, or in the child of a
  * fork of a program with threads. All other calls may be made there.
@@ -58,9 +58,9 @@
  * function does not mention, is unchanged. Where something else holds, the comment says so.
  *
  * ERRORS. Each function returns a code, 0 for success, except `virtiofs_map_version`,
- * the `.._bound` functions and `virtiofs_carries_ids`. The comment of each function
- * lists the codes that it can return; there are no others. The errno that we recommend
- * to send to the guest:
+ * the `.._bound` functions and `virtiofs_carries_ids`. The comment of each function,
+ * or of its section, lists the codes that it can return; there are no others. The errno
+ * that we recommend to send to the guest:
  *
  *   VIRTIOFS_OK            no error
  *   VIRTIOFS_AS_IT_IS      no error
@@ -229,7 +229,7 @@ enum virtiofs_part {
     VIRTIOFS_NO_PART = 0,       /* the whole input: one text of a specification or a range */
     VIRTIOFS_SPECIFICATION = 1, /* a specification of a list, or its text */
     VIRTIOFS_RULE = 2,          /* a rule of a text of rules, or that text */
-    VIRTIOFS_ACL_VALUE = 3,     /* an access control list, and none of its entries */
+    VIRTIOFS_ACL_VALUE = 3,     /* an access control list as a whole */
     VIRTIOFS_ACL_ENTRY = 4,     /* an entry of an access control list */
     VIRTIOFS_CAPABILITY_VALUE = 5 /* a capability */
 };
@@ -510,7 +510,7 @@ static inline uint32_t virtiofs_fault_text(const struct virtiofs_fault *fault,
  */
 
 /* The most words that a map of `count` user specifications takes. A buffer of that
-   many words is always enough. SIZE_MAX: there can be no such buffer. */
+   many words is always enough. The result is SIZE_MAX if no buffer can be that large. */
 static inline size_t virtiofs_uids_bound(size_t count)
 {
     return virtiofs_map_ids_bound(count);
@@ -740,8 +740,8 @@ static inline uint32_t virtiofs_range_read(const uint8_t *text, size_t text_len,
  */
 
 /* The most bytes that a map of a text of `text_len` bytes takes. A buffer of that many bytes
-   is always enough; tests show this, but it is not proved. SIZE_MAX: there can be no such
-   buffer. */
+   is always enough; tests show this, but it is not proved. The result is SIZE_MAX if
+   no buffer can be that large. */
 static inline size_t virtiofs_names_bound(size_t text_len)
 {
     return virtiofs_map_names_bound(text_len);
