@@ -185,7 +185,8 @@ enum virtiofs_fault_kind {
     VIRTIOFS_FAULT_INTERSECTS = 5, /* an earlier specification covers one of its ids too */
 
     /* of the text of a specification */
-    VIRTIOFS_FAULT_PREFIX = 6, /* its word is none of the six; quoted in lower case */
+    VIRTIOFS_FAULT_PREFIX = 6, /* its word is none of the six; quoted
+                                      with its ASCII letters in lower case */
     VIRTIOFS_FAULT_LENGTH = 7, /* its count of numbers is not the one that its word takes */
     VIRTIOFS_FAULT_VALUE = 8,  /* a field is no number below 2^32; quoted */
 
