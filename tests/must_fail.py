@@ -42,8 +42,8 @@ HERE = os.path.dirname(os.path.abspath(__file__))
 # The most edits of one check. A check that changes nothing costs as much as two edits, so that few large checks cost less
 # than many small ones; but the lanes should end together.
 BATCH = 32
-# What is begun first: what others wait for, and then what takes longest.
-KINDS = ("prove", "batch", "alone", "anew", "copy")
+# What is begun first: what others wait for. A copy waits for all else of its crate, but for nothing of others.
+KINDS = ("prove", "copy", "alone", "batch", "anew")
 SECONDS_BETWEEN_LINES = 60
 # The exit status of a call of the kit's judge, which says that it came to an answer.
 REFUSED, NOT_REFUSED = 0, 10
@@ -303,7 +303,8 @@ class Run:
         with ThreadPoolExecutor(self.lanes) as pool:
             while waiting or running:
                 waiting.sort(key=lambda task: (KINDS.index(task.kind), -len(task.edits)))
-                for task in [*filter(self.can_begin, waiting)][: self.lanes - len(running)]:
+                left = [*waiting, *running.values()]
+                for task in [it for it in waiting if self.can_begin(it, left)][: self.lanes - len(running)]:
                     waiting.remove(task)
                     running[pool.submit(self.in_lane, task)] = task
                 time.sleep(0 if running else 1)
@@ -314,8 +315,11 @@ class Run:
                     self.tell(f"{len(self.refused)} edits done. At {'; '.join(at) or 'nothing'}")
                     told = time.time()
 
-    def can_begin(self, task):
-        """Whether a task can begin. What is proved in the other tree is waited for without a lane."""
+    def can_begin(self, task, left):
+        """Whether a task can begin, where these are left to do or at work. What is proved in the other tree is waited for
+        without a lane. A copy with no edit is the last check of its crate."""
+        if task.kind == "copy":
+            return not any(it.kind != "copy" and it.crate == task.crate for it in left)
         if task.kind != "prove" or not self.tree:
             return True
         return any(map(os.path.exists, (f"{self.tree}/crates/{task.crate.name}/out/proved", f"{self.tree}.ended")))
@@ -427,7 +431,7 @@ class Run:
                 os.makedirs(os.path.dirname(f"{folder}/{path}"), exist_ok=True)
                 with open(f"{folder}/{path}", "w", encoding="utf-8") as it:
                     it.write(text)
-            return run(["rt", "check", "--jobs", "1", *words], folder)
+            return run(["rt", "check", "--jobs", "1" if is_edited else "2", *words], folder)
         finally:
             shutil.rmtree(os.path.dirname(top), ignore_errors=True)
 
