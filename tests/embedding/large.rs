@@ -1,5 +1,5 @@
 //! Texts of 16 MiB, 200,000 rules and 200,000 specifications, through the Rust files: each is answered, or refused with
-//! its own fault. The texts and what is wanted of them are those of crates/virtiofs_map_limits/src/hostile; there a
+//! its own fault. The texts and what is wanted of them are those of crates/virtiofs_map_tests/src/hostile; there a
 //! build that is not optimized reads smaller ones.
 
 #[path = "../../bindings/rust/virtiofs_map.rs"]

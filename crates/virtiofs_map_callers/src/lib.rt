@@ -9,8 +9,7 @@
 //! - [`texts`] has printed forms, with contracts of what they say.
 //! - [`hexadecimal`] reads values that are written so. It does not call the library: tests need it.
 //!
-//! The tests of this code are in the crates `virtiofs_map_tests` and `virtiofs_map_name_tests`. No
-//! program that is shipped uses it.
+//! The tests of this code are in the crate `virtiofs_map_tests`. No program that is shipped uses it.
 #![tactic(auto)]
 
 pub mod hexadecimal;

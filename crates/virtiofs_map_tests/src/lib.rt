@@ -1,18 +1,24 @@
-//! Tests of what the library `virtiofs_map` does to ids, and to values with ids, by its public calls
-//! alone.
+//! Tests of the library `virtiofs_map`, by its public calls alone.
 //!
-//! `acl`, `cmdline`, `id_audit`, `id_types`, `idmap` and `soft_idmap` have known inputs of the
-//! library's module of that name, each with its answer. They also run the code of the crate
-//! `virtiofs_map_callers`, which calls the library as a daemon does: its contracts are proved there.
+//! Modules that are named as one of the library have known inputs of it, each with its answer. They
+//! also run the code of the crate `virtiofs_map_callers`, which calls the library as a daemon does:
+//! its contracts are proved there. The other modules show what the library does at its limits:
 //!
-//! The crate `virtiofs_map_name_tests` has the tests on names, and `virtiofs_map_limits` those with
-//! refused memory and with hostile texts. There is nothing here but tests.
+//! - `refused`: each request for memory of each call is refused in turn.
+//! - `without_memory`: the calls that take no memory, under an allocator that grants none.
+//! - `hostile`: large texts, many rules and specifications, and texts with one character changed.
+//!
+//! There is nothing here but tests.
 #![tactic(auto)]
 
 #[cfg(test)]
 mod acl;
 #[cfg(test)]
+mod audit;
+#[cfg(test)]
 mod cmdline;
+#[cfg(test)]
+mod hostile;
 #[cfg(test)]
 mod id_audit;
 #[cfg(test)]
@@ -20,4 +26,12 @@ mod id_types;
 #[cfg(test)]
 mod idmap;
 #[cfg(test)]
+mod refused;
+#[cfg(test)]
 mod soft_idmap;
+#[cfg(test)]
+mod told;
+#[cfg(test)]
+mod without_memory;
+#[cfg(test)]
+mod xattrmap;
