@@ -28,8 +28,8 @@ use Rattle.virtiofs_mapaudit.specs.Refusals.{TellsWhere, IsSomeRefused, Adds, Te
 use Rattle.virtiofs_mapaudit.specs.declared.audit.Said.{Said}
 use Rattle.virtiofs_mapaudit.specs.declared.audit.Pair.{Pair}
 use Rattle.virtiofs_mapaudit.specs.declared.audit.Report.{Report}
-use Rattle.virtiofs_mapaudit.specs.declared.front.Asked.{Asked}
-use Rattle.virtiofs_mapaudit.specs.declared.guest.Guest.{Guest}
+use Rattle.virtiofs_options.specs.declared.front.Asked.{Asked}
+use Rattle.virtiofs_options.specs.declared.guest.Guest.{Guest}
 use Rattle.virtiofs_mapaudit.specs.declared.report.GuestFindings.{GuestFindings}
 use Rattle.virtiofs_mapaudit.specs.declared.setup.SetUp.{SetUp}
 

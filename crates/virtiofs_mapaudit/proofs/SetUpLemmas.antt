@@ -35,7 +35,7 @@ use Rattle.virtiofs_mapaudit.specs.IdLines.{translating, ranging}
 use Rattle.virtiofs_mapaudit.specs.Written.{line}
 use Rattle.virtiofs_mapaudit.specs.declared.ids.kind.IdKind.{IdKind}
 use Rattle.virtiofs_mapaudit.specs.declared.ids.kind.IdKind.TheVariants.{Users, Groups}
-use Rattle.virtiofs_mapaudit.specs.declared.guest.Guest.{Guest}
+use Rattle.virtiofs_options.specs.declared.guest.Guest.{Guest}
 use Rattle.virtiofs_mapaudit.specs.declared.setup.NamesSetUp.{NamesSetUp}
 use Rattle.virtiofs_mapaudit.specs.declared.setup.SetUp.{SetUp}
 use Rattle.virtiofs_mapaudit.proofs.ListLemmas.{more_at, AnyTwoHave-push}

@@ -7,8 +7,6 @@ ghost use Rattle.virtiofs_mapaudit.specs.Report.{FindsReport, IsFound, IsFoundOf
 ghost use Rattle.virtiofs_mapaudit.specs.ReportParts.{AddsPairs};
 ghost use Rattle.virtiofs_mapaudit.specs.Said.{Says, ShownIf, ShowsSet, ShowsKind, ShowsBothKinds, ShowsSomeNames, AreTables, specs_given, ranges_given, rules_given, set_up_line, guests_text, pairs_text, closing, report_text};
 
-use crate::front::Asked;
-use crate::guest::Guest;
 use crate::ids::kind::IdKind;
 use crate::ids::table::push_table as push_ids_table;
 use crate::json::push_json;
@@ -18,6 +16,8 @@ use crate::pairs::{PairFindings, audit_pair};
 use crate::report::{GuestFindings, audit_guest};
 use crate::setup::{IdSetUp, Refusals, SetUp, set_up};
 use std::alloc::{AllocError, Allocator, Global};
+use virtiofs_options::front::Asked;
+use virtiofs_options::guest::Guest;
 
 /// What is found between two guests, and which they are: their numbers, counted from 1.
 #[derive(Drop)]

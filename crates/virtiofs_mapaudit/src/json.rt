@@ -4,7 +4,6 @@ mod ids;
 mod names;
 
 use crate::audit::{Pair, Report};
-use crate::front::Asked;
 use crate::ids::kind::IdKind;
 use crate::report::{GuestFindings, KindFindings};
 use crate::setup::{IdSetUp, NamesSetUp, SetUp};
@@ -12,6 +11,7 @@ use ids::{id_table, push_ids, push_meeting, range_value};
 use names::{name_table, push_between, push_names};
 use serde_json::{Value, json};
 use std::alloc::{AllocError, Global};
+use virtiofs_options::front::Asked;
 
 /// Adds what is found of ids of one kind.
 fn push_kind(

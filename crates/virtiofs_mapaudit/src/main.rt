@@ -4,33 +4,26 @@
 ghost use Rattle.std.specs.Prelude.{◌≡◌, ◌≢◌, ◌↔◌, [], IsTrue, IsErrOf, string_bytes};
 
 mod audit;
-mod command;
-mod daemon;
 mod emit;
-mod front;
-mod guest;
 mod ids;
 mod json;
 mod lines;
 mod names;
-mod nearest;
-mod options;
 mod ordinal;
 mod outcome;
 mod pairs;
 mod report;
 mod setup;
 mod tally;
-mod words;
 mod written;
 
 use crate::audit::{Said, say};
 use crate::emit::emit;
 use crate::outcome::{AuditFault, Audited};
 use crate::tally::{Tally, WriteFailed};
-use crate::words::{Words, read_words};
 use std::process::ExitCode;
 use std::{env, io};
+use virtiofs_options::words::{Words, read_words};
 
 const USAGE: &str = "usage: virtiofs_mapaudit [OPTIONS] [-- COMMAND LINE OF THE DAEMON]..
 virtiofs_mapaudit(1) says more: man -l docs/virtiofs_mapaudit.1

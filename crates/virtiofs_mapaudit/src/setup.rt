@@ -11,7 +11,6 @@ ghost use Rattle.virtiofs_map.specs.Printed.{build_error_text, rules_error_text}
 ghost use Rattle.virtiofs_mapaudit.specs.Refusals.{TellsWhere, Adds, TellsPlace, TellsBuildFault, TellsSpecsFault, TellsSpecs, TellsRanges, TellsIds, TellsNames, TellsGuest, guest_number, refused_for, refusal_line, rules_refusal_line};
 ghost use Rattle.virtiofs_map.specs.Specifications.{SpecsFault, specs_fault_of, texts_of};
 
-use crate::guest::Guest;
 use crate::ids::audits::Ids;
 use crate::ids::kind::{IdKind, ranging, translating};
 use crate::ids::ranges::push_place;
@@ -21,6 +20,7 @@ use virtiofs_map::cmdline;
 use virtiofs_map::idmap::UidMap;
 use virtiofs_map::soft_idmap::{IdMap, IdMapBuildError, SpecsError};
 use virtiofs_map::xattrmap::{Error, ErrorKind, XattrMap};
+use virtiofs_options::guest::Guest;
 
 /// What the options of a daemon set up for ids of one kind.
 #[derive(Drop)]

@@ -1,6 +1,6 @@
 -- what is left is a part of the words; each turn passes a command line and the `--` after it
 use Rattle.std.proofs.Common.{◌≤◌, length}
-use Rattle.virtiofs_mapaudit.proofs.words.read_guests.Given as goal
+use Rattle.virtiofs_options.proofs.words.read_guests.Given as goal
 
 abbrev pub invariant-loop-guest : goal.invariant-loop-guest
 invariant-loop-guest l = length l.rest ≤ length l.fn.words

@@ -13,7 +13,7 @@ use std::alloc::{AllocError, Global};
 
 /// What the words come to.
 #[derive(Drop)]
-pub(crate) enum Words<'a> {
+pub enum Words<'a> {
     /// An audit of guests.
     Audit {
         asked: Asked,
@@ -96,7 +96,7 @@ fn read_guests<'a>(
 }
 
 /// Reads the program's words.
-pub(crate) fn read_words<'a>(alloc: Global, words: &'a [&'a str]) -> Result<Words<'a>, AllocError> {
+pub fn read_words<'a>(alloc: Global, words: &'a [&'a str]) -> Result<Words<'a>, AllocError> {
     let end = end_of_part(words);
     let front = &words[..end];
     if let Some(fault) = front_fault(front) {

@@ -5,19 +5,19 @@ use std::alloc::{AllocError, Allocator};
 /// The texts of the options that say how the daemon of a guest maps ids and names, each in the order
 /// of the words.
 #[derive(Drop)]
-pub(crate) struct Guest<'a, A: Allocator> {
+pub struct Guest<'a, A: Allocator> {
     /// The specifications for users.
-    pub(crate) translate_uid: Vec<&'a str, A>,
+    pub translate_uid: Vec<&'a str, A>,
     /// The specifications for groups.
-    pub(crate) translate_gid: Vec<&'a str, A>,
+    pub translate_gid: Vec<&'a str, A>,
     /// The ranges of users of the daemon's namespace.
-    pub(crate) uid_map: Vec<&'a str, A>,
+    pub uid_map: Vec<&'a str, A>,
     /// The ranges of groups of the daemon's namespace.
-    pub(crate) gid_map: Vec<&'a str, A>,
+    pub gid_map: Vec<&'a str, A>,
     /// The rules for names of attributes.
-    pub(crate) xattrmap: Option<&'a str>,
+    pub xattrmap: Option<&'a str>,
     /// Whether access control lists are on.
-    pub(crate) posix_acl: bool,
+    pub posix_acl: bool,
 }
 
 impl<'a, A: Allocator + Copy> Guest<'a, A> {

@@ -9,15 +9,15 @@ use std::alloc::{AllocError, Global};
 
 /// What is to be shown, and how.
 #[derive(Clone, Copy, Debug, PartialEq, Eq)]
-pub(crate) struct Asked {
+pub struct Asked {
     /// As JSON.
-    pub(crate) json: bool,
+    pub json: bool,
     /// Not at all: the status alone tells.
-    pub(crate) quiet: bool,
+    pub quiet: bool,
     /// What becomes of all ids.
-    pub(crate) ids: bool,
+    pub ids: bool,
     /// What becomes of some names.
-    pub(crate) names: bool,
+    pub names: bool,
 }
 
 /// What is wrong with the first word before the first `--` that is not known.
