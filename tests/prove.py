@@ -1,10 +1,10 @@
 #!/usr/bin/env python3
-"""Runs `rt ci` in this folder without the tests, and keeps what it proves for the edits.
+"""Runs `rt ci` in this folder without the tests, in less time than by itself, and keeps what it proves for the edits.
 
-The tests run unproved, in a part of their own (tests/run_tests.py). What is built of libraries holds their proofs too,
-and not their statements alone. Programs and static libraries are proved over a folder for kept work that is emptied
-first. So the edits can begin with what is proved here. Once a crate is proved, its file out/proved has the names of its
-functions; the file is empty if rt has kept the crate from an earlier run on this machine, and proved nothing here.
+The tests run unproved, in a part of their own (tests/run_tests.py). Each crate is proved with rt's folder for kept
+work switched on, after that folder was emptied. Then the prover works on groups of functions, each in a process of its
+own that begins with what the crate rests on: for the library that takes a quarter less processor time. And the edits
+can begin with what is proved here. Once all this is done for a crate, its file out/proved is there.
 
 What everything waits for is proved by all processors: each library, and the largest of the other crates. rt would give
 the largest library one alone: it reckons with 15 GB for each of its jobs, while four jobs of it were seen to take 4 GB
@@ -15,7 +15,7 @@ import re
 import shutil
 import sys
 
-from running import cores, functions_in, kit
+from running import cores, kit
 
 # The end of the last line of a proof, which may say that it was over kept work: that folder was empty.
 ALLOWED = r"statements=trusted( incremental=trusted)?"
@@ -29,31 +29,29 @@ class Proofs:
     """What rt proves of each crate, by its own functions."""
 
     def __init__(self, rt):
-        self.rt, self.functions, self.of_rt = rt, {}, rt.Crate.ci
-        # (the rt of rattle-kit-13b has no such parts: there the edits begin with what is built of libraries alone)
-        self.has_parts = all(hasattr(*it) for it in ((rt, "Kept"), (rt, "BACKENDS"), (rt.Crate, "compile_by")))
+        self.rt, self.of_rt = rt, rt.Crate.ci
         others = [it for it in rt.rtlib.crates_below(os.getcwd()) if not is_library(it)]
         self.largest = max(others, key=lambda it: it.count(rb"\n")).name if others else None
 
     def ci(self, crate, flags, tests):
-        """Proves a crate as rt does, and keeps the proofs."""
+        """Proves a crate as rt does, over a folder for kept work that was empty. What fails so is left to rt alone."""
+        # (what is built of a library then holds its proofs too, since rattle cannot leave them out over kept work)
         crate.cuts_libraries = False
-        flags = ["--jobs", str(cores() if is_library(crate) or crate.name == self.largest else 2)]
-        if is_library(crate) or not self.has_parts:
-            status = self.of_rt(crate, flags, tests)
-        else:
-            status = self.over_emptied(crate, flags)
-        if self.has_parts:
-            crate.out.seek(0)
-            self.functions[crate.name] = functions_in(crate.out.read())
-        elif not status:
+        jobs = ["--jobs", str(cores() if is_library(crate) or crate.name == self.largest else 2)]
+        shutil.rmtree(f"{crate.folder}/out/incremental", ignore_errors=True)
+        by = self.library if is_library(crate) else self.program
+        status = by(crate, [*jobs, *self.rt.rtlib.KEPT]) and self.of_rt(crate, flags, tests)
+        # (the rt of rattle-kit-13f calls is_built itself, also for a crate that it has kept from an earlier run)
+        if not status and not hasattr(self.rt, "Kept"):
             self.is_built(crate)
         return status
 
-    def over_emptied(self, crate, flags):
+    def library(self, crate, flags):
+        return self.of_rt(crate, flags, False)
+
+    def program(self, crate, flags):
         """Proves a program or a static library, and builds a program from what was proved."""
-        shutil.rmtree(f"{crate.folder}/out/incremental", ignore_errors=True)
-        words = [*crate.words(flags, keeps=False), *self.rt.rtlib.KEPT]
+        words = crate.words(flags, keeps=False)
         status = crate.prove(["check", *words])
         if status or crate.is_static:
             return status
@@ -65,18 +63,17 @@ class Proofs:
         made = f"{crate.folder}/out"
         if crate.is_static and crate.build_static(["--jobs", "2"]):
             raise SystemExit(f"the archive of {crate.name} was not built")
-        with open(f"{made}/proved.new", "w", encoding="utf-8") as it:
-            it.writelines(f"{name}\n" for name in sorted(self.functions.get(crate.name, ())))
-        os.rename(f"{made}/proved.new", f"{made}/proved")
+        with open(f"{made}/proved", "w", encoding="utf-8"):
+            pass
 
 
 def main(words):
     rt = kit()
     proofs = Proofs(rt)
-    if proofs.has_parts:
+    if hasattr(rt, "Kept"):
         is_built = rt.Kept.is_built
         rt.Kept.is_built = lambda kept, crate: (is_built(kept, crate), proofs.is_built(crate))
-        rt.rtlib.VERDICT = re.compile(rt.rtlib.VERDICT.pattern.replace("statements=trusted", ALLOWED), re.M)
+    rt.rtlib.VERDICT = re.compile(rt.rtlib.VERDICT.pattern.replace("statements=trusted", ALLOWED), re.M)
     rt.Crate.ci = lambda *given: proofs.ci(*given)
     rt.Crate.has_tests = lambda crate: False
     return rt.main(["ci", *words])
