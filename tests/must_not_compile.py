@@ -7,8 +7,9 @@ The folder must_not_compile has one program that compiles, caller.rt.txt, and ed
 first. An edit with a line 'in: PATH' changes that file of the library; the program stays as it is. The program and the
 library as they are must compile, or the refusals would show nothing.
 
-Each program is a crate of its own in a temporary repository, over a copy of this repository's libraries; each edit of
-the library has a repository of its own. `rt try` reads all of it from source, and proves nothing.
+Edits are made together where the compiler tells of all of them: those of types in one program, those of borrows in
+another, since the compiler looks at borrows only if the types are right, and those of the library in one copy of it.
+`rt try` reads each program and the libraries from source, and proves nothing.
 
 A library that reads ranges or branches with a new counter, and throws that counter away, does compile. So the sources of
 ranges and tries are read: a new counter may stand only in a function that adds its count, or in one of UNCOUNTED.
@@ -78,14 +79,16 @@ def lay_out(room, programs):
         write(f"{room}/crates/{name}/src/main.rt", program)
 
 
-def first_error(folder):
-    """The line and the name of the first error, or None where the program compiles and runs, and all that was said."""
+def first_errors(folder):
+    """The name of the first error at each place that has one, by the file and the line, and all that was said. Where
+    there is none the program compiles and runs."""
+    top = os.path.dirname(os.path.dirname(folder))
     how = {"cwd": folder, "stdin": subprocess.DEVNULL, "stderr": subprocess.STDOUT, "errors": "replace"}
     ran = subprocess.run(["rt", "try"], stdout=subprocess.PIPE, timeout=SECONDS, **how)
-    found = re.search(r"^(\S+?):(\d+):\d+: error\[([\w-]+)]", ran.stdout, re.M)
-    if found:
-        return (f"{found[1]}:{found[2]}", found[3]), ran.stdout
-    return None if ran.returncode == 0 else ("no error", f"status {ran.returncode}"), ran.stdout
+    found = {}
+    for path, line, name in re.findall(r"^(\S+?):(\d+):\d+: error\[([\w-]+)]", ran.stdout, re.M):
+        found.setdefault(f"{path.removeprefix(f'{top}/')}:{line}", name)
+    return found or ({} if ran.returncode == 0 else {"no place": f"status {ran.returncode}"}), ran.stdout
 
 
 def new_counters(path, text):
@@ -115,46 +118,47 @@ def see_counters():
     return seen
 
 
-def main():
-    program = text_of(f"{CASES}/caller.rt.txt")
-    programs, libraries, wanted = {"caller": program}, {}, {"caller": None}
+def trials(top):
+    """What is tried together, each as the folder of its program and the edits in it: their names, with the place and the
+    name of the error that each must get. The first has no edit."""
+    program, sources = text_of(f"{CASES}/caller.rt.txt"), {}
+    groups = {it: {} for it in ("caller", "types", "borrows", "library")}
     for file in sorted(os.listdir(CASES)):
         name, ending = os.path.splitext(file)
-        if ending == ".edit":
-            said = said_by(text_of(f"{CASES}/{file}"))
-            path = said.get("in")
-            text, line = planted(said, text_of(f"{TOP}/{path}") if path else program)
-            if path:
-                libraries[name] = path, text
-            else:
-                programs[name] = text
-            wanted[name] = f"{path or 'src/main.rt'}:{line}", said["error"]
+        if ending != ".edit":
+            continue
+        said = said_by(text_of(f"{CASES}/{file}"))
+        path = said.get("in")
+        group = "library" if path else "borrows" if said["error"].startswith("borrow-") else "types"
+        at = (group, path or "src/main.rt")
+        sources[at], line = planted(said, sources.get(at) or (text_of(f"{TOP}/{path}") if path else program))
+        groups[group][name] = f"{at[1]}:{line}", said["error"]
+    for group in groups:
+        os.mkdir(f"{top}/{group}")
+        lay_out(f"{top}/{group}", {"caller": sources.get((group, "src/main.rt"), program)})
+        for (of, path), text in sources.items():
+            if of == group == "library":
+                write(f"{top}/{group}/{path}", text)
+        yield f"{top}/{group}/crates/caller", groups[group]
+
+
+def main():
     counters = see_counters()
     for name, is_well in counters.items():
         print(f"{name}: as it must be" if is_well else f"FAILED {name}: no such one, or its count is lost", flush=True)
-    failed = sum(not it for it in counters.values())
+    passed, failed = sum(counters.values()), sum(not it for it in counters.values())
     with tempfile.TemporaryDirectory(prefix="must-not-compile-") as top:
-        folders = {name: f"{top}/programs/crates/{name}" for name in programs}
-        os.mkdir(f"{top}/programs")
-        lay_out(f"{top}/programs", programs)
-        for name, (path, text) in libraries.items():
-            folders[name] = f"{top}/{name}/crates/caller"
-            os.mkdir(f"{top}/{name}")
-            lay_out(f"{top}/{name}", {"caller": program})
-            write(f"{top}/{name}/{path}", text)
+        planned = list(trials(top))
         with ThreadPoolExecutor(2) as pool:
-            answers = pool.map(first_error, folders.values())
-            for name, (found, said) in zip(folders, answers):
-                if found:
-                    found = found[0].removeprefix(f"{top}/{name}/"), found[1]
-                is_well = found == wanted[name]
-                failed += not is_well
-                if is_well:
-                    told = "refused, as it must be: {}: {}".format(*found) if found else "compiles, as it must"
-                    print(f"{name}: {told}", flush=True)
-                else:
-                    print(f"FAILED {name}: first error {found}, and not {wanted[name]}:\n{said[-2000:]}", flush=True)
-    print(f"{len(folders) + len(counters) - failed} passed, {failed} failed")
+            answers = pool.map(first_errors, (folder for folder, _ in planned))
+            for (folder, wanted), (errors, said) in zip(planned, answers):
+                seen = {name: errors.get(at) == error for name, (at, error) in wanted.items()} or {"caller": not errors}
+                for name, is_well in seen.items():
+                    told = "refused, as it must be: {}: {}".format(*wanted[name]) if wanted else "compiles, as it must"
+                    failure = f"FAILED {name}: errors {errors}, and not {wanted}:\n{said[-2000:]}"
+                    print(f"{name}: {told}" if is_well else failure, flush=True)
+                passed, failed = passed + sum(seen.values()), failed + sum(not it for it in seen.values())
+    print(f"{passed} passed, {failed} failed")
     return 1 if failed else 0
 
 
