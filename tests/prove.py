@@ -8,14 +8,20 @@ can begin with what is proved here. Once all this is done for a crate, its file 
 
 What everything waits for is proved by all processors: each library, and the largest of the other crates. rt would give
 the largest library one alone: it reckons with 15 GB for each of its jobs, while four jobs of it were seen to take 4 GB
-together. All else is rt's own: what it proves and in which order, and what it says.
+together. The other crates give way to the largest library, and after it to the largest of the other crates: no run ends
+before these two are proved, one after the other. All else is rt's own: what it proves and in which order, and what it
+says.
 """
 import os
 import re
 import shutil
 import sys
+from concurrent.futures import ThreadPoolExecutor
 
 from running import cores, kit
+
+# How much a proof gives way to the proofs that a run waits for.
+GIVES_WAY = 10
 
 # The end of the last line of a proof, which may say that it was over kept work: that folder was empty.
 ALLOWED = r"statements=trusted( incremental=trusted)?"
@@ -29,15 +35,26 @@ class Proofs:
     """What rt proves of each crate, by its own functions."""
 
     def __init__(self, rt):
-        self.rt, self.of_rt = rt, rt.Crate.ci
-        others = [it for it in rt.rtlib.crates_below(os.getcwd()) if not is_library(it)]
-        self.largest = max(others, key=lambda it: it.count(rb"\n")).name if others else None
+        self.rt, self.of_rt, self.tried = rt, rt.Crate.ci, set()
+        crates = sorted(rt.rtlib.crates_below(os.getcwd()), key=lambda it: it.count(rb"\n"))
+        # (the largest library and the largest of the other crates, if there are any)
+        self.largest = {is_library(it): it.name for it in crates}.values()
 
     def ci(self, crate, flags, tests):
+        """Proves a crate in a thread of its own, so that what the thread starts gives way to the proofs of the largest."""
+        if crate.name in self.tried:
+            # (rt proves a crate once more, by one job, where memory ran out)
+            return self.of_rt(crate, flags, tests)
+        self.tried.add(crate.name)
+        gives_way = [] if crate.name in self.largest else [GIVES_WAY]
+        with ThreadPoolExecutor(1, initializer=lambda: [os.nice(it) for it in gives_way]) as own:
+            return own.submit(self.proved, crate, flags, tests).result()
+
+    def proved(self, crate, flags, tests):
         """Proves a crate as rt does, over a folder for kept work that was empty. What fails so is left to rt alone."""
         # (what is built of a library then holds its proofs too, since rattle cannot leave them out over kept work)
         crate.cuts_libraries = False
-        jobs = ["--jobs", str(cores() if is_library(crate) or crate.name == self.largest else 2)]
+        jobs = ["--jobs", str(cores() if is_library(crate) or crate.name in self.largest else 2)]
         shutil.rmtree(f"{crate.folder}/out/incremental", ignore_errors=True)
         by = self.library if is_library(crate) else self.program
         status = by(crate, [*jobs, *self.rt.rtlib.KEPT]) and self.of_rt(crate, flags, tests)
