@@ -135,19 +135,27 @@ static void show_ids(uint32_t count)
         struct virtiofs_spec spec = { VIRTIOFS_MAP, 20 * i, 1000000 + 20 * i, 10 };
         specs[i] = spec;
     }
-    for (uint32_t i = 0; i < LOOKUPS; i++)
-        asked[i] = (uint32_t)(i * 2654435761u >> 8) % (20 * count);
+    uint64_t random = 88172645463325252u;
+    for (uint32_t i = 0; i < LOOKUPS; i++) {
+        random ^= random << 13;
+        random ^= random >> 7;
+        random ^= random << 17;
+        asked[i] = (uint32_t)(random >> 33) % (20 * count);
+    }
     if (!words || virtiofs_uids_make(specs, count, words, room, &wanted, &fault) != VIRTIOFS_OK)
         exit(1);
     users.words = words;
     users.count = wanted;
-    show("an id, of so many specifications", count, guests);
+    show("an id at random, of so many specifications", count, guests);
+    for (uint32_t i = 0; i < LOOKUPS; i++)
+        asked[i] = 20 * (count / 2) + 5;
+    show("one id again and again, of so many", count, guests);
     free(words);
 }
 
 int main(void)
 {
-    static const uint32_t counts[] = { 1, 2, 4, 8, 16, 64, MOST };
+    static const uint32_t counts[] = { 1, 4, 64, MOST };
     static const char rules[] = ":map:security.selinux:trusted.virtiofs.:";
     static const char list[] = "trusted.virtiofs.security.selinux\0security.selinux\0user.note";
     static uint8_t of_names[BYTES];

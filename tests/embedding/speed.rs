@@ -57,17 +57,31 @@ fn show(what: &str, of: usize, look_up: impl Fn(usize) + Sync) {
     println!();
 }
 
+/// Ids below `end`: half of them are covered.
+fn at_random(end: u32) -> Vec<GuestUid> {
+    let mut random: u64 = 88172645463325252;
+    let mut next = || {
+        random ^= random << 13;
+        random ^= random >> 7;
+        random ^= random << 17;
+        GuestUid::from((random >> 33) as u32 % end)
+    };
+    (0..LOOKUPS).map(|_| next()).collect()
+}
+
 fn main() {
     println!("{:<50} {:>8} {:>8} {:>8}", "ns, of so many threads", 1, 2, 4);
-    for count in [1, 2, 4, 8, 16, 64, 1000] {
+    for count in [1, 4, 64, 1000] {
         let spec = |i| cmdline::IdMap::Bidirectional { guest: 20 * i, host: 1000000 + 20 * i, count: 10 };
         let list: Vec<_> = (0..count).map(spec).collect();
         let map = IdMap::<GuestUid, HostUid>::try_from(list).expect("an accepted list");
-        let asked = (0..LOOKUPS as u32).map(|i| (i.wrapping_mul(2654435761) >> 8) % (20 * count));
-        let asked: Vec<_> = asked.map(GuestUid::from).collect();
-        show("an id, of so many specifications", count as usize, |i| {
-            black_box(map.map_guest(asked[i]).map_or(0, Id::into_inner));
-        });
+        let look_up = |id| {
+            black_box(map.map_guest(id).map_or(0, Id::into_inner));
+        };
+        let asked = at_random(20 * count);
+        show("an id at random, of so many specifications", count as usize, |i| look_up(asked[i]));
+        let one = GuestUid::from(20 * (count / 2) + 5);
+        show("one id again and again, of so many", count as usize, |_| look_up(black_box(one)));
     }
     let map = XattrMap::try_from(":map:security.selinux:trusted.virtiofs.:").expect("a text of rules");
     let names = [

@@ -18,6 +18,7 @@ use crate::Steps;
 /// The last range that begins at or below a number: no other one can cover it.
 ///
 /// Each reading of a range is a step, also where the last turn reads a range for the second time.
+#[inline(always)]
 pub(crate) fn last_from(ranges: &Ranges<'_>, n: u32, steps: &mut Steps) -> Last
     ensures within { result.end ≤ ranges.now.count }
     ensures found { Searches ranges.now n result.end result.end }
@@ -40,6 +41,7 @@ pub(crate) fn last_from(ranges: &Ranges<'_>, n: u32, steps: &mut Steps) -> Last
 /// What the ranges say of a number.
 ///
 /// With no range the number stays itself. With one range there is nothing to search.
+#[inline(always)]
 pub(crate) fn look_up(ranges: &Ranges<'_>, n: u32, steps: &mut Steps) -> Answer
     ensures says { (specs : List Specification) (direction : Direction)
         → HasRanges specs direction ranges.now → SaysIn specs direction n result }
