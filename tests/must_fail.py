@@ -17,12 +17,15 @@ Each check also has the edit harmless/CRATE.edit, which changes a body and not i
 in that very check, or else a refusal would show nothing.
 
 A check begins with a copy of what is proved of its crate. TREE is a copy of the repository in which tests/prove.py is
-at work: each crate is taken from there, once it is proved. If no TREE is given, prove.py is run here first.
+at work, and each crate is taken from there. The edits of a large crate begin before all of it is proved, as soon as
+enough of their functions are. If no TREE is given, prove.py is run here first.
 
 Each edit has a line. The last line is 'N passed, N failed', and the exit status is 0 where none failed.
 """
 import glob
+import itertools
 import os
+import queue
 import re
 import shutil
 import sys
@@ -37,7 +40,7 @@ from running import cores, made_room, run, say, shown
 HERE = os.path.dirname(os.path.abspath(__file__))
 TOP = os.path.dirname(HERE)
 # The most edits of one check. What a check costs before it proves anything is as much as three edits cost.
-BATCH = 64
+BATCH = 40
 # An error in a function's proof that shows nothing: it cites what a refused function proves, or names what is gone.
 SHOWS_NOTHING = re.compile(r"was not admitted|has no field|is not in scope|has no `")
 PROOF_ERROR = re.compile(r"^(?:\./)?proofs/(\S+)/[^/\s]+\.antt:\d+:\d+: error: (.*)", re.M)
@@ -80,30 +83,64 @@ def read_edit(file):
     return Edit(os.path.basename(file), words["file"], function, "law" in words, tuple(pairs))
 
 
+def changed_part(was, line):
+    """The part of a line that an edit changes: where it begins and ends, and what stands there then."""
+    begin = len(os.path.commonprefix([was, line]))
+    same = len(os.path.commonprefix([was[begin:][::-1], line[begin:][::-1]]))
+    return begin, len(was) - same, line[begin : len(line) - same]
+
+
+def with_parts(line, parts):
+    """A line with all these parts changed."""
+    ended = len(line)
+    for begin, end, new in sorted(parts, reverse=True):
+        if end > ended:
+            raise ValueError(f"two edits change the same part of this line: {line}")
+        line, ended = line[:begin] + new + line[end:], begin
+    return line
+
+
 def edited(edits, folder):
-    """The texts of the files of a crate under these edits."""
-    texts = {}
+    """The texts of the files of a crate under these edits. Each edit is made in the file as it is without the others. An
+    edit changes lines, and neither adds nor removes one."""
+    lines, parts = {}, {}
     for edit in edits:
-        if edit.path not in texts:
+        if edit.path not in lines:
             with open(f"{folder}/{edit.path}", encoding="utf-8") as it:
-                texts[edit.path] = it.read()
+                lines[edit.path], parts[edit.path] = it.read().split("\n"), {}
+        text = "\n".join(lines[edit.path])
         for old, new in edit.pairs:
-            count = texts[edit.path].count(old)
-            if not old or count != 1:
-                raise ValueError(f"{edit.name}: its old text stands in {edit.path} {count} times, and not once")
-            texts[edit.path] = texts[edit.path].replace(old, new)
-    return texts
+            if not old or text.count(old) != 1:
+                raise ValueError(f"{edit.name}: its old text stands in {edit.path} {text.count(old)} times, and not once")
+            text = text.replace(old, new)
+        for at, (was, line) in enumerate(zip(lines[edit.path], text.split("\n"))):
+            if line != was:
+                parts[edit.path].setdefault(at, []).append(changed_part(was, line))
+    texts = {path: [with_parts(line, parts[path].get(at, [])) for at, line in enumerate(lines[path])] for path in lines}
+    return {path: "\n".join(text) for path, text in texts.items()}
+
+
+def of_functions(edits):
+    """The edits of each function, the functions with most edits first."""
+    of_each = {}
+    for edit in edits:
+        of_each.setdefault(edit.function, []).append(edit)
+    return sorted(of_each.values(), key=len, reverse=True)
 
 
 def batches(edits):
     """The checks in which these edits are tried. No check has two edits of one function."""
-    of_each = {}
-    for edit in edits:
-        of_each.setdefault(edit.function, []).append(edit)
-    bodies = [edit for own in sorted(of_each.values(), key=len, reverse=True) for edit in own if not edit.is_law]
-    checks = max([-(-len(bodies) // BATCH), *map(len, of_each.values())])
+    of_each = of_functions(edits)
+    bodies = [edit for own in of_each for edit in own if not edit.is_law]
+    checks = max([-(-len(bodies) // BATCH), *map(len, of_each)])
     laws = [edit for edit in edits if edit.is_law]
     return [it for it in [laws, *(bodies[at::checks] for at in range(checks))] if it]
+
+
+def early_batch(edits, proved):
+    """A whole check of edits, one of a function, whose functions are among those that are proved, or no edit."""
+    firsts = [own[0] for own in of_functions(edits) if own[0].function in proved and not own[0].is_law]
+    return firsts[:BATCH] if len(firsts) >= BATCH else []
 
 
 def refused_in(said, crate):
@@ -144,6 +181,12 @@ def link_or_copy(file, to):
     (os.link if "/out/rlib/" in file or file.endswith(".oantt") else shutil.copy2)(file, to)
 
 
+def proved_in(folder, crate):
+    """The functions of a crate whose proofs are in a folder of kept proofs."""
+    found = glob.iglob(f"{folder}/*/Rattle-{crate}-proofs.*.Proof.oantt")
+    return {os.path.basename(it)[len(f"Rattle-{crate}-proofs.") : -len(".Proof.oantt")].replace(".", "::") for it in found}
+
+
 class Crate:
     """A crate of the repository, the repository's crates that it uses, its edits, and why other files there are none."""
 
@@ -172,11 +215,24 @@ def crates_with_edits():
 
 
 class Run:
-    """One run. Its crates are proved in `tree`. `room` is for its own files."""
+    """One run. Its crates are proved in `tree`. `room` is for its own files. Each lane takes the largest check that is
+    ready, so that the lanes end together."""
 
     def __init__(self, tree, room, lanes):
-        self.tree, self.room, self.pool = tree, room, ThreadPoolExecutor(lanes)
+        self.tree, self.room, self.ready, self.numbers = tree, room, queue.PriorityQueue(), itertools.count()
         self.passed, self.failed, self.counting = 0, 0, threading.Lock()
+        for _ in range(lanes):
+            threading.Thread(target=self.lane, daemon=True).start()
+
+    def lane(self):
+        while True:
+            _, _, crate, edits, harmless = self.ready.get()
+            try:
+                self.batch(crate, edits, harmless)
+            except Exception as error:
+                self.answer(crate, "*", False, f"FAILED: {error}")
+            finally:
+                self.ready.task_done()
 
     def answer(self, crate, name, is_refused, text):
         with self.counting:
@@ -184,16 +240,22 @@ class Run:
         say(f"must-fail {crate.name}/{name}: {text}")
 
     def of_crate(self, crate):
-        """Waits until a crate is proved, and tries its edits."""
+        """Makes the checks of a crate ready, each once what it begins with is proved."""
         for name, why in crate.bad.items():
             self.answer(crate, name, False, f"FAILED: {why}")
         try:
             harmless = read_edit(f"{HERE}/harmless/{crate.name}.edit")
-            while not os.path.exists(f"{self.tree}/crates/{crate.name}/out/proved"):
+            made, left = f"{self.tree}/crates/{crate.name}/out", crate.edits
+            while not os.path.exists(f"{made}/proved"):
                 if os.path.exists(f"{self.tree}.ended"):
                     raise RuntimeError(f"{crate.name} was not proved")
+                early = early_batch(left, proved_in(f"{made}/incremental", crate.name))
+                if early:
+                    left = [it for it in left if it not in early]
+                    self.ready.put((-len(early), next(self.numbers), crate, early, harmless))
                 time.sleep(1)
-            list(self.pool.map(lambda it: self.batch(crate, it, harmless), batches(crate.edits)))
+            for edits in batches(left):
+                self.ready.put((-len(edits), next(self.numbers), crate, edits, harmless))
         except Exception as error:
             self.answer(crate, "*", False, f"FAILED: {error}")
 
@@ -204,7 +266,8 @@ class Run:
             shutil.copy(f"{TOP}/{name}", top)
         for name in os.listdir(f"{self.tree}/crates"):
             left_out = "rlib" if name == crate.name else "incremental" if name in crate.uses else "out"
-            unread = shutil.ignore_patterns("must-fail", left_out)
+            # (a file that the prover is still writing has such a name)
+            unread = shutil.ignore_patterns("must-fail", left_out, "*.tmp.*")
             copied = f"{top}/crates/{name}"
             shutil.copytree(f"{self.tree}/crates/{name}", copied, ignore=unread, copy_function=link_or_copy)
         return f"{top}/crates/{crate.name}"
@@ -247,6 +310,7 @@ def main(words):
         started, crates = Run(tree, room, lanes), crates_with_edits()
         with ThreadPoolExecutor(len(crates)) as waiting:
             list(waiting.map(started.of_crate, crates))
+        started.ready.join()
     finally:
         shutil.rmtree(room, ignore_errors=True)
     say(f"{started.passed} passed, {started.failed} failed")

@@ -6,7 +6,7 @@ The last line is 'N passed, N failed', and the exit status is 0 where none faile
 import os
 import sys
 
-from must_fail import batches, edited, judged, read_edit
+from must_fail import Edit, batches, early_batch, edited, judged, proved_in, read_edit
 from running import Ended, made_room, say
 
 ROOM = made_room("must-fail-test")
@@ -63,11 +63,28 @@ def tests():
     one, again, other = of_function("called"), of_function("called", "old: pub", "new: "), of_function("caller")
     yield "no check has two edits of one function", batches([one, again, other]) == [[one, other], [again]]
     yield "laws have a check of their own", batches([one, law]) == [[law], [one]]
+    many = [Edit(f"{at}.edit", "src/lib.rt", f"a::f{at}", False, ()) for at in range(50)]
+    early = early_batch([*many, *many, law], {it.function for it in many[5:]})
+    yield "an early check has what is proved, once a function", early == many[5:45]
+    yield "few edits make no early check", not early_batch([*many, law], {it.function for it in many[:9]})
+    os.makedirs(f"{ROOM}/kept/one")
+    for name in ("a.f1.Proof.oantt", "a.f2.Met.oantt", "a.f3.Proof.oantt.tmp.1"):
+        with open(f"{ROOM}/kept/one/Rattle-tiny-proofs.{name}", "w", encoding="utf-8"):
+            pass
+    yield "what has a kept proof is proved", proved_in(f"{ROOM}/kept", "tiny") == {"a::f1"}
     os.makedirs(f"{ROOM}/src")
     with open(f"{ROOM}/src/lib.rt", "w", encoding="utf-8") as it:
         it.write(SOURCE)
     wanted = SOURCE.replace("fn called() {}", "fn called() { }").replace("fn caller() {}", "fn caller() { }")
     yield "edits are made together", edited([one, other], ROOM) == {"src/lib.rt": wanted}
+    swap = edit("swap", "file: src/lib.rt", "function: caller", "old: caller", "new: called")
+    both = SOURCE.replace("called() {}", "called() { }").replace("caller", "called")
+    yield "an edit does not see another one", edited([swap, one], ROOM) == {"src/lib.rt": both}
+    end = edit("end", "file: src/lib.rt", "function: caller", "old: caller() {}", "new: caller() { }")
+    cut = edit("cut", "file: src/lib.rt", "function: caller", "old: fn caller", "new: fn c")
+    both = SOURCE.replace("caller() {}", "called() { }")
+    yield "two edits of one line are made", edited([end, swap], ROOM) == {"src/lib.rt": both}
+    yield "two edits of one part of a line are bad", is_bad(edited, [cut, swap], ROOM)
     yield "an old text that stands there often is bad", is_bad(edited, [law], ROOM)
     yield "an edit that names no function is bad", is_bad(edit, "none", "file: src/lib.rt", "old: a", "new: b")
 
