@@ -7,12 +7,10 @@
 //!   names, and on values with ids.
 //! - [`pairs`] has code for any pair of id types, and [`projects`] is such a pair.
 //! - [`texts`] has printed forms, with contracts of what they say.
-//! - [`hexadecimal`] reads values that are written so. It does not call the library: tests need it.
 //!
 //! The tests of this code are in the crate `virtiofs_map_tests`. No program that is shipped uses it.
 #![tactic(auto)]
 
-pub mod hexadecimal;
 pub mod names;
 pub mod pairs;
 pub mod projects;

@@ -3,6 +3,7 @@
 mod by_linux;
 mod example;
 mod faults;
+mod hexadecimal;
 mod image;
 mod large;
 mod told;

@@ -1,5 +1,6 @@
 //! What the calls make of values that are written in hexadecimal.
 
+pub(super) use super::hexadecimal::value_of;
 use std::alloc::{AllocError, Global};
 use std::test::Fail;
 use virtiofs_map::acl::{
@@ -8,7 +9,6 @@ use virtiofs_map::acl::{
 };
 use virtiofs_map::id_types::{GuestGid, GuestUid, HostGid, HostUid};
 use virtiofs_map::soft_idmap::{Direction, IdMap};
-pub(super) use virtiofs_map_callers::hexadecimal::value_of;
 
 /// The maps of users and of groups, by their specifications.
 #[derive(Clone, Copy)]

@@ -1,12 +1,9 @@
 //! Values that are written in hexadecimal, as `getfattr` prints them.
-ghost use Rattle.std.specs.Prelude.{◌<◌};
 
 use std::alloc::{AllocError, Global};
 
 /// What a digit in hexadecimal stands for.
-pub fn digit(c: u8) -> u8
-    ensures { result < 16 }
-{
+fn digit(c: u8) -> u8 {
     match c {
         b'0'..=b'9' => c - b'0',
         b'a'..=b'f' => c - b'a' + 10,
@@ -30,7 +27,7 @@ fn push_part(value: &mut Vec<u8>, part: &str) -> Result<(), AllocError> {
 }
 
 /// The bytes that some texts say, one after the other.
-pub fn value_of(alloc: Global, parts: &[&str]) -> Result<Vec<u8>, AllocError> {
+pub(super) fn value_of(alloc: Global, parts: &[&str]) -> Result<Vec<u8>, AllocError> {
     let mut value = Vec::new(alloc);
     for part in parts {
         push_part(&mut value, part)?;
