@@ -7,8 +7,8 @@ The folder must_not_compile has one program that compiles, caller.rt.txt, and ed
 first. An edit with a line 'in: PATH' changes that file of the library; the program stays as it is. The program and the
 library as they are must compile, or the refusals would show nothing.
 
-Edits are made together where the compiler tells of all of them: those of types in one program, those of borrows in
-another, since the compiler looks at borrows only if the types are right, and those of the library in one copy of it.
+Edits are made together where the compiler tells of all of them: those of types and of private fields, in the program and
+in the library; and those of borrows, since the compiler looks at borrows only if the types are right.
 `rt try` reads each program and the libraries from source, and proves nothing.
 
 A library that reads ranges or branches with a new counter, and throws that counter away, does compile. So the sources of
@@ -66,17 +66,18 @@ def planted(said, text):
     return text.replace(said["old"], said["new"]), line
 
 
-def lay_out(room, programs):
-    """Makes a repository of the libraries and of a crate for each program."""
+def lay_out(room, texts):
+    """Makes a repository of the libraries and of the crate `caller`, with these texts at their paths."""
+    os.mkdir(room)
     shutil.copy(f"{TOP}/HANDLES", room)
     lines = [it for it in text_of(f"{TOP}/crates.txt").splitlines() if not it.startswith(f"{PROGRAM}:")]
-    write(f"{room}/crates.txt", "\n".join([*lines, *(f"{name}: {LIBRARY}" for name in programs), ""]))
+    write(f"{room}/crates.txt", "\n".join([*lines, f"caller: {LIBRARY}", ""]))
     for name in os.listdir(f"{TOP}/crates"):
         for part in ("src", "specs", "proofs"):
             if name != PROGRAM and os.path.isdir(f"{TOP}/crates/{name}/{part}"):
                 shutil.copytree(f"{TOP}/crates/{name}/{part}", f"{room}/crates/{name}/{part}")
-    for name, program in programs.items():
-        write(f"{room}/crates/{name}/src/main.rt", program)
+    for path, text in texts.items():
+        write(f"{room}/{path}", text)
 
 
 def first_errors(folder):
@@ -121,25 +122,21 @@ def see_counters():
 def trials(top):
     """What is tried together, each as the folder of its program and the edits in it: their names, with the place and the
     name of the error that each must get. The first has no edit."""
-    program, sources = text_of(f"{CASES}/caller.rt.txt"), {}
-    groups = {it: {} for it in ("caller", "types", "borrows", "library")}
+    program = "crates/caller/src/main.rt"
+    sources = {group: {program: text_of(f"{CASES}/caller.rt.txt")} for group in ("caller", "types", "borrows")}
+    wanted = {group: {} for group in sources}
     for file in sorted(os.listdir(CASES)):
         name, ending = os.path.splitext(file)
         if ending != ".edit":
             continue
         said = said_by(text_of(f"{CASES}/{file}"))
-        path = said.get("in")
-        group = "library" if path else "borrows" if said["error"].startswith("borrow-") else "types"
-        at = (group, path or "src/main.rt")
-        sources[at], line = planted(said, sources.get(at) or (text_of(f"{TOP}/{path}") if path else program))
-        groups[group][name] = f"{at[1]}:{line}", said["error"]
-    for group in groups:
-        os.mkdir(f"{top}/{group}")
-        lay_out(f"{top}/{group}", {"caller": sources.get((group, "src/main.rt"), program)})
-        for (of, path), text in sources.items():
-            if of == group == "library":
-                write(f"{top}/{group}/{path}", text)
-        yield f"{top}/{group}/crates/caller", groups[group]
+        group = "borrows" if said["error"].startswith("borrow-") else "types"
+        path, texts = said.get("in", program), sources[group]
+        texts[path], line = planted(said, texts.get(path) or text_of(f"{TOP}/{path}"))
+        wanted[group][name] = f"{path.removeprefix('crates/caller/')}:{line}", said["error"]
+    for group, texts in sources.items():
+        lay_out(f"{top}/{group}", texts)
+        yield f"{top}/{group}/crates/caller", wanted[group]
 
 
 def main():
