@@ -35,7 +35,7 @@ class Proofs:
     """What rt proves of each crate, by its own functions."""
 
     def __init__(self, rt):
-        self.rt, self.of_rt, self.tried = rt, rt.Crate.ci, set()
+        self.rt, self.of_rt, self.tried, self.archived = rt, rt.Crate.ci, set(), set()
         crates = sorted(rt.rtlib.crates_below(os.getcwd()), key=lambda it: it.count(rb"\n"))
         # (the largest library and the largest of the other crates, if there are any)
         self.largest = {is_library(it): it.name for it in crates}.values()
@@ -67,20 +67,23 @@ class Proofs:
         return self.of_rt(crate, flags, False)
 
     def program(self, crate, flags):
-        """Proves a program or a static library, and builds a program from what was proved."""
-        words = crate.words(flags, keeps=False)
-        status = crate.prove(["check", *words])
-        if status or crate.is_static:
+        """Proves a program or a static library and has LLVM compile it, all by one command. Rattle's own compiler then takes a
+        program as it was proved."""
+        words = [*crate.words(flags, keeps=False), "--toolchain", f"{self.rt.KIT}/toolchain"]
+        made = f"out/{crate.name}"
+        to = f"out/lib{crate.name}.a" if crate.is_static else f"{made}.o"
+        status = crate.prove(["build", *words, "--backend", "llvm", "-o", to])
+        if crate.is_static:
+            self.archived.update([] if status else [crate.name])
             return status
-        words += ["--toolchain", f"{self.rt.KIT}/toolchain"]
-        return any(crate.compile_by(it, words, f"out/{crate.name}") for it in self.rt.BACKENDS)
+        return status or crate.link(to, made) or crate.compile_by("rattle", words, made)
 
     def is_built(self, crate):
-        """Builds the archive of a static library, and tells the edits that the crate is proved."""
-        made = f"{crate.folder}/out"
-        if crate.is_static and crate.build_static(["--jobs", "2"]):
+        """Builds the archive of a static library that rt has kept from an earlier run, and tells the edits that the crate is
+        proved."""
+        if crate.is_static and crate.name not in self.archived and crate.build_static(["--jobs", "2"]):
             raise SystemExit(f"the archive of {crate.name} was not built")
-        with open(f"{made}/proved", "w", encoding="utf-8"):
+        with open(f"{crate.folder}/out/proved", "w", encoding="utf-8"):
             pass
 
 
