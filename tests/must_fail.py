@@ -17,8 +17,8 @@ Each check also has the edit harmless/CRATE.edit, which changes a body and not i
 in that very check, or else a refusal would show nothing.
 
 A check begins with a copy of what is proved of its crate. TREE is a copy of the repository in which tests/prove.py is
-at work, and each crate is taken from there. The edits of a large crate begin before all of it is proved, as soon as
-enough of their functions are. If no TREE is given, prove.py is run here first.
+at work, and each crate is taken from there. The edits of a crate begin before it is built, as soon as enough of their
+functions are proved. If no TREE is given, prove.py is run here first.
 
 Each edit has a line. The last line is 'N passed, N failed', and the exit status is 0 where none failed.
 """
@@ -39,8 +39,8 @@ from running import cores, made_room, run, say, shown
 
 HERE = os.path.dirname(os.path.abspath(__file__))
 TOP = os.path.dirname(HERE)
-# The most edits of one check. What a check costs before it proves anything is as much as three edits cost.
-BATCH = 40
+# The most edits of one check. What a check costs before it proves anything is as much as four edits cost.
+BATCH = 45
 # An error in a function's proof that shows nothing: it cites what a refused function proves, or names what is gone.
 SHOWS_NOTHING = re.compile(r"was not admitted|has no field|is not in scope|has no `")
 PROOF_ERROR = re.compile(r"^(?:\./)?proofs/(\S+)/[^/\s]+\.antt:\d+:\d+: error: (.*)", re.M)
@@ -249,10 +249,13 @@ class Run:
             while not os.path.exists(f"{made}/proved"):
                 if os.path.exists(f"{self.tree}.ended"):
                     raise RuntimeError(f"{crate.name} was not proved")
-                early = early_batch(left, proved_in(f"{made}/incremental", crate.name))
+                proved = proved_in(f"{made}/incremental", crate.name)
+                early = early_batch(left, proved)
+                left = [it for it in left if it not in early]
                 if early:
-                    left = [it for it in left if it not in early]
                     self.ready.put((-len(early), next(self.numbers), crate, early, harmless))
+                elif proved.issuperset(it.function for it in (*left, harmless)):
+                    break
                 time.sleep(1)
             for edits in batches(left):
                 self.ready.put((-len(edits), next(self.numbers), crate, edits, harmless))

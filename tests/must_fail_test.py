@@ -65,7 +65,7 @@ def tests():
     yield "laws have a check of their own", batches([one, law]) == [[law], [one]]
     many = [Edit(f"{at}.edit", "src/lib.rt", f"a::f{at}", False, ()) for at in range(50)]
     early = early_batch([*many, *many, law], {it.function for it in many[5:]})
-    yield "an early check has what is proved, once a function", early == many[5:45]
+    yield "an early check has what is proved, once a function", early == many[5:50]
     yield "few edits make no early check", not early_batch([*many, law], {it.function for it in many[:9]})
     os.makedirs(f"{ROOM}/kept/one")
     for name in ("a.f1.Proof.oantt", "a.f2.Met.oantt", "a.f3.Proof.oantt.tmp.1"):
