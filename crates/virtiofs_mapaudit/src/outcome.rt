@@ -6,7 +6,7 @@ use crate::tally::WriteFailed;
 use std::alloc::{AllocError, AllocFailed};
 
 /// What the program's words came to, once everything was written.
-#[derive(Clone, Copy, Debug, PartialEq, Eq)]
+#[derive(Clone, Copy)]
 pub enum Audited {
     /// Nothing was found, or a text was shown that was asked for.
     Clean,
@@ -19,7 +19,7 @@ pub enum Audited {
 }
 
 /// Why the program gave up.
-#[derive(Clone, Copy, Debug, PartialEq, Eq)]
+#[derive(Clone, Copy)]
 pub enum AuditFault {
     /// A request for memory was refused before anything was written.
     OutOfMemory,

@@ -12,7 +12,7 @@ use std::alloc::{AllocError, Allocator};
 use virtiofs_map::idmap::UidMap;
 
 /// What is found of ids of one kind.
-#[derive(Clone, Copy, Debug, PartialEq, Eq)]
+#[derive(Clone, Copy)]
 pub(crate) struct KindFindings {
     /// Whether the daemon runs in a namespace of ranges. What ids become is then inside it.
     pub(crate) in_namespace: bool,

@@ -32,7 +32,7 @@ impl<W: Write> Model for Tally<W> {
 }
 
 /// A write failed: the writer answered a fault, or took no byte of a piece that has some.
-#[derive(Clone, Copy, Debug, PartialEq, Eq)]
+#[derive(Clone, Copy)]
 pub(crate) struct WriteFailed;
 
 impl<W: Write> Tally<W> {

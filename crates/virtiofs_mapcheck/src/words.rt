@@ -10,7 +10,7 @@ use virtiofs_map::text;
 use virtiofs_map::xattrmap::XattrName;
 
 /// A number that is asked for in a direction.
-#[derive(Clone, Copy, Debug, PartialEq, Eq)]
+#[derive(Clone, Copy)]
 pub(crate) struct Query {
     /// The direction in which the number is mapped.
     pub(crate) direction: Direction,

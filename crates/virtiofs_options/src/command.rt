@@ -3,7 +3,7 @@
 use crate::options::Takes;
 
 /// What a word of a command line is.
-#[derive(Clone, Copy, Debug, PartialEq, Eq)]
+#[derive(Clone, Copy)]
 pub(crate) enum Word<'a> {
     /// No option.
     Plain,

@@ -6,7 +6,7 @@ use crate::options::OF_DAEMON;
 use std::alloc::{AllocError, Allocator};
 
 /// What is wrong with a word.
-#[derive(Clone, Copy, Debug, PartialEq, Eq)]
+#[derive(Clone, Copy)]
 pub(crate) enum WordFault<'a> {
     /// No option has that name.
     Unknown(&'a str),

@@ -1,7 +1,7 @@
 //! The options that the program and the daemon know.
 
 /// Whether an option has a value.
-#[derive(Clone, Copy, Debug, PartialEq, Eq)]
+#[derive(Clone, Copy)]
 pub(crate) enum Takes {
     /// It has none.
     Nothing,

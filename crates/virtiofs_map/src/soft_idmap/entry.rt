@@ -16,7 +16,7 @@ pub enum Direction {
 }
 
 /// A range of numbers, and what becomes of them.
-#[derive(Clone, Copy, Debug, PartialEq, Eq)]
+#[derive(Clone, Copy)]
 pub(crate) enum Entry {
     /// The number `first + i` becomes `to + i`.
     Map { first: u32, to: u32, count: u32 },

@@ -10,7 +10,7 @@ use crate::xattrmap::scopes::{Scope, ScopeWord};
 use std::alloc::{AllocError, Allocator};
 
 /// What comes before the key of a rule: its type and scope, or the word `map`.
-#[derive(Clone, Copy, PartialEq, Eq, Debug)]
+#[derive(Clone, Copy, PartialEq, Eq)]
 pub(crate) enum Head {
     Typed(RuleKind, ScopeWord),
     Map,

@@ -1,7 +1,7 @@
 //! What is told of ids that are reported.
 
 /// An id of a guest that is reported, and what is told of it.
-#[derive(Clone, Copy, Debug, PartialEq, Eq)]
+#[derive(Clone, Copy)]
 pub(crate) struct IdFound {
     /// The id of the guest.
     pub(crate) guest: u32,
@@ -13,7 +13,7 @@ pub(crate) struct IdFound {
 }
 
 /// What is wrong with the ids of a guest: the least id of each kind.
-#[derive(Clone, Copy, Debug, PartialEq, Eq)]
+#[derive(Clone, Copy)]
 pub(crate) struct IdFindings {
     /// An id that does not come back.
     pub(crate) astray: Option<IdFound>,

@@ -3,7 +3,7 @@ ghost use Rattle.std.specs.Prelude.{◌≡◌};
 ghost use Rattle.virtiofs_mapaudit.specs.IdLines.{one_of, translating, ranging};
 
 /// Whether ids are those of users or of groups.
-#[derive(Clone, Copy, Debug, PartialEq, Eq)]
+#[derive(Clone, Copy)]
 pub(crate) enum IdKind {
     /// Ids of users.
     Users,

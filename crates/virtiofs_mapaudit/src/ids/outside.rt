@@ -8,7 +8,7 @@ use virtiofs_map::id_audit::Span;
 use virtiofs_map::idmap::UidMap;
 
 /// Which way ids are moved.
-#[derive(Clone, Copy, Debug, PartialEq, Eq)]
+#[derive(Clone, Copy)]
 pub(crate) enum Way {
     /// From outside the namespace into it.
     Inwards,

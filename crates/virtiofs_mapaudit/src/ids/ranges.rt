@@ -10,7 +10,7 @@ use std::alloc::{AllocError, Allocator};
 use virtiofs_map::idmap::UidMap;
 
 /// What is wrong with a range. Linux takes no namespace with such a range.
-#[derive(Clone, Copy, Debug, PartialEq, Eq)]
+#[derive(Clone, Copy)]
 pub(crate) enum RangeFault {
     /// It has no id.
     Empty,
@@ -23,7 +23,7 @@ pub(crate) enum RangeFault {
 }
 
 /// A range that is at fault.
-#[derive(Clone, Copy, Debug, PartialEq, Eq)]
+#[derive(Clone, Copy)]
 pub(crate) struct RangeFound {
     /// Its place, counted from 0.
     pub(crate) place: usize,

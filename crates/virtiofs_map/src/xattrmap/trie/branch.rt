@@ -2,7 +2,7 @@
 
 /// A branch of a trie. A byte leads to it from its parent, and then a label, which is a part of the
 /// patterns' own bytes.
-#[derive(Clone, Copy, Debug)]
+#[derive(Clone, Copy)]
 pub(crate) struct Branch {
     /// The answer of the names that end here or leave the trie here: four times the place of the
     /// first rule that fits them and the number of its type, or `NO_ANSWER`.

@@ -14,7 +14,7 @@ use std::alloc::{AllocError, Allocator};
 
 /// The patterns that begin with the way of a branch; they stand side by side. A hole between
 /// branches has none of them.
-#[derive(Clone, Copy, Debug)]
+#[derive(Clone, Copy)]
 struct Part {
     /// The place of the first of these patterns.
     low: usize,

@@ -10,7 +10,7 @@ use crate::xattrmap::scopes::Side;
 use std::alloc::{AllocError, Allocator};
 
 /// A pattern of a rule.
-#[derive(Clone, Copy, Debug)]
+#[derive(Clone, Copy)]
 pub(crate) struct Pattern<'a> {
     /// The bytes of the pattern.
     pub(crate) bytes: &'a [u8],
