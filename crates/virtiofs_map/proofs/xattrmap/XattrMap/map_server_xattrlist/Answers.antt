@@ -1,4 +1,4 @@
-use Rattle.std.proofs.Common.{arith}
+use Rattle.std.proofs.Common.{arith, rules}
 use Rattle.std.proofs.lemmas.Bool.Decides.{nat_tests}
 use Rattle.virtiofs_map.proofs.xattrmap.ListingLemmas.{IsSoFar-first, IsSoFar-name, IsSoFar-length}
 use Rattle.virtiofs_map.proofs.MapRuleLemmas.{guests_apart}
@@ -37,3 +37,6 @@ returns-in_err-push-clause-guests_apart g c = guests_apart c.args.self.now c.arg
 
 pub returns-clause-guests_apart : goal.returns-clause-guests_apart
 returns-clause-guests_apart g c = guests_apart c.args.self.now c.args.names.items
+
+pub returns-clause-not_empty : goal.returns-clause-not_empty
+returns-clause-not_empty g c = search rules

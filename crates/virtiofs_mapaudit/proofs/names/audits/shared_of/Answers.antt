@@ -1,3 +1,4 @@
+use Rattle.std.proofs.Common.{rules}
 use Rattle.virtiofs_map.specs.Audit.{IsShared}
 use Rattle.virtiofs_mapaudit.proofs.NameLemmas.{none_found}
 use Rattle.virtiofs_mapaudit.proofs.names.audits.shared_of.Goals as goal
@@ -6,3 +7,6 @@ pub returns-in-Yes : goal.returns-in-Yes
 returns-in-Yes g c =
     none_found (IsShared c.args.map.now c.args.other.now) c.in_ok-all.all c.none.result c.in-Yes.is
     c.in_ok-all.ensures.answer c.none.ensures
+
+pub returns : goal.returns
+returns g c = search rules

@@ -1,4 +1,4 @@
-use Rattle.std.proofs.Common.{◌+◌, length, refl, sym, ap, ◌∙◌, arith}
+use Rattle.std.proofs.Common.{ap, arith, length, refl, rules, sym, ◌+◌, ◌∙◌}
 use Rattle.std.proofs.lemmas.Bool.{false≢true}
 use Rattle.virtiofs_map.specs.Steps.{count_after}
 use Rattle.virtiofs_map.proofs.xattrmap.trie.reading.BranchLemmas.{stays_at_end, stays_nowhere, stays_unlike}
@@ -41,3 +41,6 @@ overflow_add-shared_length c =
     let within = (shared_within c.in_ok-label.label.now c.in_ok-byte.after.now).1 in
     let size = ap length c.in_ok-byte.ensures.cases.0 in
     grind (arith, c.shared_length.ensures, within, size)
+
+pub returns-clause-step : goal.returns-clause-step
+returns-clause-step c = search rules
