@@ -1,4 +1,4 @@
-use Rattle.std.proofs.Common.{refl}
+use Rattle.std.proofs.Common.{refl, rules}
 use Rattle.virtiofs_map_c.proofs.RangesLemmas.{range_refused, range_none}
 use Rattle.virtiofs_map_c.proofs.texts.virtiofs_map_range_read.Goals as goal
 
@@ -9,3 +9,6 @@ returns-in-Err-from_str-clause-refused c = λ _.
 pub returns-in-Err-from_str-clause-complete : goal.returns-in-Err-from_str-clause-complete
 returns-in-Err-from_str-clause-complete c = λ inside outside count says.
     absurd (range_none _ _ _ c.in-Ok.ensures.cases c.in-Err-from_str.ensures.refused inside outside count says)
+
+pub returns-in-Ok-from_str-clause-read : goal.returns-in-Ok-from_str-clause-read
+returns-in-Ok-from_str-clause-read c = search rules

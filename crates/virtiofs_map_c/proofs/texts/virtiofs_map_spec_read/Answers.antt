@@ -1,3 +1,4 @@
+use Rattle.std.proofs.Common.{rules}
 use Rattle.virtiofs_map_c.proofs.TextsLemmas.{SaysSpec-no_fault, text_complete, text_faulty}
 use Rattle.virtiofs_map_c.proofs.texts.virtiofs_map_spec_read.Goals as goal
 
@@ -33,3 +34,6 @@ returns-in-Err-clause-faulty c =
         bytes = c.told_of_text.ensures.quoted;
       },
     )
+
+pub returns-in-Ok-clause-read : goal.returns-in-Ok-clause-read
+returns-in-Ok-clause-read c = search rules

@@ -1,3 +1,4 @@
+use Rattle.std.proofs.Common.{rules}
 use Rattle.virtiofs_mapcheck.specs.Words.{words_of}
 use Rattle.virtiofs_mapcheck.proofs.AnswerLemmas.{HasOneAnswer-words}
 use Rattle.virtiofs_mapcheck.proofs.answer.answer.Goals as goal
@@ -10,3 +11,12 @@ returns-clause-one_answer g c = HasOneAnswer-words (words_of c.args.words.now)
 
 pub returns-in_err-emit-clause-one_answer : goal.returns-in_err-emit-clause-one_answer
 returns-in_err-emit-clause-one_answer g c = HasOneAnswer-words (words_of c.args.words.now)
+
+pub returns-clause-answered : goal.returns-clause-answered
+returns-clause-answered g c = search rules
+
+pub returns-clause-front : goal.returns-clause-front
+returns-clause-front g c = search rules
+
+pub returns-clause-failed : goal.returns-clause-failed
+returns-clause-failed g c = search rules

@@ -1,0 +1,5 @@
+use Rattle.std.proofs.Common.{rules}
+use Rattle.virtiofs_mapcheck.proofs.audits.say_terminated.Goals as goal
+
+pub returns : goal.returns
+returns g c = search rules
