@@ -41,8 +41,6 @@ HERE = os.path.dirname(os.path.abspath(__file__))
 TOP = os.path.dirname(HERE)
 # The most edits of one check. What a check costs before it proves anything is as much as four edits cost.
 BATCH = 45
-# A check of a crate that uses others of the repository reads their proofs too. That takes as long as this many edits.
-READING = 12
 # An error in a function's proof that shows nothing: it cites what a refused function proves, or names what is gone.
 SHOWS_NOTHING = re.compile(r"was not admitted|has no field|is not in scope|has no `")
 PROOF_ERROR = re.compile(r"^(?:\./)?proofs/(\S+)/[^/\s]+\.antt:\d+:\d+: error: (.*)", re.M)
@@ -217,7 +215,7 @@ def crates_with_edits():
 
 
 class Run:
-    """One run. Its crates are proved in `tree`. `room` is for its own files. Each lane takes the longest check that is
+    """One run. Its crates are proved in `tree`. `room` is for its own files. Each lane takes the largest check that is
     ready, so that the lanes end together."""
 
     def __init__(self, tree, room, lanes):
@@ -241,10 +239,6 @@ class Run:
             self.passed, self.failed = self.passed + is_refused, self.failed + (not is_refused)
         say(f"must-fail {crate.name}/{name}: {text}")
 
-    def put(self, crate, edits, harmless):
-        length = len(edits) + (READING if crate.uses else 0)
-        self.ready.put((-length, next(self.numbers), crate, edits, harmless))
-
     def of_crate(self, crate):
         """Makes the checks of a crate ready, each once what it begins with is proved."""
         for name, why in crate.bad.items():
@@ -259,12 +253,12 @@ class Run:
                 early = early_batch(left, proved)
                 left = [it for it in left if it not in early]
                 if early:
-                    self.put(crate, early, harmless)
+                    self.ready.put((-len(early), next(self.numbers), crate, early, harmless))
                 elif proved.issuperset(it.function for it in (*left, harmless)):
                     break
                 time.sleep(1)
             for edits in batches(left):
-                self.put(crate, edits, harmless)
+                self.ready.put((-len(edits), next(self.numbers), crate, edits, harmless))
         except Exception as error:
             self.answer(crate, "*", False, f"FAILED: {error}")
 
