@@ -5,11 +5,10 @@ The tests run unproved, in a part of their own (tests/run_tests.py). Each crate 
 work switched on, after that folder was emptied, so that the edits can begin with what is proved here. Once all this is
 done for a crate, its file out/proved is there.
 
-The largest library is proved by JOBS processes, and each other crate by one. Several processes of a crate prove many of
-the same modules: two took nearly twice as much processor time for virtiofs_map_c. But one process for the largest
-library would grow, and become slower with that. The other crates give way to the largest library, and after it to the
-largest of the other crates: no run ends before these two are proved, one after the other. All else is rt's own: what it
-proves and in which order, and what it says.
+No run ends before the largest library and the largest of the other crates are proved, one after the other. So these two
+are proved by JOBS processes each, and the other proofs give way to theirs. Each other crate is proved by one process:
+several processes prove many of the same modules, and two took nearly twice as much processor time for virtiofs_map_c.
+All else is rt's own: what it proves and in which order, and what it says.
 """
 import os
 import re
@@ -19,7 +18,7 @@ from concurrent.futures import ThreadPoolExecutor
 
 from running import kit
 
-# How many processes prove the largest library.
+# How many processes prove each of the two crates that a run waits for.
 JOBS = 2
 # How much a proof gives way to the proofs that a run waits for.
 GIVES_WAY = 10
@@ -38,8 +37,8 @@ class Proofs:
     def __init__(self, rt):
         self.rt, self.of_rt, self.tried, self.archived = rt, rt.Crate.ci, set(), set()
         crates = sorted(rt.rtlib.crates_below(os.getcwd()), key=lambda it: it.count(rb"\n"))
-        # (the largest library, under True, and the largest of the other crates, if there are any)
-        self.largest = {is_library(it): it.name for it in crates}
+        # (the largest library and the largest of the other crates, if there are any)
+        self.largest = {is_library(it): it.name for it in crates}.values()
 
     def ci(self, crate, flags, tests):
         """Proves a crate in a thread of its own, so that what the thread starts gives way to the proofs of the largest."""
@@ -47,7 +46,7 @@ class Proofs:
             # (rt proves a crate once more, by one job, where memory ran out)
             return self.of_rt(crate, flags, tests)
         self.tried.add(crate.name)
-        gives_way = [] if crate.name in self.largest.values() else [GIVES_WAY]
+        gives_way = [] if crate.name in self.largest else [GIVES_WAY]
         with ThreadPoolExecutor(1, initializer=lambda: [os.nice(it) for it in gives_way]) as own:
             return own.submit(self.proved, crate, flags, tests).result()
 
@@ -55,7 +54,7 @@ class Proofs:
         """Proves a crate as rt does, over a folder for kept work that was empty. What fails so is left to rt alone."""
         # (what is built of a library then holds its proofs too, since rattle cannot leave them out over kept work)
         crate.cuts_libraries = False
-        jobs = ["--jobs", str(JOBS if crate.name == self.largest.get(True) else 1)]
+        jobs = ["--jobs", str(JOBS if crate.name in self.largest else 1)]
         shutil.rmtree(f"{crate.folder}/out/incremental", ignore_errors=True)
         by = self.library if is_library(crate) else self.program
         status = by(crate, [*jobs, *self.rt.rtlib.KEPT]) and self.of_rt(crate, flags, tests)
