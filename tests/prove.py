@@ -5,10 +5,11 @@ The tests run unproved, in a part of their own (tests/run_tests.py). Each crate 
 work switched on, after that folder was emptied, so that the edits can begin with what is proved here. Once all this is
 done for a crate, its file out/proved is there.
 
-No run ends before the largest library and the largest of the other crates are proved, one after the other. So these two
-are proved by JOBS processes each, and the other proofs give way to theirs. Each other crate is proved by one process:
-several processes prove many of the same modules, and two took nearly twice as much processor time for virtiofs_map_c.
-All else is rt's own: what it proves and in which order, and what it says.
+No run ends before the largest library and the largest of the other crates are proved, one after the other. So several
+processes prove these two, and the other proofs give way to theirs. The library gets more of them, since there is little
+else to do until it is proved. Each other crate is proved by one process: several processes prove many of the same
+modules, and two took nearly twice as much processor time for virtiofs_map_c. All else is rt's own: what it proves and
+in which order, and what it says.
 """
 import os
 import re
@@ -18,8 +19,8 @@ from concurrent.futures import ThreadPoolExecutor
 
 from running import kit
 
-# How many processes prove each of the two crates that a run waits for.
-JOBS = 2
+# How many processes prove the largest library, and how many the largest of the other crates.
+LIBRARY_JOBS, PROGRAM_JOBS = 4, 2
 # How much a proof gives way to the proofs that a run waits for.
 GIVES_WAY = 10
 
@@ -37,8 +38,9 @@ class Proofs:
     def __init__(self, rt):
         self.rt, self.of_rt, self.tried, self.archived = rt, rt.Crate.ci, set(), set()
         crates = sorted(rt.rtlib.crates_below(os.getcwd()), key=lambda it: it.count(rb"\n"))
-        # (the largest library and the largest of the other crates, if there are any)
-        self.largest = {is_library(it): it.name for it in crates}.values()
+        # (the largest library and the largest of the other crates, if there are any, with the processes of each)
+        largest = {is_library(it): it.name for it in crates}
+        self.jobs = {name: LIBRARY_JOBS if is_lib else PROGRAM_JOBS for is_lib, name in largest.items()}
 
     def ci(self, crate, flags, tests):
         """Proves a crate in a thread of its own, so that what the thread starts gives way to the proofs of the largest."""
@@ -46,7 +48,7 @@ class Proofs:
             # (rt proves a crate once more, by one job, where memory ran out)
             return self.of_rt(crate, flags, tests)
         self.tried.add(crate.name)
-        gives_way = [] if crate.name in self.largest else [GIVES_WAY]
+        gives_way = [] if crate.name in self.jobs else [GIVES_WAY]
         with ThreadPoolExecutor(1, initializer=lambda: [os.nice(it) for it in gives_way]) as own:
             return own.submit(self.proved, crate, flags, tests).result()
 
@@ -54,7 +56,7 @@ class Proofs:
         """Proves a crate as rt does, over a folder for kept work that was empty. What fails so is left to rt alone."""
         # (what is built of a library then holds its proofs too, since rattle cannot leave them out over kept work)
         crate.cuts_libraries = False
-        jobs = ["--jobs", str(JOBS if crate.name in self.largest else 1)]
+        jobs = ["--jobs", str(self.jobs.get(crate.name, 1))]
         shutil.rmtree(f"{crate.folder}/out/incremental", ignore_errors=True)
         by = self.library if is_library(crate) else self.program
         status = by(crate, [*jobs, *self.rt.rtlib.KEPT]) and self.of_rt(crate, flags, tests)
