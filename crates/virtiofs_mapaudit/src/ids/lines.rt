@@ -240,8 +240,8 @@ fn push_some_astray<A: Allocator>(
     in_namespace: bool,
     found: Option<IdFound>,
 ) -> Result<(), AllocError>
-    ensures { OnOk result (string_bytes text.new ≡ string_bytes text.old
-        ++ lines_if (astray_lines (one_of kind) (whereabouts in_namespace) (translating kind)) found) }
+    ensures { OnOk result (string_bytes text.new ≡ string_bytes text.old ++ lines_if
+        (astray_lines (one_of kind) (whereabouts in_namespace) (translating kind)) found) }
 {
     match found {
         Some(it) => push_astray(
@@ -262,8 +262,8 @@ fn push_some_shared<A: Allocator>(
     in_namespace: bool,
     found: Option<IdFound>,
 ) -> Result<(), AllocError>
-    ensures { OnOk result (string_bytes text.new ≡ string_bytes text.old
-        ++ lines_if (shared_lines (one_of kind) (whereabouts in_namespace) (translating kind)) found) }
+    ensures { OnOk result (string_bytes text.new ≡ string_bytes text.old ++ lines_if
+        (shared_lines (one_of kind) (whereabouts in_namespace) (translating kind)) found) }
 {
     match found {
         Some(it) => push_shared(
