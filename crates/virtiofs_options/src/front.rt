@@ -52,35 +52,39 @@ fn flag<'a>(alloc: Global, name: &'a str, help: &'a str) -> Arg<'a> {
         .help(help)
 }
 
+/// The options of the daemon that have a value: the name, what stands for the value, and what the
+/// option does.
+const VALUED: [(&str, &str, &str); 5] = [
+    (
+        "translate-uid",
+        "SPEC",
+        "Translate users, as the daemon does",
+    ),
+    (
+        "translate-gid",
+        "SPEC",
+        "Translate groups, as the daemon does",
+    ),
+    (
+        "uid-map",
+        "RANGE",
+        "A range of users of the daemon's namespace",
+    ),
+    (
+        "gid-map",
+        "RANGE",
+        "A range of groups of the daemon's namespace",
+    ),
+    ("xattrmap", "RULES", "Map names of attributes"),
+];
+
 /// The options of the daemon, which may stand before the first `--`.
 fn of_daemon<'a>(alloc: Global, command: Command<'a>) -> Result<Command<'a>, AllocError> {
-    command
-        .arg(valued(
-            alloc,
-            "translate-uid",
-            "SPEC",
-            "Translate users, as the daemon does",
-        ))?
-        .arg(valued(
-            alloc,
-            "translate-gid",
-            "SPEC",
-            "Translate groups, as the daemon does",
-        ))?
-        .arg(valued(
-            alloc,
-            "uid-map",
-            "RANGE",
-            "A range of users of the daemon's namespace",
-        ))?
-        .arg(valued(
-            alloc,
-            "gid-map",
-            "RANGE",
-            "A range of groups of the daemon's namespace",
-        ))?
-        .arg(valued(alloc, "xattrmap", "RULES", "Map names of attributes"))?
-        .arg(flag(alloc, "posix-acl", "Access control lists are on"))
+    let mut command = command;
+    for &(name, value, help) in &VALUED {
+        command = command.arg(valued(alloc, name, value, help))?;
+    }
+    command.arg(flag(alloc, "posix-acl", "Access control lists are on"))
 }
 
 /// The program, with no options yet.
