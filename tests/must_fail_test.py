@@ -6,7 +6,7 @@ The last line is 'N passed, N failed', and the exit status is 0 where none faile
 import os
 import sys
 
-from must_fail import Edit, batches, early_batch, edited, judged, proved_in, read_edit
+from must_fail import BATCH, Edit, batches, early_batch, edited, judged, proved_in, read_edit
 from running import Ended, made_room, say
 
 ROOM = made_room("must-fail-test")
@@ -63,9 +63,9 @@ def tests():
     one, again, other = of_function("called"), of_function("called", "old: pub", "new: "), of_function("caller")
     yield "no check has two edits of one function", batches([one, again, other]) == [[one, other], [again]]
     yield "laws have a check of their own", batches([one, law]) == [[law], [one]]
-    many = [Edit(f"{at}.edit", "src/lib.rt", f"a::f{at}", False, ()) for at in range(50)]
+    many = [Edit(f"{at}.edit", "src/lib.rt", f"a::f{at}", False, ()) for at in range(BATCH + 9)]
     early = early_batch([*many, *many, law], {it.function for it in many[5:]})
-    yield "an early check has what is proved, once a function", early == many[5:50]
+    yield "an early check has what is proved, once a function", early == many[5 : 5 + BATCH]
     yield "few edits make no early check", not early_batch([*many, law], {it.function for it in many[:9]})
     os.makedirs(f"{ROOM}/kept/one")
     for name in ("a.f1.Proof.oantt", "a.f2.Met.oantt", "a.f3.Proof.oantt.tmp.1"):
