@@ -29,7 +29,8 @@ pub fn users_again(
     users(alloc, texts)
 }
 
-/// Who owns a file on the host that the guest gave to this user; `None` where that is forbidden.
+/// The host user who owns a file that the guest gave to the guest user `user`; `None` if that is
+/// forbidden.
 pub fn owner(map: &IdMap<GuestUid, HostUid>, user: GuestUid) -> Option<HostUid>
     ensures { MatchOption result
         (Becomes map.now GuestToHost user None)
