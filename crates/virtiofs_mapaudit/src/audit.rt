@@ -7,9 +7,9 @@ ghost use Rattle.virtiofs_mapaudit.specs.Report.{FindsReport, IsFound, IsFoundOf
 ghost use Rattle.virtiofs_mapaudit.specs.ReportParts.{AddsPairs};
 ghost use Rattle.virtiofs_mapaudit.specs.Said.{Says, ShownIf, ShowsSet, ShowsKind, ShowsBothKinds, ShowsSomeNames, AreTables, specs_given, ranges_given, rules_given, set_up_line, guests_text, pairs_text, closing, report_text};
 
+use crate::as_json::report_as_json;
 use crate::ids::kind::IdKind;
 use crate::ids::table::push_table as push_ids_table;
-use crate::json::push_json;
 use crate::lines::{push_guest, push_pair};
 use crate::names::table::push_table as push_names_table;
 use crate::pairs::{PairFindings, audit_pair};
@@ -351,7 +351,7 @@ fn in_form(
         return Ok(String::new(alloc));
     }
     if asked.json {
-        return push_json(alloc, asked, sets, report, refusals);
+        return report_as_json(alloc, asked, sets, report, refusals);
     }
     Ok(plain)
 }

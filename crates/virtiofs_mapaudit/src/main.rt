@@ -3,10 +3,10 @@
 
 ghost use Rattle.std.specs.Prelude.{◌≡◌, ◌≢◌, ◌↔◌, [], IsTrue, IsErrOf, string_bytes};
 
+mod as_json;
 mod audit;
 mod emit;
 mod ids;
-mod json;
 mod lines;
 mod names;
 mod ordinal;
