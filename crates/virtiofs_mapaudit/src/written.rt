@@ -13,7 +13,7 @@ fn hex_digit(value: u8) -> char
     if value < 10 {
         char::from(b'0' + value)
     } else {
-        char::from(b'a' + (value - 10))
+        char::from(b'a' - 10 + value)
     }
 }
 
