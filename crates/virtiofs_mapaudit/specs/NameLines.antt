@@ -17,7 +17,7 @@ is_usual name =
 -- a further name, or what is said where there is none
 abbrev pub or_name : {A : Type 0} → Audit A → List ℕ → List ℕ
 or_name Yes otherwise = otherwise
-or_name (No name) otherwise = codes ", or " ++ quoted name
+or_name (No name) otherwise = codes " (also " ++ quoted name ++ codes ")"
 
 -- the least name that begins with `user.`; if there is none, the least that begins with `trusted.`; and so on
 abbrev pub also : {A : Type 0} → LeastName A → List ℕ
@@ -40,14 +40,14 @@ unruled_lines false = codes "some names have no rule: calls with them fail\n  fi
 -- a name that the guest sets, and that is not listed back
 abbrev pub lost_lines : {A : Type 0} → LeastName A → List ℕ
 lost_lines found =
-    lines_round (codes "the guest sets ") found found.all
-    (codes ", and lists do not show it\n  fix: let the rule that takes it act on both sides, by the scope all, or deny it\n")
+    lines_round (codes "the guest can set the name ") found found.all
+    (codes ", but lists do not show it\n  fix: change the scope of the rule that decides it to all, or deny the name\n")
 
--- a name of the host that is listed under a name which leads elsewhere
+-- a name of the host that is listed under a name by which the guest does not reach it
 abbrev pub stray_lines : {A : Type 0} → LeastName A → List ℕ
 stray_lines found =
-    lines_round (codes "lists show ") found found.all
-    (codes " of the host under a name that leads elsewhere\n  fix: before the other rules, put one that hides names with this beginning, for example :bad:server::NAME:\n")
+    lines_round (codes "lists show the host's attribute ") found found.all
+    (codes " under a name by which the guest does not reach it\n  fix: before the other rules, put one that hides names with this beginning, for example :bad:server::NAME:\n")
 
 -- a rule that decides no name; rules are counted from 1
 abbrev pub idle_lines : ℕ → List ℕ

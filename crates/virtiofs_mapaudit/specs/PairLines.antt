@@ -40,10 +40,10 @@ seen_after lister = codes ", and lists then show it to guest " ++ decimal lister
 
 -- a name by which one guest reaches what the other reaches too
 abbrev pub shared_before : ℕ → List ℕ
-shared_before first = codes "guest " ++ decimal first ++ codes " reaches by "
+shared_before first = codes "guest " ++ decimal first ++ codes " reaches an attribute of the host by the name "
 
 abbrev pub shared_after : ℕ → List ℕ
-shared_after second = codes " a name of the host that guest " ++ decimal second ++ codes " reaches too" ++ own_prefix
+shared_after second = codes ", and guest " ++ decimal second ++ codes " reaches it too" ++ own_prefix
 
 -- what was found of names
 abbrev pub between_lines : {A : Type 0} → ℕ → ℕ → NamesBetween A → List ℕ

@@ -153,14 +153,14 @@ fn seen_after<A: Allocator>(alloc: A, lister: usize) -> Result<String<A>, AllocE
 fn shared_before<A: Allocator>(alloc: A, first: usize) -> Result<String<A>, AllocError>
     ensures { IfOk result (λ text. string_bytes text ≡ shared_before first) }
 {
-    format!(in alloc; "guest {first} reaches by ")
+    format!(in alloc; "guest {first} reaches an attribute of the host by the name ")
 }
 
 /// What stands after such a name, where that other guest has this number.
 fn shared_after<A: Allocator>(alloc: A, second: usize) -> Result<String<A>, AllocError>
     ensures { IfOk result (λ text. string_bytes text ≡ shared_after second) }
 {
-    format!(in alloc; " a name of the host that guest {second} reaches too{OWN_PREFIX}")
+    format!(in alloc; ", and guest {second} reaches it too{OWN_PREFIX}")
 }
 
 /// Writes what is found of the names of two guests at the end of a text.

@@ -24,8 +24,9 @@ fn push_or<A: Allocator>(text: &mut String<A>, answer: &Audit<A>) -> Result<(), 
     match answer {
         Audit::Yes => Ok(()),
         Audit::No(name) => {
-            text.push_str(", or ")?;
-            push_quoted(text, name.as_name().as_bytes())
+            text.push_str(" (also ")?;
+            push_quoted(text, name.as_name().as_bytes())?;
+            text.push_str(")")
         }
     }
 }
@@ -130,15 +131,15 @@ pub(crate) fn push_names<A: Allocator>(
     push_unruled(text, found.is_terminated)?;
     push_round(
         text,
-        "the guest sets ",
+        "the guest can set the name ",
         &found.lost,
-        ", and lists do not show it\n  fix: let the rule that takes it act on both sides, by the scope all, or deny it\n",
+        ", but lists do not show it\n  fix: change the scope of the rule that decides it to all, or deny the name\n",
     )?;
     push_round(
         text,
-        "lists show ",
+        "lists show the host's attribute ",
         &found.stray,
-        " of the host under a name that leads elsewhere\n  fix: before the other rules, put one that hides names with this beginning, for example :bad:server::NAME:\n",
+        " under a name by which the guest does not reach it\n  fix: before the other rules, put one that hides names with this beginning, for example :bad:server::NAME:\n",
     )?;
     push_all_idle(text, found.idle.as_slice())
 }
