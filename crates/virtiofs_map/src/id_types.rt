@@ -39,7 +39,7 @@ ghost use Rattle.std.specs.Ordering.{nat_cmp};
 use std::fmt::{Debug, Display};
 use std::ops::{Add, Sub};
 
-// `uids` and `gids` differ in names alone, as tests/same_but_for_names.py of the repository checks.
+// `uids` and `gids` differ in names alone, as tests/must_not_compile/run.py of the repository checks.
 mod gids;
 mod numbers;
 mod uids;

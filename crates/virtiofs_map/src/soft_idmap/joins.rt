@@ -22,7 +22,7 @@ pub(crate) fn join(piece: Piece, more: Piece) -> Option<Piece>
     }
 }
 
-/// The same of a piece whose numbers fail.
+/// Joins a piece whose numbers fail with the one after it, as [`join`] does.
 fn join_forbidden(piece: Piece, more: Piece) -> Option<Piece>
     requires follows { more.first ≡ piece.last + 1 }
     requires order { piece.first ≤ piece.last }
@@ -40,7 +40,7 @@ fn join_forbidden(piece: Piece, more: Piece) -> Option<Piece>
     })
 }
 
-/// The same of a piece whose first number becomes `to`.
+/// Joins a piece whose first number becomes `to` with the one after it, as [`join`] does.
 fn join_mapped(piece: Piece, to: u32, more: Piece) -> Option<Piece>
     requires follows { more.first ≡ piece.last + 1 }
     requires order { piece.first ≤ piece.last }
