@@ -1,47 +1,33 @@
 #!/usr/bin/env python3
-"""Runs the tests of each crate that has any, without proving them: a test says enough by what it finds when it runs.
+"""Runs the tests of each crate that has any, without proving them.
 
 They run in the build that `rt try` makes, where a wrong index, a number out of range or a broken `assert` ends a test.
-`./check --release` has the tests proved too. Each line begins with the crate's name. The last line is 'N passed, N
-failed', and the exit status is 0 where none failed.
+`./check --release` has the tests proved too. The last line is 'N passed, N failed'.
 """
 import os
 import re
 import sys
+from pathlib import Path
 
 from running import made_room, run, say
+from tally import Tally
 
-TOP = os.path.dirname(os.path.dirname(os.path.abspath(__file__)))
-# The most that the tests of a crate may take, in seconds. A try takes ten times as long as what is proved and compiled.
-SECONDS = 1200
-RESULT = re.compile(r"^test result: \w+\. (\d+) passed; (\d+) failed; 0 ignored; 0 filtered out$", re.M)
-
-
-def has_tests(folder):
-    for at, _, names in os.walk(f"{folder}/src"):
-        for name in names:
-            with open(f"{at}/{name}", encoding="utf-8") as it:
-                if re.search(r"^ *#\[test\]", it.read(), re.M):
-                    return True
-    return False
+CRATES = Path(__file__).resolve().parent.parent / "crates"
+# The most seconds that the tests of a crate may take. This build takes ten times as long as one that is optimized.
+SECONDS = "1200"
+RESULT = re.compile(r"^test result: \w+\. \d+ passed; \d+ failed; 0 ignored; 0 filtered out$", re.M)
 
 
 def main():
     made_room("tests")
-    passed = failed = 0
-    for crate in sorted(os.listdir(f"{TOP}/crates")):
-        folder = f"{TOP}/crates/{crate}"
-        if not has_tests(folder):
-            continue
-        ended = run(["rt", "try", "--test", "--seconds", str(SECONDS)], folder, lambda line, it=crate: say(f"{it}: {line}"))
-        counts = RESULT.findall(ended.said)
-        if len(counts) != 1 or bool(ended.status) != bool(int(counts[0][1])):
-            say(f"FAILED: {crate}: rt try ended with {ended.status}")
-            failed += 1
-        for well, badly in counts:
-            passed, failed = passed + int(well), failed + int(badly)
-    say(f"{passed} passed, {failed} failed")
-    return 1 if failed or not passed else 0
+    tally = Tally()
+    for crate in sorted(os.listdir(CRATES)):
+        if any(re.search(r"^ *#\[test\]", it.read_text("utf-8"), re.M) for it in (CRATES / crate / "src").rglob("*.rt")):
+            words = ["rt", "try", "--test", "--seconds", SECONDS]
+            ended = run(words, CRATES / crate, lambda line, it=crate: say(f"{it}: {line}"))
+            counted = RESULT.findall(ended.said)
+            tally.add(crate, ended.status, counted[0] if len(counted) == 1 else "")
+    return tally.end()
 
 
 if __name__ == "__main__":

@@ -7,7 +7,6 @@ import contextlib
 import importlib.machinery
 import importlib.util
 import os
-import re
 import shutil
 import signal
 import subprocess
@@ -91,11 +90,6 @@ def kit():
     rt = importlib.util.module_from_spec(importlib.util.spec_from_loader("rt_of_the_kit", loader))
     loader.exec_module(rt)
     return rt
-
-
-def functions_in(said):
-    """The functions, closures among them, that a check says a line of."""
-    return frozenset(re.findall(r"^fn (\S+): ", said, re.M))
 
 
 def shown(seconds):

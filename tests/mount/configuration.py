@@ -1,111 +1,98 @@
-"""Configurations of a mount, and what the program `virtiofs_mapcheck` says of each."""
-import re
-import subprocess
+"""Configurations of a mount, and what has to come of each.
 
-ACCESS_LISTS = ("system.posix_acl_access", "system.posix_acl_default")
-AS_IT_IS = ":ok:all:::"
-SECONDS = 60
+The program virtiofs_mapcheck is asked once about each id and each name. Its answers tell which owners and names stand
+on the host after an operation of the guest, and which the guest is shown.
+"""
+from compiling import TOP
+from tally import run
 
-
-def lines_of(program, words):
-    how = {"stdin": subprocess.DEVNULL, "capture_output": True, "timeout": SECONDS}
-    ended = subprocess.run([program, *words], check=False, **how)
-    if ended.returncode > 1 or ended.stderr:
-        raise ValueError(f"{words}: status {ended.returncode}, {ended.stderr}")
-    return ended.stdout.decode().splitlines()
-
-
-def bytes_of(written):
-    """The bytes that the program writes so."""
-    plain = lambda found: b"\\" if found[1] == b"\\" else bytes([int(found[1][1:], 16)])
-    return re.sub(rb"\\(\\|x[0-9a-f]{2})", plain, written.encode())
-
-
-class Ids:
-    """What specifications make of ids, each asked once."""
-
-    def __init__(self, program, specs, guests, hosts):
-        self.guests = sorted(set(guests))
-        self.to_host = self.asked(program, specs, "guest", self.guests)
-        self.hosts = sorted({*hosts, 0, *(it for it in self.to_host.values() if it is not None)})
-        self.to_guest = self.asked(program, specs, "host", self.hosts)
-
-    @staticmethod
-    def asked(program, specs, side, ids):
-        said = lines_of(program, ["ids", *specs, "ask", *(f"{side}={it}" for it in ids)])
-        if len(said) != len(ids):
-            raise ValueError(f"{specs}: {said}")
-        return {it: int(line) if line.isdecimal() else None for it, line in zip(ids, said)}
-
-    def set_by_guest(self, wanted):
-        """The host's id; the error, where there is none. Nobody can have the greatest number."""
-        found = self.to_host[wanted]
-        return "EPERM" if found is None else "EINVAL" if found == 0xFFFFFFFF else found
+PROGRAM = f"{TOP}/crates/virtiofs_mapcheck/out/virtiofs_mapcheck"
+# Why the guest may not give a file to an id: the host has none for it, or the one that no file can have.
+NO_OWNER = {None: "EPERM", 0xFFFFFFFF: "EINVAL"}
+# Why the guest may not use a name, by the first word of the program's answer.
+ERRORS = {"deny": "EPERM", "refused:": "EPERM", "unsupported": "ENOTSUP"}
+GUESTS = (0, 1, 4, 5, 6, 9, 10, 11, 99, 100, 500, 999, 1000, 1001, 65534, 65535, 65536, 4294967290, 4294967294)
+HOSTS = (0, 5, 500, 1000, 1001, 1002, 1005, 65534, 100000, 100005, 165535, 165536, 200000, 4294967294)
+NAMES = """user.note user.a user.o.a user.virtiofs.a user.virtiofs.security.a user.k7.x user.k33.note security.a
+    security.label trusted.a trusted.virtiofs.security.a trusted.virtiofs.x system.other""".split()
+HOST_NAMES = """user.virtiofs. user.virtiofs.user.x user.virtiofs.security.x user.p.user.x user.p7.user.k7.x user.x
+    user.o.x trusted.virtiofs.security.x trusted.virtiofs. trusted.x security.x security.selinux""".split()
+SHIFTED, OWN_NAMES = ["map:0:100000:65536"], ":map::user.virtiofs.:"
+MANY_IDS = [f"map:{10 * it}:{5000 + 10 * (it * 37 % 101)}:10" for it in range(101)]
+MANY_RULES = " ".join(f":prefix:all:user.k{it}.:user.p{it}.:" for it in range(60))
 
 
-class Names:
-    """What rules make of names, each asked once."""
+def asked(*words):
+    """The lines that the program answers."""
+    status, said = run([PROGRAM, *words])
+    if status not in (0, 1):
+        raise ValueError(f"{words}: status {status}, {said}")
+    return said.splitlines()
 
-    def __init__(self, program, rules, guests, hosts):
-        self.guests = sorted(set(guests))
-        self.passed = {it: self.client(program, rules, it) for it in self.guests}
-        self.hosts = sorted({*hosts, *(to for to, error in self.passed.values() if not error)})
-        self.listed = {it: self.server(program, rules, it) for it in self.hosts}
 
-    @staticmethod
-    def client(program, rules, name):
-        """The host's name and no error, or no name and the error."""
-        (line,) = lines_of(program, ["client", rules, name])
-        word, _, rest = line.partition(" ")
-        errors = {"deny": "EPERM", "refused:": "EPERM", "unsupported": "ENOTSUP"}
-        return (None, errors[word]) if word in errors else (bytes_of(rest).decode(), None)
-
-    @staticmethod
-    def server(program, rules, name):
-        """What a list with that name alone becomes. None: no rule decides the name."""
-        (line,) = lines_of(program, ["server", rules, name])
-        return None if line.startswith("refused:") else bytes_of(line)
+def asked_ids(specs, side, ids):
+    """What each id is on the other side; None for an id that is none there."""
+    said = asked("ids", *specs, "ask", *(f"{side}={it}" for it in ids))
+    if len(said) != len(ids):
+        raise ValueError(f"{specs}: {said}")
+    return {it: int(line) if line.isdecimal() else None for it, line in zip(ids, said)}
 
 
 class Configuration:
-    """What a mount is given, and what has to come of it."""
+    """What a mount is given, and what has to come of it. Each pair is for users and for groups."""
 
     def __init__(self, name, users=(), groups=(), rules=None, posix_acl=False):
-        self.name, self.specs, self.rules, self.posix_acl = name, {"user": users, "group": groups}, rules, posix_acl
+        self.name, self.specs, self.rules, self.posix_acl = name, (users, groups), rules, posix_acl
 
     def options(self):
-        words = [f"translate_{it[0]}id={spec}" for it in ("user", "group") for spec in self.specs[it]]
-        words += [f"xattrmap={self.rules}"] if self.rules else []
-        words += ["posix_acl"] if self.posix_acl else []
-        escaped = (it.replace("\\", "\\\\").replace(",", "\\,") for it in words)
-        return [word for it in escaped for word in ("-o", it)]
+        words = [f"translate_{letter}id={spec}" for letter, specs in zip("ug", self.specs) for spec in specs]
+        words += [f"xattrmap={self.rules}"] * bool(self.rules) + ["posix_acl"] * self.posix_acl
+        return [part for it in words for part in ("-o", it.replace("\\", "\\\\").replace(",", "\\,"))]
 
-    def ask(self, program, guests, hosts, names, host_names):
-        self.users = Ids(program, self.specs["user"], guests, hosts)
-        self.groups = Ids(program, self.specs["group"], guests, hosts)
-        self.names = Names(program, self.rules or AS_IT_IS, names, host_names)
+    def ask(self):
+        """Asks the program once about each id and each name."""
+        self.to_host = [asked_ids(it, "guest", sorted(GUESTS)) for it in self.specs]
+        hosts = [sorted({*HOSTS, 0, *found.values()} - {None}) for found in self.to_host]
+        self.to_guest = [asked_ids(it, "host", ids) for it, ids in zip(self.specs, hosts)]
+        self.passed, self.listed, rules = {}, {}, self.rules or ":ok:all:::"
+        unquoted = lambda written: written.encode().decode("unicode_escape")
+        for name in sorted(NAMES):
+            (line,) = asked("client", rules, name)
+            word, _, rest = line.partition(" ")
+            self.passed[name] = (None, ERRORS[word]) if word in ERRORS else (unquoted(rest), None)
+        for name in sorted({*HOST_NAMES, *(to for to, _ in self.passed.values() if to)}):
+            (line,) = asked("server", rules, name)
+            self.listed[name] = None if line.startswith("refused:") else unquoted(line).split("\0")
 
-    def owners_on_host(self, user, group, before=(-1, -1)):
-        """Who owns a file that the guest gives to these two; the error, where it may not. -1 leaves one as it is."""
-        found = before[0] if user == -1 else self.users.set_by_guest(user)
-        other = before[1] if group == -1 else self.groups.set_by_guest(group)
-        return next((it for it in (found, other) if isinstance(it, str)), (found, other))
+    def owners_on_host(self, owners, before=(-1, -1)):
+        """Who owns a file that the guest gives to these; the error, where it may not. -1 leaves one as it is."""
+        found = [old if it == -1 else there[it] for it, old, there in zip(owners, before, self.to_host)]
+        return next((NO_OWNER[it] for it in found if it in NO_OWNER), tuple(found))
 
-    def owners_for_guest(self, user, group):
-        return self.users.to_guest[user], self.groups.to_guest[group]
-
-    def is_left_out(self, name):
-        """Whether the example neither lists nor takes this name, whatever the rules say."""
-        return name.startswith("system.") and not (self.posix_acl and name in ACCESS_LISTS)
+    def owners_for_guest(self, owners):
+        return tuple(there[it] for it, there in zip(owners, self.to_guest))
 
     def host_name(self, name):
-        """The host's name and no error, or no name and the error."""
-        return (None, "ENOTSUP") if self.is_left_out(name) else self.names.passed[name]
+        """The host's name and no error, or no name and the error. The example takes no name in system."""
+        return (None, "ENOTSUP") if name.startswith("system.") else self.passed[name]
 
     def list_for_guest(self, names):
-        """What the guest is shown where the host lists these, or the error."""
-        shown = [self.names.listed[it] for it in names if not self.is_left_out(it)]
+        """What the guest is shown where the host lists these, or the error. The example lists no name in system."""
+        shown = [self.listed[it] for it in names if not it.startswith("system.")]
         if None in shown:
             return "EPERM"
-        left = [it.decode() for whole in shown for it in whole.split(b"\0")]
-        return [it for it in left if it and not self.is_left_out(it)]
+        return [it for each in shown for it in each if it and not it.startswith("system.")]
+
+
+CONFIGURATIONS = (
+    Configuration("as it is"),
+    Configuration("labels", SHIFTED, ["map:0:200000:65536"], ":map:security.:trusted.virtiofs.:", posix_acl=True),
+    Configuration("squashed", ["squash-guest:0:1001:4294967295", "host:1001:1000:1"],
+                  ["squash-guest:0:1002:4294967295", "host:1002:1000:1"], OWN_NAMES),
+    Configuration("forbidden", ["map:0:1000:10", "forbid-guest:10:4294967284"], ["forbid-guest:5:1", "map:6:1000:100"],
+                  "/prefix/all/security./user.virtiofs./ /bad/server//security./ /bad/client/user.virtiofs.// "
+                  "/unsupported/all/trusted./trusted./ /ok/all///"),
+    Configuration("undecided", ["guest,4,4294967294,2"], ["squash-guest\\9\\4294967295\\2"],
+                  ",prefix,all,user.,user.p., \\bad\\client\\trusted.\\\\ :ok:server::user.o.:"),
+    Configuration("many", MANY_IDS, MANY_IDS, f"{MANY_RULES} {OWN_NAMES}"),
+)

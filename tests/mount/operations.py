@@ -5,163 +5,121 @@ A worker has files of its own, so that it reads them on the host before and afte
 import os
 import random
 import stat
-import threading
+from concurrent import futures
+from pathlib import Path
 
-from mounting import acting_as, outcome
+from mounting import acting_as, attributes_of, outcome, owners_of
 
 WORKERS = 8
-FILES, FOLDERS, LINKS = 3, 1, 1
+FILES = ("file0", "file1", "file2", "folder0")
+NAMES = (*FILES, "link0")
 VALUES = (b"", b"a", b"\0\xff" * 20, b"x" * 100)
 FLAGS = (0, 0, 0, os.XATTR_CREATE, os.XATTR_REPLACE)
-SEEN_AT_MOST = 5
+# How something of a kind is made, and the mode that it has then.
 MAKERS = {
-    stat.S_IFREG: lambda path: os.close(os.open(path, os.O_CREAT | os.O_EXCL | os.O_WRONLY, 0o664)),
-    stat.S_IFDIR: lambda path: os.mkdir(path, 0o775),
-    stat.S_IFLNK: lambda path: os.symlink("/anywhere", path),
-    stat.S_IFIFO: lambda path: os.mkfifo(path, 0o664),
+    stat.S_IFREG: (lambda path: Path(path).touch(0o664, exist_ok=False), 0o644),
+    stat.S_IFDIR: (lambda path: os.mkdir(path, 0o775), 0o755),
+    stat.S_IFLNK: (lambda path: os.symlink("/anywhere", path), 0o777),
+    stat.S_IFIFO: (lambda path: os.mkfifo(path, 0o664), 0o644),
 }
 
 
-def owners_of(path):
-    told = os.lstat(path)
-    return told.st_uid, told.st_gid
+class Worker:
+    """It makes operations on a mount. Each returns what it was, what came of it, and what has to come of it."""
 
-
-def attributes_of(path):
-    return {it: os.getxattr(path, it) for it in os.listxattr(path)}
-
-
-class Worker(threading.Thread):
-    """A thread that makes so many operations and counts them."""
-
-    def __init__(self, configuration, mounted, number, count):
-        super().__init__()
-        self.it, self.count, self.random = configuration, count, random.Random(f"{configuration.name} {number}")
-        self.host, self.guest = f"{mounted.host}/{number}", f"{mounted.guest}/{number}"
-        self.passed, self.failures, self.made = 0, [], 0
-        self.prepare()
-
-    def prepare(self):
-        """The folder is one in which each user of the guest may make files."""
-        os.mkdir(self.host)
-        os.chmod(self.host, 0o777)
-        self.files = [f"file{it}" for it in range(FILES)] + [f"folder{it}" for it in range(FOLDERS)]
-        self.names = [*self.files, *(f"link{it}" for it in range(LINKS))]
-        for name in self.names:
+    def __init__(self, configuration, mounted, number):
+        self.it, self.random, self.made = configuration, random.Random(f"{configuration.name} {number}"), 0
+        # (in its folder each user of the guest may make files)
+        self.host, self.guest = mounted.folder(str(number))
+        for name in NAMES:
             kind = {"file": stat.S_IFREG, "fold": stat.S_IFDIR, "link": stat.S_IFLNK}[name[:4]]
-            MAKERS[kind](f"{self.host}/{name}")
+            MAKERS[kind][0](f"{self.host}/{name}")
 
-    def run(self):
+    def operations(self, count):
         doing = (self.give, self.give, self.look, self.make, self.set, self.set, self.get, self.list, self.remove)
-        for _ in range(self.count):
+        for _ in range(count):
             operation = self.random.choice(doing)
             try:
-                found = operation()
+                what, found, wanted = operation()
             except Exception as error:  # (each fault is to be counted, whatever it is)
-                found = f"{type(error).__name__}: {error}"
-            self.passed += not found
-            if found:
-                self.failures.append(f"{self.it.name}: {operation.__name__}: {found}")
+                what, found, wanted = "ends early", repr(error), None
+            yield f"{self.it.name}: {operation.__name__} {what}", found, wanted
 
     def paths(self, names):
         name = self.random.choice(names)
         return f"{self.host}/{name}", f"{self.guest}/{name}"
 
-    def seen_owners(self, host, guest):
-        owners = self.it.owners_for_guest(*owners_of(host))
-        return "" if owners_of(guest) == owners else f"{owners_of(guest)} are seen for {owners_of(host)}, not {owners}"
+    def owners(self, choices, *more):
+        return tuple(self.random.choice([*more, *it]) for it in choices)
 
     def give(self):
         """chown of a file, a folder or a link."""
-        host, guest = self.paths(self.names)
-        user, group = (self.random.choice([-1, *it.guests]) for it in (self.it.users, self.it.groups))
-        before = owners_of(host)
-        wanted = self.it.owners_on_host(user, group, before)
-        found = outcome(os.chown, guest, user, group, follow_symlinks=False)
-        after = owners_of(host)
-        told, left = (wanted, before) if isinstance(wanted, str) else (None, wanted)
-        if (found, after) != (told, left):
-            return f"to {user}, {group} from {before}: {found}, {after}, not {told}, {left}"
-        return self.seen_owners(host, guest)
+        host, guest = self.paths(NAMES)
+        owners, before = self.owners(self.it.to_host, -1), owners_of(host)
+        wanted = self.it.owners_on_host(owners, before)
+        error, after = (wanted, before) if isinstance(wanted, str) else (None, wanted)
+        found = outcome(os.chown, guest, *owners, follow_symlinks=False), owners_of(host), owners_of(guest)
+        return f"to {owners} from {before}", found, (error, after, self.it.owners_for_guest(after))
 
     def look(self):
         """lstat after the host changed something."""
-        host, guest = self.paths(self.names)
-        os.chown(host, *(self.random.choice(it.hosts) for it in (self.it.users, self.it.groups)), follow_symlinks=False)
-        return self.seen_owners(host, guest)
+        host, guest = self.paths(NAMES)
+        os.chown(host, *self.owners(self.it.to_guest), follow_symlinks=False)
+        return f"at {owners_of(host)}", owners_of(guest), self.it.owners_for_guest(owners_of(host))
 
     def make(self):
-        """Something new, made by a user of the guest."""
+        """Something new, made by a user of the guest, and then removed."""
         self.made += 1
         host, guest = (f"{it}/made{self.made}" for it in (self.host, self.guest))
         kind = self.random.choice(list(MAKERS))
-        user, group = (self.random.choice(it.guests) for it in (self.it.users, self.it.groups))
-        wanted = self.it.owners_on_host(user, group)
-        with acting_as(user, group):
-            found = outcome(MAKERS[kind], guest)
-        if isinstance(wanted, str):
-            return "" if found == wanted and not os.path.lexists(host) else f"by {user}, {group}: {found}, not {wanted}"
-        if found:
-            return f"by {user}, {group}: {found}"
-        told = os.lstat(host)
-        mode = {stat.S_IFLNK: 0o777, stat.S_IFDIR: 0o755}.get(kind, 0o644)
-        if (told.st_uid, told.st_gid) != wanted or told.st_mode != kind | mode:
-            return f"by {user}, {group}: {told.st_uid}, {told.st_gid}, {told.st_mode:o}, not {wanted}, {kind | mode:o}"
-        seen = self.seen_owners(host, guest)
+        owners = self.owners(self.it.to_host)
+        wanted, (maker, mode), what = self.it.owners_on_host(owners), MAKERS[kind], f"{kind:o} by {owners}"
+        with acting_as(*owners):
+            error = outcome(maker, guest)
+        if error or isinstance(wanted, str):
+            return what, (error, os.path.lexists(host)), (wanted, False)
+        found = owners_of(host), os.lstat(host).st_mode, owners_of(guest)
         (os.rmdir if kind == stat.S_IFDIR else os.unlink)(guest)
-        return seen or ("it is not removed" if os.path.lexists(host) else "")
+        return what, (*found, os.path.lexists(host)), (wanted, kind | mode, self.it.owners_for_guest(wanted), False)
 
     def set(self):
-        host, guest = self.paths(self.files)
-        name, value, flags = (self.random.choice(it) for it in (self.it.names.guests, VALUES, FLAGS))
-        before = attributes_of(host)
-        wanted, left, (to, error) = None, dict(before), self.it.host_name(name)
-        if error:
-            wanted = error
-        elif flags == os.XATTR_CREATE and to in before:
-            wanted = "EEXIST"
-        elif flags == os.XATTR_REPLACE and to not in before:
-            wanted = "ENODATA"
-        else:
-            left[to] = value
-        found = outcome(os.setxattr, guest, name, value, flags)
-        after = attributes_of(host)
-        return "" if (found, after) == (wanted, left) else f"{name}: {found}, not {wanted}; {before} to {after}"
+        host, guest = self.paths(FILES)
+        name, value, flags = (self.random.choice(it) for it in (list(self.it.passed), VALUES, FLAGS))
+        before, (to, error) = attributes_of(host), self.it.host_name(name)
+        if not error and flags == os.XATTR_CREATE and to in before:
+            error = "EEXIST"
+        if not error and flags == os.XATTR_REPLACE and to not in before:
+            error = "ENODATA"
+        found = outcome(os.setxattr, guest, name, value, flags), attributes_of(host)
+        return f"{name} where there is {before}", found, (error, before if error else {**before, to: value})
 
     def get(self):
-        host, guest = self.paths(self.files)
-        name = self.random.choice(self.it.names.guests)
+        host, guest = self.paths(FILES)
+        name = self.random.choice(list(self.it.passed))
         to, error = self.it.host_name(name)
-        wanted = error or attributes_of(host).get(to, "ENODATA")
-        found = outcome(os.getxattr, guest, name)
-        return "" if found == wanted else f"{name}: {found}, not {wanted}"
+        return name, outcome(os.getxattr, guest, name), error or attributes_of(host).get(to, "ENODATA")
 
     def list(self):
-        host, guest = self.paths(self.files)
+        host, guest = self.paths(FILES)
         if self.random.random() < 0.3:
-            outcome(os.setxattr, host, self.random.choice(self.it.names.hosts), b"of the host")
-        wanted, found = self.it.list_for_guest(os.listxattr(host)), outcome(os.listxattr, guest)
-        return "" if found == wanted else f"{os.listxattr(host)}: {found}, not {wanted}"
+            outcome(os.setxattr, host, self.random.choice(list(self.it.listed)), b"of the host")
+        names = os.listxattr(host)
+        return str(names), outcome(os.listxattr, guest), self.it.list_for_guest(names)
 
     def remove(self):
-        host, guest = self.paths(self.files)
+        host, guest = self.paths(FILES)
         if self.random.random() < 0.2:
             for it in os.listxattr(host):
                 os.removexattr(host, it)
-        name = self.random.choice(self.it.names.guests)
-        before = attributes_of(host)
-        to, error = self.it.host_name(name)
-        wanted = error or (None if to in before else "ENODATA")
-        found = outcome(os.removexattr, guest, name)
+        name = self.random.choice(list(self.it.passed))
+        before, (to, error) = attributes_of(host), self.it.host_name(name)
+        error = error or (None if to in before else "ENODATA")
         left = {it: value for it, value in before.items() if it != to}
-        return "" if (found, attributes_of(host)) == (wanted, left) else f"{name}: {found}, not {wanted}"
+        return name, (outcome(os.removexattr, guest, name), attributes_of(host)), (error, left)
 
 
 def operated(configuration, mounted, count):
-    """What eight threads at once find: how many operations were as they must be, and what is wrong with the others."""
-    workers = [Worker(configuration, mounted, number, count) for number in range(WORKERS)]
-    for it in workers:
-        it.start()
-    for it in workers:
-        it.join()
-    return sum(it.passed for it in workers), [failure for it in workers for failure in it.failures]
+    """The operations of eight threads at once, each of which makes so many."""
+    workers = [Worker(configuration, mounted, it) for it in range(WORKERS)]
+    with futures.ThreadPoolExecutor(WORKERS) as pool:
+        return [it for made in pool.map(lambda worker: [*worker.operations(count)], workers) for it in made]

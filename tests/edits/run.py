@@ -1,31 +1,29 @@
 #!/usr/bin/env python3
-"""Tries every edit crates/NAME/must-fail/*.edit, many in one check: the prover must refuse each.
+"""Tries the edits crates/NAME/must-fail/*.edit, many in one check: the prover must refuse each.
 
-usage: must_fail.py [--lanes N] [--proved TREE]
+usage: run.py [--lanes N] [--proved TREE]
 
-Besides what rt reads, an edit has a line 'function: NAME': the function that the prover has to refuse, by its name as
-the prover prints it, without the crate. An edit inside the body of a function changes no contract, so no proof of
-another function sees it. Edits of different functions are therefore made together in one check, which proves these
-functions and what they call. An edit is refused if a goal of its own function is left open there. That the function
-calls another one that is refused counts for nothing.
+Besides what rt reads, an edit has a line 'function: NAME': the function that the prover must refuse, by its name as the
+prover prints it, without the crate. An edit inside a body changes no contract, so no proof of another function sees it.
+Edits of different functions are therefore made together in one check, which proves these functions and what they call.
+An edit is refused if a goal of its own function is left open. If that function only calls another one that is refused,
+this counts for nothing.
 
-The laws of the id types are functions with empty bodies. So an edit with a line 'law: NAME' changes what the law says,
-or what a type says of its values. These edits of a crate are tried in a check of their own, and are written so that
-none of them touches what another one's law says.
+The laws of the id types are functions with empty bodies. An edit with a line 'law: NAME' changes what the law says, or
+what a type says of its values. These edits of a crate are tried in a check of their own. None of them may touch what
+another one's law says.
 
-Each check also has the edit harmless/CRATE.edit, which changes a body and not its meaning. Its function must be proved
-in that very check, or else a refusal would show nothing.
+Each check also has the edit harmless/CRATE.edit, which changes a body and not its meaning. Its function must be proved in
+that very check, or else a refusal would show nothing.
 
-A check begins with a copy of what is proved of its crate. TREE is a copy of the repository in which tests/prove.py is
-at work, and each crate is taken from there. The edits of a crate begin before it is built, as soon as enough of their
-functions are proved. If no TREE is given, prove.py is run here first.
+A check begins with a copy of what is proved of its crate. TREE is a copy of the repository in which tests/prove.py is at
+work. The edits of a crate begin before it is built, as soon as enough of their functions are proved. Without TREE,
+prove.py is run here first.
 
-Each edit has a line. The last line is 'N passed, N failed', and the exit status is 0 where none failed.
+Each edit has a line. The last line is 'N passed, N failed', and the exit status is 0 if none failed.
 """
 import glob
-import itertools
 import os
-import queue
 import re
 import shutil
 import sys
@@ -35,11 +33,13 @@ import time
 from concurrent.futures import ThreadPoolExecutor
 from typing import NamedTuple
 
-from running import cores, made_room, run, say, shown
-
 HERE = os.path.dirname(os.path.abspath(__file__))
-TOP = os.path.dirname(HERE)
-# The most edits of one check. What a check costs before it proves anything is as much as four edits cost.
+TOP = os.path.dirname(os.path.dirname(HERE))
+sys.dont_write_bytecode = True
+sys.path.insert(0, os.path.dirname(HERE))
+from running import cores, kit, made_room, run, say, shown
+
+# The most edits of one check. What a check costs before it proves anything is as much as eight edits cost.
 BATCH = 45
 # An error in a function's proof that shows nothing: it cites what a refused function proves, or names what is gone.
 SHOWS_NOTHING = re.compile(r"was not admitted|has no field|is not in scope|has no `")
@@ -55,8 +55,8 @@ TEXT_ERROR = re.compile(r"^(?:\./)?(?:src|specs)/\S+:\d+:\d+: error.*", re.M)
 
 
 class Edit(NamedTuple):
-    """An edit: its name, the file that it changes, the function that has to be refused, whether that is a law, and the
-    pairs of old and new texts."""
+    """An edit: its name, the file that it changes, the function that must be refused, whether that is a law, and the pairs
+    of old and new texts."""
 
     name: str
     path: str
@@ -90,24 +90,14 @@ def changed_part(was, line):
     return begin, len(was) - same, line[begin : len(line) - same]
 
 
-def with_parts(line, parts):
-    """A line with all these parts changed."""
-    ended = len(line)
-    for begin, end, new in sorted(parts, reverse=True):
-        if end > ended:
-            raise ValueError(f"two edits change the same part of this line: {line}")
-        line, ended = line[:begin] + new + line[end:], begin
-    return line
-
-
 def edited(edits, folder):
-    """The texts of the files of a crate under these edits. Each edit is made in the file as it is without the others. An
-    edit changes lines, and neither adds nor removes one."""
+    """The texts of the files of a crate under these edits. Each edit is made in the file as it is without the others. It
+    changes lines, and neither adds nor removes one."""
     lines, parts = {}, {}
     for edit in edits:
         if edit.path not in lines:
             with open(f"{folder}/{edit.path}", encoding="utf-8") as it:
-                lines[edit.path], parts[edit.path] = it.read().split("\n"), {}
+                lines[edit.path] = it.read().split("\n")
         text = "\n".join(lines[edit.path])
         for old, new in edit.pairs:
             if not old or text.count(old) != 1:
@@ -115,31 +105,37 @@ def edited(edits, folder):
             text = text.replace(old, new)
         for at, (was, line) in enumerate(zip(lines[edit.path], text.split("\n"))):
             if line != was:
-                parts[edit.path].setdefault(at, []).append(changed_part(was, line))
-    texts = {path: [with_parts(line, parts[path].get(at, [])) for at, line in enumerate(lines[path])] for path in lines}
-    return {path: "\n".join(text) for path, text in texts.items()}
+                parts.setdefault((edit.path, at), []).append(changed_part(was, line))
+    for (path, at), changed in parts.items():
+        line, ended = lines[path][at], len(lines[path][at])
+        for begin, end, new in sorted(changed, reverse=True):
+            if end > ended:
+                raise ValueError(f"two edits change the same part of this line of {path}: {line}")
+            line, ended = line[:begin] + new + line[end:], begin
+        lines[path][at] = line
+    return {path: "\n".join(its) for path, its in lines.items()}
 
 
 def of_functions(edits):
-    """The edits of each function, the functions with most edits first."""
+    """The edits of each function that is no law, the functions with most edits first."""
     of_each = {}
     for edit in edits:
-        of_each.setdefault(edit.function, []).append(edit)
+        if not edit.is_law:
+            of_each.setdefault(edit.function, []).append(edit)
     return sorted(of_each.values(), key=len, reverse=True)
 
 
 def batches(edits):
     """The checks in which these edits are tried. No check has two edits of one function."""
     of_each = of_functions(edits)
-    bodies = [edit for own in of_each for edit in own if not edit.is_law]
+    bodies = [edit for own in of_each for edit in own]
     checks = max([-(-len(bodies) // BATCH), *map(len, of_each)])
-    laws = [edit for edit in edits if edit.is_law]
-    return [it for it in [laws, *(bodies[at::checks] for at in range(checks))] if it]
+    return [it for it in [[edit for edit in edits if edit.is_law], *(bodies[at::checks] for at in range(checks))] if it]
 
 
 def early_batch(edits, proved):
     """A whole check of edits, one of a function, whose functions are among those that are proved, or no edit."""
-    firsts = [own[0] for own in of_functions(edits) if own[0].function in proved and not own[0].is_law]
+    firsts = [own[0] for own in of_functions(edits) if own[0].function in proved]
     return firsts[:BATCH] if len(firsts) >= BATCH else []
 
 
@@ -154,8 +150,7 @@ def refused_in(said, crate):
         if name in errors:
             goals.setdefault(name, set()).update(errors[name])
     # (a name with '::' is that of a function that is called)
-    clauses = {name: sorted(it.rpartition("-clause-")[2] for it in left if "::" not in it) for name, left in goals.items()}
-    return {name: ", ".join(left) for name, left in clauses.items()}
+    return {name: sorted(it.rpartition("-clause-")[2] for it in left if "::" not in it) for name, left in goals.items()}
 
 
 def judged(edits, harmless, crate, ended):
@@ -167,12 +162,12 @@ def judged(edits, harmless, crate, ended):
         why = f"{harmless.name}, which changes no meaning, was refused in the same check"
     if why:
         return {edit: (False, f"FAILED: nothing was judged: {why}") for edit in edits}
-    found = refused_in(said, crate)
-    names = {edit: f"{crate}::{edit.function}" for edit in edits}
-    return {
-        edit: (True, f"refused, as it must be: fn {name} ({found[name]})") if name in found else (False, "NOT REFUSED")
-        for edit, name in names.items()
-    }
+    found, answers = refused_in(said, crate), {}
+    for edit in edits:
+        name = f"{crate}::{edit.function}"
+        told = "refused, as it must be" if name in found else "NOT REFUSED"
+        answers[edit] = name in found, f"{told}: fn {name} ({', '.join(found.get(name, []))})"
+    return answers
 
 
 def link_or_copy(file, to):
@@ -187,52 +182,12 @@ def proved_in(folder, crate):
     return {os.path.basename(it)[len(f"Rattle-{crate}-proofs.") : -len(".Proof.oantt")].replace(".", "::") for it in found}
 
 
-class Crate:
-    """A crate of the repository, the repository's crates that it uses, its edits, and why other files there are none."""
-
-    def __init__(self, name, uses):
-        self.name, self.uses, self.edits, self.bad = name, uses, [], {}
-        for file in sorted(glob.glob(f"{TOP}/crates/{name}/must-fail/*")):
-            try:
-                self.edits.append(read_edit(file))
-            except (OSError, ValueError) as error:
-                self.bad[os.path.basename(file)] = str(error)
-
-
-def crates_with_edits():
-    uses = {}
-    with open(f"{TOP}/crates.txt", encoding="utf-8") as lines:
-        for line in lines:
-            name, _, used = line.partition("#")[0].partition(":")
-            if name.strip():
-                uses[name.split()[0]] = set(used.split())
-
-    def below(name):
-        own = uses[name] & set(uses)
-        return own.union(*map(below, own))
-
-    return [it for it in (Crate(name, below(name)) for name in uses) if it.edits or it.bad]
-
-
 class Run:
-    """One run. Its crates are proved in `tree`. `room` is for its own files. Each lane takes the largest check that is
-    ready, so that the lanes end together."""
+    """One run. Its crates are proved in `tree`. `room` is for its own files."""
 
     def __init__(self, tree, room, lanes):
-        self.tree, self.room, self.ready, self.numbers = tree, room, queue.PriorityQueue(), itertools.count()
+        self.tree, self.room, self.lanes = tree, room, ThreadPoolExecutor(lanes)
         self.passed, self.failed, self.counting = 0, 0, threading.Lock()
-        for _ in range(lanes):
-            threading.Thread(target=self.lane, daemon=True).start()
-
-    def lane(self):
-        while True:
-            _, _, crate, edits, harmless = self.ready.get()
-            try:
-                self.batch(crate, edits, harmless)
-            except Exception as error:
-                self.answer(crate, "*", False, f"FAILED: {error}")
-            finally:
-                self.ready.task_done()
 
     def answer(self, crate, name, is_refused, text):
         with self.counting:
@@ -240,35 +195,44 @@ class Run:
         say(f"must-fail {crate.name}/{name}: {text}")
 
     def of_crate(self, crate):
-        """Makes the checks of a crate ready, each once what it begins with is proved."""
-        for name, why in crate.bad.items():
-            self.answer(crate, name, False, f"FAILED: {why}")
+        """Tries the edits of a crate: each check begins once what it begins with is proved, and a lane is free."""
+        edits = []
+        for file in sorted(glob.glob(f"{TOP}/crates/{crate.name}/must-fail/*")):
+            try:
+                edits.append(read_edit(file))
+            except (OSError, ValueError) as error:
+                self.answer(crate, os.path.basename(file), False, f"FAILED: {error}")
         try:
-            harmless = read_edit(f"{HERE}/harmless/{crate.name}.edit")
-            made, left = f"{self.tree}/crates/{crate.name}/out", crate.edits
-            while not os.path.exists(f"{made}/proved"):
-                if os.path.exists(f"{self.tree}.ended"):
-                    raise RuntimeError(f"{crate.name} was not proved")
-                proved = proved_in(f"{made}/incremental", crate.name)
-                early = early_batch(left, proved)
-                left = [it for it in left if it not in early]
-                if early:
-                    self.ready.put((-len(early), next(self.numbers), crate, early, harmless))
-                elif proved.issuperset(it.function for it in (*left, harmless)):
-                    break
-                time.sleep(1)
-            for edits in batches(left):
-                self.ready.put((-len(edits), next(self.numbers), crate, edits, harmless))
+            for started in [self.lanes.submit(self.batch, crate, *it) for it in self.ready(crate, edits)] if edits else []:
+                started.result()
         except Exception as error:
             self.answer(crate, "*", False, f"FAILED: {error}")
+
+    def ready(self, crate, edits):
+        """Each check of a crate, with the harmless edit, as soon as it can begin."""
+        harmless = read_edit(f"{HERE}/harmless/{crate.name}.edit")
+        made = f"{self.tree}/crates/{crate.name}/out"
+        while not os.path.exists(f"{made}/proved"):
+            if os.path.exists(f"{self.tree}.ended"):
+                raise RuntimeError(f"{crate.name} was not proved")
+            proved = proved_in(f"{made}/incremental", crate.name)
+            early = early_batch(edits, proved)
+            edits = [it for it in edits if it not in early]
+            if early:
+                yield early, harmless
+            elif proved.issuperset(it.function for it in (*edits, harmless)):
+                break
+            time.sleep(1)
+        yield from ((it, harmless) for it in batches(edits))
 
     def copied(self, crate):
         """A copy of a crate with its proofs, and of what it uses. Returns the crate's folder."""
         top = tempfile.mkdtemp(dir=self.room)
+        below = {it.name for it in crate.below()}
         for name in ("crates.txt", "HANDLES"):
             shutil.copy(f"{TOP}/{name}", top)
         for name in os.listdir(f"{self.tree}/crates"):
-            left_out = "rlib" if name == crate.name else "incremental" if name in crate.uses else "out"
+            left_out = "rlib" if name == crate.name else "incremental" if name in below else "out"
             # (a file that the prover is still writing has such a name)
             unread = shutil.ignore_patterns("must-fail", left_out, "*.tmp.*")
             copied = f"{top}/crates/{name}"
@@ -283,9 +247,10 @@ class Run:
                 with open(f"{folder}/{path}", "w", encoding="utf-8") as it:
                     it.write(text)
             words = [word for edit in (*edits, harmless) for word in ("--only", edit.function)]
-            ended = run(["rt", "check", "--jobs", "1", *words], folder)
-            if not JUDGED.search(ended.said) and not TEXT_ERROR.search(ended.said):
+            for _ in range(2):
                 ended = run(["rt", "check", "--jobs", "1", *words], folder)
+                if JUDGED.search(ended.said) or TEXT_ERROR.search(ended.said):
+                    break
             answers = judged(edits, harmless, crate.name, ended)
         except (OSError, ValueError) as error:
             answers = {edit: (False, f"FAILED: {error}") for edit in edits}
@@ -293,7 +258,7 @@ class Run:
             shutil.rmtree(os.path.dirname(os.path.dirname(folder)), ignore_errors=True)
         for edit, (is_refused, text) in answers.items():
             self.answer(crate, edit.name, is_refused, text)
-        say(f"{len(edits)} edits of {crate.name} in {shown(time.time() - begun)}")
+        say(f"{len(edits)} edits of {crate.name} in {shown(time.time() - begun)}, {ended.processor:.0f} s of processor time")
 
 
 def main(words):
@@ -307,13 +272,12 @@ def main(words):
         if not tree:
             tree = f"{room}/tree"
             shutil.copytree(TOP, tree, symlinks=True, ignore=shutil.ignore_patterns(".git", "out", "must-fail"))
-            run([f"{HERE}/prove.py"], tree, say)
+            run([f"{TOP}/tests/prove.py"], tree, say)
             with open(f"{tree}.ended", "w", encoding="utf-8"):
                 pass
-        started, crates = Run(tree, room, lanes), crates_with_edits()
+        started, crates = Run(tree, room, lanes), kit().rtlib.crates_below(TOP)
         with ThreadPoolExecutor(len(crates)) as waiting:
             list(waiting.map(started.of_crate, crates))
-        started.ready.join()
     finally:
         shutil.rmtree(room, ignore_errors=True)
     say(f"{started.passed} passed, {started.failed} failed")

@@ -1,0 +1,130 @@
+#!/usr/bin/env python3
+"""Sees that programs that mix up ids, or keep a listed name longer than its list, do not compile. Nor does a library
+that reads its ranges or its tries without counting the step.
+
+caller.rt.txt is a program that must compile, or the refusals would show nothing. An edit puts 'new: TEXT' in the place
+of 'old: TEXT', which stands once in the program, or in the file of the library that 'in: PATH' names. The edited line
+must get 'error: NAME' first. `rt try` reads all from source, and proves nothing. It tells of borrows only if the types
+are right, so these edits have a copy of their own.
+
+A library that reads with a new counter, and throws that away, does compile. So the sources of ranges and tries are read
+for new counters. The ids of users and of groups must differ only in names. The last line is 'N passed, N failed'.
+"""
+import difflib
+import os
+import re
+import shutil
+import sys
+from concurrent.futures import ThreadPoolExecutor
+from pathlib import Path
+
+HERE = Path(__file__).resolve().parent
+TOP = HERE.parent.parent
+sys.dont_write_bytecode = True
+sys.path.insert(0, str(HERE.parent))
+from running import made_room, run
+from tally import Tally
+
+SOURCE = TOP / "crates/virtiofs_map/src"
+PROGRAM = "crates/caller/src/main.rt"
+# The functions of ranges and tries that throw a count away, by their files. Their contracts promise no count.
+UNCOUNTED = (
+    ("soft_idmap.rt", "map_guest"),
+    ("soft_idmap.rt", "map_host"),
+    ("soft_idmap/image.rt", "look_up"),
+    ("soft_idmap/stretches.rt", "stretch"),
+    ("xattrmap/trie/walk.rt", "look_up"),
+)
+LOST = "fn find(steps: &mut Steps) {\n    read(0, &mut Steps::new());\n    let mut spare = Steps::new();\n}\n"
+
+
+def new_counters(text):
+    """Each new counter of a source file: the function that it stands in, and whether its count is added to another."""
+    for function in re.split(r"\n(?= *(?:pub(?:\([^)]*\))? )?fn )", text):
+        name = re.search(r"\bfn (\w+)|\Z", function)[1]
+        for line in re.findall(r"^.*\bSteps(?:::new| as )\b.*$", function, re.M):
+            kept = re.fullmatch(r" *let mut (\w+) = Steps::new\(\);", line)
+            if kept:
+                yield name, function.count(line) == 1 and f"steps.add(&{kept[1]});" in function
+            else:
+                yield name, line.strip() == "steps.add(&Steps::new());"
+
+
+def see_counters(tally):
+    """Sees that a new counter stands only in a function that adds its count, or in one of UNCOUNTED."""
+    found = {it: [] for it in UNCOUNTED}
+    for file in sorted(SOURCE.rglob("*.rt")):
+        path = str(file.relative_to(SOURCE))
+        if path.startswith(("soft_idmap", "xattrmap")):
+            for function, is_added in new_counters(file.read_text("utf-8")):
+                found.setdefault((path, function), []).append(is_added or (path, function) in UNCOUNTED)
+    for (path, function), are_well in found.items():
+        is_lost = not all(are_well or [False])
+        tally.see(f"the new counter of {function} in {path}", is_lost and "there is none, or its count is lost")
+    tally.see("lost counters would be seen", [it for _, it in new_counters(LOST)] != [False, False] and "they are not")
+
+
+def see_names(tally):
+    """Sees that the file on users is the file on groups, byte for byte, once its words are replaced."""
+    users, groups = ((SOURCE / "id_types" / it).read_bytes().decode() for it in ("uids.rt", "gids.rt"))
+    for of_user, of_group in (("Uid", "Gid"), ("uid", "gid"), ("user", "group")):
+        users = users.replace(of_user, of_group)
+    differing = difflib.unified_diff(users.splitlines(True), groups.splitlines(True), "users", "groups")
+    tally.see("uids.rt and gids.rt", "".join(differing))
+
+
+def lay_out(room):
+    """Makes a repository with the libraries and the crate `caller`."""
+    shutil.copytree(TOP, room, ignore=shutil.ignore_patterns(".git", "out", "must-fail"))
+    (room / PROGRAM).parent.mkdir(parents=True)
+    shutil.copy(HERE / "caller.rt.txt", room / PROGRAM)
+    with open(room / "crates.txt", "a", encoding="utf-8") as it:
+        it.write("caller: virtiofs_map\n")
+    return room
+
+
+def edited(tally, rooms):
+    """Makes the edits, each in its room. Tells for each its name, its room, its line and the error that it must get."""
+    for file in sorted(HERE.glob("*.edit")):
+        said = dict(line.split(": ", 1) for line in file.read_text("utf-8").splitlines())
+        path, room = said.get("in", PROGRAM), "borrows" if said["error"].startswith("borrow-") else "types"
+        target = rooms[room] / path
+        before, *after = target.read_text("utf-8").split(said["old"])
+        if len(after) != 1:
+            tally.see(file.stem, f"its old text stands {len(after)} times in {path}, and not once")
+            continue
+        target.write_text(before + said["new"] + after[0], "utf-8")
+        yield file.stem, room, f"{path}:{before.count(chr(10)) + 1}", said["error"]
+
+
+def tried(room):
+    """The first error at each line that has one, what was said, and the status. A program that compiles is run."""
+    folder = room / "crates/caller"
+    ended, errors = run(["rt", "try"], folder), {}
+    for path, line, name in re.findall(r"^(\S+?):(\d+):\d+: error\[([\w-]+)]", ended.said, re.M):
+        errors.setdefault(f"{os.path.relpath(folder / path, room)}:{line}", name)
+    return errors, ended.said, ended.status
+
+
+def main():
+    tally = Tally()
+    see_names(tally)
+    see_counters(tally)
+    top = Path(made_room("must-not-compile"))
+    try:
+        rooms = {it: lay_out(top / it) for it in ("caller", "types", "borrows")}
+        edits = list(edited(tally, rooms))
+        with ThreadPoolExecutor(2) as pool:
+            answers = dict(zip(rooms, pool.map(tried, rooms.values())))
+    finally:
+        shutil.rmtree(top, ignore_errors=True)
+    errors, said, status = answers["caller"]
+    tally.see("the program without an edit compiles", errors or status and f"status {status}", said)
+    for name, room, at, error in edits:
+        errors, said, _ = answers[room]
+        tally.see(name, errors.get(at) != error and f"errors {errors}, and not {error} at {at}", said)
+    return tally.end()
+
+
+if __name__ == "__main__":
+    sys.exit(main())
