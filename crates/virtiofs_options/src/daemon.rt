@@ -1,7 +1,7 @@
 //! A whole command line of the daemon.
 
 use crate::command::{Word, read_word};
-use crate::guest::Guest;
+use crate::guest::{Guest, Older};
 use crate::options::OF_DAEMON;
 use std::alloc::{AllocError, Allocator};
 
@@ -16,20 +16,25 @@ pub(crate) enum WordFault<'a> {
     Unwanted(&'a str),
 }
 
-/// Takes in the options of the older form, which stand after `-o`.
-fn read_older<'a, A: Allocator + Copy>(words: &[&'a str], guest: &mut Guest<'a, A>) {
+/// What the options of the older form say, which stand after `-o`.
+fn read_older<'a>(words: &[&'a str]) -> Older<'a> {
+    let mut older = Older {
+        xattrmap: None,
+        posix_acl: None,
+    };
     let mut at = 0;
     while at < words.len() {
         match read_word(&OF_DAEMON, words[at], words.get(at + 1).copied()) {
             Word::Valued(name, value, both) => {
                 if name == "-o" {
-                    guest.take_older(value);
+                    older = older.with_all(value);
                 }
                 at += if both { 2 } else { 1 };
             }
             _ => at += 1,
         }
     }
+    older
 }
 
 /// Takes in the words of a command line of the daemon, and tells what is wrong with the first that
@@ -57,6 +62,6 @@ pub(crate) fn read_daemon<'a, A: Allocator + Copy>(
             Word::Unknown(name) => return Ok(Some(WordFault::Unknown(name))),
         }
     }
-    read_older(words, guest);
+    guest.take_older(read_older(words));
     Ok(None)
 }

@@ -33,16 +33,24 @@ impl<'a, A: Allocator + Copy> Guest<'a, A> {
         }
     }
 
+    /// The list that an option adds a value to.
+    fn list(&mut self, option: &str) -> Option<&mut Vec<&'a str, A>> {
+        match option {
+            "--translate-uid" => Some(&mut self.translate_uid),
+            "--translate-gid" => Some(&mut self.translate_gid),
+            "--uid-map" => Some(&mut self.uid_map),
+            "--gid-map" => Some(&mut self.gid_map),
+            _ => None,
+        }
+    }
+
     /// Takes in an option of the daemon that has a value. Of several `--xattrmap`, the last counts.
     /// Options that map nothing are passed over.
     pub(crate) fn take(&mut self, option: &str, value: &'a str) -> Result<(), AllocError> {
-        match option {
-            "--translate-uid" => self.translate_uid.push(value)?,
-            "--translate-gid" => self.translate_gid.push(value)?,
-            "--uid-map" => self.uid_map.push(value)?,
-            "--gid-map" => self.gid_map.push(value)?,
-            "--xattrmap" => self.xattrmap = Some(value),
-            _ => {}
+        if option == "--xattrmap" {
+            self.xattrmap = Some(value);
+        } else if let Some(list) = self.list(option) {
+            list.push(value)?;
         }
         Ok(())
     }
@@ -54,19 +62,51 @@ impl<'a, A: Allocator + Copy> Guest<'a, A> {
         }
     }
 
-    /// Takes in the value of `-o`: options of the daemon's older form, with a comma between two. The
-    /// last of each counts.
-    pub(crate) fn take_older(&mut self, value: &'a str) {
-        for option in value.split(',') {
-            match option {
-                "posix_acl" => self.posix_acl = true,
-                "no_posix_acl" => self.posix_acl = false,
-                _ => {
-                    if let Some(rules) = option.strip_prefix("xattrmap=") {
-                        self.xattrmap = Some(rules);
-                    }
-                }
-            }
+    /// Takes in options of the daemon's older form.
+    pub(crate) fn take_older(&mut self, older: Older<'a>) {
+        self.xattrmap = older.xattrmap.or(self.xattrmap);
+        self.posix_acl = older.posix_acl.unwrap_or(self.posix_acl);
+    }
+}
+
+/// What options of the daemon's older form, which stand after `-o`, say. The last of each counts.
+#[derive(Clone, Copy)]
+pub(crate) struct Older<'a> {
+    /// The rules for names of attributes, if there are any.
+    pub(crate) xattrmap: Option<&'a str>,
+    /// Whether access control lists are on, if that is said.
+    pub(crate) posix_acl: Option<bool>,
+}
+
+impl<'a> Older<'a> {
+    /// The same with one option more.
+    fn with(self, option: &'a str) -> Self {
+        let Older {
+            xattrmap,
+            posix_acl,
+        } = self;
+        match option {
+            "posix_acl" => Older {
+                xattrmap,
+                posix_acl: Some(true),
+            },
+            "no_posix_acl" => Older {
+                xattrmap,
+                posix_acl: Some(false),
+            },
+            _ => Older {
+                xattrmap: option.strip_prefix("xattrmap=").or(xattrmap),
+                posix_acl,
+            },
         }
+    }
+
+    /// The same with the options of one `-o`, with a comma between two.
+    pub(crate) fn with_all(self, options: &'a str) -> Self {
+        let mut older = self;
+        for option in options.split(',') {
+            older = older.with(option);
+        }
+        older
     }
 }
