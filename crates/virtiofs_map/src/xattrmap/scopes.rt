@@ -3,7 +3,7 @@
 ghost use Rattle.std.specs.Prelude.{⊤, ◌≡◌, [], ◌∷◌, codes};
 ghost use Rattle.virtiofs_map.specs.RuleParts.{holds, bits_of};
 
-use bitflags::{Flag, Flags, bitflag_items};
+use bitflags::{Flag, Flags};
 
 /// Where a name comes from.
 #[derive(Clone, Copy, PartialEq, Eq, Debug)]
@@ -15,7 +15,7 @@ pub enum Side {
 }
 
 /// The word of a rule for the sides on which it acts.
-#[derive(Clone, Copy, PartialEq, Eq, Debug)]
+#[derive(Clone, Copy, PartialEq, Eq)]
 pub(crate) enum ScopeWord {
     All,
     Client,
@@ -23,14 +23,24 @@ pub(crate) enum ScopeWord {
 }
 
 /// A set of sides.
-#[derive(Clone, Copy, PartialEq, Eq, Debug)]
+#[derive(Clone, Copy, Debug)]
 pub(crate) struct Scope(u8);
 
-bitflag_items! {
-    impl Scope: u8 {
-        const CLIENT = 1;
-        const SERVER = 2;
-    }
+impl Scope {
+    const CLIENT: Scope = Scope(1);
+
+    const SERVER: Scope = Scope(2);
+
+    const FLAGS: &'static [Flag<Scope>] = &[
+        Flag {
+            name: "CLIENT",
+            value: Scope::CLIENT,
+        },
+        Flag {
+            name: "SERVER",
+            value: Scope::SERVER,
+        },
+    ];
 }
 
 impl Flags for Scope {
