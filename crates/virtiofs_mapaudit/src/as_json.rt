@@ -10,7 +10,7 @@ use crate::report::{GuestFindings, KindFindings};
 use crate::setup::{IdSetUp, NamesSetUp, SetUp};
 use ids::{write_id_table, write_ids, write_meeting, write_range};
 use json::Writer;
-use members::{begin_found, write_count};
+use members::{Whose, begin_found, write_count};
 use names::{write_between, write_name_table, write_names};
 use std::alloc::{AllocError, Global};
 use virtiofs_options::front::Asked;
@@ -39,7 +39,7 @@ fn write_guest(
     found: &GuestFindings<Global>,
 ) -> Result<(), AllocError> {
     if found.translates_lists {
-        begin_found(json, guest, "posix_acl")?;
+        begin_found(json, Whose::Guest(guest), "posix_acl")?;
         json.end_object()?;
     }
     write_kind(json, guest, IdKind::Users, &found.users)?;

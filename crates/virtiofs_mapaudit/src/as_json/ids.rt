@@ -1,8 +1,6 @@
 //! Ids in JSON.
 
-use super::members::{
-    begin_found, begin_found_between, write_count, write_maybe, write_number, write_text,
-};
+use super::members::{Whose, begin_found, write_count, write_maybe, write_number, write_text};
 use crate::ids::audits::Ids;
 use crate::ids::found::{IdFindings, IdFound};
 use crate::ids::kind::IdKind;
@@ -32,7 +30,7 @@ fn write_found(
     let Some(it) = found else {
         return Ok(());
     };
-    begin_found(json, guest, kind)?;
+    begin_found(json, Whose::Guest(guest), kind)?;
     write_text(json, "ids", ids)?;
     write_number(json, "id", it.guest)?;
     write_number(json, "host", it.host)?;
@@ -69,7 +67,7 @@ pub(super) fn write_range(
         RangeFault::MeetsInside(other) => ("overlaps_inside", Some(other.saturating_add(1))),
         RangeFault::MeetsOutside(other) => ("overlaps_outside", Some(other.saturating_add(1))),
     };
-    begin_found(json, guest, "range")?;
+    begin_found(json, Whose::Guest(guest), "range")?;
     write_text(json, "ids", word(kind))?;
     write_count(json, "range", found.place.saturating_add(1))?;
     write_text(json, "fault", fault)?;
@@ -80,14 +78,14 @@ pub(super) fn write_range(
 /// Writes an id of the host that two guests reach, if there is one.
 pub(super) fn write_meeting(
     json: &mut Writer,
-    guests: (usize, usize),
+    (first, second): (usize, usize),
     kind: IdKind,
     found: Option<IdFound>,
 ) -> Result<(), AllocError> {
     let Some(it) = found else {
         return Ok(());
     };
-    begin_found_between(json, guests, "one_on_host")?;
+    begin_found(json, Whose::Guests(first, second), "one_on_host")?;
     write_text(json, "ids", word(kind))?;
     write_number(json, "id", it.guest)?;
     write_number(json, "other", it.other)?;

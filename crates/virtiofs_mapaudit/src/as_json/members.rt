@@ -36,24 +36,30 @@ pub(super) fn write_text(json: &mut Writer, name: &str, text: &str) -> Result<()
     json.string(text)
 }
 
-/// Begins a finding of a guest, whose other members and end are to follow.
-pub(super) fn begin_found(json: &mut Writer, guest: usize, kind: &str) -> Result<(), AllocError> {
-    json.begin_object()?;
-    write_count(json, "guest", guest)?;
-    write_text(json, "kind", kind)
+/// Whose a finding is: a guest's, or that of two guests.
+#[derive(Clone, Copy)]
+pub(super) enum Whose {
+    Guest(usize),
+    Guests(usize, usize),
 }
 
-/// Begins a finding between two guests, whose other members and end are to follow.
-pub(super) fn begin_found_between(
-    json: &mut Writer,
-    (first, second): (usize, usize),
-    kind: &str,
-) -> Result<(), AllocError> {
+/// Writes whose a finding is.
+fn write_whose(json: &mut Writer, whose: Whose) -> Result<(), AllocError> {
+    match whose {
+        Whose::Guest(guest) => write_count(json, "guest", guest),
+        Whose::Guests(first, second) => {
+            json.key("guests")?;
+            json.begin_array()?;
+            json.u64(first as u64)?;
+            json.u64(second as u64)?;
+            json.end_array()
+        }
+    }
+}
+
+/// Begins a finding, whose other members and end are to follow.
+pub(super) fn begin_found(json: &mut Writer, whose: Whose, kind: &str) -> Result<(), AllocError> {
     json.begin_object()?;
-    json.key("guests")?;
-    json.begin_array()?;
-    json.u64(first as u64)?;
-    json.u64(second as u64)?;
-    json.end_array()?;
+    write_whose(json, whose)?;
     write_text(json, "kind", kind)
 }

@@ -1,6 +1,6 @@
 //! Names in JSON.
 
-use super::members::{begin_found, begin_found_between, write_count, write_text};
+use super::members::{Whose, begin_found, write_count, write_text};
 use crate::names::found::{LeastName, NameFindings};
 use crate::names::table::SHOWN;
 use crate::pairs::NamesBetween;
@@ -61,16 +61,16 @@ fn write_least(
     json.end_object()
 }
 
-/// Writes names that are reported of a guest, if there are any.
+/// Writes names that are reported, if there are any. Of two guests, they are those of the first.
 fn write_reported(
     alloc: Global,
     json: &mut Writer,
-    guest: usize,
+    whose: Whose,
     kind: &str,
     found: &LeastName<Global>,
 ) -> Result<(), AllocError> {
     if matches!(found.all, Audit::No(_)) {
-        begin_found(json, guest, kind)?;
+        begin_found(json, whose, kind)?;
         write_least(alloc, json, found)?;
         json.end_object()?;
     }
@@ -84,32 +84,16 @@ pub(super) fn write_names(
     guest: usize,
     found: &NameFindings<Global>,
 ) -> Result<(), AllocError> {
+    let whose = Whose::Guest(guest);
     if !found.is_terminated {
-        begin_found(json, guest, "no_rule")?;
+        begin_found(json, whose, "no_rule")?;
         json.end_object()?;
     }
-    write_reported(alloc, json, guest, "not_listed", &found.lost)?;
-    write_reported(alloc, json, guest, "listed_elsewhere", &found.stray)?;
+    write_reported(alloc, json, whose, "not_listed", &found.lost)?;
+    write_reported(alloc, json, whose, "listed_elsewhere", &found.stray)?;
     for place in found.idle.as_slice() {
-        begin_found(json, guest, "idle_rule")?;
+        begin_found(json, whose, "idle_rule")?;
         write_count(json, "rule", place.saturating_add(1))?;
-        json.end_object()?;
-    }
-    Ok(())
-}
-
-/// Writes names that are reported between two guests, if there are any. They are those of the
-/// first.
-fn write_reported_between(
-    alloc: Global,
-    json: &mut Writer,
-    guests: (usize, usize),
-    kind: &str,
-    found: &LeastName<Global>,
-) -> Result<(), AllocError> {
-    if matches!(found.all, Audit::No(_)) {
-        begin_found_between(json, guests, kind)?;
-        write_least(alloc, json, found)?;
         json.end_object()?;
     }
     Ok(())
@@ -122,15 +106,10 @@ pub(super) fn write_between(
     (first, second): (usize, usize),
     found: &NamesBetween<Global>,
 ) -> Result<(), AllocError> {
-    write_reported_between(alloc, json, (first, second), "shown_to_other", &found.seen)?;
-    write_reported_between(
-        alloc,
-        json,
-        (second, first),
-        "shown_to_other",
-        &found.seen_back,
-    )?;
-    write_reported_between(alloc, json, (first, second), "one_on_host", &found.shared)
+    let (whose, back) = (Whose::Guests(first, second), Whose::Guests(second, first));
+    write_reported(alloc, json, whose, "shown_to_other", &found.seen)?;
+    write_reported(alloc, json, back, "shown_to_other", &found.seen_back)?;
+    write_reported(alloc, json, whose, "one_on_host", &found.shared)
 }
 
 /// Writes what becomes of a name from the guest.
