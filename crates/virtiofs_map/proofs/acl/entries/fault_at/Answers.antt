@@ -11,6 +11,9 @@ returns-in-Some-clause-sound c = λ users groups direction are.
       goes = λ _. (c.in-Some.field-0, rw (entry.tag, entry.id) at (c.in-Some.ensures users groups direction are));
     }
 
+pub returns-in-None-clause-sound : goal.returns-in-None-clause-sound
+returns-in-None-clause-sound c = λ _ _ _ _. tt
+
 pub returns-in-None-clause-wrong : goal.returns-in-None-clause-wrong
 returns-in-None-clause-wrong c = λ users groups direction are.
     let entry = c.entry_at-entry.ensures in (

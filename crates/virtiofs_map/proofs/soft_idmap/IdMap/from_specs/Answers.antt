@@ -55,3 +55,22 @@ returns-clause-faulty g c = λ fault has.
 
 pub returns-clause-order : goal.returns-clause-order
 returns-clause-order g c = rw c.in_ok-map.ensures.read c.in_ok-map.ensures.order
+
+pub returns-in_err-specs-clause-refused : goal.returns-in_err-specs-clause-refused
+returns-in_err-specs-clause-refused g c =
+    let p = err_from_is_err_and c.from_residual.result c.from_residual.ensures.1 in
+    rw (p.1, p.2) c.in_err-specs.ensures.refused
+
+pub returns-in_err-specs-clause-reached : goal.returns-in_err-specs-clause-reached
+returns-in_err-specs-clause-reached g c =
+    let p = err_from_is_err_and c.from_residual.result c.from_residual.ensures.1 in
+    rw (p.1, p.2) c.in_err-specs.ensures.reached
+
+pub returns-clause-read : goal.returns-clause-read
+returns-clause-read g c = rw c.in_ok-map.ensures.read c.in_ok-specs.ensures.read
+
+pub returns-clause-accepted : goal.returns-clause-accepted
+returns-clause-accepted g c = rw c.in_ok-map.ensures.read c.in_ok-map.ensures.accepted
+
+pub returns-clause-greatest : goal.returns-clause-greatest
+returns-clause-greatest g c = rw c.in_ok-map.ensures.read c.in_ok-map.ensures.greatest

@@ -1,8 +1,7 @@
-use Rattle.std.proofs.Common.{rules}
 use Rattle.std.proofs.lemmas.Result.{err_from_is_err_and}
 use Rattle.virtiofs_map.specs.Build.{HasFirstFault}
 use Rattle.virtiofs_map.proofs.BuildFaultLemmas.{Accepted-no_fault, HasFirstFault-one}
-use Rattle.virtiofs_map.proofs.MappingLawLemmas.{IsOrderFree-accepted}
+use Rattle.virtiofs_map.proofs.MappingLawLemmas.{IsOrderFree-accepted, KeepsGreatest-accepted}
 use Rattle.virtiofs_map.proofs.ReaderLemmas.{out_of_memory, told_fault}
 use Rattle.virtiofs_map.proofs.soft_idmap.IdMap.try_from.Goals as goal
 
@@ -21,8 +20,23 @@ returns-in_err-words-clause-faulty g c = λ fault has.
     rw (p.1, p.2)
     (told_fault _ (HasFirstFault specs) fault refused (λ other told. HasFirstFault-one specs other fault told has))
 
+pub invariant_of-result : goal.invariant_of-result
+invariant_of-result g c = rw c.deref.ensures.value at c.in_ok-words.ensures
+
+pub returns-clause-accepted : goal.returns-clause-accepted
+returns-clause-accepted g c = (rw c.deref.ensures.value at c.in_ok-words.ensures).accepted
+
 pub returns-clause-faulty : goal.returns-clause-faulty
-returns-clause-faulty g c = λ fault has. Accepted-no_fault c.args.specs.items fault (search rules) has
+returns-clause-faulty g c = λ fault has.
+    let held = rw c.deref.ensures.value at c.in_ok-words.ensures in
+    Accepted-no_fault c.args.specs.items fault held.accepted has
 
 pub returns-clause-order : goal.returns-clause-order
-returns-clause-order g c = IsOrderFree-accepted c.args.specs.items (search rules)
+returns-clause-order g c =
+    let held = rw c.deref.ensures.value at c.in_ok-words.ensures in
+    IsOrderFree-accepted c.args.specs.items held.accepted
+
+pub returns-clause-greatest : goal.returns-clause-greatest
+returns-clause-greatest g c =
+    let held = rw c.deref.ensures.value at c.in_ok-words.ensures in
+    KeepsGreatest-accepted c.args.specs.items held.accepted

@@ -1,6 +1,11 @@
+use Rattle.std.proofs.Common.{refl}
+use Rattle.std.proofs.Math.Seq.{take-length}
 use Rattle.std.proofs.lemmas.Result.{err_from_is_err_and}
 use Rattle.virtiofs_map.proofs.soft_idmap.build.BuildLemmas.{Accepted-more, HasFirstFault-here}
 use Rattle.virtiofs_map.proofs.soft_idmap.build.check.Goals as goal
+
+pub returns-then-is_accepted : goal.returns-then-is_accepted
+returns-then-is_accepted c = rw take-length at (c.if-is_accepted.ensures.0 refl)
 
 pub returns-in_err-check_direction : goal.returns-in_err-check_direction
 returns-in_err-check_direction c =

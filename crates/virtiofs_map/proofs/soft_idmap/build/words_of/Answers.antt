@@ -13,3 +13,9 @@ of-requires-clause-hosts g c =
     rw c.deref-2.ensures.value
     (placed-count c.args.specs.now HostToGuest c.in_ok-guests.hosts.items c.in_ok-guests.ensures.accepted
     c.in_ok-guests.ensures.from_host)
+
+pub returns : goal.returns
+returns g c =
+    let both = c.in_ok-guests.ensures in
+    c.in_ok-words.ensures c.args.specs.now both.accepted (rw c.deref.ensures.value both.from_guest)
+    (rw c.deref-2.ensures.value both.from_host)

@@ -1,8 +1,9 @@
+use Rattle.std.proofs.Common.{◌+◌, ◌*◌, refl}
 use Rattle.std.proofs.lemmas.Result.{err_from_is_err_and}
 use Rattle.virtiofs_map.specs.Build.{HasFirstFault}
 use Rattle.virtiofs_map.proofs.BuildFaultLemmas.{Accepted-no_fault, HasFirstFault-one}
 use Rattle.virtiofs_map.proofs.ReaderLemmas.{out_of_memory, told_fault}
-use Rattle.virtiofs_map.proofs.soft_idmap.WrittenLemmas.{placed-count}
+use Rattle.virtiofs_map.proofs.soft_idmap.WrittenLemmas.{placed-count, image-length, IsWritten-none}
 use Rattle.virtiofs_map.specs.declared.soft_idmap.entry.Direction.TheVariants.{GuestToHost, HostToGuest}
 use Rattle.virtiofs_map.proofs.soft_idmap.image.write_image.Goals as goal
 
@@ -22,6 +23,13 @@ returns-in_err-guests-clause-faulty g c = λ fault has.
     (told_fault _ (HasFirstFault specs) fault c.in_err-guests.ensures
     (λ other told. HasFirstFault-one specs other fault told has))
 
+pub returns-then-words-len-clause-written : goal.returns-then-words-len-clause-written
+returns-then-words-len-clause-written g c =
+    let both = c.in_ok-guests in
+    IsWritten-none c.args.specs.now c.args.words.now (3 + 4 * c.len.result + 4 * c.len-2.result)
+    (image-length c.args.specs.now both.guests.items both.hosts.items _ both.ensures
+    (rw (c.len.ensures, c.len-2.ensures, both.guests.ok.0, both.hosts.ok.0) refl)) c.if-words-len.true
+
 pub returns-then-words-len-clause-faulty : goal.returns-then-words-len-clause-faulty
 returns-then-words-len-clause-faulty g c =
     λ fault has. Accepted-no_fault c.args.specs.now fault c.in_ok-guests.ensures.accepted has
@@ -40,3 +48,9 @@ write_words-requires-clause-hosts g c =
 
 pub returns-clause-faulty : goal.returns-clause-faulty
 returns-clause-faulty g c = λ fault has. Accepted-no_fault c.args.specs.now fault c.in_ok-guests.ensures.accepted has
+
+pub returns-clause-len : goal.returns-clause-len
+returns-clause-len g c =
+    let both = c.in_ok-guests in
+    rw (c.len.ensures, c.len-2.ensures, both.guests.ok.0, both.hosts.ok.0)
+    (image-length c.args.specs.now both.guests.items both.hosts.items _ both.ensures refl)

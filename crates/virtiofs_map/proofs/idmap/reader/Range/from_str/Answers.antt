@@ -1,7 +1,12 @@
-use Rattle.std.proofs.Common.{refl, arith}
+use Rattle.std.proofs.Common.{refl, arith, rules}
 use Rattle.std.proofs.lemmas.Result.{err_from_is_err_and}
 use Rattle.virtiofs_map.proofs.NamespaceLemmas.{SaysNamespace-parts, HasOtherField-parts}
 use Rattle.virtiofs_map.proofs.idmap.reader.Range.from_str.Goals as goal
+
+pub returns-in_err-delimiter-clause-refused : goal.returns-in_err-delimiter-clause-refused
+returns-in_err-delimiter-clause-refused c =
+    let p = err_from_is_err_and c.from_residual.result c.from_residual.ensures.1 in
+    rw (p.1, p.2) c.in_err-delimiter.ensures.refused
 
 pub returns-in_err-inside-clause-refused : goal.returns-in_err-inside-clause-refused
 returns-in_err-inside-clause-refused c =
@@ -31,3 +36,6 @@ returns-clause-read c =
     let three = c.in-Some.ensures.three in
     SaysNamespace-parts _ _ _ _ _ _ _ _ _ found three c.in_ok-inside.ensures.read c.in_ok-outside.ensures.read
     c.in_ok-count.ensures.read
+
+pub returns-in_default-clause-refused : goal.returns-in_default-clause-refused
+returns-in_default-clause-refused c = search rules
