@@ -1,4 +1,5 @@
 mod AddedLemmas
+mod AnsweredListLemmas
 mod ByteWordLemmas
 mod DecidingLemmas
 mod FirstNameLemmas

@@ -1,11 +1,11 @@
 -- What the guest sees of a list of names, a name at a time, and the list that these items make.
 use Rattle.std.proofs.Common.{◌≡◌, ℕ, Bool, true, false, cond, ◌&&◌, if◌then◌else◌, List, [], ◌∷◌, ◌++◌, map, Option}
-use Rattle.std.proofs.Common.{Some, None, Result, Ok, Err, is_ok, length, ◌+◌, ◌≤◌, refl, sym, ap, subst, ◌∙◌, arith}
+use Rattle.std.proofs.Common.{Some, None, Result, Ok, Err, is_ok, length, ◌+◌, refl, sym, ap, ◌∙◌, arith}
 use Rattle.std.specs.Iterator.{item_count, MakesProgress}
 use Rattle.std.specs.List.{take_while, list_all, filter_map, cons_option}
 use Rattle.std.specs.Result.{result_ok}
 use Rattle.std.proofs.lemmas.Bool.{and_parts}
-use Rattle.std.proofs.lemmas.List.{append_assoc, append-nil}
+use Rattle.std.proofs.lemmas.List.{append_assoc}
 use Rattle.std.proofs.lemmas.List.Sums.{take_while-cons}
 use Rattle.virtiofs_map.specs.LookupAnswers.{of_no_rule}
 use Rattle.virtiofs_map.specs.Listing.{listing, list_of}
@@ -14,8 +14,8 @@ use Rattle.virtiofs_map.specs.Names.{names, as_list, server_answer}
 use Rattle.virtiofs_map.specs.Rule.{MappingRule}
 use Rattle.virtiofs_map.specs.declared.xattrmap.errors.Error.{Error}
 use Rattle.virtiofs_map.specs.declared.xattrmap.errors.ErrorKind.TheVariants.{UnterminatedMapping}
-use Rattle.virtiofs_map.proofs.ServerListLemmas.{IsCut, is_name, names_step_name, names_step_none, shown, listed}
-use Rattle.virtiofs_map.proofs.ServerListLemmas.{with_zeros, length-listed}
+use Rattle.virtiofs_map.proofs.ServerListLemmas.{IsCut, is_name, names_step_name, names_step_none, shown}
+use Rattle.virtiofs_map.proofs.ServerListLemmas.{with_zeros}
 
 -- an item that is given, with the bytes of its name
 abbrev pub Item : Type 0 → Type 0
@@ -147,13 +147,6 @@ list_of-listing A rules list =
     ∙ if_same (list_all (has_rule rules) (names list)) _ _ None
     (λ e. ap (λ parts. Some (as_list parts)) (names_of-items A rules (names list) e))
 
--- without an error they are what the guest sees of each name of the list
-pub names_of-listing : (A : Type 0) (rules : List MappingRule) (list : List ℕ)
-    → all_ok (listing {A = A} rules list) ≡ true
-    → with_zeros (names_of (listing {A = A} rules list)) ≡ listed rules list
-names_of-listing A rules list e =
-    ap with_zeros (names_of-items A rules (names list) (sym (all_ok-items A rules (names list)) ∙ e))
-
 -- ---- the list, item by item
 
 -- the names of the items, each followed by a zero
@@ -182,16 +175,6 @@ IsSoFar-name rules list old new name left rest so_far one e = record {
   zeros = zeros_more old new name rest e ∙ ap (λ items. old ++ zeros_of items) (sym one) ∙ so_far.zeros;
   ok = ap all_ok (sym one) ∙ so_far.ok;
 }
-
--- what all the items come to is no longer than the list and a zero
-pub IsSoFar-length : {A : Type 0} (rules : List MappingRule) (list so_far : List ℕ) (left : List (Item A))
-    → IsSoFar rules list so_far left → left ≡ [] → length so_far ≤ length list + 1
-IsSoFar-length {A} rules list so_far left until end =
-    let all : all_ok (listing {A = A} rules list) ≡ true = sym until.ok ∙ ap all_ok end in
-    let zeros : so_far ≡ zeros_of (listing {A = A} rules list) = sym (append-nil so_far)
-    ∙ ap (λ items. so_far ++ zeros_of items) (sym end) ∙ until.zeros in
-    subst (λ (shown : List ℕ). length shown ≤ length list + 1) (sym (zeros ∙ names_of-listing A rules list all))
-    (length-listed rules list)
 
 -- ---- a call of `next` that gives an item
 

@@ -1,4 +1,4 @@
-use Rattle.std.proofs.Common.{◌≡◌, [], ◌++◌, ap, ◌∙◌}
+use Rattle.std.proofs.Common.{◌≡◌, [], ◌++◌, ap, ◌∙◌, rules}
 use Rattle.virtiofs_map.specs.Audit.{AnswersLeast, Within, Sound, IsLost}
 use Rattle.virtiofs_map.specs.AuditParts.{none_tried, is_lost, within, guest_names, one_byte_names, after}
 use Rattle.virtiofs_map.specs.Steps.{count_after}
@@ -8,6 +8,9 @@ use Rattle.virtiofs_map.proofs.audit.AuditCountLemmas.{counts_between}
 use Rattle.virtiofs_map.proofs.audit.AuditLeastLemmas.{found_least, answers_all, yes_where_none}
 use Rattle.virtiofs_map.proofs.audit.AuditLostLemmas.{lost_decide, sound_where_none, none_where_sound}
 use Rattle.virtiofs_map.proofs.audit.audit_counted.Goals as goal
+
+pub returns-in_err-try_guest_names : goal.returns-in_err-try_guest_names
+returns-in_err-try_guest_names g c = search rules
 
 pub returns : goal.returns
 returns g c =

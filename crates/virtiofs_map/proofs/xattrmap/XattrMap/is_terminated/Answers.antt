@@ -1,4 +1,4 @@
-use Rattle.std.proofs.Common.{◌≡◌, ◌+◌, Option, Some, None, is_some, refl, sym, ◌∙◌, ap, subst, arith, rules}
+use Rattle.std.proofs.Common.{◌≡◌, ◌+◌, Option, Some, None, is_some, refl, sym, ◌∙◌, ap, subst, arith}
 use Rattle.std.specs.Option.{option_map}
 use Rattle.std.proofs.lemmas.Bool.{true≢false}
 use Rattle.virtiofs_map.specs.RuleParts.{rule_meant}
@@ -34,5 +34,5 @@ returns-else-is_none-2 g c =
       λ _. terminated_from c.args.self.now empty
           (subst (BytesDecided c.args.self.now) end
           (bytes_more c.args.self.now c.loop-byte.byte c.loop-byte.invariant last)),
-      λ _. search rules,
+      λ _. refl,
     )

@@ -45,3 +45,11 @@ returns-clause-map_rule g c = λ key prepend text.
     (let (written, read, are) = c.in_ok-rules.ensures.read in
     let one = one_reading _ _ (map_rule key prepend ∷ []) read text in
     map_rule_means (chars c.args.text.now) key prepend c.in_ok-rules.rules.list text (are ∙ ap expanded one))
+
+pub returns-in_err-rules-clause-refused : goal.returns-in_err-rules-clause-refused
+returns-in_err-rules-clause-refused g c =
+    let p = err_from_is_err_and c.from_residual.result c.from_residual.ensures.1 in
+    rw (p.1, p.2) c.in_err-rules.ensures.refused
+
+pub returns-clause-read : goal.returns-clause-read
+returns-clause-read g c = c.in_ok-rules.ensures.read

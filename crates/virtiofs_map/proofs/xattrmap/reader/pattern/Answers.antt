@@ -18,3 +18,9 @@ returns-clause-ok g c = field_here _ _ _ _ c.in-Some.ensures.whole c.in-Some.ens
 
 pub returns-clause-no_nul : goal.returns-clause-no_nul
 returns-clause-no_nul g c = lacks_text 0 c.in-Some.field.now c.in-Some.ensures.text.0 c.if-contains.ensures.cases
+
+pub returns-in_default-clause-ok : goal.returns-in_default-clause-ok
+returns-in_default-clause-ok g c = tt
+
+pub returns-in_default-clause-no_nul : goal.returns-in_default-clause-no_nul
+returns-in_default-clause-no_nul g c = tt

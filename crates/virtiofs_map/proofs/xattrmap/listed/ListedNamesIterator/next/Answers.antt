@@ -1,4 +1,4 @@
-use Rattle.std.proofs.Common.{◌≡◌, true, [], ◌∷◌, Err, IfSome, slice_get, sym, ap, subst, ◌∙◌, rules}
+use Rattle.std.proofs.Common.{◌≡◌, true, false, not, [], ◌∷◌, Err, IfSome, slice_get, sym, ap, subst, ◌∙◌, rules}
 use Rattle.std.specs.Option.{option_map}
 use Rattle.virtiofs_map.specs.LookupAnswers.{of_no_rule}
 use Rattle.virtiofs_map.specs.Names.{deciding}
@@ -6,7 +6,8 @@ use Rattle.virtiofs_map.specs.Rule.{MappingRule}
 use Rattle.virtiofs_map.specs.declared.xattrmap.errors.ErrorKind.TheVariants.{UnterminatedMapping}
 use Rattle.virtiofs_map.specs.declared.xattrmap.scopes.Side.TheVariants.{Server}
 use Rattle.virtiofs_map.proofs.ServerListLemmas.{is_name, IsCut}
-use Rattle.virtiofs_map.proofs.xattrmap.ListingLemmas.{listing_shown, listing_hidden, listing_undecided, one_less}
+use Rattle.virtiofs_map.proofs.xattrmap.ListingLemmas.{listing_none, listing_shown, listing_hidden}
+use Rattle.virtiofs_map.proofs.xattrmap.ListingLemmas.{listing_undecided, one_less}
 use Rattle.virtiofs_map.proofs.xattrmap.listed.ListedNamesIterator.next.Goals as goal
 
 -- what decides the name is what decides the first name of the list
@@ -34,6 +35,16 @@ names-preserved g c =
     let same = listing_hidden {A = g.row.A.Denot} by _ name rest cut named
     (rw c.in-Ok-None.field-0-is at c.in-Ok-None.ensures.decided) in
     sym same ∙ c.names.invariant
+
+pub names-preserved-then-is_empty : goal.names-preserved-then-is_empty
+names-preserved-then-is_empty g c =
+    let name = c.cut_name.result.0.now in
+    let rest = c.cut_name.result.1.now in
+    let clear = c.deciding_first-found.ensures.no_zero in
+    let cut : IsCut c.names.self-inside.rest.now name rest =
+    record { before = c.cut_name.ensures.name clear; after = c.cut_name.ensures.rest clear } in
+    let none : is_name name ≡ false = ap not (sym c.is_empty-in-names.ensures ∙ c.if-is_empty.true) in
+    sym (listing_none {A = g.row.A.Denot} c.names.self-inside.map.now _ name rest cut none) ∙ c.names.invariant
 
 -- ---- a name that the guest sees
 
