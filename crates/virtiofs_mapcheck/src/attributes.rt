@@ -109,7 +109,7 @@ fn say_list<A: Allocator + Copy>(
 {
     match map.map_server_xattrlist(alloc, joined(alloc, names)?) {
         Ok(listed) => Ok((Answered::Given, server_line(alloc, listed.as_slice())?)),
-        Err(error) => Ok((Answered::Refused, undecided_line(alloc, &error)?)),
+        Err(undecided) => Ok((Answered::Refused, undecided_line(alloc, &undecided)?)),
     }
 }
 

@@ -1,3 +1,4 @@
+use Rattle.std.proofs.Common.{rules}
 use Rattle.virtiofs_map_c.proofs.IdsLemmas.{tells_value}
 use Rattle.virtiofs_map_c.proofs.ids.virtiofs_map_ids_guest.Goals as goal
 
@@ -5,3 +6,9 @@ pub returns-clause-exact : goal.returns-clause-exact
 returns-clause-exact c =
     λ specs value image becomes. tells_value value _ _ _ _ c.tell_answer.ensures
     (c.look_up.ensures.exact specs value image becomes)
+
+pub returns-clause-answer : goal.returns-clause-answer
+returns-clause-answer c = search rules
+
+pub returns-clause-leads_back : goal.returns-clause-leads_back
+returns-clause-leads_back c = search rules

@@ -11,3 +11,6 @@ returns-in-Err-clause-complete c = texts_complete _ _ _ _ _ _ (_, c.in-Err.ensur
 
 pub returns-in-Err-clause-faulty : goal.returns-in-Err-clause-faulty
 returns-in-Err-clause-faulty c = texts_faulty _ _ _ _ _ (_, c.in-Err.ensures.refused, c.tell_of_texts.ensures)
+
+pub returns-in-Ok-clause-made : goal.returns-in-Ok-clause-made
+returns-in-Ok-clause-made c = λ _. c.in-Ok.ensures.made
