@@ -26,23 +26,6 @@ pub(crate) enum ScopeWord {
 #[derive(Clone, Copy, Debug)]
 pub(crate) struct Scope(u8);
 
-impl Scope {
-    const CLIENT: Scope = Scope(1);
-
-    const SERVER: Scope = Scope(2);
-
-    const FLAGS: &'static [Flag<Scope>] = &[
-        Flag {
-            name: "CLIENT",
-            value: Scope::CLIENT,
-        },
-        Flag {
-            name: "SERVER",
-            value: Scope::SERVER,
-        },
-    ];
-}
-
 impl Flags for Scope {
     type Bits = u8;
 
@@ -53,7 +36,16 @@ impl Flags for Scope {
     ghost set_of = { λ scope. scope.0 };
 
     fn flags<'a>() -> &'a [Flag<Scope>] {
-        Scope::FLAGS
+        &[
+            Flag {
+                name: "CLIENT",
+                value: Scope::CLIENT,
+            },
+            Flag {
+                name: "SERVER",
+                value: Scope::SERVER,
+            },
+        ]
     }
 
     fn bits(&self) -> u8 {
@@ -66,6 +58,10 @@ impl Flags for Scope {
 }
 
 impl Scope {
+    const CLIENT: Scope = Scope(1);
+
+    const SERVER: Scope = Scope(2);
+
     /// Whether the set holds the side.
     pub(crate) fn has(self, side: Side) -> bool
         ensures { result ≡ holds side self.0 }
