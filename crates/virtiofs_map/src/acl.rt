@@ -126,8 +126,7 @@ pub fn acl_to_host<A: Allocator>(
 ///
 /// # Errors
 ///
-/// Those of [`acl_to_host`], in the same order. Today no specification can forbid an id of the
-/// host.
+/// Those of [`acl_to_host`], in the same order. No specification can forbid an id of the host.
 pub fn acl_to_guest<A: Allocator>(
     users: &IdMap<GuestUid, HostUid, A>,
     groups: &IdMap<GuestGid, HostGid, A>,
@@ -162,8 +161,7 @@ pub fn acl_to_guest<A: Allocator>(
 /// The error is the first of these that applies, and then no byte of the value has changed:
 /// [`CapabilityError::TooShort`], [`CapabilityError::Revision`], [`CapabilityError::Length`],
 /// [`CapabilityError::NoId`], [`CapabilityError::Forbidden`], and [`CapabilityError::RootMoves`].
-/// After `RootMoves` the caller can use [`capability_to_host_in_revision_3`], which can write the
-/// value.
+/// After `RootMoves`, [`capability_to_host_in_revision_3`] can write the value.
 pub fn capability_to_host<A: Allocator>(
     users: &IdMap<GuestUid, HostUid, A>,
     value: &mut [u8],

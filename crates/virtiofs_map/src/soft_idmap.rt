@@ -134,8 +134,7 @@ impl<Guest: GuestId<HostType = Host>, Host: HostId<GuestType = Guest>, A: Alloca
         })
     }
 
-    /// Makes a map from a list of texts, each of which is read as [`cmdline::IdMap::from_str`]
-    /// does.
+    /// Makes a map from a list of texts, each of which [`cmdline::IdMap::from_str`] reads.
     ///
     /// All texts are read first. The first text that is no specification gives the error
     /// [`SpecsError::Spec`], even if no map could be made from the texts before it. If all texts

@@ -1,5 +1,5 @@
 //! Maps of ids, in the caller's words.
-ghost use Rattle.std.specs.Prelude.{◌≡◌, ◌⊎◌, ℕ, ◌+◌, ◌*◌, ◌≤◌, length, min, List, Option, IfOk, IfErr, OnErr};
+ghost use Rattle.std.specs.Prelude.{◌≡◌, ℕ, ◌+◌, ◌*◌, ◌≤◌, length, min, List, Option, IfOk, IfErr, OnErr};
 ghost use Rattle.virtiofs_map.specs.Build.{HasFirstFault, build_fault_of};
 ghost use Rattle.virtiofs_map.specs.Image.{HasKind, IsImage};
 ghost use Rattle.virtiofs_map.specs.Mapping.{Becomes};

@@ -1,5 +1,5 @@
 //! Maps of attribute names, in the caller's bytes.
-ghost use Rattle.std.specs.Prelude.{◌≡◌, ◌≢◌, ◌↔◌, ◌+◌, ◌*◌, ℕ, List, Contains, IsTrue, false, min};
+ghost use Rattle.std.specs.Prelude.{◌≡◌, ◌≢◌, ◌↔◌, ◌+◌, ◌*◌, List, Contains, IsTrue, false, min};
 ghost use Rattle.virtiofs_map.specs.Audit.{IsLost, IsStray, IsSeen, IsShared, Terminated};
 ghost use Rattle.virtiofs_map.specs.LookupAnswers.{IsDecidedBy};
 ghost use Rattle.virtiofs_map.specs.Names.{server_answer};

@@ -1,5 +1,5 @@
 //! What is found of one guest by itself.
-ghost use Rattle.std.specs.Prelude.{◌≡◌, ◌≢◌, ◌↔◌, [], IfOk, IsTrue};
+ghost use Rattle.std.specs.Prelude.{◌≢◌, ◌↔◌, [], IfOk, IsTrue};
 ghost use Rattle.virtiofs_mapaudit.specs.Report.{FindsGuest, FindsIf, FindsKind, FindsNamesOf};
 
 use crate::ids::audits::audit_ids;

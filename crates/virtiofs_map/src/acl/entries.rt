@@ -1,5 +1,5 @@
 //! The entries of an access control list, each tested by itself.
-ghost use Rattle.std.specs.Prelude.{◌≡◌, ◌↔◌, ℕ, ◌+◌, ◌*◌, ◌<◌, ◌≤◌, IsTrue, IfOk, IfErr, IfNone, IfSome, OnOk, length};
+ghost use Rattle.std.specs.Prelude.{◌≡◌, ◌↔◌, ◌+◌, ◌*◌, ◌<◌, ◌≤◌, IsTrue, IfOk, IfErr, IfNone, IfSome, OnOk, length};
 ghost use Rattle.virtiofs_map.specs.Acl.{entry_count, tag_of, permissions_of, id_of, IsTag, HasId, IsWhole, IsSound};
 ghost use Rattle.virtiofs_map.specs.Acl.{IsEntryFault};
 ghost use Rattle.virtiofs_map.specs.AclLaws.{AreBytes};

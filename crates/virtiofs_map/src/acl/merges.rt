@@ -2,8 +2,7 @@
 //!
 //! Entries of one tag whose ids become the same number stand beside each other once they are sorted
 //! by what their ids become. So neighbours are enough to see whether two ids would merge.
-ghost use Rattle.std.specs.Prelude.{◌≡◌, ◌⊎◌, ◌↔◌, ℕ, ◌+◌, ◌*◌, ◌<◌, ◌≤◌, All, IsTrue, IfNone, IfSome, Some, length};
-ghost use Rattle.std.specs.Prelude.{take};
+ghost use Rattle.std.specs.Prelude.{◌≡◌, ◌⊎◌, ◌↔◌, ◌+◌, ◌*◌, ◌<◌, ◌≤◌, All, IsTrue, IfNone, IfSome, Some, length, take};
 ghost use Rattle.virtiofs_map.specs.AclParts.{AllSoundBelow, Places, AreInOrder, Clashes, HasClash, MeetsClashes};
 ghost use Rattle.virtiofs_map.specs.AclParts.{NoneMerges, IsFirstToMerge, OfWays};
 
@@ -34,8 +33,7 @@ impl EntryRoom {
     }
 }
 
-/// Puts each entry that has an id into the room, with what its id becomes. Answers how many these
-/// are.
+/// Puts each entry that has an id into the room, with what its id becomes. Returns their number.
 fn place(ways: &Ways<'_>, value: &[u8], count: usize, room: &mut [EntryRoom]) -> usize
     requires in_value { 4 + 8 * count ≤ length value.now }
     requires fits { count ≤ length room.old }

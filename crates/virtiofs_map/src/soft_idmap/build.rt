@@ -158,8 +158,7 @@ fn check(specs: &[IdMap], guests: &[Placed], hosts: &[Placed]) -> Result<(), IdM
     Ok(())
 }
 
-/// The entries of a list of specifications that is accepted, from guest to host and from host to
-/// guest.
+/// The entries of an accepted list of specifications, from guest to host and from host to guest.
 pub(crate) fn placed_both<A: Allocator + Copy>(
     alloc: A,
     specs: &[IdMap],

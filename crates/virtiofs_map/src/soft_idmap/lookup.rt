@@ -1,5 +1,4 @@
-//! What a number becomes by the ranges of a direction, and the search for the range that may cover
-//! it.
+//! What a number becomes by the ranges of a direction, and the search for one that may cover it.
 //!
 //! The search takes as many turns for one number as for another, and no turn branches on what it
 //! read: a branch that is predicted wrongly costs more than a turn.

@@ -2,7 +2,6 @@
 ghost use Rattle.std.specs.Prelude.{◌≡◌, ◌+◌, ◌*◌, ◌<◌, ◌≤◌, List, length, map, slice_get, slice_index, Some};
 ghost use Rattle.virtiofs_map.specs.Build.{Accepted};
 ghost use Rattle.virtiofs_map.specs.Image.{IsImage};
-ghost use Rattle.virtiofs_map.specs.Mapping.{first_of};
 ghost use Rattle.virtiofs_map.specs.RangeParts.{PlacesInOrder};
 ghost use Rattle.virtiofs_map.specs.WordParts.{IsRow, AreFirstsBelow, AreRowsBelow, KeepsBefore};
 ghost use Rattle.virtiofs_map.specs.declared.cmdline.IdMap.{IdMap as Specification};

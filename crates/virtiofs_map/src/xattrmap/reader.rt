@@ -153,8 +153,7 @@ fn next_rule<A: Allocator + Copy>(
     Ok((rule, after))
 }
 
-/// The rules that the text stands for, and how many rules are written in it. A written `map` rule is
-/// one.
+/// The rules that the text stands for, and how many are written in it. A written `map` rule is one.
 pub(crate) fn read_rules<A: Allocator + Copy>(
     alloc: A,
     text: &str,

@@ -1,6 +1,5 @@
 //! Why no map is made of an array.
 ghost use Rattle.std.specs.Prelude.{◌≡◌};
-ghost use Rattle.virtiofs_map.specs.Build.{build_fault_of};
 ghost use Rattle.virtiofs_map_c.specs.declared.arrays.errors.ArrayError.TheVariants.{Build};
 ghost use Rattle.virtiofs_map.specs.declared.soft_idmap.errors.IdMapBuildError.TheVariants.{OutOfMemory};
 

@@ -1,8 +1,7 @@
 //! What lookups of names and audits tell C.
-ghost use Rattle.std.specs.Prelude.{◌≡◌, ◌++◌, false, MatchResult};
-ghost use Rattle.virtiofs_map_c.specs.Codes.{ok, no_memory};
+ghost use Rattle.std.specs.Prelude.{◌≡◌, false, MatchResult};
+ghost use Rattle.virtiofs_map_c.specs.Codes.{no_memory};
 ghost use Rattle.virtiofs_map_c.specs.Names.{TellsDecision, TellsFound, TellsNo};
-ghost use Rattle.virtiofs_map_c.specs.Replies.{TellsBytes};
 
 use crate::buffer::{nothing, write, write_joined};
 use crate::codes::{AS_IT_IS, DENIED, NO_MAP, NO_MEMORY, OK, UNSUPPORTED, UNTERMINATED};

@@ -1,8 +1,4 @@
 //! The map of a text of rules in bytes.
-ghost use Rattle.std.specs.Prelude.{◌≡◌, IfOk, IfErr};
-ghost use Rattle.std.specs.Str.{chars};
-ghost use Rattle.virtiofs_map.specs.Refusal.{OutOfMemoryOr};
-ghost use Rattle.virtiofs_map.specs.RuleText.{SaysRules};
 
 use std::alloc::Global;
 use virtiofs_map::xattrmap::{Error, XattrMap};

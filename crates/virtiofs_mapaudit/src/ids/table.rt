@@ -1,7 +1,6 @@
 //! What becomes of all ids, piece by piece.
 ghost use Rattle.std.specs.Prelude.{◌≡◌, ◌++◌, ◌<◌, ◌≤◌, List, ℕ, OnOk, codes, flat_map, string_bytes};
-ghost use Rattle.virtiofs_map.specs.Pieces.{IsNamed};
-ghost use Rattle.virtiofs_mapaudit.specs.IdTable.{span_text, span_of, images_of, source_word, target_word, becomes_text, piece_line, within_line, outside_line, outside_lines, piece_lines, ShowsDirection, ShowsIds};
+ghost use Rattle.virtiofs_mapaudit.specs.IdTable.{span_text, span_of, images_of, source_word, target_word, becomes_text, piece_line, within_line, outside_line, piece_lines, ShowsDirection, ShowsIds};
 
 use super::audits::Ids;
 use super::kind::{IdKind, one_of};

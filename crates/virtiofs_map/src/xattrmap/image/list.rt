@@ -62,8 +62,7 @@ fn put_name(out: &mut [u8], at: usize, name: &[u8]) -> usize
     end
 }
 
-/// Writes the list that the guest gets for the host's list of names, by an image. It takes no
-/// memory.
+/// Writes the guest's list for the host's list of names, by an image. It does not allocate.
 ///
 /// Where there is no room for it, or a name is not decided, the bytes may hold anything. The length
 /// that is told is exact.

@@ -1,8 +1,7 @@
 //! The parts of an image by which names are decided.
 
 ghost use Rattle.std.specs.List.{before_first};
-ghost use Rattle.std.specs.Prelude.{◌≡◌, ◌≢◌, ◌==◌, ◌↔◌, ◌≤◌, ℕ, List, length, take, All, IsNone, IsSomeAnd, IsTrue};
-ghost use Rattle.std.specs.Prelude.{is_some};
+ghost use Rattle.std.specs.Prelude.{◌≡◌, ◌≢◌, ◌==◌, ◌≤◌, ℕ, List, length, take, All, IsNone, IsSomeAnd, is_some};
 ghost use Rattle.virtiofs_map.specs.BranchParts.{answer_of};
 ghost use Rattle.virtiofs_map.specs.Names.{deciding};
 ghost use Rattle.virtiofs_map.specs.NamesImage.{IsImage, IsNoImage, Says};

@@ -4,8 +4,8 @@ ghost use Rattle.std.specs.Option.{option_map};
 ghost use Rattle.std.specs.Prelude.{◌≡◌, ◌<◌, List, Some, length, slice_get};
 ghost use Rattle.virtiofs_map.specs.BranchParts.{IsSpan};
 ghost use Rattle.virtiofs_map.specs.NamesImage.{AreRuleRows, rule_row};
-ghost use Rattle.virtiofs_map.specs.Rule.{MappingRule, type_number};
-ghost use Rattle.virtiofs_map.specs.RuleParts.{rule_meant, type_of};
+ghost use Rattle.virtiofs_map.specs.Rule.{MappingRule};
+ghost use Rattle.virtiofs_map.specs.RuleParts.{rule_meant};
 ghost use Rattle.virtiofs_map.specs.declared.xattrmap.spans.Span.{Span};
 
 use crate::xattrmap::rules::{RuleKind, RuleRef};

@@ -1,10 +1,10 @@
 //! Writes an image of a map of names.
 
-ghost use Rattle.std.specs.Prelude.{◌≡◌, ◌≢◌, ◌+◌, ◌*◌, ◌<◌, ◌≤◌, ◌++◌, ℕ, List, All, IfSome, drop, length, take};
-ghost use Rattle.virtiofs_map.specs.BranchParts.{AreSpans, IsTrieIn};
+ghost use Rattle.std.specs.Prelude.{◌≡◌, ◌+◌, ◌*◌, ◌<◌, ◌≤◌, ◌++◌, ℕ, List, All, IfSome, drop, length, take};
+ghost use Rattle.virtiofs_map.specs.BranchParts.{IsTrieIn};
 ghost use Rattle.virtiofs_map.specs.NamesImage.{HasImage, IsImage, acts_number, rule_row, rule_rows};
 ghost use Rattle.virtiofs_map.specs.NamesImageParts.{ArePlaces, Holds, header_of};
-ghost use Rattle.virtiofs_map.specs.Rule.{HasNoZero, MappingRule};
+ghost use Rattle.virtiofs_map.specs.Rule.{HasNoZero};
 ghost use Rattle.virtiofs_map.specs.RuleParts.{rule_meant};
 ghost use Rattle.virtiofs_map.specs.declared.xattrmap.scopes.Side.TheVariants.{Client, Server};
 

@@ -142,8 +142,7 @@ fn ended(patterns: &[Pattern<'_>], part: Part) -> (usize, u64)
     (part.high, answer)
 }
 
-/// The part of the patterns between two places. They share their bytes as far as a depth, and the
-/// byte there.
+/// The part of the patterns between two places. They share their bytes up to a depth, and there.
 fn child(patterns: &[Pattern<'_>], depth: usize, low: usize, high: usize, answer: u64) -> Part
     requires some { low < high }
     requires within { high ≤ length patterns.now }

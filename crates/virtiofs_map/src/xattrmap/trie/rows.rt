@@ -1,6 +1,6 @@
 //! Branches as rows of bytes.
 
-ghost use Rattle.std.specs.Prelude.{◌≡◌, ◌++◌, ◌≤◌, ℕ, List, length, slice_get, All, OnOk};
+ghost use Rattle.std.specs.Prelude.{◌≡◌, ◌++◌, List, length, slice_get, All, OnOk};
 ghost use Rattle.std.specs.List.{flat_map};
 ghost use Rattle.virtiofs_map.specs.BranchParts.{AreRowsOf, HasBytes, IsSmall, row_of};
 ghost use Rattle.virtiofs_map.specs.declared.xattrmap.trie.branch.Branch.{Branch};
