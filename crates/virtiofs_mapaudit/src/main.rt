@@ -21,8 +21,11 @@ use crate::audit::{Said, say};
 use crate::emit::emit;
 use crate::outcome::{AuditFault, Audited};
 use crate::tally::{Tally, WriteFailed};
+use std::alloc::Global;
 use std::process::ExitCode;
 use std::{env, io};
+use virtiofs_options::front::Asked;
+use virtiofs_options::guest::Guest;
 use virtiofs_options::words::{Words, read_words};
 
 const USAGE: &str = "usage: virtiofs_mapaudit [OPTIONS] [-- COMMAND LINE OF THE DAEMON]..
@@ -66,16 +69,23 @@ fn run(rt: &HostRuntime) -> Result<Audited, AuditFault> {
             let _ = eprint!(rt; "virtiofs_mapaudit: {text}{USAGE}");
             Ok(Audited::WrongWords)
         }
-        Words::Audit { asked, guests } => {
-            let said = say(rt.alloc(), asked, guests.as_slice())?;
-            write_whole(rt, said.text.as_str())?;
-            if !asked.quiet {
-                let refusals = said.refusals.as_str();
-                let _ = eprint!(rt; "{refusals}");
-            }
-            Ok(ended(&said))
-        }
+        Words::Audit { asked, guests } => answer(rt, asked, guests.as_slice()),
     }
+}
+
+/// Audits guests, and writes what is to be said of them.
+fn answer(
+    rt: &HostRuntime,
+    asked: Asked,
+    guests: &[Guest<'_, Global>],
+) -> Result<Audited, AuditFault> {
+    let said = say(rt.alloc(), asked, guests)?;
+    write_whole(rt, said.text.as_str())?;
+    if !asked.quiet {
+        let refusals = said.refusals.as_str();
+        let _ = eprint!(rt; "{refusals}");
+    }
+    Ok(ended(&said))
 }
 
 /// Writes a text to standard output, and flushes.
