@@ -1,11 +1,11 @@
 //! What is found between two guests of one directory.
-ghost use Rattle.std.specs.Prelude.{◌≡◌, IfOk};
+ghost use Rattle.std.specs.Prelude.{IfOk};
 ghost use Rattle.virtiofs_mapaudit.specs.PairFindings.{FindsPair, FindsBoth, FindsMeetingOf, FindsNamesBetween, FindsNamesBetweenSets};
 
 use crate::ids::found::IdFound;
 use crate::ids::meeting::meeting_of;
-use crate::names::audits::{seen_of, shared_of};
-use crate::names::found::LeastName;
+use crate::names::audits::least_name;
+use crate::names::found::{LeastName, NameFault};
 use crate::setup::{IdSetUp, NamesSetUp, SetUp};
 use std::alloc::{AllocError, Allocator};
 use virtiofs_map::xattrmap::XattrMap;
@@ -58,9 +58,9 @@ fn names_between<A: Allocator + Copy>(
 ) -> Result<NamesBetween<A>, AllocError>
     ensures { IfOk result (FindsNamesBetween first.now second.now) }
 {
-    let seen = seen_of(alloc, first, second)?;
-    let seen_back = seen_of(alloc, second, first)?;
-    let shared = shared_of(alloc, first, second)?;
+    let seen = least_name(alloc, NameFault::Seen, first, second)?;
+    let seen_back = least_name(alloc, NameFault::Seen, second, first)?;
+    let shared = least_name(alloc, NameFault::Shared, first, second)?;
     Ok(NamesBetween {
         seen,
         seen_back,

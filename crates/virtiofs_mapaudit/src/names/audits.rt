@@ -1,10 +1,10 @@
 //! What is decided of all names of a guest.
 ghost use Rattle.std.specs.Prelude.{◌≡◌, ◌<◌, ◌↔◌, codes, IfOk, IsTrue};
-ghost use Rattle.virtiofs_map.specs.Audit.{IsLost, IsStray, IsSeen, IsShared};
+ghost use Rattle.virtiofs_map.specs.Audit.{AnswersLeast, Within};
 ghost use Rattle.virtiofs_mapaudit.specs.NameFindings.{FindsName, DecidesWritten, AreIdle, FindsNames};
-ghost use Rattle.virtiofs_mapaudit.specs.NameParts.{DecidesFrom};
+ghost use Rattle.virtiofs_mapaudit.specs.NameParts.{DecidesFrom, HasFault};
 
-use super::found::{LeastName, NameFindings};
+use super::found::{LeastName, NameFault, NameFindings};
 use std::alloc::{AllocError, Allocator};
 use virtiofs_map::audit::{
     Audit, audit, audit_listed, audit_listed_within, audit_within, keeps_apart, keeps_apart_within,
@@ -61,89 +61,59 @@ fn system() -> XattrName<'static>
     XattrName { bytes: b"system." }
 }
 
-/// The least name that the guest sets, and that is not listed back.
-fn lost_of<A: Allocator + Copy>(alloc: A, map: &XattrMap<A>) -> Result<LeastName<A>, AllocError>
-    ensures { IfOk result (FindsName (IsLost map.now)) }
-{
-    let all = audit(alloc, map)?;
-    if let Audit::Yes = all {
-        return Ok(none());
-    }
-    let user = audit_within(alloc, map, user())?;
-    let trusted = audit_within(alloc, map, trusted())?;
-    let security = audit_within(alloc, map, security())?;
-    let system = audit_within(alloc, map, system())?;
-    Ok(LeastName {
-        all,
-        user,
-        trusted,
-        security,
-        system,
-    })
-}
-
-/// The least name of the host that is listed under a name which leads elsewhere.
-fn stray_of<A: Allocator + Copy>(alloc: A, map: &XattrMap<A>) -> Result<LeastName<A>, AllocError>
-    ensures { IfOk result (FindsName (IsStray map.now)) }
-{
-    let all = audit_listed(alloc, map)?;
-    if let Audit::Yes = all {
-        return Ok(none());
-    }
-    let user = audit_listed_within(alloc, map, user())?;
-    let trusted = audit_listed_within(alloc, map, trusted())?;
-    let security = audit_listed_within(alloc, map, security())?;
-    let system = audit_listed_within(alloc, map, system())?;
-    Ok(LeastName {
-        all,
-        user,
-        trusted,
-        security,
-        system,
-    })
-}
-
-/// The least name that the first guest sets, and that lists of the second show.
-pub(crate) fn seen_of<A: Allocator + Copy>(
+/// The least name with a fault.
+fn least<A: Allocator + Copy>(
     alloc: A,
+    fault: NameFault,
+    map: &XattrMap<A>,
+    other: &XattrMap<A>,
+) -> Result<Audit<A>, AllocError>
+    ensures { IfOk result (AnswersLeast (HasFault fault map.now other.now)) }
+{
+    match fault {
+        NameFault::Lost => audit(alloc, map),
+        NameFault::Stray => audit_listed(alloc, map),
+        NameFault::Seen => keeps_apart(alloc, map, other),
+        NameFault::Shared => shares_no_name(alloc, map, other),
+    }
+}
+
+/// The least name with a fault of those that begin with these bytes.
+fn least_within<A: Allocator + Copy>(
+    alloc: A,
+    fault: NameFault,
+    map: &XattrMap<A>,
+    other: &XattrMap<A>,
+    beginning: XattrName<'_>,
+) -> Result<Audit<A>, AllocError>
+    ensures { IfOk result (AnswersLeast (Within beginning.entry.bytes.now (HasFault fault map.now other.now))) }
+{
+    match fault {
+        NameFault::Lost => audit_within(alloc, map, beginning),
+        NameFault::Stray => audit_listed_within(alloc, map, beginning),
+        NameFault::Seen => keeps_apart_within(alloc, map, other, beginning),
+        NameFault::Shared => shares_no_name_within(alloc, map, other, beginning),
+    }
+}
+
+/// The least names with a fault. The second map is that of the other guest; for faults of one guest
+/// it makes no difference.
+pub(crate) fn least_name<A: Allocator + Copy>(
+    alloc: A,
+    fault: NameFault,
     map: &XattrMap<A>,
     other: &XattrMap<A>,
 ) -> Result<LeastName<A>, AllocError>
-    ensures { IfOk result (FindsName (IsSeen map.now other.now)) }
+    ensures { IfOk result (FindsName (HasFault fault map.now other.now)) }
 {
-    let all = keeps_apart(alloc, map, other)?;
+    let all = least(alloc, fault, map, other)?;
     if let Audit::Yes = all {
         return Ok(none());
     }
-    let user = keeps_apart_within(alloc, map, other, user())?;
-    let trusted = keeps_apart_within(alloc, map, other, trusted())?;
-    let security = keeps_apart_within(alloc, map, other, security())?;
-    let system = keeps_apart_within(alloc, map, other, system())?;
-    Ok(LeastName {
-        all,
-        user,
-        trusted,
-        security,
-        system,
-    })
-}
-
-/// The least name of the first guest that leads where some name of the second leads.
-pub(crate) fn shared_of<A: Allocator + Copy>(
-    alloc: A,
-    map: &XattrMap<A>,
-    other: &XattrMap<A>,
-) -> Result<LeastName<A>, AllocError>
-    ensures { IfOk result (FindsName (IsShared map.now other.now)) }
-{
-    let all = shares_no_name(alloc, map, other)?;
-    if let Audit::Yes = all {
-        return Ok(none());
-    }
-    let user = shares_no_name_within(alloc, map, other, user())?;
-    let trusted = shares_no_name_within(alloc, map, other, trusted())?;
-    let security = shares_no_name_within(alloc, map, other, security())?;
-    let system = shares_no_name_within(alloc, map, other, system())?;
+    let user = least_within(alloc, fault, map, other, user())?;
+    let trusted = least_within(alloc, fault, map, other, trusted())?;
+    let security = least_within(alloc, fault, map, other, security())?;
+    let system = least_within(alloc, fault, map, other, system())?;
     Ok(LeastName {
         all,
         user,
@@ -203,8 +173,8 @@ pub(crate) fn audit_names<A: Allocator + Copy>(
 ) -> Result<NameFindings<A>, AllocError>
     ensures { IfOk result (FindsNames map.now written) }
 {
-    let lost = lost_of(alloc, map)?;
-    let stray = stray_of(alloc, map)?;
+    let lost = least_name(alloc, NameFault::Lost, map, map)?;
+    let stray = least_name(alloc, NameFault::Stray, map, map)?;
     let idle = idle_of(alloc, map, written)?;
     Ok(NameFindings {
         is_terminated: map.is_terminated(),
