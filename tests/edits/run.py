@@ -17,8 +17,8 @@ Each check also has the edit harmless/CRATE.edit, which changes a body and not i
 that very check, or else a refusal would show nothing.
 
 A check begins with a copy of what is proved of its crate. TREE is a copy of the repository in which tests/prove.py is at
-work. The edits of a crate begin before it is built, as soon as enough of their functions are proved. Without TREE,
-prove.py is run here first.
+work. The edits of a crate begin before it is built, as soon as enough of their functions are proved: the proof of the
+library keeps few processors busy at times. Without TREE, prove.py is run here first.
 
 Each edit has a line. The last line is 'N passed, N failed', and the exit status is 0 if none failed.
 """
@@ -125,18 +125,21 @@ def of_functions(edits):
     return sorted(of_each.values(), key=len, reverse=True)
 
 
-def batches(edits):
-    """The checks in which these edits are tried. No check has two edits of one function."""
+def batches(edits, least=1):
+    """The checks in which these edits are tried, at least so many of bodies. No check has two edits of one function."""
     of_each = of_functions(edits)
     bodies = [edit for own in of_each for edit in own]
-    checks = max([-(-len(bodies) // BATCH), *map(len, of_each)])
+    checks = max([least, -(-len(bodies) // BATCH), *map(len, of_each)])
     return [it for it in [[edit for edit in edits if edit.is_law], *(bodies[at::checks] for at in range(checks))] if it]
 
 
-def early_batch(edits, proved):
-    """A whole check of edits, one of a function, whose functions are among those that are proved, or no edit."""
+def early_batch(edits, proved, size):
+    """A check that can begin once these functions are proved: all edits of laws, or so many others, or none."""
+    laws = [edit for edit in edits if edit.is_law]
+    if laws and proved.issuperset(edit.function for edit in laws):
+        return laws
     firsts = [own[0] for own in of_functions(edits) if own[0].function in proved]
-    return firsts[:BATCH] if len(firsts) >= BATCH else []
+    return firsts[:size] if len(firsts) >= size else []
 
 
 def refused_in(said, crate):
@@ -185,9 +188,11 @@ def proved_in(folder, crate):
 class Run:
     """One run. Its crates are proved in `tree`. `room` is for its own files."""
 
-    def __init__(self, tree, room, lanes):
+    def __init__(self, tree, room, lanes, crates):
         self.tree, self.room, self.lanes = tree, room, ThreadPoolExecutor(lanes)
         self.passed, self.failed, self.counting = 0, 0, threading.Lock()
+        # (how many crates with edits are still being proved)
+        self.proving = sum(os.path.isdir(f"{TOP}/crates/{it.name}/must-fail") for it in crates)
 
     def answer(self, crate, name, is_refused, text):
         with self.counting:
@@ -210,20 +215,23 @@ class Run:
 
     def ready(self, crate, edits):
         """Each check of a crate, with the harmless edit, as soon as it can begin."""
-        harmless = read_edit(f"{HERE}/harmless/{crate.name}.edit")
+        harmless, size = read_edit(f"{HERE}/harmless/{crate.name}.edit"), max(map(len, batches(edits)))
         made = f"{self.tree}/crates/{crate.name}/out"
         while not os.path.exists(f"{made}/proved"):
             if os.path.exists(f"{self.tree}.ended"):
                 raise RuntimeError(f"{crate.name} was not proved")
             proved = proved_in(f"{made}/incremental", crate.name)
-            early = early_batch(edits, proved)
+            early = early_batch(edits, proved, size) if harmless.function in proved else []
             edits = [it for it in edits if it not in early]
             if early:
                 yield early, harmless
             elif proved.issuperset(it.function for it in (*edits, harmless)):
                 break
             time.sleep(1)
-        yield from ((it, harmless) for it in batches(edits))
+        with self.counting:
+            self.proving -= 1
+        # (at the end of the run, a second lane would have nothing to do)
+        yield from ((it, harmless) for it in batches(edits, least=1 if self.proving else 2))
 
     def copied(self, crate):
         """A copy of a crate with its proofs, and of what it uses. Returns the crate's folder."""
@@ -275,7 +283,8 @@ def main(words):
             run([f"{TOP}/tests/prove.py"], tree, say)
             with open(f"{tree}.ended", "w", encoding="utf-8"):
                 pass
-        started, crates = Run(tree, room, lanes), kit().rtlib.crates_below(TOP)
+        crates = kit().rtlib.crates_below(TOP)
+        started = Run(tree, room, lanes, crates)
         with ThreadPoolExecutor(len(crates)) as waiting:
             list(waiting.map(started.of_crate, crates))
     finally:

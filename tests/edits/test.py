@@ -63,9 +63,12 @@ def tests():
     yield "no check has two edits of one function", run.batches([one, again, other]) == [[one, other], [again]]
     yield "laws have a check of their own", run.batches([one, law]) == [[law], [one]]
     many = [run.Edit(f"{at}.edit", "src/lib.rt", f"a::f{at}", False, ()) for at in range(run.BATCH + 9)]
-    early = run.early_batch([*many, *many, law], {it.function for it in many[5:]})
-    yield "an early check has what is proved, once a function", early == many[5 : 5 + run.BATCH]
-    yield "few edits make no early check", not run.early_batch([*many, law], {it.function for it in many[:9]})
+    yield "many edits are made in checks of like length", [len(it) for it in run.batches(many)] == [27, 27]
+    yield "there are as many checks as are wanted", [len(it) for it in run.batches(many[:4], 2)] == [2, 2]
+    early = run.early_batch([*many, *many, law], {it.function for it in many[5:]}, 40)
+    yield "an early check has what is proved, once a function", early == many[5:45]
+    yield "few edits make no early check", not run.early_batch([*many, law], {it.function for it in many[:9]}, 10)
+    yield "the laws make an early check", run.early_batch([*many, law], {"law"}, 10) == [law]
     for name in ("a.f1.Proof.oantt", "a.f2.Met.oantt", "a.f3.Proof.oantt.tmp.1"):
         os.makedirs(f"{ROOM}/kept/one/Rattle-tiny-proofs.{name}")
     yield "what has a kept proof is proved", run.proved_in(f"{ROOM}/kept", "tiny") == {"a::f1"}
