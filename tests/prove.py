@@ -5,11 +5,11 @@ The tests run unproved, in a part of their own (tests/run_tests.py). Each crate 
 work switched on, after that folder was emptied, so that the edits can begin with what is proved here. Once all this is
 done for a crate, its file out/proved is there.
 
-No run ends before the largest library and the largest of the other crates are proved, one after the other. So several
-processes prove these two, and the other proofs give way to theirs. The library gets more of them, since there is little
-else to do until it is proved. Each other crate is proved by one process: several processes prove many of the same
-modules, and two took nearly twice as much processor time for virtiofs_map_c. All else is rt's own: what it proves and
-in which order, and what it says.
+No run ends before the library and the largest program are proved, one after the other. So several processes prove these
+two, and the other proofs give way to theirs. Rattle's own option for several processes is used for the library alone,
+since they prove many modules more than once. Of the program, two processes first prove modules that do not need one
+another, and one proves the rest over their work. Each other crate is proved by one process. All else is rt's own: what it
+proves and in which order, and what it says.
 """
 import os
 import re
@@ -17,10 +17,12 @@ import shutil
 import sys
 from concurrent.futures import ThreadPoolExecutor
 
-from running import kit
+from running import kit, run, say
 
-# How many processes prove the largest library, and how many the largest of the other crates.
-LIBRARY_JOBS, PROGRAM_JOBS = 4, 2
+# The library that the programs stand on, and how many processes prove it.
+LIBRARY, LIBRARY_JOBS = "virtiofs_map", 4
+# The modules of the largest program in shares of like length. What is not here is proved after them.
+SHARES = {"virtiofs_mapaudit": [["as_json", "names"], ["ids", "setup"]]}
 # How much a proof gives way to the proofs that a run waits for.
 GIVES_WAY = 10
 
@@ -37,18 +39,14 @@ class Proofs:
 
     def __init__(self, rt):
         self.rt, self.of_rt, self.tried, self.archived = rt, rt.Crate.ci, set(), set()
-        crates = sorted(rt.rtlib.crates_below(os.getcwd()), key=lambda it: it.count(rb"\n"))
-        # (the largest library and the largest of the other crates, if there are any, with the processes of each)
-        largest = {is_library(it): it.name for it in crates}
-        self.jobs = {name: LIBRARY_JOBS if is_lib else PROGRAM_JOBS for is_lib, name in largest.items()}
 
     def ci(self, crate, flags, tests):
-        """Proves a crate in a thread of its own, so that what the thread starts gives way to the proofs of the largest."""
+        """Proves a crate in a thread of its own, so that what the thread starts can give way to other proofs."""
         if crate.name in self.tried:
             # (rt proves a crate once more, by one job, where memory ran out)
             return self.of_rt(crate, flags, tests)
         self.tried.add(crate.name)
-        gives_way = [] if crate.name in self.jobs else [GIVES_WAY]
+        gives_way = [] if crate.name in (LIBRARY, *SHARES) else [GIVES_WAY]
         with ThreadPoolExecutor(1, initializer=lambda: [os.nice(it) for it in gives_way]) as own:
             return own.submit(self.proved, crate, flags, tests).result()
 
@@ -56,7 +54,7 @@ class Proofs:
         """Proves a crate as rt does, over a folder for kept work that was empty. What fails so is left to rt alone."""
         # (what is built of a library then holds its proofs too, since rattle cannot leave them out over kept work)
         crate.cuts_libraries = False
-        jobs = ["--jobs", str(self.jobs.get(crate.name, 1))]
+        jobs = ["--jobs", str(LIBRARY_JOBS if crate.name == LIBRARY else 1)]
         shutil.rmtree(f"{crate.folder}/out/incremental", ignore_errors=True)
         by = self.library if is_library(crate) else self.program
         status = by(crate, [*jobs, *self.rt.rtlib.KEPT]) and self.of_rt(crate, flags, tests)
@@ -68,9 +66,22 @@ class Proofs:
     def library(self, crate, flags):
         return self.of_rt(crate, flags, False)
 
+    def prove_shares(self, crate, flags):
+        """Proves the shares of a program side by side, and keeps their proofs. What fails here is told by the build."""
+        words = [self.rt.rtlib.RATTLE, "check", *crate.words(flags, keeps=False)]
+
+        def prove(names):
+            ended = run([*words, *(word for it in names for word in ("--only", it))], crate.folder)
+            last = ended.said.rstrip().split("\n")[-1]
+            say(f"{crate.name}: {', '.join(names)}: {last}")
+
+        with ThreadPoolExecutor() as shares:
+            list(shares.map(prove, SHARES.get(crate.name, [])))
+
     def program(self, crate, flags):
         """Proves a program or a static library and has LLVM compile it, all by one command. Rattle's own compiler then takes a
         program as it was proved."""
+        self.prove_shares(crate, flags)
         words = [*crate.words(flags, keeps=False), "--toolchain", f"{self.rt.KIT}/toolchain"]
         made = f"out/{crate.name}"
         to = f"out/lib{crate.name}.a" if crate.is_static else f"{made}.o"
