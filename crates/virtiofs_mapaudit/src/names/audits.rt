@@ -86,7 +86,8 @@ fn least_within<A: Allocator + Copy>(
     other: &XattrMap<A>,
     beginning: XattrName<'_>,
 ) -> Result<Audit<A>, AllocError>
-    ensures { IfOk result (AnswersLeast (Within beginning.entry.bytes.now (HasFault fault map.now other.now))) }
+    ensures { IfOk result (AnswersLeast
+        (Within beginning.entry.bytes.now (HasFault fault map.now other.now))) }
 {
     match fault {
         NameFault::Lost => audit_within(alloc, map, beginning),
