@@ -6,6 +6,9 @@ use Rattle.virtiofs_map.proofs.xattrmap.TerminatedLemmas.{BytesDecided, bytes_mo
 use Rattle.virtiofs_map.proofs.xattrmap.TerminatedLemmas.{byte_from}
 use Rattle.virtiofs_map.proofs.xattrmap.image.is_terminated.Goals as goal
 
+pub loop-byte-init : goal.loop-byte-init
+loop-byte-init c = λ _ _ _ low high. absurd (omega (arith, low, high))
+
 pub returns-then-not-is_decided-clause-terminated : goal.returns-then-not-is_decided-clause-terminated
 returns-then-not-is_decided-clause-terminated c = λ map image.
     let fails : c.is_decided.result ≡ false = search rules in
