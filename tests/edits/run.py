@@ -17,8 +17,9 @@ Each check also has the edit harmless/CRATE.edit, which changes a body and not i
 that very check, or else a refusal would show nothing.
 
 A check begins with a copy of what is proved of its crate. TREE is a copy of the repository in which tests/prove.py is at
-work. The edits of a crate begin before it is built, as soon as enough of their functions are proved: the proof of the
-library keeps few processors busy at times. Without TREE, prove.py is run here first.
+work. The edits of the library begin before it is built, as soon as enough of their functions are proved, since its proof
+keeps few processors busy at times. Those of the other crates begin once all their functions are proved. Without TREE,
+prove.py is run here first.
 
 Each edit has a line. The last line is 'N passed, N failed', and the exit status is 0 if none failed.
 """
@@ -189,7 +190,7 @@ class Run:
     """One run. Its crates are proved in `tree`. `room` is for its own files."""
 
     def __init__(self, tree, room, lanes, crates):
-        self.tree, self.room, self.lanes = tree, room, ThreadPoolExecutor(lanes)
+        self.tree, self.room, self.count, self.lanes = tree, room, lanes, ThreadPoolExecutor(lanes)
         self.passed, self.failed, self.counting = 0, 0, threading.Lock()
         # (how many crates with edits are still being proved)
         self.proving = sum(os.path.isdir(f"{TOP}/crates/{it.name}/must-fail") for it in crates)
@@ -216,12 +217,12 @@ class Run:
     def ready(self, crate, edits):
         """Each check of a crate, with the harmless edit, as soon as it can begin."""
         harmless, size = read_edit(f"{HERE}/harmless/{crate.name}.edit"), max(map(len, batches(edits)))
-        made = f"{self.tree}/crates/{crate.name}/out"
+        made, is_early = f"{self.tree}/crates/{crate.name}/out", not crate.is_program and not crate.is_static
         while not os.path.exists(f"{made}/proved"):
             if os.path.exists(f"{self.tree}.ended"):
                 raise RuntimeError(f"{crate.name} was not proved")
             proved = proved_in(f"{made}/incremental", crate.name)
-            early = early_batch(edits, proved, size) if harmless.function in proved else []
+            early = early_batch(edits, proved, size) if is_early and harmless.function in proved else []
             edits = [it for it in edits if it not in early]
             if early:
                 yield early, harmless
@@ -230,8 +231,8 @@ class Run:
             time.sleep(1)
         with self.counting:
             self.proving -= 1
-        # (at the end of the run, a second lane would have nothing to do)
-        yield from ((it, harmless) for it in batches(edits, least=1 if self.proving else 2))
+        # (with one long check at the end of the run, the other lanes would have nothing to do)
+        yield from ((it, harmless) for it in batches(edits, least=1 if self.proving else self.count))
 
     def copied(self, crate):
         """A copy of a crate with its proofs, and of what it uses. Returns the crate's folder."""
