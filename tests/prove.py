@@ -6,10 +6,9 @@ work switched on, after that folder was emptied, so that the edits can begin wit
 done for a crate, its file out/proved is there.
 
 No run ends before the library and the largest program are proved, one after the other. So several processes prove these
-two, and the other proofs give way to theirs. Rattle's own option for several processes is used for the library alone,
-since they prove many modules more than once. Of the program, two processes first prove modules that do not need one
-another, and one proves the rest over their work. Each other crate is proved by one process. All else is rt's own: what it
-proves and in which order, and what it says.
+two, and the other proofs give way to theirs. The library gets more of them, since there is little else to do until it is
+proved. One process proves each other crate: several prove some modules more than once, and two took nearly twice as much
+processor time for virtiofs_map_c. All else is rt's own: what it proves and in which order, and what it says.
 """
 import os
 import re
@@ -17,12 +16,10 @@ import shutil
 import sys
 from concurrent.futures import ThreadPoolExecutor
 
-from running import kit, run, say
+from running import kit
 
-# The library that the programs stand on, and how many processes prove it.
-LIBRARY, LIBRARY_JOBS = "virtiofs_map", 4
-# The modules of the largest program in shares of like length. What is not here is proved after them.
-SHARES = {"virtiofs_mapaudit": [["as_json", "names"], ["ids", "setup"]]}
+# How many processes prove the library and the largest program.
+JOBS = {"virtiofs_map": 4, "virtiofs_mapaudit": 2}
 # How much a proof gives way to the proofs that a run waits for.
 GIVES_WAY = 10
 
@@ -46,7 +43,7 @@ class Proofs:
             # (rt proves a crate once more, by one job, where memory ran out)
             return self.of_rt(crate, flags, tests)
         self.tried.add(crate.name)
-        gives_way = [] if crate.name in (LIBRARY, *SHARES) else [GIVES_WAY]
+        gives_way = [] if crate.name in JOBS else [GIVES_WAY]
         with ThreadPoolExecutor(1, initializer=lambda: [os.nice(it) for it in gives_way]) as own:
             return own.submit(self.proved, crate, flags, tests).result()
 
@@ -54,7 +51,7 @@ class Proofs:
         """Proves a crate as rt does, over a folder for kept work that was empty. What fails so is left to rt alone."""
         # (what is built of a library then holds its proofs too, since rattle cannot leave them out over kept work)
         crate.cuts_libraries = False
-        jobs = ["--jobs", str(LIBRARY_JOBS if crate.name == LIBRARY else 1)]
+        jobs = ["--jobs", str(JOBS.get(crate.name, 1))]
         shutil.rmtree(f"{crate.folder}/out/incremental", ignore_errors=True)
         by = self.library if is_library(crate) else self.program
         status = by(crate, [*jobs, *self.rt.rtlib.KEPT]) and self.of_rt(crate, flags, tests)
@@ -66,22 +63,9 @@ class Proofs:
     def library(self, crate, flags):
         return self.of_rt(crate, flags, False)
 
-    def prove_shares(self, crate, flags):
-        """Proves the shares of a program side by side, and keeps their proofs. What fails here is told by the build."""
-        words = [self.rt.rtlib.RATTLE, "check", *crate.words(flags, keeps=False)]
-
-        def prove(names):
-            ended = run([*words, *(word for it in names for word in ("--only", it))], crate.folder)
-            last = ended.said.rstrip().split("\n")[-1]
-            say(f"{crate.name}: {', '.join(names)}: {last}")
-
-        with ThreadPoolExecutor() as shares:
-            list(shares.map(prove, SHARES.get(crate.name, [])))
-
     def program(self, crate, flags):
         """Proves a program or a static library and has LLVM compile it, all by one command. Rattle's own compiler then takes a
         program as it was proved."""
-        self.prove_shares(crate, flags)
         words = [*crate.words(flags, keeps=False), "--toolchain", f"{self.rt.KIT}/toolchain"]
         made = f"out/{crate.name}"
         to = f"out/lib{crate.name}.a" if crate.is_static else f"{made}.o"
