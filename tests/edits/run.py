@@ -40,7 +40,7 @@ sys.dont_write_bytecode = True
 sys.path.insert(0, os.path.dirname(HERE))
 from running import cores, kit, made_room, run, say, shown
 
-# The most edits of one check. What a check costs before it proves anything is as much as eight edits cost.
+# The most edits of one check. What a check costs before it proves anything is as much as three or four edits cost.
 BATCH = 45
 # An error in a function's proof that shows nothing: it cites what a refused function proves, or names what is gone.
 SHOWS_NOTHING = re.compile(r"was not admitted|has no field|is not in scope|has no `")
@@ -135,7 +135,8 @@ def batches(edits, least=1):
 
 
 def early_batch(edits, proved, size):
-    """A check that can begin once these functions are proved: all edits of laws, or so many others, or none."""
+    """The edits of a check that can begin when only these functions are proved: those of the laws, if all laws are proved, or
+    else so many of other functions. If there are not so many, there are none."""
     laws = [edit for edit in edits if edit.is_law]
     if laws and proved.issuperset(edit.function for edit in laws):
         return laws
@@ -190,7 +191,7 @@ class Run:
     """One run. Its crates are proved in `tree`. `room` is for its own files."""
 
     def __init__(self, tree, room, lanes, crates):
-        self.tree, self.room, self.count, self.lanes = tree, room, lanes, ThreadPoolExecutor(lanes)
+        self.tree, self.room, self.width, self.lanes = tree, room, lanes, ThreadPoolExecutor(lanes)
         self.passed, self.failed, self.counting = 0, 0, threading.Lock()
         # (how many crates with edits are still being proved)
         self.proving = sum(os.path.isdir(f"{TOP}/crates/{it.name}/must-fail") for it in crates)
@@ -232,7 +233,7 @@ class Run:
         with self.counting:
             self.proving -= 1
         # (with one long check at the end of the run, the other lanes would have nothing to do)
-        yield from ((it, harmless) for it in batches(edits, least=1 if self.proving else self.count))
+        yield from ((it, harmless) for it in batches(edits, least=1 if self.proving else self.width))
 
     def copied(self, crate):
         """A copy of a crate with its proofs, and of what it uses. Returns the crate's folder."""
