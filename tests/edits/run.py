@@ -136,12 +136,13 @@ def batches(edits, least=1):
 
 def early_batch(edits, proved, size):
     """The edits of a check that can begin when only these functions are proved: those of the laws, if all laws are proved, or
-    else so many of other functions. If there are not so many, there are none."""
+    else so many of other functions. If there are not so many, there are none. Two checks of bodies are left for the end,
+    since the two edits of one function need two."""
     laws = [edit for edit in edits if edit.is_law]
     if laws and proved.issuperset(edit.function for edit in laws):
         return laws
     firsts = [own[0] for own in of_functions(edits) if own[0].function in proved]
-    return firsts[:size] if len(firsts) >= size else []
+    return firsts[:size] if len(firsts) >= size and len(edits) - len(laws) > 2 * size else []
 
 
 def refused_in(said, crate):
@@ -191,7 +192,7 @@ class Run:
     """One run. Its crates are proved in `tree`. `room` is for its own files."""
 
     def __init__(self, tree, room, lanes, crates):
-        self.tree, self.room, self.width, self.lanes = tree, room, lanes, ThreadPoolExecutor(lanes)
+        self.tree, self.room, self.width, self.lanes, self.checks = tree, room, lanes, ThreadPoolExecutor(lanes), []
         self.passed, self.failed, self.counting = 0, 0, threading.Lock()
         # (how many crates with edits are still being proved)
         self.proving = sum(os.path.isdir(f"{TOP}/crates/{it.name}/must-fail") for it in crates)
@@ -210,8 +211,12 @@ class Run:
             except (OSError, ValueError) as error:
                 self.answer(crate, os.path.basename(file), False, f"FAILED: {error}")
         try:
-            for started in [self.lanes.submit(self.batch, crate, *it) for it in self.ready(crate, edits)] if edits else []:
-                started.result()
+            started = []
+            for it in self.ready(crate, edits) if edits else []:
+                started.append(self.lanes.submit(self.batch, crate, *it))
+                self.checks.append(started[-1])
+            for it in started:
+                it.result()
         except Exception as error:
             self.answer(crate, "*", False, f"FAILED: {error}")
 
@@ -232,8 +237,9 @@ class Run:
             time.sleep(1)
         with self.counting:
             self.proving -= 1
-        # (with one long check at the end of the run, the other lanes would have nothing to do)
-        yield from ((it, harmless) for it in batches(edits, least=1 if self.proving else self.width))
+        # (at the end of the run, no lane is to have nothing to do while another one has a long check)
+        idle = self.width - sum(not it.done() for it in self.checks)
+        yield from ((it, harmless) for it in batches(edits, least=1 if self.proving else idle))
 
     def copied(self, crate):
         """A copy of a crate with its proofs, and of what it uses. Returns the crate's folder."""
