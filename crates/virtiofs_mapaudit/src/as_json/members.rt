@@ -1,39 +1,34 @@
 //! Members of objects in JSON.
 
-use json::Writer;
-use std::alloc::AllocError;
+use super::writer::Writer;
 
 /// Writes a member that is a number.
-pub(super) fn write_number(json: &mut Writer, name: &str, number: u32) -> Result<(), AllocError> {
-    json.key(name)?;
-    json.u64(u64::from(number))
+pub(super) fn write_number(json: &mut Writer, name: &str, number: u32) {
+    json.key(name);
+    json.number(u64::from(number));
 }
 
 /// Writes a member that is a number of things.
-pub(super) fn write_count(json: &mut Writer, name: &str, count: usize) -> Result<(), AllocError> {
-    json.key(name)?;
-    json.u64(count as u64)
+pub(super) fn write_count(json: &mut Writer, name: &str, count: usize) {
+    json.key(name);
+    json.number(count as u64);
 }
 
 /// Writes a member that is a number of things, or null.
-pub(super) fn write_maybe(
-    json: &mut Writer,
-    name: &str,
-    count: Option<usize>,
-) -> Result<(), AllocError> {
+pub(super) fn write_maybe(json: &mut Writer, name: &str, count: Option<usize>) {
     match count {
         Some(count) => write_count(json, name, count),
         None => {
-            json.key(name)?;
-            json.null()
+            json.key(name);
+            json.null();
         }
     }
 }
 
 /// Writes a member that is a text.
-pub(super) fn write_text(json: &mut Writer, name: &str, text: &str) -> Result<(), AllocError> {
-    json.key(name)?;
-    json.string(text)
+pub(super) fn write_text(json: &mut Writer, name: &str, text: &str) {
+    json.key(name);
+    json.string(text);
 }
 
 /// Whose a finding is: a guest's, or that of two guests.
@@ -44,22 +39,22 @@ pub(super) enum Whose {
 }
 
 /// Writes whose a finding is.
-fn write_whose(json: &mut Writer, whose: Whose) -> Result<(), AllocError> {
+fn write_whose(json: &mut Writer, whose: Whose) {
     match whose {
         Whose::Guest(guest) => write_count(json, "guest", guest),
         Whose::Guests(first, second) => {
-            json.key("guests")?;
-            json.begin_array()?;
-            json.u64(first as u64)?;
-            json.u64(second as u64)?;
-            json.end_array()
+            json.key("guests");
+            json.begin_array();
+            json.number(first as u64);
+            json.number(second as u64);
+            json.end_array();
         }
     }
 }
 
 /// Begins a finding, whose other members and end are to follow.
-pub(super) fn begin_found(json: &mut Writer, whose: Whose, kind: &str) -> Result<(), AllocError> {
-    json.begin_object()?;
-    write_whose(json, whose)?;
-    write_text(json, "kind", kind)
+pub(super) fn begin_found(json: &mut Writer, whose: Whose, kind: &str) {
+    json.begin_object();
+    write_whose(json, whose);
+    write_text(json, "kind", kind);
 }
