@@ -1,5 +1,5 @@
-use Rattle.std.proofs.Common.{rules}
-use Rattle.virtiofs_map_c.proofs.IdsLemmas.{tells_value}
+use Rattle.virtiofs_map.specs.declared.soft_idmap.entry.Direction.TheVariants.{GuestToHost}
+use Rattle.virtiofs_map_c.proofs.IdsLemmas.{tells_value, tells_answer, tells_back}
 use Rattle.virtiofs_map_c.proofs.ids.virtiofs_map_ids_guest.Goals as goal
 
 pub returns-clause-exact : goal.returns-clause-exact
@@ -8,7 +8,11 @@ returns-clause-exact c =
     (c.look_up.ensures.exact specs value image becomes)
 
 pub returns-clause-answer : goal.returns-clause-answer
-returns-clause-answer c = search rules
+returns-clause-answer c =
+    λ specs image. tells_answer specs GuestToHost c.args.guest _ _ _ _ c.tell_answer.ensures
+    (c.look_up.ensures.says specs image)
 
 pub returns-clause-leads_back : goal.returns-clause-leads_back
-returns-clause-leads_back c = search rules
+returns-clause-leads_back c =
+    λ specs image both. tells_back specs GuestToHost c.args.guest _ _ _ _ c.tell_answer.ensures
+    (c.look_up.ensures.leads_back specs image both)

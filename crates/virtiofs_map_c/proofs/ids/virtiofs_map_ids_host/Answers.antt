@@ -1,7 +1,18 @@
-use Rattle.virtiofs_map_c.proofs.IdsLemmas.{tells_value}
+use Rattle.virtiofs_map.specs.declared.soft_idmap.entry.Direction.TheVariants.{HostToGuest}
+use Rattle.virtiofs_map_c.proofs.IdsLemmas.{tells_value, tells_answer, tells_back}
 use Rattle.virtiofs_map_c.proofs.ids.virtiofs_map_ids_host.Goals as goal
 
 pub returns-clause-exact : goal.returns-clause-exact
 returns-clause-exact c =
     λ specs value image becomes. tells_value value _ _ _ _ c.tell_answer.ensures
     (c.look_up.ensures.exact specs value image becomes)
+
+pub returns-clause-answer : goal.returns-clause-answer
+returns-clause-answer c =
+    λ specs image. tells_answer specs HostToGuest c.args.host _ _ _ _ c.tell_answer.ensures
+    (c.look_up.ensures.says specs image)
+
+pub returns-clause-leads_back : goal.returns-clause-leads_back
+returns-clause-leads_back c =
+    λ specs image both. tells_back specs HostToGuest c.args.host _ _ _ _ c.tell_answer.ensures
+    (c.look_up.ensures.leads_back specs image both)

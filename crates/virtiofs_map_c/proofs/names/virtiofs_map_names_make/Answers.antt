@@ -1,3 +1,4 @@
+use Rattle.std.proofs.Common.{rules}
 use Rattle.virtiofs_map_c.proofs.RulesLemmas.{BytesSayRules-no_fault, rules_complete, rules_faulty}
 use Rattle.virtiofs_map_c.proofs.names.virtiofs_map_names_make.Goals as goal
 
@@ -13,3 +14,12 @@ returns-in-Err-clause-complete c =
 pub returns-in-Err-clause-faulty : goal.returns-in-Err-clause-faulty
 returns-in-Err-clause-faulty c =
     rules_faulty _ _ _ _ _ (_, c.in-Err.ensures.refused, c.tell_of_rules.ensures)
+
+pub returns-in-Err-clause-keeps : goal.returns-in-Err-clause-keeps
+returns-in-Err-clause-keeps c = search rules
+
+pub returns-in-Ok-clause-made : goal.returns-in-Ok-clause-made
+returns-in-Ok-clause-made c = λ _. c.in-Ok.ensures.made
+
+pub returns-in-Err-clause-refused : goal.returns-in-Err-clause-refused
+returns-in-Err-clause-refused c = λ _. (_, c.in-Err.ensures.refused, c.tell_of_rules.ensures)

@@ -1,3 +1,4 @@
+use Rattle.std.proofs.Common.{rules}
 use Rattle.virtiofs_map_c.proofs.names.virtiofs_map_names_terminated.Goals as goal
 
 pub returns-in-None-clause-done : goal.returns-in-None-clause-done
@@ -5,3 +6,6 @@ returns-in-None-clause-done c = λ rules image. absurd (c.in-None.ensures.termin
 
 pub returns-in-None-clause-answer : goal.returns-in-None-clause-answer
 returns-in-None-clause-answer c = λ rules image. absurd (c.in-None.ensures.terminated rules image)
+
+pub returns-in-Some-clause-answer : goal.returns-in-Some-clause-answer
+returns-in-Some-clause-answer c = search rules

@@ -1,4 +1,4 @@
-use Rattle.std.proofs.Common.{refl, rules}
+use Rattle.std.proofs.Common.{refl}
 use Rattle.virtiofs_map_c.proofs.RangesLemmas.{range_refused, range_none}
 use Rattle.virtiofs_map_c.proofs.texts.virtiofs_map_range_read.Goals as goal
 
@@ -11,4 +11,5 @@ returns-in-Err-from_str-clause-complete c = λ inside outside count says.
     absurd (range_none _ _ _ c.in-Ok.ensures.cases c.in-Err-from_str.ensures.refused inside outside count says)
 
 pub returns-in-Ok-from_str-clause-read : goal.returns-in-Ok-from_str-clause-read
-returns-in-Ok-from_str-clause-read c = search rules
+returns-in-Ok-from_str-clause-read c = λ _.
+    (c.in-Ok.ensures.cases.1, rw c.in-Ok.ensures.cases.0 at c.in-Ok-from_str.ensures.read)

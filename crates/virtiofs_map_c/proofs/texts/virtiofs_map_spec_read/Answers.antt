@@ -1,4 +1,3 @@
-use Rattle.std.proofs.Common.{rules}
 use Rattle.virtiofs_map_c.proofs.TextsLemmas.{SaysSpec-no_fault, text_complete, text_faulty}
 use Rattle.virtiofs_map_c.proofs.texts.virtiofs_map_spec_read.Goals as goal
 
@@ -36,4 +35,4 @@ returns-in-Err-clause-faulty c =
     )
 
 pub returns-in-Ok-clause-read : goal.returns-in-Ok-clause-read
-returns-in-Ok-clause-read c = search rules
+returns-in-Ok-clause-read c = λ _. rw c.spec_of.ensures.said c.in-Ok.ensures.read
