@@ -1,8 +1,9 @@
 -- What holds of all names has one answer under a text of rules.
 use Rattle.std.proofs.Common.{◌≡◌, ◌≢◌, ℕ, List, [], ◌++◌, codes, Ordering, Less, Equal, Greater, nat_cmp, is_eq, inl}
-use Rattle.std.proofs.Common.{inr, refl, sym, ap, ◌∙◌}
+use Rattle.std.proofs.Common.{inr, refl, sym, ap, ◌∙◌, Result, Ok, Err, IfOk, String, string_bytes}
 use Rattle.std.specs.Cmp.Lexicographic.{slice_cmp}
 use Rattle.std.specs.Ordering.{ordering_reverse}
+use Rattle.std.specs.Str.{chars}
 use Rattle.std.proofs.lemmas.Cmp.{nat_list_cmp_total}
 use Rattle.std.proofs.lemmas.Map.Text.{is_eq-slice_cmp}
 use Rattle.std.proofs.lemmas.Slice.Eq.{bytes_eq-Decides}
@@ -10,12 +11,14 @@ use Rattle.virtiofs_map.specs.Audit.{IsBefore, IsLeast, AnswersLeast, IsLost, Is
 use Rattle.virtiofs_map.specs.declared.audit.answer.Audit.{Audit}
 use Rattle.virtiofs_map.specs.declared.audit.answer.Audit.TheVariants.{Yes, No}
 use Rattle.virtiofs_map.specs.Rule.{MappingRule}
+use Rattle.virtiofs_map.specs.RuleText.{SaysRules}
 use Rattle.virtiofs_mapcheck.specs.AuditsAnswer.{SaysLeast, SaysTerminated, AnswersTerminated, AnswersAudit}
 use Rattle.virtiofs_mapcheck.specs.AuditsAnswer.{AnswersApart}
 use Rattle.virtiofs_mapcheck.specs.AuditsParts.{audit_text}
 use Rattle.virtiofs_mapcheck.specs.Outcome.{AreOne}
 use Rattle.virtiofs_mapcheck.specs.RulesAnswer.{WithRules}
 use Rattle.virtiofs_mapcheck.specs.Written.{written, line}
+use Rattle.virtiofs_mapcheck.specs.declared.outcome.Answered.{Answered}
 use Rattle.virtiofs_mapcheck.specs.declared.outcome.Answered.TheVariants.{Given}
 use Rattle.virtiofs_mapcheck.proofs.OutcomeLemmas.{IsGiven-one}
 use Rattle.virtiofs_mapcheck.proofs.RulesAnswerLemmas.{WithRules-one}
@@ -25,6 +28,15 @@ pub SaysLeast-audit : {A : Type 0} (bad : List ℕ → Type 0) (audit : Audit A)
     → text ≡ line (audit_text audit) → SaysLeast bad Given text
 SaysLeast-audit bad Yes text none is = inl (none, (refl, is))
 SaysLeast-audit bad (No name) text least is = inr (name, least, (refl, is))
+
+-- the rules of the first text were read, and what they say beside the second was answered
+pub SaysApart : {A E : Type 0} (r : Result (Answered × String A) E) (first second : List ℕ) (rules : List MappingRule)
+    → SaysRules (chars first) rules
+    → IfOk r
+    (λ p. WithRules (codes "second: ") second (λ others. SaysLeast (IsSeen rules others)) p.0 (string_bytes p.1))
+    → IfOk r (λ p. AnswersApart first second p.0 (string_bytes p.1))
+SaysApart (Ok p) first second rules says answered = inl (rules, says, answered)
+SaysApart (Err e) first second rules says answered = tt
 
 -- ---- one least name
 

@@ -160,3 +160,12 @@ pub no_ids : (others : List (List ℕ))
     → ((specs : List (List ℕ)) (queries : List Query) → IsIds others specs queries → ⊥) → HasNoBody IdsKind others
 no_ids others none (Ids specs queries) same body = none specs queries body
 no_ids others none form same body = cc
+
+-- two words and no other
+pub two_words : (words others rest : List (Bor (List ℕ))) (word other : Bor (List ℕ)) (same : List ℕ)
+    → words ≡ word ∷ others → others ≡ other ∷ rest → length rest ≡ 0 → same ≡ other.now
+    → words_of words ≡ word.now ∷ same ∷ []
+two_words words others [] word other same first second none is =
+    ap words_of first ∙ ap (λ (xs : List (Bor (List ℕ))). word.now ∷ words_of xs) second
+    ∙ ap (λ (xs : List ℕ). word.now ∷ xs ∷ []) (sym is)
+two_words words others (x ∷ rest) word other same first second none is = absurd (omega arith)
