@@ -1,8 +1,9 @@
 -- What is found of guests, and its text.
-use Rattle.std.proofs.Common.{◌≡◌, ◌≢◌, ◌⊎◌, ◌↔◌, inl, inr, ℕ, ◌+◌, ◌<◌, ◌≤◌, Bool, IsTrue, IsFalse, false, codes, string_bytes, List}
+use Rattle.std.proofs.Common.{◌≡◌, ◌≢◌, ◌⊎◌, ◌↔◌, inl, inr, ℕ, ◌+◌, ◌<◌, ◌≤◌, Bool, IsTrue, IsFalse, true, false, codes, string_bytes, List}
 use Rattle.std.proofs.Common.{[], ◌∷◌, ◌++◌, length, take, get_or, All, Result, Ok, Err, OnOk, refl, sym, ap, ◌∙◌}
 use Rattle.std.proofs.Common.{subst, arith, rules, append_assoc, append-nil}
-use Rattle.std.proofs.lemmas.Bool.{cases_lt}
+use Rattle.std.specs.Bool.{◌==◌}
+use Rattle.std.proofs.lemmas.Bool.{true≢false, cases_lt}
 use Rattle.std.proofs.lemmas.Grind.{flat_map-append}
 use Rattle.std.proofs.lemmas.List.{take_all, length-take-le}
 use Rattle.std.proofs.lemmas.List.Elements.{All-append}
@@ -333,13 +334,15 @@ between_parts (Ok x) first second found old one two new a b c d e f is_a is_b is
 between_parts (Err x) first second found old one two new a b c d e f is_a is_b is_c is_d is_e is_f seen back shared = tt
 
 -- what is said at the end where nothing was found and nothing was refused
-pub closing_whole : (refusals : List ℕ) → refusals ≡ [] → closing false refusals ≡ codes "nothing found\n"
-closing_whole refusals none = ap (λ x. closing false x) none
+pub closing_whole : (refusals : List ℕ) → true ≡ (length refusals == 0)
+    → closing false refusals ≡ codes "nothing found\n"
+closing_whole [] none = refl
+closing_whole (c ∷ refusals) none = grind arith
 
 -- and where something was refused
-pub closing_rest : (refusals : List ℕ) → refusals ≢ []
+pub closing_rest : (refusals : List ℕ) → false ≡ (length refusals == 0)
     → closing false refusals ≡ codes "nothing found in what was not refused\n"
-closing_rest [] some = absurd (some refl)
+closing_rest [] some = absurd (true≢false (sym some))
 closing_rest (c ∷ refusals) some = refl
 
 -- what is said is all of this

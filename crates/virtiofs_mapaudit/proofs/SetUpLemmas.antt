@@ -192,6 +192,12 @@ pub tells_fault : {F T E : Type 0} (r : Result T E) (told : Option F) (fault : F
 tells_fault (Ok x) told fault is = (fault, is)
 tells_fault (Err e) told fault is = tt
 
+-- a word was written
+pub word_pushed : {T E : Type 0} (r : Result T E) (old new word : List ℕ) → new ≡ (if is_ok r then old ++ word else old)
+    → OnOk r (new ≡ old ++ word)
+word_pushed (Ok x) old new word wrote = wrote
+word_pushed (Err e) old new word wrote = tt
+
 -- a reason was written
 pub why_pushed : {T E : Type 0} (r : Result T E) (old told written_too new front back : List ℕ) → told ≡ old ++ front
     → written_too ≡ told ++ back → new ≡ (if is_ok r then written_too ++ 10 ∷ [] else written_too)
