@@ -1,4 +1,4 @@
-use Rattle.std.proofs.Common.{◌≡◌, ◌++◌, [], cond, Some, None, true, false, sym, ap, ◌∙◌}
+use Rattle.std.proofs.Common.{◌≡◌, ◌++◌, [], cond, Some, None, true, false, refl, sym, ap, ◌∙◌}
 use Rattle.std.proofs.lemmas.List.Elements.{All-append, All-same}
 use Rattle.std.specs.List.{cons_option}
 use Rattle.virtiofs_map.specs.AuditParts.{bad, after, try_one, whole_of}
@@ -44,3 +44,9 @@ loop-place-preserved g c =
           more (w.tried-is
           ∙ sym (ap (λ acts. after b t (cons_option (cond acts (Some (cut ++ rule.key)) None) [])) client)))
     ]
+
+pub loop-place-init : goal.loop-place-init
+loop-place-init g c = refl
+
+pub invariant_of-prepend : goal.invariant_of-prepend
+invariant_of-prepend g c = record { no_zero = c.requires.in_prepend }

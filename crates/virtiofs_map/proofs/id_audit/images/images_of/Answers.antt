@@ -25,3 +25,17 @@ returns g c =
     c.sort_unstable_by_key.ensures.permutation
     (IsNonDecreasingBy-from_sort_by_key (λ (span : Span). span.first) _ c.sort_unstable_by_key.ensures.sorted
     (λ a r q k. search rules))
+
+pub push_image-requires-clause-order : goal.push_image-requires-clause-order
+push_image-requires-clause-order g c = c.in-Some.ensures.steps.0.order
+
+pub push_image-requires-clause-named : goal.push_image-requires-clause-named
+push_image-requires-clause-named g c = c.in-Some.ensures.steps.0.named
+
+pub push_image-requires-clause-spans : goal.push_image-requires-clause-spans
+push_image-requires-clause-spans g c = c.loop-piece.invariant.spans
+
+pub loop-piece-smaller : goal.loop-piece-smaller
+loop-piece-smaller g c =
+    let gives = c.in-Some.ensures.steps in
+    rw gives.2 (omega (arith, gives.1, gives.0.order, gives.0.within))

@@ -1,5 +1,11 @@
 use Rattle.std.proofs.Common.{ℕ, ◌+◌, ◌-◌, Some, sym, ◌∙◌, arith}
-use Rattle.virtiofs_map.proofs.id_audit.round_trips.RoundTripLemmas.{ReturnsBy-all, ReturnsBy-each, back-each, back-all}
+use Rattle.virtiofs_map.proofs.id_audit.round_trips.RoundTripLemmas.{
+  ReturnsBy-forbidden,
+  ReturnsBy-all,
+  ReturnsBy-each,
+  back-each,
+  back-all,
+}
 use Rattle.virtiofs_map.proofs.id_audit.round_trips.round_trip.Goals as goal
 
 pub returns-then-not-is_one_to_one-clause-returns : goal.returns-then-not-is_one_to_one-clause-returns
@@ -29,3 +35,22 @@ returns-else-is_one_to_one-clause-returns g c =
     (sym c.is_one_to_one-2.ensures ∙ c.if-is_one_to_one.false) c.stretch-back.ensures.stretch.named
     c.in-Some-start.ensures)
     c.all_to_one-else-is_one_to_one.ensures
+
+pub returns-in_default-clause-returns : goal.returns-in_default-clause-returns
+returns-in_default-clause-returns g c =
+    ReturnsBy-forbidden c.args.map.now c.stretch-there.result c.stretch-there.ensures.stretch c.in_default.ensures
+
+pub returns-in_default-clause-named : goal.returns-in_default-clause-named
+returns-in_default-clause-named g c = c.stretch-there.ensures.stretch.named
+
+pub returns-then-not-is_one_to_one-clause-named : goal.returns-then-not-is_one_to_one-clause-named
+returns-then-not-is_one_to_one-clause-named g c =
+    rw (c.all_to_one.ensures.first_is, c.all_to_one.ensures.last_is) c.all_to_one.ensures.named
+
+pub returns-then-is_one_to_one-clause-named : goal.returns-then-is_one_to_one-clause-named
+returns-then-is_one_to_one-clause-named g c =
+    rw (c.one_to_one.ensures.first_is, c.one_to_one.ensures.last_is) c.one_to_one.ensures.named
+
+pub returns-else-is_one_to_one-clause-named : goal.returns-else-is_one_to_one-clause-named
+returns-else-is_one_to_one-clause-named g c =
+    let made = c.all_to_one-else-is_one_to_one.ensures in rw (made.first_is, made.last_is) made.named

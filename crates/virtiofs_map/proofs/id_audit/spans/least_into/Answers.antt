@@ -1,3 +1,4 @@
+use Rattle.std.proofs.Common.{arith}
 use Rattle.virtiofs_map.proofs.id_audit.spans.SpanLemmas.{NoneSoFar-more, NoneSoFar-found, NoneSoFar-end}
 use Rattle.virtiofs_map.proofs.id_audit.spans.least_into.Goals as goal
 
@@ -17,3 +18,14 @@ pub returns-clause-least : goal.returns-clause-least
 returns-clause-least g c =
     NoneSoFar-end c.args.map.now _ c.args.from c.loop-piece.piece-iterator c.next.new.self c.loop-piece.invariant
     c.in-None.ensures.steps
+
+pub least_of-requires-clause-order : goal.least_of-requires-clause-order
+least_of-requires-clause-order g c = c.in-Some.ensures.steps.0.order
+
+pub least_of-requires-clause-named : goal.least_of-requires-clause-named
+least_of-requires-clause-named g c = c.in-Some.ensures.steps.0.named
+
+pub loop-piece-smaller : goal.loop-piece-smaller
+loop-piece-smaller g c =
+    let gives = c.in-Some.ensures.steps in
+    rw gives.2 (omega (arith, gives.1, gives.0.order, gives.0.within))

@@ -3,7 +3,12 @@ use Rattle.std.proofs.lemmas.Result.{err_from_is_err_and}
 use Rattle.virtiofs_map.specs.Build.{HasFirstFault}
 use Rattle.virtiofs_map.proofs.BuildFaultLemmas.{Accepted-no_fault, HasFirstFault-one}
 use Rattle.virtiofs_map.proofs.ReaderLemmas.{out_of_memory, told_fault}
-use Rattle.virtiofs_map.proofs.soft_idmap.WrittenLemmas.{placed-count, image-length, IsWritten-none}
+use Rattle.virtiofs_map.proofs.soft_idmap.WrittenLemmas.{
+  placed-count,
+  image-length,
+  image-bound,
+  IsWritten-none,
+}
 use Rattle.virtiofs_map.specs.declared.soft_idmap.entry.Direction.TheVariants.{GuestToHost, HostToGuest}
 use Rattle.virtiofs_map.proofs.soft_idmap.image.write_image.Goals as goal
 
@@ -54,3 +59,22 @@ returns-clause-len g c =
     let both = c.in_ok-guests in
     rw (c.len.ensures, c.len-2.ensures, both.guests.ok.0, both.hosts.ok.0)
     (image-length c.args.specs.now both.guests.items both.hosts.items _ both.ensures refl)
+
+pub returns-in_err-guests-clause-refused : goal.returns-in_err-guests-clause-refused
+returns-in_err-guests-clause-refused g c =
+    let p = err_from_is_err_and c.from_residual.result c.from_residual.ensures.1 in
+    rw (p.1, p.2) c.in_err-guests.ensures
+
+pub returns-then-words-len-clause-len : goal.returns-then-words-len-clause-len
+returns-then-words-len-clause-len g c =
+    let both = c.in_ok-guests in
+    rw (c.len.ensures, c.len-2.ensures, both.guests.ok.0, both.hosts.ok.0)
+    (image-length c.args.specs.now both.guests.items both.hosts.items _ both.ensures refl)
+
+pub returns-then-words-len-clause-bound : goal.returns-then-words-len-clause-bound
+returns-then-words-len-clause-bound g c =
+    rw (returns-then-words-len-clause-len g c) (image-bound c.args.specs.now)
+
+pub returns-clause-bound : goal.returns-clause-bound
+returns-clause-bound g c =
+    rw (returns-clause-len g c) (image-bound c.args.specs.now)

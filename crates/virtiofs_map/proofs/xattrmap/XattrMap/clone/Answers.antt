@@ -1,4 +1,4 @@
-use Rattle.std.proofs.Common.{◌≡◌, ℕ, List, sym, subst, ◌∙◌}
+use Rattle.std.proofs.Common.{◌≡◌, ℕ, List, sym, ap, subst, ◌∙◌}
 use Rattle.std.specs.List.{All}
 use Rattle.virtiofs_map.specs.BranchParts.{IsTrieIn}
 use Rattle.virtiofs_map.specs.Rule.{HasNoZero}
@@ -22,3 +22,6 @@ invariant_of-result g c = (
   copied Server _ _ _ _ c.in_ok-rules.ensures (c.in_ok-server.ensures.items ∙ c.as_slice-2.ensures.value)
       c.self.invariant.2,
 )
+
+pub returns : goal.returns
+returns g c = ap (λ (rules : KeptRules). rules.list) c.in_ok-rules.ensures ∙ c.self.view_is
