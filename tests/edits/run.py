@@ -6,20 +6,20 @@ usage: run.py [--lanes N] [--proved TREE]
 Besides what rt reads, an edit has a line 'function: NAME': the function that the prover must refuse, by its name as the
 prover prints it, without the crate. An edit inside a body changes no contract, so no proof of another function sees it.
 Edits of different functions are therefore made together in one check, which proves these functions and what they call.
-An edit is refused if a goal of its own function is left open. If that function only calls another one that is refused,
-this counts for nothing.
+An edit is refused if a goal of its own function is left open. If a function is not proved, and the only reason is that
+it calls a refused one, this does not count as a refusal.
 
 The laws of the id types are functions with empty bodies. An edit with a line 'law: NAME' changes what the law says, or
-what a type says of its values. These edits of a crate are tried in a check of their own. None of them may touch what
-another one's law says.
+a ghost member of an impl, such as `number`. These edits of a crate are tried in a check of their own. In it, no edit
+may change anything that is mentioned in the law of another edit.
 
 Each check also has the edit harmless/CRATE.edit, which changes a body and not its meaning. Its function must be proved in
 that very check, or else a refusal would show nothing.
 
 A check begins with a copy of what is proved of its crate. TREE is a copy of the repository in which tests/prove.py is at
-work. The edits of the library begin before it is built, as soon as enough of their functions are proved, since its proof
-keeps few processors busy at times. Those of the other crates begin once all their functions are proved. Without TREE,
-prove.py is run here first.
+work. At times the proof of the library keeps few processors busy. So edits of the library begin as soon as enough of their
+functions are proved. Those of the other crates begin once all their functions are proved. Without TREE, prove.py is run
+here first.
 
 Each edit has a line. The last line is 'N passed, N failed', and the exit status is 0 if none failed.
 """
@@ -40,7 +40,7 @@ sys.dont_write_bytecode = True
 sys.path.insert(0, os.path.dirname(HERE))
 from running import cores, kit, made_room, run, say, shown
 
-# The most edits of one check. What a check costs before it proves anything is as much as three or four edits cost.
+# The most edits of one check. What a check of the library costs before it proves anything is as much as ten edits cost.
 BATCH = 45
 # An error in a function's proof that shows nothing: it cites what a refused function proves, or names what is gone.
 SHOWS_NOTHING = re.compile(r"was not admitted|has no field|is not in scope|has no `")
@@ -136,13 +136,14 @@ def batches(edits, least=1):
 
 def early_batch(edits, proved, size):
     """The edits of a check that can begin when only these functions are proved: those of the laws, if all laws are proved, or
-    else so many of other functions. If there are not so many, there are none. Two checks of bodies are left for the end,
-    since the two edits of one function need two."""
+    else so many of other functions. If there are not so many, there are none. There are none either if what is left needs
+    as many checks as before, since two edits of one function need two."""
     laws = [edit for edit in edits if edit.is_law]
     if laws and proved.issuperset(edit.function for edit in laws):
         return laws
-    firsts = [own[0] for own in of_functions(edits) if own[0].function in proved]
-    return firsts[:size] if len(firsts) >= size and len(edits) - len(laws) > 2 * size else []
+    begun = [own[0] for own in of_functions(edits) if own[0].function in proved][:size]
+    left = [edit for edit in edits if edit not in begun]
+    return begun if len(begun) == size and len(batches(left)) < len(batches(edits)) else []
 
 
 def refused_in(said, crate):

@@ -68,7 +68,10 @@ def tests():
     early = run.early_batch([*many, *many, law], {it.function for it in many[5:]}, 40)
     yield "an early check has what is proved, once a function", early == many[5:45]
     yield "few edits make no early check", not run.early_batch([*many, law], {it.function for it in many[:9]}, 10)
-    yield "two checks are left for the end", not run.early_batch([*many, law], {it.function for it in many}, 40)
+    twins = [it._replace(name="again") for it in many[:20]]
+    some = {it.function for it in many[1:]}
+    yield "an early check leaves less to do", run.early_batch([*many, *twins], some, 40) == []
+    yield "the last check but one can be early", run.early_batch([*many, *twins], {*some, "a::f0"}, 40) == many[:40]
     yield "the laws make an early check", run.early_batch([*many, law], {"law"}, 10) == [law]
     for name in ("a.f1.Proof.oantt", "a.f2.Met.oantt", "a.f3.Proof.oantt.tmp.1"):
         os.makedirs(f"{ROOM}/kept/one/Rattle-tiny-proofs.{name}")
