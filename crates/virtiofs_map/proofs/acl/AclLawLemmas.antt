@@ -1,7 +1,8 @@
 -- A list whose ids `map` specifications cover comes back as it was.
 use Rattle.std.proofs.Common.{◌≡◌, ◌≢◌, ◌⊎◌, inl, inr, ℕ, ◌+◌, ◌-◌, ◌*◌, ◌/◌, ◌%◌, ◌<◌, ◌≤◌, List, length, get_or, Some}
-use Rattle.std.proofs.Common.{sym, ap, ◌∙◌, subst, arith}
+use Rattle.std.proofs.Common.{sym, ap, ◌∙◌, subst, arith, Fits, w8}
 use Rattle.std.proofs.lemmas.Bool.{cases_lt, cases_eq}
+use Rattle.std.proofs.lemmas.Grind.{get_or_default_zero}
 use Rattle.std.proofs.lemmas.List.{ext_get_or}
 use Rattle.virtiofs_map.proofs.acl.AclMergeLemmas.{Accepted-for}
 use Rattle.virtiofs_map.proofs.acl.AclWriteLemmas.{same_two, same_four}
@@ -148,6 +149,13 @@ goes_back users groups direction room old new users_accepted groups_accepted tra
 one_four : (a b c d e f g h : ℕ) → a < 256 → b < 256 → c < 256 → d < 256 → e < 256 → f < 256 → g < 256 → h < 256
     → a + 256 * b + 65536 * (c + 256 * d) ≡ e + 256 * f + 65536 * (g + 256 * h) → (a ≡ e) × (b ≡ f) × (c ≡ g) × (d ≡ h)
 one_four a b c d e f g h al bl cl dl el fl gl hl same = (omega arith, omega arith, omega arith, omega arith)
+
+-- what fits in a byte is a byte
+pub are_bytes : (value : List ℕ) → ((k : ℕ) → Fits w8 (get_or value k 0)) → AreBytes value
+are_bytes value fits = λ k d below.
+    let same = get_or_default_zero value k d below in
+    let fit = fits k in
+    omega (arith, same, fit)
 
 byte_below : (value : List ℕ) (k : ℕ) → AreBytes value → k < length value → get_or value k 0 < 256
 byte_below value k bytes below = bytes k 0 below
