@@ -1,6 +1,6 @@
 -- What the guest sees of a list of names, a name at a time, and the list that these items make.
 use Rattle.std.proofs.Common.{◌≡◌, ℕ, Bool, true, false, cond, ◌&&◌, if◌then◌else◌, List, [], ◌∷◌, ◌++◌, map, Option}
-use Rattle.std.proofs.Common.{Some, None, Result, Ok, Err, is_ok, length, ◌+◌, refl, sym, ap, ◌∙◌, arith}
+use Rattle.std.proofs.Common.{Some, None, Result, Ok, Err, is_ok, length, refl, sym, ap, ◌∙◌, arith}
 use Rattle.std.specs.Iterator.{item_count, MakesProgress}
 use Rattle.std.specs.List.{take_while, list_all, filter_map, cons_option}
 use Rattle.std.specs.Result.{result_ok}
