@@ -1,4 +1,4 @@
-use Rattle.virtiofs_mapaudit.proofs.SetUpLemmas.{says_more, adds_range, adds_no_ranges}
+use Rattle.virtiofs_mapaudit.proofs.SetUpLemmas.{says_more, refuses_range, adds_range, adds_no_ranges}
 use Rattle.std.proofs.Common.{◌++◌, ◌∙◌, ap, subst}
 use Rattle.std.specs.List.{AllZip}
 use Rattle.std.proofs.lemmas.List.{take_all, length-map}
@@ -13,6 +13,10 @@ loop-place-preserved g c = (
       (says_more _ _ _ _ _ c.loop-place-test.true c.loop-place.invariant.0 c.in-Ok.ensures.read),
   c.loop-place.invariant.1,
 )
+
+pub returns-in-Err-clause-read : goal.returns-in-Err-clause-read
+returns-in-Err-clause-read g c =
+    refuses_range c.args.texts.now c.loop-place.place _ _ c.loop-place-test.true c.in-Err.ensures.refused
 
 pub returns-in-Err-clause-says : goal.returns-in-Err-clause-says
 returns-in-Err-clause-says g c =
