@@ -1,14 +1,15 @@
 #!/usr/bin/env python3
-"""Runs `rt ci` in this folder without the tests, in less time than by itself, and keeps what it proves for the edits.
+"""Runs `rt ci` in the current folder without the tests, in less time than plain `rt ci`, and keeps the proofs for the edits.
 
-The tests run unproved, in a part of their own (tests/run_tests.py). Each crate is proved with rt's folder for kept
-work switched on, after that folder was emptied, so that the edits can begin with what is proved here. Once all this is
-done for a crate, its file out/proved is there.
+The tests run unproved, in a part of their own (tests/run_tests.py). For each crate, the folder out/incremental is emptied,
+and the prover writes each proof there, so that the edits can begin with these proofs. Once all this is done for a crate,
+its file out/proved is there.
 
-No run ends before the library and the largest program are proved, one after the other. So several processes prove these
-two, and the other proofs give way to theirs. The library gets more of them, since there is little else to do until it is
-proved. One process proves each other crate: several prove some modules more than once, and two took nearly twice as much
-processor time for virtiofs_map_c. All else is rt's own: what it proves and in which order, and what it says.
+The time of a run depends on the proof of the library, and then on that of the largest program. So several processes prove
+these two, and the other proofs give way to theirs. The library gets more of them, since there is little else to do until
+it is proved. Each other crate is proved by one process, since several would prove some modules more than once: for
+virtiofs_map_c, two took nearly twice as much processor time. All else is rt's own: what it proves and in which order, and
+what it says.
 """
 import os
 import re
