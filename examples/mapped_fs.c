@@ -1,18 +1,11 @@
 /*
  * A directory of this host, mounted as a guest would see it: owners, and names of extended attributes, are what the
  * maps of the static library make of them. Who asks through the mount is the guest: user 5 of this host asks as user 5
- * of the guest. docs/TRYING.md has the commands that build it, and that show what a configuration does.
+ * of the guest. docs/TRYING.md has the commands that build it, and that show what a configuration does. USAGE, near the
+ * end, lists the options.
  *
- *   mapped_fs [-f] [-o OPTION].. DIRECTORY MOUNTPOINT
- *
- *   -o translate_uid=SPEC   a specification of user ids, as often as needed
- *   -o translate_gid=SPEC   the same for groups
- *   -o xattrmap=RULES       the rules for names; without it each name passes as it is
- *   -o posix_acl            access control lists cross, with their ids; without it they are hidden and unsupported
- *
- * In these texts a comma is written `\,` and a backslash `\\`, since commas part options. It ends with 0 once it is
- * unmounted, with 1 where it cannot serve the directory, as where a text is refused, and with 2 where its words are
- * wrong.
+ * It ends with 0 once it is unmounted, with 1 where it cannot serve the directory, as where a text is refused, and with
+ * 2 where its words are wrong.
  *
  * It stands on libfuse 3, and runs as root. Requests come from the kernel of this host, which is trusted with the
  * numbers of nodes and of open files that it was given. A daemon that reads requests from a guest's memory looks these
@@ -26,11 +19,11 @@
 #include <fcntl.h>
 #include <fuse3/fuse_lowlevel.h>
 #include <grp.h>
-#include <limits.h>
 #include <linux/capability.h>
 #include <linux/limits.h>
 #include <pthread.h>
 #include <sched.h>
+#include <signal.h>
 #include <stdio.h>
 #include <stdlib.h>
 #include <string.h>
@@ -39,32 +32,44 @@
 #include <sys/stat.h>
 #include <sys/statvfs.h>
 #include <sys/syscall.h>
+#include <sys/sysmacros.h>
+#include <sys/uio.h>
 #include <sys/xattr.h>
 #include <unistd.h>
 
 #include "virtiofs_map.h"
 
-enum { BUCKETS = 65536, NAME_ROOM = XATTR_NAME_MAX + 1, PROC_ROOM = 32, CAPABILITY_ROOM = 24 };
+#define UNUSED __attribute__((unused))
+
+enum { BUCKETS = 65536, NAME_ROOM = XATTR_NAME_MAX + 1, PROC_ROOM = 32, CAPABILITY_ROOM = 24, SHORT_VALUE = 256 };
 
 /* A file of the directory that the kernel knows by number. */
 struct node {
     struct node *next; /* of its bucket */
     dev_t dev;
     ino_t ino;
-    mode_t mode;      /* its type stays what it is; the rest is not looked at */
-    int fd;           /* opened with O_PATH: it reads nothing and follows nothing */
-    uint64_t lookups; /* how often the kernel was told of it, and has not forgotten it */
+    mode_t mode;       /* its type stays what it is; the rest is not looked at */
+    int fd;            /* opened with O_PATH: it reads nothing and follows nothing */
+    uint64_t lookups;  /* how often the kernel was told of it, and has not forgotten it */
+    uint64_t opens;    /* how often it is open */
+    fuse_ino_t parent; /* the folder in which it was looked up last, and the name there */
+    char *name;
 };
 
-/* The directory, and how its owners and names are seen. The maps are made before the first request and only read from
-   then on, so no thread locks anything to ask them. `lock` is for the nodes. */
+/* The directory, and how its owners and names are seen. The options and the maps are made before the first request and
+   only read from then on, so no thread locks anything to ask them. `lock` is for the nodes. */
 struct share {
+    const char *directory;
+    int posix_acl, readdirplus;
+    double timeout;
     struct virtiofs_uids users;
     struct virtiofs_gids groups;
     struct virtiofs_names names;
-    bool posix_acl;
+    struct fuse_session *session;
     struct node root;
     pthread_mutex_t lock;
+    pthread_cond_t is_full; /* there are more than `most` nodes */
+    size_t count, most, forgotten;
     struct node *buckets[BUCKETS];
 };
 
@@ -81,60 +86,45 @@ static int error_after(ssize_t status)
 
 /* ---- what the maps say ---- */
 
-/* What the guest hears of a code, as the header has it. */
-static int error_of(uint32_t code)
-{
-    switch (code) {
-    case VIRTIOFS_OK:
-        return 0;
-    case VIRTIOFS_FORBIDDEN:
-    case VIRTIOFS_DENIED:
-    case VIRTIOFS_UNTERMINATED:
-    case VIRTIOFS_MERGES:
-        return EPERM;
-    case VIRTIOFS_UNSUPPORTED:
-        return ENOTSUP;
-    case VIRTIOFS_NO_ROOM:
-        return ERANGE;
-    case VIRTIOFS_NO_MEMORY:
-        return ENOMEM;
-    default:
-        return EINVAL;
-    }
-}
-
-/* No file belongs to this number. For chown it means 'leave it as it is', and setfsuid would leave the thread root. So
-   no id of the guest may become it, though a specification can say so. */
+/* No file belongs to this number, which chown and setfsuid read as 'leave it as it is'. */
 static const uint32_t NO_ID = UINT32_MAX;
 
 static int user_to_host(const struct share *share, uint32_t guest, uint32_t *host)
 {
-    uint32_t code = virtiofs_uids_guest(share->users, guest, host);
-    return code == VIRTIOFS_OK && *host == NO_ID ? EINVAL : error_of(code);
+    return virtiofs_code_errno(virtiofs_uids_guest(share->users, guest, host));
 }
 
 static int group_to_host(const struct share *share, uint32_t guest, uint32_t *host)
 {
-    uint32_t code = virtiofs_gids_guest(share->groups, guest, host);
-    return code == VIRTIOFS_OK && *host == NO_ID ? EINVAL : error_of(code);
+    return virtiofs_code_errno(virtiofs_gids_guest(share->groups, guest, host));
+}
+
+/* The number of a file in the guest, which sees one device only, and takes files with equal numbers for one. So files
+   of another file system, which is mounted inside the directory, get numbers with high bits of their own. */
+static ino_t number_to_guest(const struct share *share, dev_t dev, ino_t ino)
+{
+    return ino ^ (dev ^ share->root.dev) * 0x9E3779B97F4A7C15u;
 }
 
 /* Makes what the host tells of a file what the guest is told of it. */
-static int attributes_to_guest(const struct share *share, struct stat *attributes)
+static int attributes_to_guest(const struct share *share, struct stat *file)
 {
-    uint32_t user, group, code = virtiofs_uids_host(share->users, attributes->st_uid, &user);
+    uint32_t user, group, code = virtiofs_uids_host(share->users, file->st_uid, &user);
     if (code == VIRTIOFS_OK)
-        code = virtiofs_gids_host(share->groups, attributes->st_gid, &group);
+        code = virtiofs_gids_host(share->groups, file->st_gid, &group);
     if (code != VIRTIOFS_OK)
-        return error_of(code);
-    attributes->st_uid = user;
-    attributes->st_gid = group;
+        return virtiofs_code_errno(code);
+    file->st_uid = user;
+    file->st_gid = group;
+    file->st_ino = number_to_guest(share, file->st_dev, file->st_ino);
     return 0;
 }
 
+static const char *const ACCESS_LISTS[] = { "system.posix_acl_access", "system.posix_acl_default" };
+
 static bool is_access_list(const char *name)
 {
-    return !strcmp(name, "system.posix_acl_access") || !strcmp(name, "system.posix_acl_default");
+    return !strcmp(name, ACCESS_LISTS[0]) || !strcmp(name, ACCESS_LISTS[1]);
 }
 
 /* Names that the guest neither lists nor uses, whatever the rules say: access control lists, where `posix_acl` is not
@@ -155,14 +145,12 @@ static int name_to_host(const struct share *share, const char *guest, char host[
     if (is_left_out(share, guest))
         return ENOTSUP;
     uint32_t code = virtiofs_names_client(share->names, name, name_len, (uint8_t *)host, XATTR_NAME_MAX, &len);
-    if (code == VIRTIOFS_AS_IT_IS) {
-        len = name_len;
-        code = len > XATTR_NAME_MAX ? VIRTIOFS_NO_ROOM : VIRTIOFS_OK;
-        memcpy(host, guest, code == VIRTIOFS_OK ? len : 0);
-    }
-    /* (ERANGE, as for other buffers, would tell a caller of getxattr that its own is too short.) */
-    if (code != VIRTIOFS_OK)
-        return code == VIRTIOFS_NO_ROOM ? ENAMETOOLONG : error_of(code);
+    if (code == VIRTIOFS_AS_IT_IS)
+        len = (size_t)snprintf(host, NAME_ROOM, "%s", guest);
+    else if (code != VIRTIOFS_OK && code != VIRTIOFS_NO_ROOM)
+        return virtiofs_code_errno(code);
+    if (len > XATTR_NAME_MAX) /* (ERANGE would tell a caller of getxattr that its buffer is too short.) */
+        return ENAMETOOLONG;
     host[len] = '\0';
     return is_left_out(share, host) ? ENOTSUP : 0;
 }
@@ -190,7 +178,7 @@ static int list_to_guest(const struct share *share, char *host, size_t host_len,
     host_len = without_left_out(share, host, host_len);
     uint32_t code = virtiofs_names_server(share->names, list, host_len, (uint8_t *)guest, host_len + 1, len);
     if (code != VIRTIOFS_OK)
-        return error_of(code);
+        return virtiofs_code_errno(code);
     guest[*len] = '\0';
     *len = without_left_out(share, guest, *len);
     return 0;
@@ -229,65 +217,83 @@ static struct node **bucket_of(struct share *share, dev_t dev, ino_t ino)
 
 /* The node of the file behind a descriptor, which is the node's from then on, or closed. NULL: memory ran out. (While a
    descriptor holds a file, no other file gets its number.) */
-static struct node *found_or_made(struct share *share, int fd, const struct stat *file)
+static struct node *found_or_made(struct share *share, int fd, const struct stat *file, fuse_ino_t parent,
+                                  const char *name)
 {
     struct node **bucket = bucket_of(share, file->st_dev, file->st_ino), *node;
     pthread_mutex_lock(&share->lock);
     for (node = *bucket; node && (node->ino != file->st_ino || node->dev != file->st_dev); node = node->next) { }
+    if (!node && (node = calloc(1, sizeof *node))) {
+        *node = (struct node){ *bucket, file->st_dev, file->st_ino, file->st_mode, fd, 0, 0, parent, NULL };
+        *bucket = node;
+        fd = -1;
+        if (++share->count > share->most)
+            pthread_cond_signal(&share->is_full);
+    }
     if (node) {
         node->lookups++;
-        close(fd);
-    } else if ((node = malloc(sizeof *node))) {
-        *node = (struct node){ *bucket, file->st_dev, file->st_ino, file->st_mode, fd, 1 };
-        *bucket = node;
-    } else {
-        close(fd);
+        node->parent = parent;
+        free(node->name);
+        node->name = strdup(name);
     }
     pthread_mutex_unlock(&share->lock);
+    if (fd >= 0)
+        close(fd);
     return node;
 }
 
 static void forget(struct share *share, fuse_ino_t number, uint64_t lookups)
 {
-    struct node *node = node_of(share, number), **at;
-    if (number == FUSE_ROOT_ID)
-        return;
+    struct node *node = node_of(share, number), **at = bucket_of(share, node->dev, node->ino);
     pthread_mutex_lock(&share->lock);
     node->lookups -= lookups;
-    bool is_forgotten = node->lookups == 0;
+    bool is_forgotten = !node->lookups && number != FUSE_ROOT_ID;
     if (is_forgotten) {
-        for (at = bucket_of(share, node->dev, node->ino); *at != node; at = &(*at)->next) { }
+        for (; *at != node; at = &(*at)->next) { }
         *at = node->next;
+        share->count--;
+        share->forgotten++;
     }
     pthread_mutex_unlock(&share->lock);
     if (is_forgotten) {
         close(node->fd);
+        free(node->name);
         free(node);
     }
 }
 
-/* Looks up what stands under a name. Where there is no error, the kernel is told of it, or it is forgotten. Both times
-   in the entry stay 0, since the directory may change without this program: the kernel asks again each time. */
-static int look_up(fuse_req_t req, fuse_ino_t parent, const char *name, struct fuse_entry_param *entry)
+static void count_open(struct share *share, fuse_ino_t number, bool is_open)
+{
+    pthread_mutex_lock(&share->lock);
+    node_of(share, number)->opens += is_open ? 1 : UINT64_MAX;
+    pthread_mutex_unlock(&share->lock);
+}
+
+/* Makes an entry of the file behind a descriptor, which is a node's from then on, or closed. Below 0 it is that of a
+   call that failed. Where there is no error, the kernel is told of the entry, or it is forgotten. */
+static int entry_of(fuse_req_t req, int fd, fuse_ino_t parent, const char *name, struct fuse_entry_param *entry)
 {
     struct share *share = share_of(req);
-    memset(entry, 0, sizeof *entry);
-    if (!is_plain(name))
-        return EINVAL;
-    int fd = openat(fd_of(req, parent), name, O_PATH | O_NOFOLLOW | O_CLOEXEC);
-    if (fd < 0)
-        return errno;
-    struct stat file;
-    int error = error_after(fstat(fd, &file));
-    entry->attr = file;
+    struct stat file = { 0 };
+    int error = fd < 0 ? errno : error_after(fstat(fd, &file));
+    *entry = (struct fuse_entry_param){ .attr = file, .attr_timeout = share->timeout, .entry_timeout = share->timeout };
     if (!error)
         error = attributes_to_guest(share, &entry->attr);
-    if (error) {
-        close(fd);
-        return error;
+    if (!error) {
+        entry->ino = (uintptr_t)found_or_made(share, fd, &file, parent, name);
+        return entry->ino ? 0 : ENOMEM;
     }
-    entry->ino = (uintptr_t)found_or_made(share, fd, &file);
-    return entry->ino ? 0 : ENOMEM;
+    if (fd >= 0)
+        close(fd);
+    return error;
+}
+
+/* The same of what stands under a name. */
+static int look_up(fuse_req_t req, fuse_ino_t parent, const char *name, struct fuse_entry_param *entry)
+{
+    if (!is_plain(name))
+        return EINVAL;
+    return entry_of(req, openat(fd_of(req, parent), name, O_PATH | O_NOFOLLOW | O_CLOEXEC), parent, name, entry);
 }
 
 /* Answers with an error, or with what stands under a name. */
@@ -296,64 +302,135 @@ static void reply_entry(fuse_req_t req, int error, fuse_ino_t parent, const char
     struct fuse_entry_param entry;
     if (!error)
         error = look_up(req, parent, name, &entry);
-    if (error)
-        fuse_reply_err(req, error);
-    else
-        fuse_reply_entry(req, &entry);
+    error ? fuse_reply_err(req, error) : fuse_reply_entry(req, &entry);
+}
+
+/* ---- having nodes forgotten ---- */
+
+/* Has the kernel forget the node at a place of a bucket, so that this program is told to forget it too. It leaves one
+   that is open alone, and at first each folder: in a process that works there getcwd would fail until somebody looks
+   the folder up again. The lock is held, but not while the kernel is asked. False: there is no such place. */
+static bool have_forgotten(struct share *share, size_t bucket, size_t place, bool takes_folders)
+{
+    char name[NAME_MAX + 1];
+    const struct node *node = share->buckets[bucket];
+    for (; node && place; place--)
+        node = node->next;
+    if (!node)
+        return false;
+    if (node->opens || !node->name || (S_ISDIR(node->mode) && !takes_folders))
+        return true;
+    fuse_ino_t parent = node->parent;
+    snprintf(name, sizeof name, "%s", node->name);
+    pthread_mutex_unlock(&share->lock);
+    fuse_lowlevel_notify_inval_entry(share->session, parent, name, strlen(name));
+    pthread_mutex_lock(&share->lock);
+    return true;
+}
+
+/* Goes over all nodes, again and again, as long as there are too many of them. It is a thread of its own: a kernel that
+   waits for an answer about a folder would not let a thread that has to answer take something out of it. */
+static void *keep_few(void *data)
+{
+    struct share *share = data;
+    bool takes_folders = false;
+    pthread_mutex_lock(&share->lock);
+    for (;;) {
+        size_t forgotten = share->forgotten;
+        for (size_t bucket = 0; bucket < BUCKETS; bucket++) {
+            while (share->count <= share->most)
+                pthread_cond_wait(&share->is_full, &share->lock);
+            for (size_t place = 0; have_forgotten(share, bucket, place, takes_folders); place++) { }
+        }
+        bool is_idle = share->forgotten == forgotten;
+        pthread_mutex_unlock(&share->lock);
+        usleep(is_idle && takes_folders ? 1000000 : 1000);
+        pthread_mutex_lock(&share->lock);
+        takes_folders = is_idle;
+    }
+    return NULL;
 }
 
 /* ---- acting as the caller ---- */
 
-/* Raises one capability of this thread, which it may have. */
-static int raise_capability(int number)
+/* Takes capabilities from this thread, and gives it those of others that it may have. */
+static int change_capabilities(uint64_t taken, uint64_t given)
 {
     struct __user_cap_header_struct header = { _LINUX_CAPABILITY_VERSION_3, 0 };
     struct __user_cap_data_struct sets[_LINUX_CAPABILITY_U32S_3];
     if (syscall(SYS_capget, &header, sets))
         return errno;
-    sets[CAP_TO_INDEX(number)].effective |= CAP_TO_MASK(number);
+    for (int i = 0; i < _LINUX_CAPABILITY_U32S_3; i++) {
+        sets[i].effective &= ~(uint32_t)(taken >> 32 * i);
+        sets[i].effective |= (uint32_t)(given >> 32 * i) & sets[i].permitted;
+    }
     return syscall(SYS_capset, &header, sets) ? errno : 0;
 }
 
 static void act_as_root(void)
 {
-    setfsuid(0);
+    if (setfsuid(0)) /* (it tells who the thread acted as) */
+        change_capabilities(0, 1ull << CAP_SYS_RESOURCE);
     setfsgid(0);
     umask(0);
 }
 
-/* Makes this thread, and no other, act on files as the mapped caller with one capability, until act_as_root.
- *
- * What is made so belongs to the caller from its first moment on, whatever kills the daemon. The kernel gives it the
- * group of its folder or what a default list asks for, and counts it to the right quota. A chown after the fact would
- * leave a file of root's between the two calls. setfsuid changes one thread, where the C library's seteuid changes all.
- *
- * The umask is the caller's too, since only the host's kernel knows whether a default list takes its place. It belongs
- * to all threads, until one asks for its own. */
+/* Makes this thread, and no other, act on files as a user and a group of the host, until act_as_root. A user other than
+   0 has no capability that concerns files but the one that is given; nor that one with which a thread fills what a file
+   system keeps in reserve, and more than a quota leaves. */
+static int act_as(uint32_t user, uint32_t group, int capability)
+{
+    setfsgid(group);
+    setfsuid(user);
+    /* (These two calls tell no error. Asked with a number that nobody has, they tell what is set.) */
+    bool is_set = (uint32_t)setfsgid(NO_ID) == group && (uint32_t)setfsuid(NO_ID) == user;
+    int error = !is_set ? EPERM : user ? change_capabilities(1ull << CAP_SYS_RESOURCE, 1ull << capability) : 0;
+    if (error)
+        act_as_root();
+    return error;
+}
+
+/* The host's ids of the caller. */
+static int caller_on_host(fuse_req_t req, uint32_t *user, uint32_t *group)
+{
+    int error = user_to_host(share_of(req), fuse_req_ctx(req)->uid, user);
+    return error ? error : group_to_host(share_of(req), fuse_req_ctx(req)->gid, group);
+}
+
+/* Makes this thread act as the caller. What is made so belongs to the caller from its first moment on, whatever kills
+   the daemon. The kernel gives it the group of its folder or what a default list asks for, and counts it to the right
+   quota. A chown after the fact would leave a file of root's between the two calls. setfsuid changes one thread, where
+   the C library's seteuid changes all. The umask is the caller's too, since only the host's kernel knows whether a
+   default list takes its place. It belongs to all threads, until one asks for its own. */
 static int act_as_caller(fuse_req_t req, int capability)
 {
     static __thread bool has_own_umask;
-    const struct fuse_ctx *caller = fuse_req_ctx(req);
     uint32_t user, group;
-    int error = user_to_host(share_of(req), caller->uid, &user);
-    if (!error)
-        error = group_to_host(share_of(req), caller->gid, &group);
+    int error = caller_on_host(req, &user, &group);
     if (error)
         return error;
     if (!has_own_umask && unshare(CLONE_FS))
         return errno;
     has_own_umask = true;
-    umask(caller->umask);
-    setfsgid(group);
-    setfsuid(user); /* with a user other than 0, all capabilities that concern files are gone */
-    /* (These two calls tell no error. Asked with a number that nobody has, they tell what is set.) */
-    if ((uint32_t)setfsgid(NO_ID) != group || (uint32_t)setfsuid(NO_ID) != user)
-        error = EPERM;
-    else if (user)
-        error = raise_capability(capability);
-    if (error)
-        act_as_root();
+    error = act_as(user, group, capability);
+    if (!error)
+        umask(fuse_req_ctx(req)->umask);
     return error;
+}
+
+/* Makes this thread act as the caller who writes to an open file; or as the file's owner, if the kernel writes what was
+   stored by mmap, which it does in nobody's name, or if the host has no such caller. It takes no bits from the mode. */
+static int act_as_writer(fuse_req_t req, const struct fuse_file_info *opened)
+{
+    struct stat file;
+    uint32_t user, group;
+    if (opened->writepage || caller_on_host(req, &user, &group)) {
+        if (fstat((int)opened->fh, &file))
+            return errno;
+        user = file.st_uid;
+        group = file.st_gid;
+    }
+    return act_as(user, group, CAP_FSETID);
 }
 
 /* Begins to make something under a name. The kernel has tested the caller's rights by the guest's ids, with all groups
@@ -363,8 +440,8 @@ static int begin_making(fuse_req_t req, const char *name)
     return is_plain(name) ? act_as_caller(req, CAP_DAC_OVERRIDE) : EINVAL;
 }
 
-/* Ends it. Tells the error of the call that made something, or did not. */
-static int end_making(int status)
+/* Ends it, or a write. Tells the error of the call that was made as the caller. */
+static int end_acting(ssize_t status)
 {
     int error = error_after(status);
     act_as_root();
@@ -381,36 +458,28 @@ static void on_lookup(fuse_req_t req, fuse_ino_t parent, const char *name)
 static void on_mkdir(fuse_req_t req, fuse_ino_t parent, const char *name, mode_t mode)
 {
     int error = begin_making(req, name);
-    if (!error)
-        error = end_making(mkdirat(fd_of(req, parent), name, mode));
-    reply_entry(req, error, parent, name);
+    reply_entry(req, error ? error : end_acting(mkdirat(fd_of(req, parent), name, mode)), parent, name);
 }
 
 /* A device is made only where the caller is root on the host too: no other user gets CAP_MKNOD. */
 static void on_mknod(fuse_req_t req, fuse_ino_t parent, const char *name, mode_t mode, dev_t device)
 {
     int error = begin_making(req, name);
-    if (!error)
-        error = end_making(mknodat(fd_of(req, parent), name, mode, device));
-    reply_entry(req, error, parent, name);
+    reply_entry(req, error ? error : end_acting(mknodat(fd_of(req, parent), name, mode, device)), parent, name);
 }
 
 static void on_symlink(fuse_req_t req, const char *text, fuse_ino_t parent, const char *name)
 {
     int error = begin_making(req, name);
-    if (!error)
-        error = end_making(symlinkat(text, fd_of(req, parent), name));
-    reply_entry(req, error, parent, name);
+    reply_entry(req, error ? error : end_acting(symlinkat(text, fd_of(req, parent), name)), parent, name);
 }
 
 static void on_link(fuse_req_t req, fuse_ino_t number, fuse_ino_t parent, const char *name)
 {
     char path[PROC_ROOM];
     const char *file = proc_path(fd_of(req, number), path);
-    int error = EINVAL;
-    if (is_plain(name))
-        error = error_after(linkat(AT_FDCWD, file, fd_of(req, parent), name, AT_SYMLINK_FOLLOW));
-    reply_entry(req, error, parent, name);
+    int made = is_plain(name) ? linkat(AT_FDCWD, file, fd_of(req, parent), name, AT_SYMLINK_FOLLOW) : 0;
+    reply_entry(req, error_after(made), parent, name);
 }
 
 static void on_unlink(fuse_req_t req, fuse_ino_t parent, const char *name)
@@ -428,7 +497,7 @@ static void on_rename(fuse_req_t req, fuse_ino_t parent, const char *name, fuse_
                       unsigned int flags)
 {
     int error = EINVAL;
-    if (is_plain(name) && is_plain(new_name) && !(flags & ~(RENAME_NOREPLACE | RENAME_EXCHANGE)))
+    if (is_plain(name) && is_plain(new_name) && !(flags & ~(unsigned)(RENAME_NOREPLACE | RENAME_EXCHANGE)))
         error = error_after(renameat2(fd_of(req, parent), name, fd_of(req, new_parent), new_name, flags));
     fuse_reply_err(req, error);
 }
@@ -436,13 +505,10 @@ static void on_rename(fuse_req_t req, fuse_ino_t parent, const char *name, fuse_
 static void on_readlink(fuse_req_t req, fuse_ino_t number)
 {
     char text[PATH_MAX + 1];
-    ssize_t len = readlinkat(fd_of(req, number), "", text, sizeof text);
-    if (len < 0 || len == sizeof text) {
-        fuse_reply_err(req, len < 0 ? errno : ENAMETOOLONG);
-        return;
-    }
-    text[len] = '\0';
-    fuse_reply_readlink(req, text);
+    ssize_t len = readlinkat(fd_of(req, number), "", text, PATH_MAX);
+    int error = error_after(len);
+    text[error ? 0 : len] = '\0';
+    error ? fuse_reply_err(req, error) : fuse_reply_readlink(req, text);
 }
 
 static void on_forget(fuse_req_t req, fuse_ino_t number, uint64_t lookups)
@@ -453,17 +519,13 @@ static void on_forget(fuse_req_t req, fuse_ino_t number, uint64_t lookups)
 
 /* ---- requests about owners, modes, sizes and times ---- */
 
-static void on_getattr(fuse_req_t req, fuse_ino_t number, struct fuse_file_info *open_file)
+static void on_getattr(fuse_req_t req, fuse_ino_t number, struct fuse_file_info *opened UNUSED)
 {
     struct stat file;
-    (void)open_file;
     int error = error_after(fstat(fd_of(req, number), &file));
     if (!error)
         error = attributes_to_guest(share_of(req), &file);
-    if (error)
-        fuse_reply_err(req, error);
-    else
-        fuse_reply_attr(req, &file, 0);
+    error ? fuse_reply_err(req, error) : fuse_reply_attr(req, &file, share_of(req)->timeout);
 }
 
 /* Both owners of a request are mapped before either is set, so that one that is forbidden changes nothing. */
@@ -488,7 +550,7 @@ static struct timespec time_for(struct timespec given, bool is_given, bool is_no
 
 /* Owners come first: a chown takes bits from the mode, and what is forbidden changes nothing. */
 static void on_setattr(fuse_req_t req, fuse_ino_t number, struct stat *wanted, int which,
-                       struct fuse_file_info *open_file)
+                       struct fuse_file_info *opened)
 {
     char path[PROC_ROOM];
     int fd = fd_of(req, number), error = set_owners(req, fd, wanted, which);
@@ -500,198 +562,263 @@ static void on_setattr(fuse_req_t req, fuse_ino_t number, struct stat *wanted, i
     if (!error && which & FUSE_SET_ATTR_MODE)
         error = error_after(chmod(path, wanted->st_mode));
     if (!error && which & FUSE_SET_ATTR_SIZE)
-        error = error_after(open_file ? ftruncate(open_file->fh, wanted->st_size) : truncate(path, wanted->st_size));
+        error = error_after(opened ? ftruncate((int)opened->fh, wanted->st_size) : truncate(path, wanted->st_size));
     if (!error && (times[0].tv_nsec != UTIME_OMIT || times[1].tv_nsec != UTIME_OMIT))
         error = error_after(utimensat(AT_FDCWD, path, times, 0));
     if (error)
         fuse_reply_err(req, error);
     else
-        on_getattr(req, number, open_file);
+        on_getattr(req, number, opened);
 }
 
 /* ---- requests about open files ---- */
 
-/* The flags that a file is opened with. The others were seen to by the kernel that asks, or are none for a guest. */
+/* The flags that a file is opened with. The others were seen to by the kernel that asks, or are none for a guest. Not
+   so O_APPEND: each write says for itself whether it goes to the end, and what was stored by mmap does not. */
 static int flags_for(int flags)
 {
-    return (flags & (O_ACCMODE | O_APPEND | O_SYNC | O_DSYNC)) | O_CLOEXEC;
+    return (flags & (O_ACCMODE | O_SYNC | O_DSYNC | O_NOATIME)) | O_CLOEXEC;
 }
 
-/* A file that is there already, though the kernel did not find it, was made on the host since. It is not opened here,
-   where nobody has tested the caller's rights to it: on ESTALE the kernel looks the name up again, and tests them. */
-static void on_create(fuse_req_t req, fuse_ino_t parent, const char *name, mode_t mode,
-                      struct fuse_file_info *open_file)
+/* Makes a file and opens it. If it is there already, though the kernel did not find it, it was made on the host since.
+   It is not opened here, where nobody has tested the caller's rights to it: on ESTALE the kernel looks again. */
+static void make_and_open(fuse_req_t req, fuse_ino_t parent, const char *name, mode_t mode, int how,
+                          struct fuse_file_info *opened)
 {
     struct fuse_entry_param entry;
-    int fd = -1, error = begin_making(req, name);
+    char path[PROC_ROOM];
+    int fd = -1, error = how & O_CREAT && !is_plain(name) ? EINVAL : act_as_caller(req, CAP_DAC_OVERRIDE);
     if (!error) {
-        fd = openat(fd_of(req, parent), name, flags_for(open_file->flags) | O_CREAT | O_EXCL, mode);
-        error = end_making(fd);
+        fd = openat(fd_of(req, parent), name, flags_for(opened->flags) | how, mode);
+        error = end_acting(fd);
     }
-    if (error == EEXIST && !(open_file->flags & O_EXCL))
+    if (error == EEXIST && !(opened->flags & O_EXCL))
         error = ESTALE;
     if (!error)
-        error = look_up(req, parent, name, &entry);
-    open_file->fh = fd;
-    if (!error) {
-        fuse_reply_create(req, &entry, open_file);
-        return;
-    }
-    if (fd >= 0)
+        error = entry_of(req, open(proc_path(fd, path), O_PATH | O_CLOEXEC), parent, name, &entry);
+    if (!error)
+        count_open(share_of(req), entry.ino, true);
+    else if (fd >= 0)
         close(fd);
-    fuse_reply_err(req, error);
+    opened->fh = (uint64_t)fd;
+    error ? fuse_reply_err(req, error) : fuse_reply_create(req, &entry, opened);
+}
+
+static void on_create(fuse_req_t req, fuse_ino_t parent, const char *name, mode_t mode, struct fuse_file_info *opened)
+{
+    make_and_open(req, parent, name, mode, O_CREAT | O_EXCL, opened);
 }
 
 /* Pipes and devices of the guest are opened by its own kernel. Opened here, they would be the host's. */
-static void on_open(fuse_req_t req, fuse_ino_t number, struct fuse_file_info *open_file)
+static void on_open(fuse_req_t req, fuse_ino_t number, struct fuse_file_info *opened)
 {
     char path[PROC_ROOM];
     const struct node *node = node_of(share_of(req), number);
     int fd = -1, error = EPERM;
     if (S_ISREG(node->mode)) {
-        fd = open(proc_path(node->fd, path), flags_for(open_file->flags));
+        fd = open(proc_path(node->fd, path), flags_for(opened->flags));
         error = error_after(fd);
     }
-    open_file->fh = fd;
-    if (error)
-        fuse_reply_err(req, error);
-    else
-        fuse_reply_open(req, open_file);
+    opened->fh = (uint64_t)fd;
+    if (!error)
+        count_open(share_of(req), number, true);
+    error ? fuse_reply_err(req, error) : fuse_reply_open(req, opened);
 }
 
-static void on_read(fuse_req_t req, fuse_ino_t number, size_t size, off_t at, struct fuse_file_info *open_file)
+static void on_read(fuse_req_t req, fuse_ino_t number UNUSED, size_t size, off_t at, struct fuse_file_info *opened)
 {
     struct fuse_bufvec bytes = FUSE_BUFVEC_INIT(size);
-    (void)number;
     bytes.buf[0].flags = FUSE_BUF_IS_FD | FUSE_BUF_FD_SEEK;
-    bytes.buf[0].fd = open_file->fh;
+    bytes.buf[0].fd = (int)opened->fh;
     bytes.buf[0].pos = at;
     fuse_reply_data(req, &bytes, 0);
 }
 
-static void on_write(fuse_req_t req, fuse_ino_t number, const char *bytes, size_t size, off_t at,
-                     struct fuse_file_info *open_file)
+/* Answers with how many bytes a call has written, which was made as the writer. */
+static int reply_written(fuse_req_t req, ssize_t written)
 {
-    ssize_t written = pwrite(open_file->fh, bytes, size, at);
-    (void)number;
-    if (written < 0)
-        fuse_reply_err(req, errno);
-    else
-        fuse_reply_write(req, written);
+    int error = end_acting(written);
+    return error ? fuse_reply_err(req, error) : fuse_reply_write(req, (size_t)written);
 }
 
-static void on_fsync(fuse_req_t req, fuse_ino_t number, int only_data, struct fuse_file_info *open_file)
+static void on_write(fuse_req_t req, fuse_ino_t number UNUSED, const char *bytes, size_t size, off_t at,
+                     struct fuse_file_info *opened)
 {
-    (void)number;
-    fuse_reply_err(req, error_after(only_data ? fdatasync(open_file->fh) : fsync(open_file->fh)));
+    const struct iovec all = { (void *)(uintptr_t)bytes, size };
+    int error = act_as_writer(req, opened), flags = opened->flags & O_APPEND ? RWF_APPEND : 0;
+    error ? fuse_reply_err(req, error) : reply_written(req, pwritev2((int)opened->fh, &all, 1, at, flags));
 }
 
-static void on_release(fuse_req_t req, fuse_ino_t number, struct fuse_file_info *open_file)
+static void on_copy_file_range(fuse_req_t req, fuse_ino_t number UNUSED, off_t from_at, struct fuse_file_info *from,
+                               fuse_ino_t other UNUSED, off_t to_at, struct fuse_file_info *to, size_t len, int flags)
 {
-    (void)number;
-    fuse_reply_err(req, error_after(close(open_file->fh)));
+    int in = (int)from->fh, out = (int)to->fh, error = act_as_writer(req, to);
+    error ? fuse_reply_err(req, error)
+          : reply_written(req, copy_file_range(in, &from_at, out, &to_at, len, (unsigned)flags));
 }
 
-static void on_opendir(fuse_req_t req, fuse_ino_t number, struct fuse_file_info *open_file)
+static void on_fallocate(fuse_req_t req, fuse_ino_t number UNUSED, int mode, off_t at, off_t len,
+                         struct fuse_file_info *opened)
 {
-    int fd = openat(fd_of(req, number), ".", O_RDONLY | O_DIRECTORY | O_CLOEXEC);
+    int error = act_as_writer(req, opened);
+    fuse_reply_err(req, error ? error : end_acting(fallocate((int)opened->fh, mode, at, len)));
+}
+
+/* The kernel that asks sees to all but SEEK_DATA and SEEK_HOLE. */
+static void on_lseek(fuse_req_t req, fuse_ino_t number UNUSED, off_t at, int whence, struct fuse_file_info *opened)
+{
+    off_t found = lseek((int)opened->fh, at, whence);
+    found < 0 ? fuse_reply_err(req, errno) : fuse_reply_lseek(req, found);
+}
+
+/* A descriptor of the guest is closed. On some file systems an error of earlier writes is told then. */
+static void on_flush(fuse_req_t req, fuse_ino_t number UNUSED, struct fuse_file_info *opened)
+{
+    int copy = dup((int)opened->fh);
+    fuse_reply_err(req, copy < 0 ? 0 : error_after(close(copy)));
+}
+
+static void on_fsync(fuse_req_t req, fuse_ino_t number UNUSED, int only_data, struct fuse_file_info *opened)
+{
+    fuse_reply_err(req, error_after(only_data ? fdatasync((int)opened->fh) : fsync((int)opened->fh)));
+}
+
+static void on_release(fuse_req_t req, fuse_ino_t number, struct fuse_file_info *opened)
+{
+    count_open(share_of(req), number, false);
+    fuse_reply_err(req, error_after(close((int)opened->fh)));
+}
+
+#if FUSE_VERSION >= FUSE_MAKE_VERSION(3, 18)
+/* Makes a file without a name. */
+static void on_tmpfile(fuse_req_t req, fuse_ino_t parent, mode_t mode, struct fuse_file_info *opened)
+{
+    make_and_open(req, parent, ".", mode, O_TMPFILE | (opened->flags & O_EXCL), opened);
+}
+
+/* Tells the time of birth too. */
+static void on_statx(fuse_req_t req, fuse_ino_t number, int flags, int mask, struct fuse_file_info *opened UNUSED)
+{
+    struct statx told = { 0 };
+    int error = error_after(statx(fd_of(req, number), "", flags | AT_EMPTY_PATH, (unsigned)mask, &told));
+    struct stat file = { .st_dev = makedev(told.stx_dev_major, told.stx_dev_minor), .st_ino = told.stx_ino,
+                         .st_uid = told.stx_uid, .st_gid = told.stx_gid };
+    if (!error)
+        error = attributes_to_guest(share_of(req), &file);
+    told.stx_ino = file.st_ino;
+    told.stx_uid = file.st_uid;
+    told.stx_gid = file.st_gid;
+    error ? fuse_reply_err(req, error) : fuse_reply_statx(req, 0, &told, share_of(req)->timeout);
+}
+#endif
+
+/* ---- requests about open folders ---- */
+
+static void on_opendir(fuse_req_t req, fuse_ino_t number, struct fuse_file_info *opened)
+{
+    int fd = openat(fd_of(req, number), ".", flags_for(opened->flags) | O_DIRECTORY);
     DIR *folder = fd < 0 ? NULL : fdopendir(fd);
-    if (!folder) {
-        int error = errno;
-        if (fd >= 0)
-            close(fd);
-        fuse_reply_err(req, error);
-        return;
-    }
-    open_file->fh = (uintptr_t)folder;
-    fuse_reply_open(req, open_file);
+    int error = folder ? 0 : errno;
+    opened->fh = (uintptr_t)folder;
+    if (error && fd >= 0)
+        close(fd);
+    error ? fuse_reply_err(req, error) : fuse_reply_open(req, opened);
 }
 
-/* Answers with as many entries as there is room for. What an entry tells of owners the kernel asks for afterwards. */
-static void on_readdir(fuse_req_t req, fuse_ino_t number, size_t size, off_t at, struct fuse_file_info *open_file)
+/* Adds an entry, or tells how much room it takes. With `plus` it comes with what a look-up tells, if that succeeds. */
+static size_t add_entry(fuse_req_t req, fuse_ino_t number, char *to, size_t room, const struct dirent *it, bool plus)
 {
-    DIR *folder = (DIR *)(uintptr_t)open_file->fh;
+    struct share *share = share_of(req);
+    ino_t ino = number_to_guest(share, node_of(share, number)->dev, it->d_ino);
+    const struct stat file = { .st_ino = ino, .st_mode = (mode_t)DTTOIF(it->d_type) };
+    struct fuse_entry_param entry;
+    if (!plus)
+        return fuse_add_direntry(req, to, room, it->d_name, &file, it->d_off);
+    bool is_told = !look_up(req, number, it->d_name, &entry);
+    if (!is_told)
+        entry = (struct fuse_entry_param){ .attr = file };
+    size_t taken = fuse_add_direntry_plus(req, to, room, it->d_name, &entry, it->d_off);
+    if (is_told && taken > room)
+        forget(share, entry.ino, 1);
+    return taken;
+}
+
+/* Answers with as many entries as there is room for. Entries go before an error: the next request meets it again. */
+static void list_folder(fuse_req_t req, fuse_ino_t number, size_t size, off_t at, DIR *folder, bool plus)
+{
     char *entries = malloc(size);
-    size_t len = 0;
-    int error = 0;
-    (void)number;
-    if (!entries) {
-        fuse_reply_err(req, ENOMEM);
-        return;
-    }
-    for (seekdir(folder, at);;) {
-        errno = 0;
-        const struct dirent *entry = readdir(folder);
-        if (!entry) {
-            error = errno;
-            break;
-        }
-        struct stat file = { .st_ino = entry->d_ino, .st_mode = DTTOIF(entry->d_type) };
-        size_t taken = fuse_add_direntry(req, entries + len, size - len, entry->d_name, &file, entry->d_off);
-        if (taken > size - len)
-            break;
+    size_t len = 0, taken = 0;
+    const struct dirent *entry = NULL;
+    int error = entries ? 0 : ENOMEM;
+    if (telldir(folder) != at)
+        seekdir(folder, at);
+    while (!error && taken <= size - len) {
         len += taken;
+        errno = 0;
+        entry = readdir(folder);
+        error = errno;
+        if (!entry)
+            break;
+        taken = add_entry(req, number, entries + len, size - len, entry, plus);
     }
-    /* (Entries go before an error: the next request meets it again.) */
-    if (error && !len)
-        fuse_reply_err(req, error);
-    else
-        fuse_reply_buf(req, entries, len);
+    error && !len ? fuse_reply_err(req, error) : fuse_reply_buf(req, entries, len);
     free(entries);
 }
 
-static void on_releasedir(fuse_req_t req, fuse_ino_t number, struct fuse_file_info *open_file)
+static void on_readdir(fuse_req_t req, fuse_ino_t number, size_t size, off_t at, struct fuse_file_info *opened)
 {
-    (void)number;
-    fuse_reply_err(req, error_after(closedir((DIR *)(uintptr_t)open_file->fh)));
+    list_folder(req, number, size, at, (DIR *)(uintptr_t)opened->fh, false);
+}
+
+static void on_readdirplus(fuse_req_t req, fuse_ino_t number, size_t size, off_t at, struct fuse_file_info *opened)
+{
+    list_folder(req, number, size, at, (DIR *)(uintptr_t)opened->fh, true);
+}
+
+static void on_fsyncdir(fuse_req_t req, fuse_ino_t number UNUSED, int only_data, struct fuse_file_info *opened)
+{
+    int fd = dirfd((DIR *)(uintptr_t)opened->fh);
+    fuse_reply_err(req, error_after(only_data ? fdatasync(fd) : fsync(fd)));
+}
+
+static void on_releasedir(fuse_req_t req, fuse_ino_t number UNUSED, struct fuse_file_info *opened)
+{
+    fuse_reply_err(req, error_after(closedir((DIR *)(uintptr_t)opened->fh)));
 }
 
 static void on_statfs(fuse_req_t req, fuse_ino_t number)
 {
     struct statvfs told;
-    if (fstatvfs(fd_of(req, number), &told))
-        fuse_reply_err(req, errno);
-    else
-        fuse_reply_statfs(req, &told);
+    int error = error_after(fstatvfs(fd_of(req, number), &told));
+    error ? fuse_reply_err(req, error) : fuse_reply_statfs(req, &told);
 }
 
 /* ---- requests about extended attributes ---- */
 
-/* The calls on values with ids, in one direction. */
-struct way {
-    uint32_t (*list)(struct virtiofs_uids, struct virtiofs_gids, uint8_t *, size_t, struct virtiofs_entry_room *,
-                     size_t, struct virtiofs_fault *);
-    uint32_t (*capability)(struct virtiofs_uids, uint8_t *, size_t, struct virtiofs_fault *);
-    uint32_t (*in_revision_3)(struct virtiofs_uids, const uint8_t *, size_t, uint8_t *, struct virtiofs_fault *);
-};
-
-static const struct way TO_HOST = {
-    virtiofs_acl_to_host, virtiofs_capability_to_host, virtiofs_capability_to_host_in_revision_3,
-};
-static const struct way TO_GUEST = {
-    virtiofs_acl_to_guest, virtiofs_capability_to_guest, virtiofs_capability_to_guest_in_revision_3,
-};
-
-static uint32_t list_across(const struct share *share, const struct way *way, uint8_t *value, size_t len)
+static uint32_t list_across(const struct share *share, bool to_host, uint8_t *value, size_t len)
 {
     struct virtiofs_fault fault;
-    struct virtiofs_entry_room *entries = calloc(len / 8 + 1, sizeof *entries);
+    size_t room = len / 8 + 1;
+    struct virtiofs_entry_room *entries = calloc(room, sizeof *entries);
     if (!entries)
         return VIRTIOFS_NO_MEMORY;
-    uint32_t code = way->list(share->users, share->groups, value, len, entries, len / 8 + 1, &fault);
+    uint32_t code = (to_host ? virtiofs_acl_to_host : virtiofs_acl_to_guest)(share->users, share->groups, value, len,
+                                                                             entries, room, &fault);
     free(entries);
     return code;
 }
 
 /* A capability without a field for the id of root gets one, where this id does not stay 0. */
-static uint32_t capability_across(const struct share *share, const struct way *way, uint8_t *value, size_t *len)
+static uint32_t capability_across(const struct share *share, bool to_host, uint8_t *value, size_t *len)
 {
     struct virtiofs_fault fault;
     uint8_t written[CAPABILITY_ROOM];
-    uint32_t code = way->capability(share->users, value, *len, &fault);
+    uint32_t code = (to_host ? virtiofs_capability_to_host : virtiofs_capability_to_guest)(share->users, value, *len,
+                                                                                           &fault);
     if (code != VIRTIOFS_ROOT_MOVES)
         return code;
-    code = way->in_revision_3(share->users, value, *len, written, &fault);
+    code = (to_host ? virtiofs_capability_to_host_in_revision_3 : virtiofs_capability_to_guest_in_revision_3)(
+        share->users, value, *len, written, &fault);
     if (code == VIRTIOFS_OK)
         memcpy(value, written, *len = sizeof written);
     return code;
@@ -700,16 +827,12 @@ static uint32_t capability_across(const struct share *share, const struct way *w
 /* Makes the ids in a value of the host's attribute of that name those of the other side, in place, with room for
    CAPABILITY_ROOM bytes at least. A value with an id that may not cross, or with two that would become one, is not set,
    and is not told: whoever is asked for rights by it then refuses. */
-static int value_across(const struct share *share, const struct way *way, const char *host_name, uint8_t *value,
-                        size_t *len)
+static int value_across(const struct share *share, bool to_host, const char *host_name, uint8_t *value, size_t *len)
 {
     switch (virtiofs_carries_ids((const uint8_t *)host_name, strlen(host_name))) {
-    case VIRTIOFS_ACL:
-        return error_of(list_across(share, way, value, *len));
-    case VIRTIOFS_CAPABILITY:
-        return error_of(capability_across(share, way, value, len));
-    default:
-        return 0;
+    case VIRTIOFS_ACL: return virtiofs_code_errno(list_across(share, to_host, value, *len));
+    case VIRTIOFS_CAPABILITY: return virtiofs_code_errno(capability_across(share, to_host, value, len));
+    default: return 0;
     }
 }
 
@@ -718,75 +841,59 @@ static void reply_bytes(fuse_req_t req, int error, const void *bytes, size_t len
 {
     if (!error && room && len > room)
         error = ERANGE;
-    if (error)
-        fuse_reply_err(req, error);
-    else if (room)
-        fuse_reply_buf(req, bytes, len);
-    else
-        fuse_reply_xattr(req, len);
+    error ? fuse_reply_err(req, error) : room ? fuse_reply_buf(req, bytes, len) : fuse_reply_xattr(req, len);
 }
 
-/* The whole value is read, also where its length is asked: that of the guest's may be another. */
+/* The whole value is read, also where its length is asked: that of the guest's may be another. Few are long, and the
+   kernel clears as much memory as it is told that there is. */
 static void on_getxattr(fuse_req_t req, fuse_ino_t number, const char *guest_name, size_t room)
 {
     char name[NAME_ROOM], path[PROC_ROOM];
-    uint8_t *value = malloc(XATTR_SIZE_MAX);
+    uint8_t value[XATTR_SIZE_MAX];
     size_t len = 0;
-    int error = value ? name_to_host(share_of(req), guest_name, name) : ENOMEM;
+    int error = name_to_host(share_of(req), guest_name, name);
+    proc_path(fd_of(req, number), path);
     if (!error) {
-        ssize_t read = getxattr(proc_path(fd_of(req, number), path), name, value, XATTR_SIZE_MAX);
+        ssize_t read = getxattr(path, name, value, SHORT_VALUE);
+        if (read < 0 && errno == ERANGE)
+            read = getxattr(path, name, value, sizeof value);
         error = error_after(read);
-        len = error ? 0 : read;
+        len = error ? 0 : (size_t)read;
     }
     if (!error)
-        error = value_across(share_of(req), &TO_GUEST, name, value, &len);
+        error = value_across(share_of(req), false, name, value, &len);
     reply_bytes(req, error, value, len, room);
-    free(value);
 }
 
 static void on_listxattr(fuse_req_t req, fuse_ino_t number, size_t room)
 {
-    char path[PROC_ROOM], *host = malloc(XATTR_LIST_MAX + 1), *guest = malloc(XATTR_LIST_MAX + 2);
+    char path[PROC_ROOM], host[XATTR_LIST_MAX + 1], guest[XATTR_LIST_MAX + 2];
     size_t len = 0;
-    int error = host && guest ? 0 : ENOMEM;
-    if (!error) {
-        ssize_t read = listxattr(proc_path(fd_of(req, number), path), host, XATTR_LIST_MAX);
-        error = read < 0 ? errno : list_to_guest(share_of(req), host, read, guest, &len);
-    }
+    ssize_t read = listxattr(proc_path(fd_of(req, number), path), host, XATTR_LIST_MAX);
+    int error = read < 0 ? errno : list_to_guest(share_of(req), host, (size_t)read, guest, &len);
     reply_bytes(req, error, guest, len, room);
-    free(host);
-    free(guest);
 }
 
-/* Sets a value on the host. An access control list of a caller other than root is set as that caller: where it is not
-   in the file's group, the host's kernel then takes the bit for set-group-id from the file, as a chmod would. */
-static int set_value(fuse_req_t req, int fd, const char *name, const void *value, size_t len, int flags)
-{
-    char path[PROC_ROOM];
-    bool is_as_caller = fuse_req_ctx(req)->uid && is_access_list(name);
-    int error = is_as_caller ? act_as_caller(req, CAP_FOWNER) : 0;
-    if (error)
-        return error;
-    error = error_after(setxattr(proc_path(fd, path), name, value, len, flags));
-    if (is_as_caller)
-        act_as_root();
-    return error;
-}
-
+/* An access control list of a caller other than root is set as that caller: where it is not in the file's group, the
+   host's kernel then takes the bit for set-group-id from the file, as a chmod would. */
 static void on_setxattr(fuse_req_t req, fuse_ino_t number, const char *guest_name, const char *value, size_t len,
                         int flags)
 {
-    char name[NAME_ROOM];
-    uint8_t *changed = malloc(len + CAPABILITY_ROOM);
-    int error = changed ? name_to_host(share_of(req), guest_name, name) : ENOMEM;
+    char name[NAME_ROOM], path[PROC_ROOM];
+    uint8_t changed[XATTR_SIZE_MAX + CAPABILITY_ROOM];
+    int error = len > XATTR_SIZE_MAX ? E2BIG : name_to_host(share_of(req), guest_name, name);
     if (!error) {
         memcpy(changed, value, len);
-        error = value_across(share_of(req), &TO_HOST, name, changed, &len);
+        error = value_across(share_of(req), true, name, changed, &len);
     }
+    bool is_as_caller = !error && fuse_req_ctx(req)->uid && is_access_list(name);
+    if (is_as_caller)
+        error = act_as_caller(req, CAP_FOWNER);
     if (!error)
-        error = set_value(req, fd_of(req, number), name, changed, len, flags);
+        error = error_after(setxattr(proc_path(fd_of(req, number), path), name, changed, len, flags));
+    if (is_as_caller)
+        act_as_root();
     fuse_reply_err(req, error);
-    free(changed);
 }
 
 static void on_removexattr(fuse_req_t req, fuse_ino_t number, const char *guest_name)
@@ -801,207 +908,223 @@ static void on_removexattr(fuse_req_t req, fuse_ino_t number, const char *guest_
 /* ---- the file system ---- */
 
 /* What is left to the kernel that asks. It takes the bits for set-user-id and the capabilities from a file that is
-   written to or cut short, since this program does both as root; it obeys access control lists, and where it cannot,
-   they stay hidden. The umask is left to the host's kernel. */
+   written to or cut short, since this program does both as it is told; it obeys access control lists, and where it
+   cannot, they stay hidden. The umask is left to the host's kernel. */
 static void on_init(void *userdata, struct fuse_conn_info *connection)
 {
     struct share *share = userdata;
     connection->want |= FUSE_CAP_DONT_MASK;
-    connection->want &= ~(FUSE_CAP_HANDLE_KILLPRIV | FUSE_CAP_ATOMIC_O_TRUNC);
+    connection->want &= ~(unsigned)(FUSE_CAP_HANDLE_KILLPRIV | FUSE_CAP_ATOMIC_O_TRUNC);
+    if (!share->readdirplus)
+        connection->want &= ~(unsigned)(FUSE_CAP_READDIRPLUS | FUSE_CAP_READDIRPLUS_AUTO);
     share->posix_acl = share->posix_acl && connection->capable & FUSE_CAP_POSIX_ACL;
     if (share->posix_acl)
         connection->want |= FUSE_CAP_POSIX_ACL;
 }
 
 static const struct fuse_lowlevel_ops OPERATIONS = {
-    .init = on_init, .statfs = on_statfs,
-    .lookup = on_lookup, .forget = on_forget, .link = on_link, .unlink = on_unlink, .rmdir = on_rmdir,
-    .rename = on_rename, .readlink = on_readlink, .mknod = on_mknod, .mkdir = on_mkdir, .symlink = on_symlink,
-    .getattr = on_getattr, .setattr = on_setattr,
-    .create = on_create, .open = on_open, .read = on_read, .write = on_write, .fsync = on_fsync, .release = on_release,
-    .opendir = on_opendir, .readdir = on_readdir, .releasedir = on_releasedir,
-    .getxattr = on_getxattr, .listxattr = on_listxattr, .setxattr = on_setxattr, .removexattr = on_removexattr,
+    .init = on_init, .statfs = on_statfs, .lookup = on_lookup, .forget = on_forget, .link = on_link,
+    .unlink = on_unlink, .rmdir = on_rmdir, .rename = on_rename, .readlink = on_readlink, .mknod = on_mknod,
+    .mkdir = on_mkdir, .symlink = on_symlink, .getattr = on_getattr, .setattr = on_setattr, .create = on_create,
+    .open = on_open, .read = on_read, .write = on_write, .copy_file_range = on_copy_file_range,
+    .fallocate = on_fallocate, .lseek = on_lseek, .flush = on_flush, .fsync = on_fsync, .release = on_release,
+    .opendir = on_opendir, .readdir = on_readdir, .readdirplus = on_readdirplus, .fsyncdir = on_fsyncdir,
+    .releasedir = on_releasedir, .getxattr = on_getxattr, .listxattr = on_listxattr, .setxattr = on_setxattr,
+    .removexattr = on_removexattr,
+#if FUSE_VERSION >= FUSE_MAKE_VERSION(3, 18)
+    .tmpfile = on_tmpfile, .statx = on_statx,
+#endif
 };
+
+/* Answers requests until it is unmounted, or a signal ends it, whose number fuse_session_loop returns. */
+static int answer(struct share *share, const struct fuse_cmdline_opts *words)
+{
+    pthread_t thread;
+    if (fuse_daemonize(words->foreground) || pthread_create(&thread, NULL, keep_few, share))
+        return 1;
+    int status = words->singlethread ? fuse_session_loop(share->session)
+                                     : fuse_session_loop_mt(share->session, words->clone_fd);
+    pthread_mutex_lock(&share->lock); /* (so that the thread does nothing more with the session) */
+    return status < 0;
+}
 
 static int serve(struct share *share, struct fuse_args *args, const struct fuse_cmdline_opts *words)
 {
-    struct fuse_session *session = fuse_session_new(args, &OPERATIONS, sizeof OPERATIONS, share);
-    int status = -1;
+    struct fuse_session *session = share->session = fuse_session_new(args, &OPERATIONS, sizeof OPERATIONS, share);
+    int status = 1;
     if (!session)
         return 1;
-    if (!fuse_set_signal_handlers(session)) {
-        if (!fuse_session_mount(session, words->mountpoint)) {
-            if (!fuse_daemonize(words->foreground))
-                status = words->singlethread ? fuse_session_loop(session)
-                                             : fuse_session_loop_mt(session, words->clone_fd);
-            fuse_session_unmount(session);
-        }
-        fuse_remove_signal_handlers(session);
+    if (!fuse_set_signal_handlers(session) && !fuse_session_mount(session, words->mountpoint)) {
+        status = answer(share, words);
+        fuse_session_unmount(session);
     }
+    fuse_remove_signal_handlers(session);
     fuse_session_destroy(session);
-    return status < 0; /* (Above 0 it is the number of the signal that ended it.) */
+    return status;
 }
 
 /* ---- what it is told on its command line ---- */
 
-/* The texts of an option that may be given more than once. */
-struct texts {
-    struct virtiofs_text *all;
-    size_t count;
-};
-
-struct settings {
-    struct texts users, groups;
-    const char *rules;
-    int posix_acl;
-    const char *directory;
-};
+static const char USAGE[] =
+    "usage: mapped_fs [OPTION].. DIRECTORY MOUNTPOINT\n\n"
+    "    -o translate_uid=SPEC  a specification of user ids, as often as needed\n"
+    "    -o translate_gid=SPEC  the same for groups\n"
+    "    -o xattrmap=RULES      the rules for names; without it each name passes as it is\n"
+    "                           (in these texts a comma is written \\, and a backslash \\\\)\n"
+    "    -o posix_acl           access control lists cross, with their ids; without it\n"
+    "                           they are hidden and unsupported\n"
+    "    -o timeout=SECONDS     how long the kernel goes by what it was told of a file,\n"
+    "                           though the host may have changed it since; without it 0\n"
+    "    -o readdirplus         who lists a folder is told of its files too\n";
 
 enum { USERS, GROUPS, RULES };
 
+/* The values of these options, which may be given more than once. */
+static struct fuse_args VALUES[3];
+
 static const struct fuse_opt OPTIONS[] = {
-    FUSE_OPT_KEY("translate_uid=", USERS),
-    FUSE_OPT_KEY("translate_gid=", GROUPS),
-    FUSE_OPT_KEY("xattrmap=", RULES),
-    { "posix_acl", offsetof(struct settings, posix_acl), 1 },
+    { "translate_uid=", UINT32_MAX, USERS }, /* (FUSE_OPT_KEY, of which clang complains) */
+    { "translate_gid=", UINT32_MAX, GROUPS },
+    { "xattrmap=", UINT32_MAX, RULES },
+    { "posix_acl", offsetof(struct share, posix_acl), 1 },
+    { "readdirplus", offsetof(struct share, readdirplus), 1 },
+    { "timeout=%lf", offsetof(struct share, timeout), 0 },
     FUSE_OPT_END,
 };
 
-static int add_text(struct texts *texts, const char *text)
-{
-    struct virtiofs_text *all = realloc(texts->all, (texts->count + 1) * sizeof *all);
-    if (!all)
-        return -1;
-    texts->all = all;
-    all[texts->count].at = (const uint8_t *)text;
-    all[texts->count++].len = strlen(text);
-    return 0;
-}
-
 /* Takes what is this program's own: 0. The rest is libfuse's: 1. */
-static int on_option(void *data, const char *word, int key, struct fuse_args *others)
+static int on_option(void *data, const char *word, int key, struct fuse_args *others UNUSED)
 {
-    struct settings *settings = data;
-    bool is_directory = key == FUSE_OPT_KEY_NONOPT && !settings->directory;
-    (void)others;
-    if (key == FUSE_OPT_KEY_OPT || (key == FUSE_OPT_KEY_NONOPT && !is_directory))
+    struct share *share = data;
+    if (key >= 0)
+        return fuse_opt_add_arg(&VALUES[key], strchr(word, '=') + 1);
+    if (key != FUSE_OPT_KEY_NONOPT || share->directory)
         return 1;
-    const char *text = strdup(is_directory ? word : strchr(word, '=') + 1);
-    if (!text)
-        return -1;
-    if (is_directory)
-        settings->directory = text;
-    else if (key == RULES)
-        settings->rules = text;
-    else
-        return add_text(key == USERS ? &settings->users : &settings->groups, text);
+    share->directory = word;
     return 0;
 }
 
 /* ---- making the maps ---- */
 
-/* Says why a setting is refused, by the library's own sentence. */
-static void show_fault(const char *option, const struct virtiofs_fault *fault, const uint8_t *quoted, size_t quoted_len)
+/* What the library tells of a setting that it refuses. */
+static struct virtiofs_fault FAULT = { .kind = VIRTIOFS_FAULT_MEMORY };
+static uint8_t QUOTED[64];
+
+/* Whether a map is made. If not, it says why, by the library's own sentence. */
+static bool is_made(const char *option, uint32_t code)
 {
     uint8_t text[512];
     size_t len;
-    if (virtiofs_fault_text(fault, quoted, quoted_len, text, sizeof text, &len) != VIRTIOFS_OK)
+    if (code == VIRTIOFS_OK)
+        return true;
+    if (virtiofs_fault_text(&FAULT, QUOTED, sizeof QUOTED, text, sizeof text, &len) != VIRTIOFS_OK)
         len = sizeof text;
-    fprintf(stderr, "mapped_fs: %s: ", option);
-    fwrite(text, 1, len, stderr);
-    fputc('\n', stderr);
+    fprintf(stderr, "mapped_fs: %s: %.*s\n", option, (int)len, (const char *)text);
+    return false;
 }
 
 /* Makes a map of ids, in memory that is kept until the end. */
-static bool made_ids(const char *option, const struct texts *texts, const uint32_t **words, size_t *count)
+static bool made_ids(const char *option, const struct fuse_args *values, uint32_t **words, size_t *count)
 {
-    struct virtiofs_fault fault;
-    uint8_t quoted[64];
-    size_t room = virtiofs_uids_bound(texts->count), len = texts->count;
-    uint32_t *made = calloc(room, sizeof *made);
-    if (!made) {
-        fprintf(stderr, "mapped_fs: %s: memory ran out\n", option);
-        return false;
-    }
-    uint32_t code = virtiofs_ids_make_texts(texts->all, len, made, room, count, &fault, quoted, sizeof quoted);
+    size_t len = (size_t)values->argc, room = virtiofs_uids_bound(len);
+    struct virtiofs_text *texts = calloc(len + 1, sizeof *texts);
+    uint32_t *made = calloc(room, sizeof *made), code = VIRTIOFS_NO_MEMORY;
+    for (size_t i = 0; i < len && texts; i++)
+        texts[i] = (struct virtiofs_text){ (const uint8_t *)values->argv[i], strlen(values->argv[i]) };
+    if (made && texts)
+        code = virtiofs_ids_make_texts(texts, len, made, room, count, &FAULT, QUOTED, sizeof QUOTED);
     *words = made;
-    if (code != VIRTIOFS_OK)
-        show_fault(option, &fault, quoted, sizeof quoted);
-    return code == VIRTIOFS_OK;
+    free(texts);
+    return is_made(option, code);
 }
 
-static bool made_names(const char *rules, struct virtiofs_names *names)
+/* The last rules that are given count. */
+static bool made_names(const struct fuse_args *values, struct virtiofs_names *names)
 {
-    struct virtiofs_fault fault;
-    uint8_t quoted[64];
-    size_t len = strlen(rules), room = virtiofs_names_bound(len), wanted;
+    const char *rules = values->argc ? values->argv[values->argc - 1] : ":ok:all:::";
+    size_t len = strlen(rules), room = virtiofs_names_bound(len);
     uint8_t *made = malloc(room);
-    if (!made) {
-        fprintf(stderr, "mapped_fs: xattrmap: memory ran out\n");
-        return false;
-    }
-    const uint8_t *text = (const uint8_t *)rules;
-    uint32_t code = virtiofs_names_make(text, len, made, room, &wanted, &fault, quoted, sizeof quoted);
-    *names = (struct virtiofs_names){ made, wanted };
-    if (code != VIRTIOFS_OK)
-        show_fault("xattrmap", &fault, quoted, sizeof quoted);
-    return code == VIRTIOFS_OK;
+    uint32_t code = VIRTIOFS_NO_MEMORY;
+    if (made)
+        code = virtiofs_names_make((const uint8_t *)rules, len, made, room, &names->len, &FAULT, QUOTED, sizeof QUOTED);
+    names->bytes = made;
+    return is_made("xattrmap", code);
+}
+
+/* Whether a name is the same on both sides. */
+static bool stays(const struct share *share, const char *name)
+{
+    char host[NAME_ROOM], list[NAME_ROOM], guest[NAME_ROOM + 1];
+    size_t len;
+    snprintf(list, sizeof list, "%s", name);
+    return !name_to_host(share, name, host) && !strcmp(host, name)
+        && !list_to_guest(share, list, strlen(name) + 1, guest, &len) && !strcmp(guest, name);
 }
 
 /* Makes all that requests are answered with. Where it cannot, it says why. */
-static bool is_ready(struct share *share, const struct settings *settings)
+static bool is_ready(struct share *share)
 {
-    if (!made_ids("translate_uid", &settings->users, &share->users.words, &share->users.count)
-        || !made_ids("translate_gid", &settings->groups, &share->groups.words, &share->groups.count)
-        || !made_names(settings->rules ? settings->rules : ":ok:all:::", &share->names))
+    struct stat file;
+    if (!made_ids("translate_uid", &VALUES[USERS], &share->users.words, &share->users.count)
+        || !made_ids("translate_gid", &VALUES[GROUPS], &share->groups.words, &share->groups.count)
+        || !made_names(&VALUES[RULES], &share->names))
         return false;
-    if (geteuid()) {
-        fprintf(stderr, "mapped_fs: it sets owners, and is run by root alone\n");
+    for (int i = 0; i < 2; i++) {
+        if (share->posix_acl && !stays(share, ACCESS_LISTS[i])) {
+            fprintf(stderr, "mapped_fs: posix_acl: the rules of xattrmap rename or hide %s, and the host obeys and "
+                            "inherits a list under this name alone\n", ACCESS_LISTS[i]);
+            return false;
+        }
+    }
+    share->root.fd = open(share->directory, O_PATH | O_DIRECTORY | O_CLOEXEC);
+    if (share->root.fd < 0 || fstat(share->root.fd, &file)) {
+        fprintf(stderr, "mapped_fs: %s: %s\n", share->directory, strerror(errno));
         return false;
     }
-    share->root.fd = open(settings->directory, O_PATH | O_DIRECTORY | O_CLOEXEC);
-    if (share->root.fd < 0) {
-        fprintf(stderr, "mapped_fs: %s: %s\n", settings->directory, strerror(errno));
-        return false;
-    }
-    share->posix_acl = settings->posix_acl;
-    return !pthread_mutex_init(&share->lock, NULL);
+    share->root.dev = file.st_dev;
+    return !pthread_mutex_init(&share->lock, NULL) && !pthread_cond_init(&share->is_full, NULL);
 }
 
-/* What this process is for the host: no umask and no groups of its own, and as many open files as it may have, since
-   each node that the kernel knows holds one. */
-static bool is_settled(void)
+/* What this process is for the host: it has no umask and no groups of its own, and as many open files as Linux allows,
+   half of them for nodes. A write past its own limit for files is an error, and does not end it. */
+static bool is_settled(struct share *share)
 {
-    struct rlimit files;
-    umask(0);
-    if (!getrlimit(RLIMIT_NOFILE, &files)) {
+    struct rlimit files = { 1 << 20, 1 << 20 };
+    if (setrlimit(RLIMIT_NOFILE, &files) && !getrlimit(RLIMIT_NOFILE, &files)) {
         files.rlim_cur = files.rlim_max;
         setrlimit(RLIMIT_NOFILE, &files);
     }
-    if (setgroups(0, NULL)) {
-        fprintf(stderr, "mapped_fs: its groups cannot be left: %s\n", strerror(errno));
-        return false;
-    }
-    return true;
+    share->most = files.rlim_cur / 2;
+    signal(SIGXFSZ, SIG_IGN);
+    umask(0);
+    if (!setgroups(0, NULL))
+        return true;
+    fprintf(stderr, "mapped_fs: it sets owners, and is run by root alone\n");
+    return false;
 }
 
 int main(int argc, char **argv)
 {
     static struct share share;
-    static struct settings settings;
     struct fuse_args args = FUSE_ARGS_INIT(argc, argv);
     struct fuse_cmdline_opts words;
-    if (fuse_opt_parse(&args, &settings, OPTIONS, on_option) || fuse_parse_cmdline(&args, &words))
+    int status = 0;
+    if (fuse_opt_parse(&args, &share, OPTIONS, on_option) || fuse_parse_cmdline(&args, &words))
         return 2;
-    if (!settings.directory || !words.mountpoint) {
-        fprintf(stderr, "usage: mapped_fs [-f] [-o translate_uid=SPEC] [-o translate_gid=SPEC] [-o xattrmap=RULES] "
-                        "[-o posix_acl] DIRECTORY MOUNTPOINT\n");
-        return 2;
+    if (words.show_version) {
+        printf("mapped_fs, over libfuse %s\n", fuse_pkgversion());
+    } else if (words.show_help) {
+        fputs(USAGE, stdout);
+        fuse_cmdline_help();
+        fuse_lowlevel_help();
+    } else if (!share.directory || !words.mountpoint) {
+        fputs(USAGE, stderr);
+        status = 2;
+    } else {
+        /* The kernel tests each caller's rights by the owners that it is told, and lets all users ask. */
+        status = fuse_opt_add_arg(&args, "-odefault_permissions,allow_other,subtype=mapped_fs")
+            || !is_ready(&share) || !is_settled(&share) || serve(&share, &args, &words);
     }
-    /* The kernel tests each caller's rights by the owners that it is told, and lets all users ask. */
-    if (fuse_opt_add_arg(&args, "-odefault_permissions,allow_other,subtype=mapped_fs"))
-        return 1;
-    int status = is_ready(&share, &settings) && is_settled() ? serve(&share, &args, &words) : 1;
     free(words.mountpoint);
     fuse_opt_free_args(&args);
     return status;

@@ -1,5 +1,5 @@
 //! What a daemon in Rust does with the static library, by virtiofsd's own names: it makes its maps once, and any number
-//! of threads ask them. docs/EMBEDDING.md has the commands that build and run it.
+//! of threads ask them. docs/RUST.md explains it, and examples/run builds and runs it.
 
 #[path = "../bindings/rust/virtiofs_map.rs"]
 mod virtiofs_map;
@@ -10,12 +10,14 @@ use std::convert::TryFrom;
 use std::error::Error;
 use std::ffi::CStr;
 use std::thread;
-use virtiofs_map::soft_idmap::{cmdline, GuestGid, GuestUid, HostGid, HostUid, IdMap};
+use virtiofs_map::soft_idmap::{cmdline, CheckedMapError, GuestGid, GuestUid, HostGid, HostUid, IdMap};
 use virtiofs_map::xattrmap::{AppliedRule, XattrMap};
-use virtiofs_map_acl::{acl_to_host, capability_to_host, carries_ids, EntryRoom, ValueKind};
+use virtiofs_map_acl::{acl_to_host_alloc, capability_to_host, carries_ids, ValueKind};
 
-/// The entries of an access control list that this daemon takes.
-const ENTRIES: usize = 64;
+// What the guest is told: the numbers are Linux's.
+const EPERM: i32 = 1;
+const EINVAL: i32 = 22;
+const ENOTSUP: i32 = 95;
 
 /// The maps of a share.
 struct Maps {
@@ -30,22 +32,24 @@ impl Maps {
         Ok(Maps { users: IdMap::try_from(specs)?, groups: IdMap::empty(), names: XattrMap::try_from(rules)? })
     }
 
-    /// Who owns a file on the host that the guest gave to this user.
+    /// Who owns a file on the host that the guest gives to this user. Nobody does where that is an error: `chown` with
+    /// 4294967295 would leave the owner that the file has, and a new file belongs to the daemon's own user.
     fn show_owner(&self, user: u32) {
-        match self.users.map_guest(GuestUid::from(user)) {
-            Ok(owner) => println!("user {user} of the guest is user {owner} of the host"),
-            Err(_) => println!("user {user} of the guest is forbidden"),
-        }
+        let (why, errno) = match self.users.checked_map_guest(GuestUid::from(user)) {
+            Ok(owner) => return println!("user {user} of the guest is user {owner} of the host"),
+            Err(CheckedMapError::Forbidden { .. }) => ("a specification forbids this id", EPERM),
+            Err(CheckedMapError::NoId { .. }) => ("4294967295 is no id", EINVAL),
+        };
+        println!("user {user} of the guest: {why}, errno {errno}");
     }
 
     /// Which name the host has for the guest's attribute.
     fn show_name(&self, name: &CStr) -> Result<(), Box<dyn Error>> {
         let asked = name.to_string_lossy();
         match self.names.map_client_xattr(name)? {
-            AppliedRule::Pass(passed) if *passed == *name => println!("{asked} goes to the host as it is"),
-            AppliedRule::Pass(passed) => println!("{asked} goes to the host as {}", passed.to_string_lossy()),
-            AppliedRule::Deny => println!("{asked} is denied"),
-            AppliedRule::Unsupported => println!("{asked} cannot be used"),
+            AppliedRule::Pass(passed) => println!("{asked} of the guest is {} of the host", passed.to_string_lossy()),
+            AppliedRule::Deny => println!("{asked} of the guest: the guest may not use this name, errno {EPERM}"),
+            AppliedRule::Unsupported => println!("{asked} of the guest: it is unsupported, errno {ENOTSUP}"),
         }
         Ok(())
     }
@@ -60,9 +64,7 @@ impl Maps {
     /// Makes a value that the guest sets one of the host, in place. It is as it was where that is an error.
     fn set_value(&self, name: &CStr, value: &mut [u8]) -> Result<(), Box<dyn Error>> {
         match carries_ids(name) {
-            Some(ValueKind::Acl) => {
-                acl_to_host(&self.users, &self.groups, value, &mut [EntryRoom::default(); ENTRIES])?;
-            }
+            Some(ValueKind::Acl) => acl_to_host_alloc(&self.users, &self.groups, value)?,
             Some(ValueKind::Capability) => capability_to_host(&self.users, value)?,
             None => {}
         }
@@ -89,7 +91,8 @@ fn main() -> Result<(), Box<dyn Error>> {
     let maps = Maps::new(&settings, ":map:security.selinux:trusted.virtiofs.:")?;
 
     // Any number of threads would do so at once.
-    thread::scope(|scope| scope.spawn(|| [5, 10].map(|user| maps.show_owner(user))).join().map(drop)).expect("it ends");
+    let show_owners = || [5, 10, u32::MAX].map(|user| maps.show_owner(user));
+    thread::scope(|scope| scope.spawn(show_owners).join()).expect("it ends");
     maps.show_name(c"security.selinux")?;
     maps.show_name(c"trusted.virtiofs.x")?;
     maps.show_name(c"user.note")?;

@@ -1,12 +1,30 @@
 /*
- * virtiofs_map: which user ids, group ids and extended attribute names cross
- * between a guest machine and its host, for C and for whatever calls C.
+ * virtiofs_map: which uids, gids and extended attribute names cross between a guest and its
+ * host, for C and for whatever calls C.
  *
- * A daemon that shares a directory needs to know four things: what a guest's id is on
- * the host and the other way round, which name the host has for a name that the
- * guest uses, which names of a list from the host the guest gets to see, and
- * what becomes of a value that contains ids: an access control list or a capability.
+ *     const struct virtiofs_spec specs[] = { { VIRTIOFS_MAP, 0, 100000, 65536 },
+ *                                            { VIRTIOFS_FORBID_GUEST, 65536, 0, 4294901759u } };
+ *     uint32_t words[32], owner;
+ *     struct virtiofs_uids users = { words, 0 };
+ *     struct virtiofs_fault fault;
+ *     enum virtiofs_code code = virtiofs_uids_make(specs, 2, words, 32, &users.count, &fault);
+ *     if (code == VIRTIOFS_OK)
+ *         code = virtiofs_uids_guest(users, 1000, &owner);
+ *     if (code == VIRTIOFS_OK)
+ *         printf("guest user 1000 is host user %u\n", (unsigned)owner);
  *
+ * Use a result only if the code is VIRTIOFS_OK; else refuse the request, with the errno that
+ * virtiofs_code_errno gives. (VIRTIOFS_AS_IT_IS of virtiofs_names_client is a success too.)
+ * Above all, VIRTIOFS_NO_ID means that the id is 4294967295 or becomes it: chown and setresuid
+ * read that as "leave unchanged", so a file of the guest would belong to the daemon's own user,
+ * which is often root.
+ *
+ * What is where: virtiofs_uids_.. and virtiofs_gids_.. have maps of ids, virtiofs_names_.. maps of
+ * names, virtiofs_acl_.. and virtiofs_capability_.. the ids inside values, and virtiofs_ids_..
+ * questions about all ids of a guest. C.md, in docs or installed, is an introduction.
+ */
+
+/*
  * MAPS. A map is plain numbers in the caller's memory: words (of 32 bits) for ids,
  * bytes for names. A `make` writes them. All other calls only read them. There is
  * nothing to lock and nothing to free but that memory. A map may be copied, moved and
@@ -26,7 +44,9 @@
  * map, the code may be VIRTIOFS_NO_MEMORY instead. If the numbers begin as a map does,
  * but the rest was not written by a `make` or was changed since, the result means
  * nothing. Whatever the numbers are, a call returns, reads nothing outside of them, and
- * writes nothing outside of its results.
+ * writes nothing outside of its results. But an audit of names may then take time that grows
+ * with the square of the number of rules times the number of bytes: we measured a minute for
+ * 100 KB. So audit only maps that you made.
  *
  * What the numbers mean is private to a version of the library, and they are in the byte
  * order of the machine. So do not store them in files, and do not send them to another
@@ -36,18 +56,18 @@
  *  - a pointer with a length points to that many elements, which nobody else writes
  *    while the call runs; lengths count elements, and the elements together take fewer
  *    than 2^63 bytes. If the length is 0, the pointer may be NULL, or point anywhere;
- *  - no other pointer is NULL;
+ *  - no other pointer is NULL, unless the comment of the function says that it may be;
  *  - while the call runs, nobody else uses the memory that it writes to. The arguments
  *    that the call writes to must not overlap each other, nor anything that it reads.
  * No function keeps a pointer after it has returned.
  *
- * MEMORY. Only these calls allocate: `.._make`, `.._make_texts`, `virtiofs_spec_read`, the
- * audits `virtiofs_names_audit`, `.._audit_listed`, `.._apart` and `.._share_none`, and the
- * decisions `virtiofs_ids_come_back`, `.._alone`, `.._reach` and `.._apart`. Before they
- * return, they free all that they allocated. They use malloc, realloc and free, which must be
- * the C library's, or replacements that belong to one allocator and return memory aligned
- * to 16 bytes. So these calls must not be made in a signal handler, or in the child of a
- * fork of a program with threads. All other calls may be made there.
+ * MEMORY. Only these calls allocate: `.._make`, `.._make_texts`, `virtiofs_spec_read`,
+ * `virtiofs_specs_read`, the audits `virtiofs_names_audit`, `.._audit_listed`, `.._keeps_apart` and
+ * `.._shares_no_name`, of ids `virtiofs_ids_comes_back`, `.._is_alone`, `.._reaches` and
+ * `.._apart`. Before they return, they free all that they allocated. They use malloc, realloc and
+ * free, which must be the C library's, or replacements that belong to one allocator and return
+ * memory aligned to 16 bytes. So these calls must not be made in a signal handler, or in the child
+ * of a fork of a program with threads. All other calls may be made there.
  *
  * BUFFERS. A result in bytes goes to the caller's buffer `out` of `room` bytes, and
  * `*len` is the length of the result. If the result is longer than `room`, the code is
@@ -57,34 +77,21 @@
  * the bytes. The rest of the buffer, and every other output that the comment of the
  * function does not mention, is unchanged. Where something else holds, the comment says so.
  *
- * ERRORS. Each function returns a code, 0 for success, except `virtiofs_map_version`,
- * the `.._bound` functions and `virtiofs_carries_ids`. The comment of each function,
- * or of its section, lists the codes that it can return; there are no others. The errno
- * that we recommend to send to the guest:
- *
- *   VIRTIOFS_OK            no error
- *   VIRTIOFS_AS_IT_IS      no error
- *   VIRTIOFS_FORBIDDEN     EPERM
- *   VIRTIOFS_DENIED        EPERM
- *   VIRTIOFS_UNSUPPORTED   ENOTSUP
- *   VIRTIOFS_UNTERMINATED  EPERM
- *   VIRTIOFS_REFUSED       EINVAL
- *   VIRTIOFS_NO_ROOM       ERANGE
- *   VIRTIOFS_NO_MEMORY     ENOMEM
- *   VIRTIOFS_NO_MAP        EINVAL
- *   VIRTIOFS_NO_NAME       EINVAL
- *   VIRTIOFS_MERGES        EPERM
- *   VIRTIOFS_ROOT_MOVES    EPERM
- *
- * No function prints, and none ends the program. virtiofs_fault_text writes a sentence
- * about a fault that a call has reported, for the caller to print.
+ * ERRORS. Most functions return a code: VIRTIOFS_OK, which is 0, for success, and, from
+ * virtiofs_names_client alone, also VIRTIOFS_AS_IT_IS. The comment of each function,
+ * or of its section, lists the codes that it can return; there are no others.
+ * virtiofs_code_errno gives the errno that we recommend to send to the guest, and
+ * virtiofs_code_text a word for a log. virtiofs_fault_text writes a sentence about a fault
+ * that a call has reported. No function prints, and none ends the program.
  */
 #ifndef VIRTIOFS_MAP_H
 #define VIRTIOFS_MAP_H
 
+#include <errno.h>
 #include <stdbool.h>
 #include <stddef.h>
 #include <stdint.h>
+#include <string.h>
 
 #ifdef __cplusplus
 extern "C" {
@@ -92,7 +99,7 @@ extern "C" {
 
 /* The version of this header. A header and an archive of the same version belong together;
    virtiofs_map_version() returns the version of the archive. */
-#define VIRTIOFS_MAP_VERSION 1
+#define VIRTIOFS_MAP_VERSION 2
 
 /* Attributes of a function, for compilers that know them: the caller must use its code, and
    the arguments at these places must not be NULL. */
@@ -105,14 +112,14 @@ extern "C" {
 /* ---- maps ---- */
 
 /* A map of user ids: where it is, and how many words it has. Copying the struct does not
-   copy the map. */
-struct virtiofs_uids { const uint32_t *words; size_t count; };
+   copy the map. No call writes to a map that it is given in such a struct. */
+struct virtiofs_uids { uint32_t *words; size_t count; };
 
 /* A map of group ids: where it is, and how many words it has. */
-struct virtiofs_gids { const uint32_t *words; size_t count; };
+struct virtiofs_gids { uint32_t *words; size_t count; };
 
 /* A map of attribute names: where it is, and how many bytes it has. */
-struct virtiofs_names { const uint8_t *bytes; size_t len; };
+struct virtiofs_names { void *bytes; size_t len; };
 
 /* ---- codes ---- */
 
@@ -130,8 +137,15 @@ enum virtiofs_code {
     VIRTIOFS_NO_MAP = 9,       /* the words, or the bytes, are no map */
     VIRTIOFS_NO_NAME = 10,     /* the bytes are no name: one of them is zero */
     VIRTIOFS_MERGES = 11,      /* two ids of the value would become the same id */
-    VIRTIOFS_ROOT_MOVES = 12   /* the capability has no field for the new id of root */
+    VIRTIOFS_ROOT_MOVES = 12,  /* the capability has no field for the new id of root */
+    VIRTIOFS_NO_ID = 13        /* the id, or what it becomes, is 4294967295 */
 };
+
+/* The errno that we recommend to send to the guest; 0 if the code is OK or AS_IT_IS. */
+static inline int virtiofs_code_errno(enum virtiofs_code code);
+
+/* What a code means, in a few words of ASCII, for a log: "a specification forbids this id". */
+static inline const char *virtiofs_code_text(enum virtiofs_code code);
 
 /* ---- specifications of ids ---- */
 
@@ -166,7 +180,7 @@ struct virtiofs_range {
 /* A text: `len` bytes of UTF-8. A terminating zero is not needed, and not counted. `at` may be
    NULL if `len` is 0. */
 struct virtiofs_text {
-    const uint8_t *at;
+    const void *at;
     size_t len;
 };
 
@@ -175,7 +189,7 @@ struct virtiofs_text {
 /* Why no map is made, or why a text or a value is rejected. */
 enum virtiofs_fault_kind {
     VIRTIOFS_FAULT_NONE = 0,   /* nothing is wrong */
-    VIRTIOFS_FAULT_MEMORY = 1, /* comes with the code VIRTIOFS_NO_MEMORY */
+    VIRTIOFS_FAULT_MEMORY = 1, /* comes with the code VIRTIOFS_NO_MEMORY, and has no part */
     VIRTIOFS_FAULT_UTF8 = 2,   /* the text is not UTF-8 */
 
     /* of a list of specifications */
@@ -277,9 +291,9 @@ struct virtiofs_fault {
     struct virtiofs_spec spec;
 };
 
-/* ---- decisions about ids ---- */
+/* ---- what audits of ids find ---- */
 
-/* What a decision about all ids has found: the least id that shows the answer. */
+/* What an audit of all ids has found: the least id that shows the answer. */
 struct virtiofs_ids_found {
     uint32_t guest; /* the id of the guest */
     uint32_t host;  /* what it becomes on the host */
@@ -303,185 +317,6 @@ struct virtiofs_entry_room {
     size_t entry;
 };
 
-/* ---- exported symbols ----
- *
- * C programs call the inline functions further below. These call the symbols here, and
- * replace a pointer whose length is 0 by an address that is not NULL. A caller that cannot
- * use inline functions, such as one in another language, calls the symbols: then no
- * pointer may be NULL, not even one with a length of 0, and each must be aligned for its
- * type. Everything else is as described further below.
- */
-
-/* The version of the archive, which is VIRTIOFS_MAP_VERSION of its own header. */
-uint32_t virtiofs_map_version(void);
-
-/* As virtiofs_uids_bound. */
-size_t virtiofs_map_ids_bound(size_t count);
-
-/* As virtiofs_uids_make. */
-VIRTIOFS_CHECKED((1, 3, 5, 6))
-uint32_t virtiofs_map_ids_make(const struct virtiofs_spec *specs, size_t count,
-                               uint32_t *words, size_t room, size_t *wanted,
-                               struct virtiofs_fault *fault);
-
-/* As virtiofs_uids_make_texts. */
-VIRTIOFS_CHECKED((1, 3, 5, 6, 7))
-uint32_t virtiofs_map_ids_make_texts(const struct virtiofs_text *texts, size_t count,
-                                     uint32_t *words, size_t room, size_t *wanted,
-                                     struct virtiofs_fault *fault,
-                                     uint8_t *quoted, size_t quoted_room);
-
-/* As virtiofs_uids_guest. */
-VIRTIOFS_CHECKED((1, 4))
-uint32_t virtiofs_map_ids_guest(const uint32_t *words, size_t count,
-                                uint32_t guest, uint32_t *host);
-
-/* As virtiofs_uids_host. */
-VIRTIOFS_CHECKED((1, 4))
-uint32_t virtiofs_map_ids_host(const uint32_t *words, size_t count,
-                               uint32_t host, uint32_t *guest);
-
-/* As virtiofs_ids_come_back. */
-VIRTIOFS_CHECKED((1, 3, 4, 5))
-uint32_t virtiofs_map_ids_come_back(const struct virtiofs_spec *specs, size_t count, bool *yes,
-                                    struct virtiofs_ids_found *found,
-                                    struct virtiofs_fault *fault);
-
-/* As virtiofs_ids_alone. */
-VIRTIOFS_CHECKED((1, 3, 4, 5))
-uint32_t virtiofs_map_ids_alone(const struct virtiofs_spec *specs, size_t count, bool *yes,
-                                struct virtiofs_ids_found *found,
-                                struct virtiofs_fault *fault);
-
-/* As virtiofs_ids_reach. */
-VIRTIOFS_CHECKED((1, 5, 6, 7))
-uint32_t virtiofs_map_ids_reach(const struct virtiofs_spec *specs, size_t count,
-                                uint32_t first, uint32_t last, bool *yes,
-                                struct virtiofs_ids_found *found,
-                                struct virtiofs_fault *fault);
-
-/* As virtiofs_ids_apart. */
-VIRTIOFS_CHECKED((1, 3, 5, 6, 7))
-uint32_t virtiofs_map_ids_apart(const struct virtiofs_spec *specs, size_t count,
-                                const struct virtiofs_spec *others, size_t other_count,
-                                bool *yes, struct virtiofs_ids_found *found,
-                                struct virtiofs_fault *fault);
-
-/* As virtiofs_spec_read. */
-VIRTIOFS_CHECKED((1, 3, 4, 5))
-uint32_t virtiofs_map_spec_read(const uint8_t *text, size_t text_len,
-                                struct virtiofs_spec *spec, struct virtiofs_fault *fault,
-                                uint8_t *quoted, size_t quoted_room);
-
-/* As virtiofs_range_read. */
-VIRTIOFS_CHECKED((1, 3, 4))
-uint32_t virtiofs_map_range_read(const uint8_t *text, size_t text_len,
-                                 struct virtiofs_range *range, struct virtiofs_fault *fault);
-
-/* As virtiofs_names_bound. */
-size_t virtiofs_map_names_bound(size_t text_len);
-
-/* As virtiofs_names_make. */
-VIRTIOFS_CHECKED((1, 3, 5, 6, 7))
-uint32_t virtiofs_map_names_make(const uint8_t *text, size_t text_len,
-                                 uint8_t *bytes, size_t room, size_t *wanted,
-                                 struct virtiofs_fault *fault,
-                                 uint8_t *quoted, size_t quoted_room);
-
-/* As virtiofs_names_client. */
-VIRTIOFS_CHECKED((1, 3, 5, 7))
-uint32_t virtiofs_map_names_client(const uint8_t *bytes, size_t map_len,
-                                   const uint8_t *name, size_t name_len,
-                                   uint8_t *out, size_t room, size_t *len);
-
-/* As virtiofs_names_server. */
-VIRTIOFS_CHECKED((1, 3, 5, 7))
-uint32_t virtiofs_map_names_server(const uint8_t *bytes, size_t map_len,
-                                   const uint8_t *list, size_t list_len,
-                                   uint8_t *out, size_t room, size_t *len);
-
-/* As virtiofs_names_terminated. */
-VIRTIOFS_CHECKED((1, 3))
-uint32_t virtiofs_map_names_terminated(const uint8_t *bytes, size_t map_len, bool *yes);
-
-/* As virtiofs_names_audit. */
-VIRTIOFS_CHECKED((1, 3, 4, 6))
-uint32_t virtiofs_map_names_audit(const uint8_t *bytes, size_t map_len, bool *yes,
-                                  uint8_t *out, size_t room, size_t *len);
-
-/* As virtiofs_names_audit_listed. */
-VIRTIOFS_CHECKED((1, 3, 4, 6))
-uint32_t virtiofs_map_names_audit_listed(const uint8_t *bytes, size_t map_len, bool *yes,
-                                         uint8_t *out, size_t room, size_t *len);
-
-/* As virtiofs_names_apart. */
-VIRTIOFS_CHECKED((1, 3, 5, 6, 8))
-uint32_t virtiofs_map_names_apart(const uint8_t *bytes, size_t map_len,
-                                  const uint8_t *other_bytes, size_t other_len,
-                                  bool *yes, uint8_t *out, size_t room, size_t *len);
-
-/* As virtiofs_names_share_none. */
-VIRTIOFS_CHECKED((1, 3, 5, 6, 8))
-uint32_t virtiofs_map_names_share_none(const uint8_t *bytes, size_t map_len,
-                                       const uint8_t *other_bytes, size_t other_len,
-                                       bool *yes, uint8_t *out, size_t room, size_t *len);
-
-/* As virtiofs_carries_ids. */
-VIRTIOFS_CHECKED((1))
-uint32_t virtiofs_map_carries_ids(const uint8_t *name, size_t name_len);
-
-/* As virtiofs_acl_to_host. */
-VIRTIOFS_CHECKED((1, 3, 5, 7, 9))
-uint32_t virtiofs_map_acl_to_host(const uint32_t *users, size_t user_count,
-                                  const uint32_t *groups, size_t group_count,
-                                  uint8_t *value, size_t len,
-                                  struct virtiofs_entry_room *entries, size_t room,
-                                  struct virtiofs_fault *fault);
-
-/* As virtiofs_acl_to_guest. */
-VIRTIOFS_CHECKED((1, 3, 5, 7, 9))
-uint32_t virtiofs_map_acl_to_guest(const uint32_t *users, size_t user_count,
-                                   const uint32_t *groups, size_t group_count,
-                                   uint8_t *value, size_t len,
-                                   struct virtiofs_entry_room *entries, size_t room,
-                                   struct virtiofs_fault *fault);
-
-/* As virtiofs_capability_to_host. */
-VIRTIOFS_CHECKED((1, 3, 5))
-uint32_t virtiofs_map_capability_to_host(const uint32_t *users, size_t user_count,
-                                         uint8_t *value, size_t len,
-                                         struct virtiofs_fault *fault);
-
-/* As virtiofs_capability_to_guest. */
-VIRTIOFS_CHECKED((1, 3, 5))
-uint32_t virtiofs_map_capability_to_guest(const uint32_t *users, size_t user_count,
-                                          uint8_t *value, size_t len,
-                                          struct virtiofs_fault *fault);
-
-/* As virtiofs_capability_to_host_in_revision_3. */
-VIRTIOFS_CHECKED((1, 3, 5, 6))
-uint32_t virtiofs_map_capability_to_host_in_revision_3(const uint32_t *users, size_t user_count,
-                                                       const uint8_t *value, size_t len,
-                                                       uint8_t *written,
-                                                       struct virtiofs_fault *fault);
-
-/* As virtiofs_capability_to_guest_in_revision_3. */
-VIRTIOFS_CHECKED((1, 3, 5, 6))
-uint32_t virtiofs_map_capability_to_guest_in_revision_3(const uint32_t *users, size_t user_count,
-                                                        const uint8_t *value, size_t len,
-                                                        uint8_t *written,
-                                                        struct virtiofs_fault *fault);
-
-/* As virtiofs_fault_text. */
-VIRTIOFS_CHECKED((1, 2, 4, 6))
-uint32_t virtiofs_map_fault_text(const struct virtiofs_fault *fault,
-                                 const uint8_t *quoted, size_t quoted_len,
-                                 uint8_t *out, size_t room, size_t *len);
-
-/* A pointer and its length. If the length is 0, the pointer becomes an aligned address
-   that is not NULL. */
-#define VIRTIOFS_SLICE(type, at, len) ((len) ? (at) : (type *)(uintptr_t)16), (len)
-
 /* ---- the sentence of a fault ---- */
 
 /* Writes the sentence for a fault, such as `specification 1: Parameter
@@ -491,18 +326,16 @@ uint32_t virtiofs_map_fault_text(const struct virtiofs_fault *fault,
    `quoted` is the buffer to which the call that reported the fault copied the wrong text,
    and `quoted_len` its length. No more of its bytes are used than the fault says were
    copied. If the buffer was too short for the wrong text, `...` stands in the sentence in
-   place of that text. OK: the sentence is in `out`. NO_ROOM: `out` has the first `room` bytes
-   of the sentence, and *len is the length of the whole sentence; the last character may be
-   incomplete. Any content of the struct has a sentence, even one that no call wrote. For
-   VIRTIOFS_FAULT_NONE, and for a number that is no kind, the sentence says so. */
+   place of that text. A sentence is printable ASCII: in the wrong text a backslash is `\\`, and
+   each byte that is not printable ASCII is `\x` and two hexadecimal digits. OK: the sentence is
+   in `out`. NO_ROOM: `out` has the first `room` bytes of the sentence, and *len is the length of
+   the whole sentence. Any content of the struct has a sentence, even one that no call wrote. For
+   VIRTIOFS_FAULT_NONE, and for a number that is no kind, the sentence says so: then print
+   virtiofs_code_text. */
 VIRTIOFS_CHECKED((1, 6))
-static inline uint32_t virtiofs_fault_text(const struct virtiofs_fault *fault,
-                                           const uint8_t *quoted, size_t quoted_len,
-                                           uint8_t *out, size_t room, size_t *len)
-{
-    return virtiofs_map_fault_text(fault, VIRTIOFS_SLICE(const uint8_t, quoted, quoted_len),
-                                   VIRTIOFS_SLICE(uint8_t, out, room), len);
-}
+static inline enum virtiofs_code virtiofs_fault_text(const struct virtiofs_fault *fault,
+                                                     const void *quoted, size_t quoted_len,
+                                                     void *out, size_t room, size_t *len);
 
 /* ---- maps of ids ----
  *
@@ -512,16 +345,10 @@ static inline uint32_t virtiofs_fault_text(const struct virtiofs_fault *fault,
 
 /* The most words that a map of `count` user specifications takes. A buffer of that
    many words is always enough. The result is SIZE_MAX if no buffer can be that large. */
-static inline size_t virtiofs_uids_bound(size_t count)
-{
-    return virtiofs_map_ids_bound(count);
-}
+static inline size_t virtiofs_uids_bound(size_t count);
 
 /* virtiofs_uids_bound for groups. */
-static inline size_t virtiofs_gids_bound(size_t count)
-{
-    return virtiofs_map_ids_bound(count);
-}
+static inline size_t virtiofs_gids_bound(size_t count);
 
 /* Makes a map from the array of specifications, in the buffer `words` of `room` words.
    OK: the first *wanted words are the map, and the others are unchanged. NO_ROOM: the
@@ -531,63 +358,34 @@ static inline size_t virtiofs_gids_bound(size_t count)
    with the first such element, even if an earlier element has another fault. NO_MEMORY:
    *wanted is 0. If the code is not OK, the words are unchanged. */
 VIRTIOFS_CHECKED((5, 6))
-static inline uint32_t virtiofs_uids_make(const struct virtiofs_spec *specs, size_t count,
-                                          uint32_t *words, size_t room, size_t *wanted,
-                                          struct virtiofs_fault *fault)
-{
-    return virtiofs_map_ids_make(VIRTIOFS_SLICE(const struct virtiofs_spec, specs, count),
-                                 VIRTIOFS_SLICE(uint32_t, words, room), wanted, fault);
-}
+static inline enum virtiofs_code virtiofs_uids_make(const struct virtiofs_spec *specs,
+                                                    size_t count, uint32_t *words, size_t room,
+                                                    size_t *wanted, struct virtiofs_fault *fault);
 
 /* virtiofs_uids_make for groups. */
 VIRTIOFS_CHECKED((5, 6))
-static inline uint32_t virtiofs_gids_make(const struct virtiofs_spec *specs, size_t count,
-                                          uint32_t *words, size_t room, size_t *wanted,
-                                          struct virtiofs_fault *fault)
-{
-    return virtiofs_map_ids_make(VIRTIOFS_SLICE(const struct virtiofs_spec, specs, count),
-                                 VIRTIOFS_SLICE(uint32_t, words, room), wanted, fault);
-}
+static inline enum virtiofs_code virtiofs_gids_make(const struct virtiofs_spec *specs,
+                                                    size_t count, uint32_t *words, size_t room,
+                                                    size_t *wanted, struct virtiofs_fault *fault);
 
 /* Reads the text of one specification. OK: *spec is what it says. REFUSED: *fault is
    UTF8, PREFIX, LENGTH or VALUE (with place 0), and for PREFIX and VALUE the part that is
    wrong is quoted in `quoted`. NO_MEMORY. If the code is not OK, *spec is unchanged. */
 VIRTIOFS_CHECKED((3, 4))
-static inline uint32_t virtiofs_spec_read(const uint8_t *text, size_t text_len,
-                                          struct virtiofs_spec *spec,
-                                          struct virtiofs_fault *fault,
-                                          uint8_t *quoted, size_t quoted_room)
-{
-    return virtiofs_map_spec_read(VIRTIOFS_SLICE(const uint8_t, text, text_len), spec, fault,
-                                  VIRTIOFS_SLICE(uint8_t, quoted, quoted_room));
-}
+static inline enum virtiofs_code virtiofs_spec_read(const void *text, size_t text_len,
+                                                    struct virtiofs_spec *spec,
+                                                    struct virtiofs_fault *fault, void *quoted,
+                                                    size_t quoted_room);
 
-/* Internal, for the two functions below; do not call it. Unlike the exported symbol, it accepts
-   texts with `at` NULL and `len` 0. Such an empty text is no specification, so no map can be
-   made: this function then looks for the first text that is no specification, and reports it. */
-VIRTIOFS_CHECKED((5, 6))
-static inline uint32_t virtiofs_ids_make_texts(const struct virtiofs_text *texts, size_t count,
-                                               uint32_t *words, size_t room, size_t *wanted,
-                                               struct virtiofs_fault *fault,
-                                               uint8_t *quoted, size_t quoted_room)
-{
-    size_t i, place = 0;
-    uint32_t code = VIRTIOFS_OK;
-    struct virtiofs_spec spec;
-    for (i = 0; i < count && (texts[i].at || texts[i].len); i++) { }
-    if (i == count)
-        return virtiofs_map_ids_make_texts(VIRTIOFS_SLICE(const struct virtiofs_text, texts, count),
-                                           VIRTIOFS_SLICE(uint32_t, words, room), wanted, fault,
-                                           VIRTIOFS_SLICE(uint8_t, quoted, quoted_room));
-    for (i = 0; i < count && code == VIRTIOFS_OK; place = i++)
-        code = virtiofs_spec_read(texts[i].at, texts[i].len, &spec, fault, quoted, quoted_room);
-    *wanted = 0;
-    if (code == VIRTIOFS_REFUSED) {
-        fault->part = VIRTIOFS_SPECIFICATION;
-        fault->place = place;
-    }
-    return code;
-}
+/* Reads an array of `count` texts, each of which is a specification, for the audits below. OK:
+   the array `specs` of `count` elements has what they say; if it is NULL, the texts are only
+   tested. REFUSED: the faults of virtiofs_spec_read, with the index of the first text that is no
+   specification. NO_MEMORY. If the code is not OK, elements of `specs` may have been written. */
+VIRTIOFS_CHECKED((4))
+static inline enum virtiofs_code virtiofs_specs_read(const struct virtiofs_text *texts,
+                                                     size_t count, struct virtiofs_spec *specs,
+                                                     struct virtiofs_fault *fault, void *quoted,
+                                                     size_t quoted_room);
 
 /* Makes a map from an array of texts, each of which is a specification. It has the codes
    and the faults of virtiofs_uids_make, and also the faults of virtiofs_spec_read. All texts
@@ -595,67 +393,56 @@ static inline uint32_t virtiofs_ids_make_texts(const struct virtiofs_text *texts
    VALUE, with the index of the first text that is no specification. For PREFIX and VALUE the
    part that is wrong is quoted in `quoted`. */
 VIRTIOFS_CHECKED((5, 6))
-static inline uint32_t virtiofs_uids_make_texts(const struct virtiofs_text *texts, size_t count,
-                                                uint32_t *words, size_t room, size_t *wanted,
-                                                struct virtiofs_fault *fault,
-                                                uint8_t *quoted, size_t quoted_room)
-{
-    return virtiofs_ids_make_texts(texts, count, words, room, wanted, fault, quoted, quoted_room);
-}
+static inline enum virtiofs_code virtiofs_uids_make_texts(const struct virtiofs_text *texts,
+                                                          size_t count, uint32_t *words,
+                                                          size_t room, size_t *wanted,
+                                                          struct virtiofs_fault *fault,
+                                                          void *quoted, size_t quoted_room);
 
 /* virtiofs_uids_make_texts for groups. */
 VIRTIOFS_CHECKED((5, 6))
-static inline uint32_t virtiofs_gids_make_texts(const struct virtiofs_text *texts, size_t count,
-                                                uint32_t *words, size_t room, size_t *wanted,
-                                                struct virtiofs_fault *fault,
-                                                uint8_t *quoted, size_t quoted_room)
-{
-    return virtiofs_ids_make_texts(texts, count, words, room, wanted, fault, quoted, quoted_room);
-}
+static inline enum virtiofs_code virtiofs_gids_make_texts(const struct virtiofs_text *texts,
+                                                          size_t count, uint32_t *words,
+                                                          size_t room, size_t *wanted,
+                                                          struct virtiofs_fault *fault,
+                                                          void *quoted, size_t quoted_room);
 
 /* Maps an id of the guest to the id of the host, and stores it in *host. An id that no
-   specification covers keeps its number. OK; FORBIDDEN; NO_MAP. If the code is not OK, *host
-   is unchanged. */
+   specification covers keeps its number. OK; FORBIDDEN; NO_MAP. NO_ID: the id, or what it becomes,
+   is 4294967295. That is no id to Linux: setresuid and chown read it as "leave unchanged", so that
+   a file of the guest would belong to the daemon's own user. If the code is not OK, *host is
+   unchanged. */
 VIRTIOFS_CHECKED((3))
-static inline uint32_t virtiofs_uids_guest(struct virtiofs_uids map, uint32_t guest, uint32_t *host)
-{
-    return virtiofs_map_ids_guest(VIRTIOFS_SLICE(const uint32_t, map.words, map.count),
-                                  guest, host);
-}
+static inline enum virtiofs_code virtiofs_uids_guest(struct virtiofs_uids map, uint32_t guest,
+                                                     uint32_t *host);
 
 /* virtiofs_uids_guest for groups. */
 VIRTIOFS_CHECKED((3))
-static inline uint32_t virtiofs_gids_guest(struct virtiofs_gids map, uint32_t guest, uint32_t *host)
-{
-    return virtiofs_map_ids_guest(VIRTIOFS_SLICE(const uint32_t, map.words, map.count),
-                                  guest, host);
-}
+static inline enum virtiofs_code virtiofs_gids_guest(struct virtiofs_gids map, uint32_t guest,
+                                                     uint32_t *host);
 
-/* Maps an id of the host to the id of the guest, and stores it in *guest. It has the codes of
-   virtiofs_uids_guest. */
+/* Maps an id of the host to the id of the guest, and stores it in *guest. OK; NO_MAP; NO_ID, as
+   virtiofs_uids_guest. (Numbers that no `make` wrote may give FORBIDDEN.) If the code is not OK,
+   *guest is unchanged. */
 VIRTIOFS_CHECKED((3))
-static inline uint32_t virtiofs_uids_host(struct virtiofs_uids map, uint32_t host, uint32_t *guest)
-{
-    return virtiofs_map_ids_host(VIRTIOFS_SLICE(const uint32_t, map.words, map.count),
-                                 host, guest);
-}
+static inline enum virtiofs_code virtiofs_uids_host(struct virtiofs_uids map, uint32_t host,
+                                                    uint32_t *guest);
 
 /* virtiofs_uids_host for groups. */
 VIRTIOFS_CHECKED((3))
-static inline uint32_t virtiofs_gids_host(struct virtiofs_gids map, uint32_t host, uint32_t *guest)
-{
-    return virtiofs_map_ids_host(VIRTIOFS_SLICE(const uint32_t, map.words, map.count),
-                                 host, guest);
-}
+static inline enum virtiofs_code virtiofs_gids_host(struct virtiofs_gids map, uint32_t host,
+                                                    uint32_t *guest);
 
-/* ---- decisions about all ids ----
+/* ---- audits of ids: questions about all ids ----
  *
- * Each decision is about all ids of the guest from 0 to 4294967294 that the
- * specifications do not forbid; 4294967295 is no id to Linux. It takes the array from which
- * a map is made, of users or of groups. OK: *yes is the answer; if an id shows this answer,
- * *found has the least such id. REFUSED: no map can be made from the array, and *fault is its
- * first fault, as virtiofs_uids_make reports it. NO_MEMORY. If the code is not OK, *yes is
- * false. If no id is given, *found is unchanged.
+ * Each audit is about all ids of the guest from 0 to 4294967294 that the
+ * specifications do not forbid; 4294967295, which is no id to Linux, is left out. It takes the
+ * array from which a map is made, of users or of groups; virtiofs_specs_read makes it from
+ * texts. OK: *yes is the answer; if an id shows this answer, *found has the least such id.
+ * REFUSED: no map can be made from the array, and *fault is its first fault, as
+ * virtiofs_uids_make reports it. NO_MEMORY. If the code is not OK, *yes is the answer that
+ * warns: true for virtiofs_ids_reaches, and false for the others. If no id is given, *found is
+ * unchanged.
  *
  * With n specifications the time grows as n log n. For 100,000 specifications it is of the
  * order of a tenth of a second.
@@ -665,38 +452,29 @@ static inline uint32_t virtiofs_gids_host(struct virtiofs_gids map, uint32_t hos
    *yes is false, *found has the least id that does not come back, what it becomes on the
    host, and in `other` what that host id becomes in the guest. */
 VIRTIOFS_CHECKED((3, 4, 5))
-static inline uint32_t virtiofs_ids_come_back(const struct virtiofs_spec *specs, size_t count,
-                                              bool *yes, struct virtiofs_ids_found *found,
-                                              struct virtiofs_fault *fault)
-{
-    return virtiofs_map_ids_come_back(VIRTIOFS_SLICE(const struct virtiofs_spec, specs, count),
-                                      yes, found, fault);
-}
+static inline enum virtiofs_code virtiofs_ids_comes_back(const struct virtiofs_spec *specs,
+                                                        size_t count, bool *yes,
+                                                        struct virtiofs_ids_found *found,
+                                                        struct virtiofs_fault *fault);
 
 /* Does each id have an id of the host of its own, so that no two ids become the same? If
    *yes is false, *found has the least id that shares its id of the host, that id of the
    host, and in `other` the least id with which it shares it. */
 VIRTIOFS_CHECKED((3, 4, 5))
-static inline uint32_t virtiofs_ids_alone(const struct virtiofs_spec *specs, size_t count,
-                                          bool *yes, struct virtiofs_ids_found *found,
-                                          struct virtiofs_fault *fault)
-{
-    return virtiofs_map_ids_alone(VIRTIOFS_SLICE(const struct virtiofs_spec, specs, count),
-                                  yes, found, fault);
-}
+static inline enum virtiofs_code virtiofs_ids_is_alone(const struct virtiofs_spec *specs,
+                                                    size_t count, bool *yes,
+                                                    struct virtiofs_ids_found *found,
+                                                    struct virtiofs_fault *fault);
 
 /* Does some id become an id of the host from `first` to `last`, so that the guest can act
    as one of these? If *yes is true, *found has the least id that does, and what it becomes
-   on the host; `other` is 0. If `last` is less than `first`, *yes is false. */
+   on the host; `other` is 0. If `last` is less than `first`, *yes is false. If the code is not OK,
+   *yes is true. */
 VIRTIOFS_CHECKED((5, 6, 7))
-static inline uint32_t virtiofs_ids_reach(const struct virtiofs_spec *specs, size_t count,
-                                          uint32_t first, uint32_t last, bool *yes,
-                                          struct virtiofs_ids_found *found,
-                                          struct virtiofs_fault *fault)
-{
-    return virtiofs_map_ids_reach(VIRTIOFS_SLICE(const struct virtiofs_spec, specs, count),
-                                  first, last, yes, found, fault);
-}
+static inline enum virtiofs_code virtiofs_ids_reaches(const struct virtiofs_spec *specs,
+                                                    size_t count, uint32_t first, uint32_t last,
+                                                    bool *yes, struct virtiofs_ids_found *found,
+                                                    struct virtiofs_fault *fault);
 
 /* Are two guests apart on the host, so that there is no id of the host that both reach? If
    *yes is false, *found has the least id of the first guest whose id of the host the second
@@ -705,25 +483,19 @@ static inline uint32_t virtiofs_ids_reach(const struct virtiofs_spec *specs, siz
    array. Otherwise the second array is at fault, at the index `place` - `count`. Both may be
    the same array. */
 VIRTIOFS_CHECKED((5, 6, 7))
-static inline uint32_t virtiofs_ids_apart(const struct virtiofs_spec *specs, size_t count,
-                                          const struct virtiofs_spec *others, size_t other_count,
-                                          bool *yes, struct virtiofs_ids_found *found,
-                                          struct virtiofs_fault *fault)
-{
-    return virtiofs_map_ids_apart(VIRTIOFS_SLICE(const struct virtiofs_spec, specs, count),
-                                  VIRTIOFS_SLICE(const struct virtiofs_spec, others, other_count),
-                                  yes, found, fault);
-}
+static inline enum virtiofs_code virtiofs_ids_apart(const struct virtiofs_spec *specs,
+                                                    size_t count,
+                                                    const struct virtiofs_spec *others,
+                                                    size_t other_count, bool *yes,
+                                                    struct virtiofs_ids_found *found,
+                                                    struct virtiofs_fault *fault);
 
 /* Reads the text of one range of a namespace. OK: *range is what it says. REFUSED: *range
    is unchanged, and *fault is UTF8 or one of the RANGE_... */
 VIRTIOFS_CHECKED((3, 4))
-static inline uint32_t virtiofs_range_read(const uint8_t *text, size_t text_len,
-                                           struct virtiofs_range *range,
-                                           struct virtiofs_fault *fault)
-{
-    return virtiofs_map_range_read(VIRTIOFS_SLICE(const uint8_t, text, text_len), range, fault);
-}
+static inline enum virtiofs_code virtiofs_range_read(const void *text, size_t text_len,
+                                                     struct virtiofs_range *range,
+                                                     struct virtiofs_fault *fault);
 
 /* ---- maps of attribute names ----
  *
@@ -736,17 +508,14 @@ static inline uint32_t virtiofs_range_read(const uint8_t *text, size_t text_len,
  * the guest), `server` (names from the host) or `all`. A rule fits a name from the guest that
  * starts with its KEY, and a name from the host that starts with its PREPEND. The first rule
  * that fits a name decides. The TYPE is `prefix` (the PREPEND is put before a name from the
- * guest, and taken off a name from the host), `ok`, `bad` or `unsupported`. The README has the
- * details, and what a `map` rule stands for.
+ * guest, and taken off a name from the host), `ok`, `bad` or `unsupported`. The manual page
+ * virtiofs_mapcheck(1) has the details, and what a `map` rule stands for.
  */
 
 /* The most bytes that a map of a text of `text_len` bytes takes. A buffer of that many bytes
    is always enough; tests show this, but it is not proved. The result is SIZE_MAX if
    no buffer can be that large. */
-static inline size_t virtiofs_names_bound(size_t text_len)
-{
-    return virtiofs_map_names_bound(text_len);
-}
+static inline size_t virtiofs_names_bound(size_t text_len);
 
 /* Makes a map from a text of rules, in the buffer `bytes` of `room` bytes. OK: the first
    *wanted bytes are the map, and the others are unchanged. NO_ROOM: the map takes
@@ -756,15 +525,10 @@ static inline size_t virtiofs_names_bound(size_t text_len)
    that is wrong is quoted in `quoted`. NO_MEMORY: *wanted is 0. If the code is not OK, the
    bytes are unchanged. */
 VIRTIOFS_CHECKED((5, 6))
-static inline uint32_t virtiofs_names_make(const uint8_t *text, size_t text_len,
-                                           uint8_t *bytes, size_t room, size_t *wanted,
-                                           struct virtiofs_fault *fault,
-                                           uint8_t *quoted, size_t quoted_room)
-{
-    return virtiofs_map_names_make(VIRTIOFS_SLICE(const uint8_t, text, text_len),
-                                   VIRTIOFS_SLICE(uint8_t, bytes, room), wanted, fault,
-                                   VIRTIOFS_SLICE(uint8_t, quoted, quoted_room));
-}
+static inline enum virtiofs_code virtiofs_names_make(const void *text, size_t text_len,
+                                                     void *bytes, size_t room, size_t *wanted,
+                                                     struct virtiofs_fault *fault, void *quoted,
+                                                     size_t quoted_room);
 
 /* Finds the host's name for a name that the guest uses. OK: `out` has the host's name, which is
    the guest's name with a prepend before it. NO_ROOM: it does not fit. These two codes are
@@ -772,32 +536,33 @@ static inline uint32_t virtiofs_names_make(const uint8_t *text, size_t text_len,
    prepend. AS_IT_IS: the host has the same name; nothing is copied. DENIED; UNSUPPORTED;
    UNTERMINATED; NO_NAME; NO_MAP. */
 VIRTIOFS_CHECKED((6))
-static inline uint32_t virtiofs_names_client(struct virtiofs_names map,
-                                             const uint8_t *name, size_t name_len,
-                                             uint8_t *out, size_t room, size_t *len)
-{
-    return virtiofs_map_names_client(VIRTIOFS_SLICE(const uint8_t, map.bytes, map.len),
-                                     VIRTIOFS_SLICE(const uint8_t, name, name_len),
-                                     VIRTIOFS_SLICE(uint8_t, out, room), len);
-}
+static inline enum virtiofs_code virtiofs_names_client(struct virtiofs_names map, const void *name,
+                                                       size_t name_len, void *out, size_t room,
+                                                       size_t *len);
+
+/* The bytes that a name takes on Linux, at most, with the zero that ends it. */
+enum { VIRTIOFS_NAME_ROOM = 256 };
+
+/* Finds the host's name for a name that the guest uses, as a C string, also if it is the same.
+   OK: `host` has it. NO_ROOM: it is longer than 255 bytes. DENIED; UNSUPPORTED; UNTERMINATED;
+   NO_MAP. If the code is not OK, `host` is the empty string. */
+VIRTIOFS_CHECKED((2, 3))
+static inline enum virtiofs_code virtiofs_names_host(struct virtiofs_names map, const char *name,
+                                                     char host[VIRTIOFS_NAME_ROOM]);
 
 /* Makes the list that the guest gets for the host's list of names: each name with a zero
    after it, or one zero if no name is left. OK: the list is in `out`. It is never empty, and
    at most one byte longer than the host's list, so a buffer that is one byte longer than
-   the host's list is always enough. NO_ROOM. UNTERMINATED: no rule decides one of the names, and
+   the host's list is always enough. NO_ROOM; with `room` 0 this tells the length, as listxattr
+   with a size of 0 asks for it. UNTERMINATED: no rule decides one of the names, and
    there is no list, however long `out` is. NO_MAP. If the code is not OK, `out` may contain
    anything. */
 VIRTIOFS_CHECKED((6))
-static inline uint32_t virtiofs_names_server(struct virtiofs_names map,
-                                             const uint8_t *list, size_t list_len,
-                                             uint8_t *out, size_t room, size_t *len)
-{
-    return virtiofs_map_names_server(VIRTIOFS_SLICE(const uint8_t, map.bytes, map.len),
-                                     VIRTIOFS_SLICE(const uint8_t, list, list_len),
-                                     VIRTIOFS_SLICE(uint8_t, out, room), len);
-}
+static inline enum virtiofs_code virtiofs_names_server(struct virtiofs_names map, const void *list,
+                                                       size_t list_len, void *out, size_t room,
+                                                       size_t *len);
 
-/* ---- audits: questions about all names ----
+/* ---- audits of names: questions about all names ----
  *
  * Each audit is about every name there is, of any length. The least name is the first
  * in the order of bytes; the beginning of a name comes before the name. OK: *yes says
@@ -809,8 +574,8 @@ static inline uint32_t virtiofs_names_server(struct virtiofs_names map,
  * of the host is hidden if the first rule that fits it is `bad` or `unsupported`, or is a
  * `map` rule that does not list it.
  *
- * The time of `.._audit`, `.._audit_listed`, `.._apart` and `.._share_none` grows with the
- * square of the number of rules. For 6,400 rules it is of the order of seconds: we measured
+ * The time of `.._audit`, `.._audit_listed`, `.._keeps_apart` and `.._shares_no_name` grows with
+ * the square of the number of rules. For 6,400 rules it is of the order of seconds: we measured
  * 1.5, and up to 8 on a busy machine. So call these when a map is made, and not while a
  * guest waits.
  */
@@ -818,33 +583,22 @@ static inline uint32_t virtiofs_names_server(struct virtiofs_names map,
 /* Does every name of the guest, and every name in a list of the host, have a rule? If so,
    lookups in this map never return UNTERMINATED. OK; NO_MAP. */
 VIRTIOFS_CHECKED((2))
-static inline uint32_t virtiofs_names_terminated(struct virtiofs_names map, bool *yes)
-{
-    return virtiofs_map_names_terminated(VIRTIOFS_SLICE(const uint8_t, map.bytes, map.len), yes);
-}
+static inline enum virtiofs_code virtiofs_names_is_terminated(struct virtiofs_names map, bool *yes);
 
 /* Take each non-empty name of the guest that leads to a name of the host. If the host then
    lists that name, does the guest see the name that it used? OK: if *yes is false, `out` has
    the least name of the guest for which it does not. NO_ROOM: there is such a name, and it
    does not fit. NO_MEMORY; NO_MAP. */
 VIRTIOFS_CHECKED((2, 5))
-static inline uint32_t virtiofs_names_audit(struct virtiofs_names map, bool *yes,
-                                            uint8_t *out, size_t room, size_t *len)
-{
-    return virtiofs_map_names_audit(VIRTIOFS_SLICE(const uint8_t, map.bytes, map.len), yes,
-                                    VIRTIOFS_SLICE(uint8_t, out, room), len);
-}
+static inline enum virtiofs_code virtiofs_names_audit(struct virtiofs_names map, bool *yes,
+                                                      void *out, size_t room, size_t *len);
 
 /* Take each non-empty name of the host that the guest sees in a list under some name. Does
    that name, used by the guest, lead to the same name of the host? OK: if *yes is false, `out`
    has the least name of the host for which it does not. NO_ROOM; NO_MEMORY; NO_MAP. */
 VIRTIOFS_CHECKED((2, 5))
-static inline uint32_t virtiofs_names_audit_listed(struct virtiofs_names map, bool *yes,
-                                                   uint8_t *out, size_t room, size_t *len)
-{
-    return virtiofs_map_names_audit_listed(VIRTIOFS_SLICE(const uint8_t, map.bytes, map.len), yes,
-                                           VIRTIOFS_SLICE(uint8_t, out, room), len);
-}
+static inline enum virtiofs_code virtiofs_names_audit_listed(struct virtiofs_names map, bool *yes,
+                                                             void *out, size_t room, size_t *len);
 
 /* Does the second map hide every non-empty name of the host that the first guest reaches? If
    so, these names make no difference to the lists of the second guest. OK: if *yes is false,
@@ -852,29 +606,19 @@ static inline uint32_t virtiofs_names_audit_listed(struct virtiofs_names map, bo
    the second map does not hide. NO_ROOM; NO_MEMORY. NO_MAP: one of the two is no map. Both may
    be the same map. */
 VIRTIOFS_CHECKED((3, 6))
-static inline uint32_t virtiofs_names_apart(struct virtiofs_names first,
-                                            struct virtiofs_names second, bool *yes,
-                                            uint8_t *out, size_t room, size_t *len)
-{
-    return virtiofs_map_names_apart(VIRTIOFS_SLICE(const uint8_t, first.bytes, first.len),
-                                    VIRTIOFS_SLICE(const uint8_t, second.bytes, second.len),
-                                    yes, VIRTIOFS_SLICE(uint8_t, out, room), len);
-}
+static inline enum virtiofs_code virtiofs_names_keeps_apart(struct virtiofs_names first,
+                                                      struct virtiofs_names second, bool *yes,
+                                                      void *out, size_t room, size_t *len);
 
-/* Is there no non-empty name of the host that both guests reach? virtiofs_names_apart is about
-   what lists show, and this call is about which attributes of the host a guest can open by name:
-   neither answer follows from the other. OK: if *yes is false, `out` has the least name of the
-   first guest that leads to a non-empty name of the host which the second guest reaches too.
+/* Is there no non-empty name of the host that both guests reach? virtiofs_names_keeps_apart is
+   about what lists show, and this call is about which attributes of the host a guest can open by
+   name: neither answer follows from the other. OK: if *yes is false, `out` has the least name of
+   the first guest that leads to a non-empty name of the host which the second guest reaches too.
    NO_ROOM; NO_MEMORY. NO_MAP: one of the two is no map. Both may be the same map. */
 VIRTIOFS_CHECKED((3, 6))
-static inline uint32_t virtiofs_names_share_none(struct virtiofs_names first,
-                                                 struct virtiofs_names second, bool *yes,
-                                                 uint8_t *out, size_t room, size_t *len)
-{
-    return virtiofs_map_names_share_none(VIRTIOFS_SLICE(const uint8_t, first.bytes, first.len),
-                                         VIRTIOFS_SLICE(const uint8_t, second.bytes, second.len),
-                                         yes, VIRTIOFS_SLICE(uint8_t, out, room), len);
-}
+static inline enum virtiofs_code virtiofs_names_shares_no_name(struct virtiofs_names first,
+                                                           struct virtiofs_names second, bool *yes,
+                                                           void *out, size_t room, size_t *len);
 
 /* ---- ids inside values ----
  *
@@ -888,48 +632,31 @@ static inline uint32_t virtiofs_names_share_none(struct virtiofs_names first,
 /* Which ids the values of an attribute contain: one of enum virtiofs_value_kind. `name` is the
    attribute's name on the host, so map the name first. `system.posix_acl_access` and
    `system.posix_acl_default` have access control lists, `security.capability` has capabilities,
-   and no other has any. */
-static inline uint32_t virtiofs_carries_ids(const uint8_t *name, size_t name_len)
-{
-    return virtiofs_map_carries_ids(VIRTIOFS_SLICE(const uint8_t, name, name_len));
-}
+   and no other has any. The name ends before its first zero, so `name_len` may count it. */
+static inline enum virtiofs_value_kind virtiofs_carries_ids(const void *name, size_t name_len);
 
 /* Converts an access control list of the guest, in place, into one for the host: each id of a
    user (tag 2) is mapped by `users`, and each id of a group (tag 8) by `groups`. `entries` has
-   `room` elements, and the call needs one for each entry of the value: (len - 4) / 8. OK.
+   `room` elements, and the call needs one for each entry of the value: len / 8 is enough. OK.
    REFUSED: SHORT, VERSION or SIZE; or TAG, PERMISSION or NO_ID with the index of the entry.
    NO_ROOM: ROOM. FORBIDDEN: a specification forbids the id of the entry. MERGES: an earlier
    entry with the same tag has another id, and both would become the same id. NO_MAP: `users`
    or `groups` is no map. */
 VIRTIOFS_CHECKED((7))
-static inline uint32_t virtiofs_acl_to_host(struct virtiofs_uids users,
-                                            struct virtiofs_gids groups,
-                                            uint8_t *value, size_t len,
-                                            struct virtiofs_entry_room *entries, size_t room,
-                                            struct virtiofs_fault *fault)
-{
-    return virtiofs_map_acl_to_host(
-        VIRTIOFS_SLICE(const uint32_t, users.words, users.count),
-        VIRTIOFS_SLICE(const uint32_t, groups.words, groups.count),
-        VIRTIOFS_SLICE(uint8_t, value, len),
-        VIRTIOFS_SLICE(struct virtiofs_entry_room, entries, room), fault);
-}
+static inline enum virtiofs_code virtiofs_acl_to_host(struct virtiofs_uids users,
+                                                      struct virtiofs_gids groups, void *value,
+                                                      size_t len,
+                                                      struct virtiofs_entry_room *entries,
+                                                      size_t room, struct virtiofs_fault *fault);
 
 /* Converts an access control list of the host, in place, into one for the guest. It has the
    codes of virtiofs_acl_to_host. */
 VIRTIOFS_CHECKED((7))
-static inline uint32_t virtiofs_acl_to_guest(struct virtiofs_uids users,
-                                             struct virtiofs_gids groups,
-                                             uint8_t *value, size_t len,
-                                             struct virtiofs_entry_room *entries, size_t room,
-                                             struct virtiofs_fault *fault)
-{
-    return virtiofs_map_acl_to_guest(
-        VIRTIOFS_SLICE(const uint32_t, users.words, users.count),
-        VIRTIOFS_SLICE(const uint32_t, groups.words, groups.count),
-        VIRTIOFS_SLICE(uint8_t, value, len),
-        VIRTIOFS_SLICE(struct virtiofs_entry_room, entries, room), fault);
-}
+static inline enum virtiofs_code virtiofs_acl_to_guest(struct virtiofs_uids users,
+                                                       struct virtiofs_gids groups, void *value,
+                                                       size_t len,
+                                                       struct virtiofs_entry_room *entries,
+                                                       size_t room, struct virtiofs_fault *fault);
 
 /* Converts a capability of the guest, in place, into one for the host: the id of root, which is
    the last word of revision 3, is mapped by `users`. Revisions 1 and 2 have no such word; the id
@@ -938,53 +665,546 @@ static inline uint32_t virtiofs_acl_to_guest(struct virtiofs_uids users,
    the revision is 1 or 2, and 0 is mapped to another id; then
    virtiofs_capability_to_host_in_revision_3 can write the value. NO_MAP. */
 VIRTIOFS_CHECKED((4))
-static inline uint32_t virtiofs_capability_to_host(struct virtiofs_uids users,
-                                                   uint8_t *value, size_t len,
-                                                   struct virtiofs_fault *fault)
-{
-    return virtiofs_map_capability_to_host(
-        VIRTIOFS_SLICE(const uint32_t, users.words, users.count),
-        VIRTIOFS_SLICE(uint8_t, value, len), fault);
-}
+static inline enum virtiofs_code virtiofs_capability_to_host(struct virtiofs_uids users,
+                                                             void *value, size_t len,
+                                                             struct virtiofs_fault *fault);
 
 /* Converts a capability of the host, in place, into one for the guest. It has the codes of
    virtiofs_capability_to_host. */
 VIRTIOFS_CHECKED((4))
-static inline uint32_t virtiofs_capability_to_guest(struct virtiofs_uids users,
-                                                    uint8_t *value, size_t len,
-                                                    struct virtiofs_fault *fault)
-{
-    return virtiofs_map_capability_to_guest(
-        VIRTIOFS_SLICE(const uint32_t, users.words, users.count),
-        VIRTIOFS_SLICE(uint8_t, value, len), fault);
-}
+static inline enum virtiofs_code virtiofs_capability_to_guest(struct virtiofs_uids users,
+                                                              void *value, size_t len,
+                                                              struct virtiofs_fault *fault);
 
 /* Reads a capability of the guest, of any revision, and writes the same for the host in
    revision 3, to the 24 bytes of `written`: with the same flags and sets, and with what the id
    of root is mapped to. OK. REFUSED; FORBIDDEN; NO_MAP, as virtiofs_capability_to_host has
    them. If the code is not OK, `written` is unchanged. `value` is never changed. */
 VIRTIOFS_CHECKED((4, 5))
-static inline uint32_t virtiofs_capability_to_host_in_revision_3(struct virtiofs_uids users,
-                                                                 const uint8_t *value, size_t len,
-                                                                 uint8_t *written,
-                                                                 struct virtiofs_fault *fault)
-{
-    return virtiofs_map_capability_to_host_in_revision_3(
-        VIRTIOFS_SLICE(const uint32_t, users.words, users.count),
-        VIRTIOFS_SLICE(const uint8_t, value, len), written, fault);
-}
+static inline enum virtiofs_code virtiofs_capability_to_host_in_revision_3(
+    struct virtiofs_uids users, const void *value, size_t len, void *written,
+    struct virtiofs_fault *fault);
 
 /* Reads a capability of the host, of any revision, and writes the same for the guest in
    revision 3. It has the codes of virtiofs_capability_to_host_in_revision_3. */
 VIRTIOFS_CHECKED((4, 5))
-static inline uint32_t virtiofs_capability_to_guest_in_revision_3(struct virtiofs_uids users,
-                                                                  const uint8_t *value, size_t len,
-                                                                  uint8_t *written,
-                                                                  struct virtiofs_fault *fault)
+static inline enum virtiofs_code virtiofs_capability_to_guest_in_revision_3(
+    struct virtiofs_uids users, const void *value, size_t len, void *written,
+    struct virtiofs_fault *fault);
+
+/* ---- exported symbols ----
+ *
+ * C programs call the inline functions above. These call the symbols here, and replace a pointer
+ * whose length is 0 by an address that is not NULL. A caller that cannot use inline functions, such
+ * as one in another language, calls the symbols: then no pointer may be NULL, not even one with a
+ * length of 0, and each must be aligned for its type. All else is as for the inline function whose
+ * name lacks `map_`; ids of users and of groups have one symbol. virtiofs_code_errno,
+ * virtiofs_code_text, virtiofs_specs_read and virtiofs_names_host have no symbol.
+ */
+
+/* The version of the archive, which is VIRTIOFS_MAP_VERSION of its own header. */
+uint32_t virtiofs_map_version(void);
+
+size_t virtiofs_map_ids_bound(size_t count);
+
+VIRTIOFS_CHECKED((1, 3, 5, 6))
+uint32_t virtiofs_map_ids_make(const struct virtiofs_spec *specs, size_t count,
+                               uint32_t *words, size_t room, size_t *wanted,
+                               struct virtiofs_fault *fault);
+
+VIRTIOFS_CHECKED((1, 3, 5, 6, 7))
+uint32_t virtiofs_map_ids_make_texts(const struct virtiofs_text *texts, size_t count,
+                                     uint32_t *words, size_t room, size_t *wanted,
+                                     struct virtiofs_fault *fault,
+                                     uint8_t *quoted, size_t quoted_room);
+
+VIRTIOFS_CHECKED((1, 4))
+uint32_t virtiofs_map_ids_guest(const uint32_t *words, size_t count,
+                                uint32_t guest, uint32_t *host);
+
+VIRTIOFS_CHECKED((1, 4))
+uint32_t virtiofs_map_ids_host(const uint32_t *words, size_t count,
+                               uint32_t host, uint32_t *guest);
+
+VIRTIOFS_CHECKED((1, 3, 4, 5))
+uint32_t virtiofs_map_ids_comes_back(const struct virtiofs_spec *specs, size_t count, bool *yes,
+                                    struct virtiofs_ids_found *found,
+                                    struct virtiofs_fault *fault);
+
+VIRTIOFS_CHECKED((1, 3, 4, 5))
+uint32_t virtiofs_map_ids_is_alone(const struct virtiofs_spec *specs, size_t count, bool *yes,
+                                struct virtiofs_ids_found *found,
+                                struct virtiofs_fault *fault);
+
+VIRTIOFS_CHECKED((1, 5, 6, 7))
+uint32_t virtiofs_map_ids_reaches(const struct virtiofs_spec *specs, size_t count,
+                                uint32_t first, uint32_t last, bool *yes,
+                                struct virtiofs_ids_found *found,
+                                struct virtiofs_fault *fault);
+
+VIRTIOFS_CHECKED((1, 3, 5, 6, 7))
+uint32_t virtiofs_map_ids_apart(const struct virtiofs_spec *specs, size_t count,
+                                const struct virtiofs_spec *others, size_t other_count,
+                                bool *yes, struct virtiofs_ids_found *found,
+                                struct virtiofs_fault *fault);
+
+VIRTIOFS_CHECKED((1, 3, 4, 5))
+uint32_t virtiofs_map_spec_read(const uint8_t *text, size_t text_len,
+                                struct virtiofs_spec *spec, struct virtiofs_fault *fault,
+                                uint8_t *quoted, size_t quoted_room);
+
+VIRTIOFS_CHECKED((1, 3, 4))
+uint32_t virtiofs_map_range_read(const uint8_t *text, size_t text_len,
+                                 struct virtiofs_range *range, struct virtiofs_fault *fault);
+
+size_t virtiofs_map_names_bound(size_t text_len);
+
+VIRTIOFS_CHECKED((1, 3, 5, 6, 7))
+uint32_t virtiofs_map_names_make(const uint8_t *text, size_t text_len,
+                                 uint8_t *bytes, size_t room, size_t *wanted,
+                                 struct virtiofs_fault *fault,
+                                 uint8_t *quoted, size_t quoted_room);
+
+VIRTIOFS_CHECKED((1, 3, 5, 7))
+uint32_t virtiofs_map_names_client(const uint8_t *bytes, size_t map_len,
+                                   const uint8_t *name, size_t name_len,
+                                   uint8_t *out, size_t room, size_t *len);
+
+VIRTIOFS_CHECKED((1, 3, 5, 7))
+uint32_t virtiofs_map_names_server(const uint8_t *bytes, size_t map_len,
+                                   const uint8_t *list, size_t list_len,
+                                   uint8_t *out, size_t room, size_t *len);
+
+VIRTIOFS_CHECKED((1, 3))
+uint32_t virtiofs_map_names_is_terminated(const uint8_t *bytes, size_t map_len, bool *yes);
+
+VIRTIOFS_CHECKED((1, 3, 4, 6))
+uint32_t virtiofs_map_names_audit(const uint8_t *bytes, size_t map_len, bool *yes,
+                                  uint8_t *out, size_t room, size_t *len);
+
+VIRTIOFS_CHECKED((1, 3, 4, 6))
+uint32_t virtiofs_map_names_audit_listed(const uint8_t *bytes, size_t map_len, bool *yes,
+                                         uint8_t *out, size_t room, size_t *len);
+
+VIRTIOFS_CHECKED((1, 3, 5, 6, 8))
+uint32_t virtiofs_map_names_keeps_apart(const uint8_t *bytes, size_t map_len,
+                                  const uint8_t *other_bytes, size_t other_len,
+                                  bool *yes, uint8_t *out, size_t room, size_t *len);
+
+VIRTIOFS_CHECKED((1, 3, 5, 6, 8))
+uint32_t virtiofs_map_names_shares_no_name(const uint8_t *bytes, size_t map_len,
+                                       const uint8_t *other_bytes, size_t other_len,
+                                       bool *yes, uint8_t *out, size_t room, size_t *len);
+
+VIRTIOFS_CHECKED((1))
+uint32_t virtiofs_map_carries_ids(const uint8_t *name, size_t name_len);
+
+VIRTIOFS_CHECKED((1, 3, 5, 7, 9))
+uint32_t virtiofs_map_acl_to_host(const uint32_t *users, size_t user_count,
+                                  const uint32_t *groups, size_t group_count,
+                                  uint8_t *value, size_t len,
+                                  struct virtiofs_entry_room *entries, size_t room,
+                                  struct virtiofs_fault *fault);
+
+VIRTIOFS_CHECKED((1, 3, 5, 7, 9))
+uint32_t virtiofs_map_acl_to_guest(const uint32_t *users, size_t user_count,
+                                   const uint32_t *groups, size_t group_count,
+                                   uint8_t *value, size_t len,
+                                   struct virtiofs_entry_room *entries, size_t room,
+                                   struct virtiofs_fault *fault);
+
+VIRTIOFS_CHECKED((1, 3, 5))
+uint32_t virtiofs_map_capability_to_host(const uint32_t *users, size_t user_count,
+                                         uint8_t *value, size_t len,
+                                         struct virtiofs_fault *fault);
+
+VIRTIOFS_CHECKED((1, 3, 5))
+uint32_t virtiofs_map_capability_to_guest(const uint32_t *users, size_t user_count,
+                                          uint8_t *value, size_t len,
+                                          struct virtiofs_fault *fault);
+
+VIRTIOFS_CHECKED((1, 3, 5, 6))
+uint32_t virtiofs_map_capability_to_host_in_revision_3(const uint32_t *users, size_t user_count,
+                                                       const uint8_t *value, size_t len,
+                                                       uint8_t *written,
+                                                       struct virtiofs_fault *fault);
+
+VIRTIOFS_CHECKED((1, 3, 5, 6))
+uint32_t virtiofs_map_capability_to_guest_in_revision_3(const uint32_t *users, size_t user_count,
+                                                        const uint8_t *value, size_t len,
+                                                        uint8_t *written,
+                                                        struct virtiofs_fault *fault);
+
+VIRTIOFS_CHECKED((1, 2, 4, 6))
+uint32_t virtiofs_map_fault_text(const struct virtiofs_fault *fault,
+                                 const uint8_t *quoted, size_t quoted_len,
+                                 uint8_t *out, size_t room, size_t *len);
+
+/* ---- the inline functions ---- */
+
+/* A pointer and its length. If the length is 0, the pointer becomes an aligned address
+   that is not NULL. */
+#define VIRTIOFS_SLICE(type, at, len) ((len) ? (type *)(at) : (type *)(uintptr_t)16), (len)
+#define VIRTIOFS_BYTES(at, len) VIRTIOFS_SLICE(const uint8_t, at, len)
+#define VIRTIOFS_ROOM(at, len) VIRTIOFS_SLICE(uint8_t, at, len)
+#define VIRTIOFS_WORDS(map) VIRTIOFS_SLICE(const uint32_t, (map).words, (map).count)
+#define VIRTIOFS_SPECS(specs, count) VIRTIOFS_SLICE(const struct virtiofs_spec, specs, count)
+#define VIRTIOFS_CODE_OF(call) ((enum virtiofs_code)(call))
+
+static inline int virtiofs_code_errno(enum virtiofs_code code)
 {
-    return virtiofs_map_capability_to_guest_in_revision_3(
-        VIRTIOFS_SLICE(const uint32_t, users.words, users.count),
-        VIRTIOFS_SLICE(const uint8_t, value, len), written, fault);
+    switch (code) {
+    case VIRTIOFS_OK: return 0;
+    case VIRTIOFS_AS_IT_IS: return 0;
+    case VIRTIOFS_FORBIDDEN: return EPERM;
+    case VIRTIOFS_DENIED: return EPERM;
+    case VIRTIOFS_UNSUPPORTED: return ENOTSUP;
+    case VIRTIOFS_UNTERMINATED: return EPERM;
+    case VIRTIOFS_REFUSED: return EINVAL;
+    case VIRTIOFS_NO_ROOM: return ERANGE;
+    case VIRTIOFS_NO_MEMORY: return ENOMEM;
+    case VIRTIOFS_NO_MAP: return EINVAL;
+    case VIRTIOFS_NO_NAME: return EINVAL;
+    case VIRTIOFS_MERGES: return EPERM;
+    case VIRTIOFS_ROOT_MOVES: return EPERM;
+    case VIRTIOFS_NO_ID: return EINVAL;
+    }
+    return EINVAL;
+}
+
+static inline const char *virtiofs_code_text(enum virtiofs_code code)
+{
+    switch (code) {
+    case VIRTIOFS_OK: return "success";
+    case VIRTIOFS_AS_IT_IS: return "the name passes unchanged";
+    case VIRTIOFS_FORBIDDEN: return "a specification forbids this id";
+    case VIRTIOFS_DENIED: return "the guest may not use this name";
+    case VIRTIOFS_UNSUPPORTED: return "a rule says that this name is unsupported";
+    case VIRTIOFS_UNTERMINATED: return "no rule decides this name";
+    case VIRTIOFS_REFUSED: return "a text, a list or a value is wrong";
+    case VIRTIOFS_NO_ROOM: return "the buffer is too short";
+    case VIRTIOFS_NO_MEMORY: return "out of memory";
+    case VIRTIOFS_NO_MAP: return "the numbers are no map";
+    case VIRTIOFS_NO_NAME: return "the name contains a zero";
+    case VIRTIOFS_MERGES: return "two ids of the value would become the same id";
+    case VIRTIOFS_ROOT_MOVES: return "the capability has no field for the new id of root";
+    case VIRTIOFS_NO_ID: return "4294967295 is no id";
+    }
+    return "there is no such code";
+}
+
+static inline enum virtiofs_code virtiofs_fault_text(const struct virtiofs_fault *fault,
+                                                     const void *quoted, size_t quoted_len,
+                                                     void *out, size_t room, size_t *len)
+{
+    return VIRTIOFS_CODE_OF(virtiofs_map_fault_text(
+        fault, VIRTIOFS_BYTES(quoted, quoted_len), VIRTIOFS_ROOM(out, room), len));
+}
+
+static inline size_t virtiofs_uids_bound(size_t count)
+{
+    return virtiofs_map_ids_bound(count);
+}
+
+static inline size_t virtiofs_gids_bound(size_t count)
+{
+    return virtiofs_map_ids_bound(count);
+}
+
+static inline enum virtiofs_code virtiofs_uids_make(const struct virtiofs_spec *specs,
+                                                    size_t count, uint32_t *words, size_t room,
+                                                    size_t *wanted, struct virtiofs_fault *fault)
+{
+    return VIRTIOFS_CODE_OF(virtiofs_map_ids_make(
+        VIRTIOFS_SPECS(specs, count), VIRTIOFS_SLICE(uint32_t, words, room), wanted, fault));
+}
+
+static inline enum virtiofs_code virtiofs_gids_make(const struct virtiofs_spec *specs,
+                                                    size_t count, uint32_t *words, size_t room,
+                                                    size_t *wanted, struct virtiofs_fault *fault)
+{
+    return VIRTIOFS_CODE_OF(virtiofs_map_ids_make(
+        VIRTIOFS_SPECS(specs, count), VIRTIOFS_SLICE(uint32_t, words, room), wanted, fault));
+}
+
+static inline enum virtiofs_code virtiofs_spec_read(const void *text, size_t text_len,
+                                                    struct virtiofs_spec *spec,
+                                                    struct virtiofs_fault *fault, void *quoted,
+                                                    size_t quoted_room)
+{
+    return VIRTIOFS_CODE_OF(virtiofs_map_spec_read(
+        VIRTIOFS_BYTES(text, text_len), spec, fault, VIRTIOFS_ROOM(quoted, quoted_room)));
+}
+
+static inline enum virtiofs_code virtiofs_specs_read(const struct virtiofs_text *texts,
+                                                     size_t count, struct virtiofs_spec *specs,
+                                                     struct virtiofs_fault *fault, void *quoted,
+                                                     size_t quoted_room)
+{
+    enum virtiofs_code code = VIRTIOFS_OK;
+    struct virtiofs_spec spec;
+    size_t i;
+    memset(fault, 0, sizeof *fault);
+    for (i = 0; i < count && code == VIRTIOFS_OK; i++)
+        code = virtiofs_spec_read(texts[i].at, texts[i].len, specs ? &specs[i] : &spec,
+                                  fault, quoted, quoted_room);
+    if (code == VIRTIOFS_REFUSED) {
+        fault->part = VIRTIOFS_SPECIFICATION;
+        fault->place = i - 1;
+    }
+    return code;
+}
+
+/* Internal, for the two functions below. Unlike the exported symbol, it takes texts with `at` NULL
+   and `len` 0. Such a text is no specification, so no map is made. */
+static inline enum virtiofs_code virtiofs_ids_make_texts(const struct virtiofs_text *texts,
+                                                         size_t count, uint32_t *words,
+                                                         size_t room, size_t *wanted,
+                                                         struct virtiofs_fault *fault,
+                                                         void *quoted, size_t quoted_room)
+{
+    size_t i;
+    for (i = 0; i < count && (texts[i].at || texts[i].len); i++) { }
+    *wanted = 0;
+    if (i < count)
+        return virtiofs_specs_read(texts, count, NULL, fault, quoted, quoted_room);
+    return VIRTIOFS_CODE_OF(virtiofs_map_ids_make_texts(
+        VIRTIOFS_SLICE(const struct virtiofs_text, texts, count),
+        VIRTIOFS_SLICE(uint32_t, words, room), wanted, fault, VIRTIOFS_ROOM(quoted, quoted_room)));
+}
+
+static inline enum virtiofs_code virtiofs_uids_make_texts(const struct virtiofs_text *texts,
+                                                          size_t count, uint32_t *words,
+                                                          size_t room, size_t *wanted,
+                                                          struct virtiofs_fault *fault,
+                                                          void *quoted, size_t quoted_room)
+{
+    return virtiofs_ids_make_texts(texts, count, words, room, wanted, fault, quoted, quoted_room);
+}
+
+static inline enum virtiofs_code virtiofs_gids_make_texts(const struct virtiofs_text *texts,
+                                                          size_t count, uint32_t *words,
+                                                          size_t room, size_t *wanted,
+                                                          struct virtiofs_fault *fault,
+                                                          void *quoted, size_t quoted_room)
+{
+    return virtiofs_ids_make_texts(texts, count, words, room, wanted, fault, quoted, quoted_room);
+}
+
+static inline enum virtiofs_code virtiofs_uids_guest(struct virtiofs_uids map, uint32_t guest,
+                                                     uint32_t *host)
+{
+    return VIRTIOFS_CODE_OF(virtiofs_map_ids_guest(VIRTIOFS_WORDS(map), guest, host));
+}
+
+static inline enum virtiofs_code virtiofs_gids_guest(struct virtiofs_gids map, uint32_t guest,
+                                                     uint32_t *host)
+{
+    return VIRTIOFS_CODE_OF(virtiofs_map_ids_guest(VIRTIOFS_WORDS(map), guest, host));
+}
+
+static inline enum virtiofs_code virtiofs_uids_host(struct virtiofs_uids map, uint32_t host,
+                                                    uint32_t *guest)
+{
+    return VIRTIOFS_CODE_OF(virtiofs_map_ids_host(VIRTIOFS_WORDS(map), host, guest));
+}
+
+static inline enum virtiofs_code virtiofs_gids_host(struct virtiofs_gids map, uint32_t host,
+                                                    uint32_t *guest)
+{
+    return VIRTIOFS_CODE_OF(virtiofs_map_ids_host(VIRTIOFS_WORDS(map), host, guest));
+}
+
+static inline enum virtiofs_code virtiofs_ids_comes_back(const struct virtiofs_spec *specs,
+                                                        size_t count, bool *yes,
+                                                        struct virtiofs_ids_found *found,
+                                                        struct virtiofs_fault *fault)
+{
+    return VIRTIOFS_CODE_OF(virtiofs_map_ids_comes_back(
+        VIRTIOFS_SPECS(specs, count), yes, found, fault));
+}
+
+static inline enum virtiofs_code virtiofs_ids_is_alone(const struct virtiofs_spec *specs,
+                                                    size_t count, bool *yes,
+                                                    struct virtiofs_ids_found *found,
+                                                    struct virtiofs_fault *fault)
+{
+    return VIRTIOFS_CODE_OF(virtiofs_map_ids_is_alone(
+        VIRTIOFS_SPECS(specs, count), yes, found, fault));
+}
+
+static inline enum virtiofs_code virtiofs_ids_reaches(const struct virtiofs_spec *specs,
+                                                    size_t count, uint32_t first, uint32_t last,
+                                                    bool *yes, struct virtiofs_ids_found *found,
+                                                    struct virtiofs_fault *fault)
+{
+    return VIRTIOFS_CODE_OF(virtiofs_map_ids_reaches(
+        VIRTIOFS_SPECS(specs, count), first, last, yes, found, fault));
+}
+
+static inline enum virtiofs_code virtiofs_ids_apart(const struct virtiofs_spec *specs,
+                                                    size_t count,
+                                                    const struct virtiofs_spec *others,
+                                                    size_t other_count, bool *yes,
+                                                    struct virtiofs_ids_found *found,
+                                                    struct virtiofs_fault *fault)
+{
+    return VIRTIOFS_CODE_OF(virtiofs_map_ids_apart(
+        VIRTIOFS_SPECS(specs, count), VIRTIOFS_SPECS(others, other_count), yes, found, fault));
+}
+
+static inline enum virtiofs_code virtiofs_range_read(const void *text, size_t text_len,
+                                                     struct virtiofs_range *range,
+                                                     struct virtiofs_fault *fault)
+{
+    return VIRTIOFS_CODE_OF(virtiofs_map_range_read(VIRTIOFS_BYTES(text, text_len), range, fault));
+}
+
+static inline size_t virtiofs_names_bound(size_t text_len)
+{
+    return virtiofs_map_names_bound(text_len);
+}
+
+static inline enum virtiofs_code virtiofs_names_make(const void *text, size_t text_len,
+                                                     void *bytes, size_t room, size_t *wanted,
+                                                     struct virtiofs_fault *fault, void *quoted,
+                                                     size_t quoted_room)
+{
+    return VIRTIOFS_CODE_OF(virtiofs_map_names_make(
+        VIRTIOFS_BYTES(text, text_len), VIRTIOFS_ROOM(bytes, room), wanted, fault,
+        VIRTIOFS_ROOM(quoted, quoted_room)));
+}
+
+static inline enum virtiofs_code virtiofs_names_client(struct virtiofs_names map, const void *name,
+                                                       size_t name_len, void *out, size_t room,
+                                                       size_t *len)
+{
+    return VIRTIOFS_CODE_OF(virtiofs_map_names_client(
+        VIRTIOFS_BYTES(map.bytes, map.len), VIRTIOFS_BYTES(name, name_len),
+        VIRTIOFS_ROOM(out, room), len));
+}
+
+static inline enum virtiofs_code virtiofs_names_host(struct virtiofs_names map, const char *name,
+                                                     char host[VIRTIOFS_NAME_ROOM])
+{
+    const size_t name_len = strlen(name);
+    size_t len = 0;
+    enum virtiofs_code code =
+        virtiofs_names_client(map, name, name_len, host, VIRTIOFS_NAME_ROOM - 1, &len);
+    if (code == VIRTIOFS_AS_IT_IS) {
+        code = name_len < VIRTIOFS_NAME_ROOM ? VIRTIOFS_OK : VIRTIOFS_NO_ROOM;
+        len = name_len;
+        if (code == VIRTIOFS_OK)
+            memcpy(host, name, len);
+    }
+    host[code == VIRTIOFS_OK ? len : 0] = 0;
+    return code;
+}
+
+static inline enum virtiofs_code virtiofs_names_server(struct virtiofs_names map, const void *list,
+                                                       size_t list_len, void *out, size_t room,
+                                                       size_t *len)
+{
+    return VIRTIOFS_CODE_OF(virtiofs_map_names_server(
+        VIRTIOFS_BYTES(map.bytes, map.len), VIRTIOFS_BYTES(list, list_len),
+        VIRTIOFS_ROOM(out, room), len));
+}
+
+static inline enum virtiofs_code virtiofs_names_is_terminated(struct virtiofs_names map, bool *yes)
+{
+    return VIRTIOFS_CODE_OF(virtiofs_map_names_is_terminated(
+        VIRTIOFS_BYTES(map.bytes, map.len), yes));
+}
+
+static inline enum virtiofs_code virtiofs_names_audit(struct virtiofs_names map, bool *yes,
+                                                      void *out, size_t room, size_t *len)
+{
+    return VIRTIOFS_CODE_OF(virtiofs_map_names_audit(
+        VIRTIOFS_BYTES(map.bytes, map.len), yes, VIRTIOFS_ROOM(out, room), len));
+}
+
+static inline enum virtiofs_code virtiofs_names_audit_listed(struct virtiofs_names map, bool *yes,
+                                                             void *out, size_t room, size_t *len)
+{
+    return VIRTIOFS_CODE_OF(virtiofs_map_names_audit_listed(
+        VIRTIOFS_BYTES(map.bytes, map.len), yes, VIRTIOFS_ROOM(out, room), len));
+}
+
+static inline enum virtiofs_code virtiofs_names_keeps_apart(struct virtiofs_names first,
+                                                      struct virtiofs_names second, bool *yes,
+                                                      void *out, size_t room, size_t *len)
+{
+    return VIRTIOFS_CODE_OF(virtiofs_map_names_keeps_apart(
+        VIRTIOFS_BYTES(first.bytes, first.len), VIRTIOFS_BYTES(second.bytes, second.len), yes,
+        VIRTIOFS_ROOM(out, room), len));
+}
+
+static inline enum virtiofs_code virtiofs_names_shares_no_name(struct virtiofs_names first,
+                                                           struct virtiofs_names second, bool *yes,
+                                                           void *out, size_t room, size_t *len)
+{
+    return VIRTIOFS_CODE_OF(virtiofs_map_names_shares_no_name(
+        VIRTIOFS_BYTES(first.bytes, first.len), VIRTIOFS_BYTES(second.bytes, second.len), yes,
+        VIRTIOFS_ROOM(out, room), len));
+}
+
+static inline enum virtiofs_value_kind virtiofs_carries_ids(const void *name, size_t name_len)
+{
+    return (enum virtiofs_value_kind)virtiofs_map_carries_ids(VIRTIOFS_BYTES(name, name_len));
+}
+
+static inline enum virtiofs_code virtiofs_acl_to_host(struct virtiofs_uids users,
+                                                      struct virtiofs_gids groups, void *value,
+                                                      size_t len,
+                                                      struct virtiofs_entry_room *entries,
+                                                      size_t room, struct virtiofs_fault *fault)
+{
+    return VIRTIOFS_CODE_OF(virtiofs_map_acl_to_host(
+        VIRTIOFS_WORDS(users), VIRTIOFS_WORDS(groups), VIRTIOFS_ROOM(value, len),
+        VIRTIOFS_SLICE(struct virtiofs_entry_room, entries, room), fault));
+}
+
+static inline enum virtiofs_code virtiofs_acl_to_guest(struct virtiofs_uids users,
+                                                       struct virtiofs_gids groups, void *value,
+                                                       size_t len,
+                                                       struct virtiofs_entry_room *entries,
+                                                       size_t room, struct virtiofs_fault *fault)
+{
+    return VIRTIOFS_CODE_OF(virtiofs_map_acl_to_guest(
+        VIRTIOFS_WORDS(users), VIRTIOFS_WORDS(groups), VIRTIOFS_ROOM(value, len),
+        VIRTIOFS_SLICE(struct virtiofs_entry_room, entries, room), fault));
+}
+
+static inline enum virtiofs_code virtiofs_capability_to_host(struct virtiofs_uids users,
+                                                             void *value, size_t len,
+                                                             struct virtiofs_fault *fault)
+{
+    return VIRTIOFS_CODE_OF(virtiofs_map_capability_to_host(
+        VIRTIOFS_WORDS(users), VIRTIOFS_ROOM(value, len), fault));
+}
+
+static inline enum virtiofs_code virtiofs_capability_to_guest(struct virtiofs_uids users,
+                                                              void *value, size_t len,
+                                                              struct virtiofs_fault *fault)
+{
+    return VIRTIOFS_CODE_OF(virtiofs_map_capability_to_guest(
+        VIRTIOFS_WORDS(users), VIRTIOFS_ROOM(value, len), fault));
+}
+
+static inline enum virtiofs_code virtiofs_capability_to_host_in_revision_3(
+    struct virtiofs_uids users, const void *value, size_t len, void *written,
+    struct virtiofs_fault *fault)
+{
+    return VIRTIOFS_CODE_OF(virtiofs_map_capability_to_host_in_revision_3(
+        VIRTIOFS_WORDS(users), VIRTIOFS_BYTES(value, len), (uint8_t *)written, fault));
+}
+
+static inline enum virtiofs_code virtiofs_capability_to_guest_in_revision_3(
+    struct virtiofs_uids users, const void *value, size_t len, void *written,
+    struct virtiofs_fault *fault)
+{
+    return VIRTIOFS_CODE_OF(virtiofs_map_capability_to_guest_in_revision_3(
+        VIRTIOFS_WORDS(users), VIRTIOFS_BYTES(value, len), (uint8_t *)written, fault));
 }
 
 #ifdef __cplusplus

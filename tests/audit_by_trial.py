@@ -5,8 +5,7 @@ usage: audit_by_trial.py PROGRAM..
 
 Rules are made at random, as data, from a fixed seed. Each program gets them as texts, in the forms `terminated`,
 `audit` and `apart`. It has to write the line that is decided here, from the data alone. There is no end of names, but
-few are enough: `tried` says which, and why. A decision with a known mistake has to differ from the right one for some
-of the rules, or these would not show the mistake in a program either. The last line is 'N passed, N failed'.
+few are enough: `tried` says which, and why. The last line is 'N passed, N failed'.
 """
 import itertools
 import os
@@ -62,9 +61,9 @@ def audit(rules, names):
     return least(it for it, host in hosts if isinstance(host, bytes) and becomes(rules, "server", host) != it)
 
 
-def apart(rules, others, names, hidden=(False,)):
+def apart(rules, others, names):
     hosts = ((it, becomes(rules, "client", it)) for it in names)
-    return least(it for it, host in hosts if host and becomes(others, "server", host) not in hidden)
+    return least(it for it, host in hosts if host and becomes(others, "server", host) is not False)
 
 
 def least(failing):
@@ -72,10 +71,6 @@ def least(failing):
     for name in failing:
         return "no " + "".join(chr(it) if 32 <= it <= 126 else f"\\x{it:02x}" for it in name.replace(b"\\", b"\\\\"))
     return "yes"
-
-
-def patterns_of(rules):
-    return [pattern for rule in rules for pattern in (rule.key, rule.prepend)]
 
 
 @lru_cache(maxsize=None)
@@ -88,30 +83,17 @@ def tried(rules):
     longer than the longest pattern.
 
     For take any name. Put that least byte in the place of each byte that no pattern has, and cut off what is past the
-    length of the longest pattern, but leave one byte. The result is empty only where the name is, and not after it in
-    order. Both begin with the same patterns, also if the same bytes of a pattern are put before both. So the same rules
-    decide both, and do the same to both. If the name fails, the result does too, and it is one of those tried.
+    length of the longest pattern, but leave one byte. The same rules decide the result and the name, also if the same
+    bytes of a pattern are put before both. If the name fails, the result does too; it is tried, and is not after it.
     """
-    letters = set(b"".join(patterns_of(rules)))
+    patterns = [pattern for rule in rules for pattern in (rule.key, rule.prepend)]
+    letters = set(b"".join(patterns))
     letters.add(next(byte for byte in range(1, 256) if byte not in letters))
-    return of_letters(tuple(sorted(letters)), max(1, *map(len, patterns_of(rules))) + 1)
-
-
-DECISIONS = {"terminated": terminated, "audit": audit, "apart": apart}
-MISTAKES = (
-    ("terminated", "looks at the last rule alone", lambda it: "yes" if it[-1][1:] == ("all", b"", b"") else "no"),
-    ("audit", "tries keys, prepends and names of one byte alone",
-        lambda it: audit(it, [name for name in tried(it) if len(name) == 1 or name in patterns_of(it)])),
-    ("audit", "answers the greatest name", lambda it: audit(it, tried(it)[::-1])),
-    ("apart", "tries the empty name alone, which compares prepends", lambda *maps: apart(*maps, [b""])),
-    ("apart", "takes what is listed as the empty name for hidden",
-        lambda one, two: apart(one, two, tried(one + two), (False, b""))),
-    ("apart", "takes the maps the other way round", lambda one, two: apart(two, one, tried(one + two))),
-)
+    return of_letters(tuple(sorted(letters)), max(1, *map(len, patterns)) + 1)
 
 
 def made_part(letters, most):
-    return "".join(random.choice(letters) for _ in range(random.randint(1, most)))
+    return "".join(random.choices(letters, k=random.randint(1, most)))
 
 
 def made_pattern(front, *how):
@@ -124,11 +106,11 @@ def made_rules(front, *how):
     for _ in range(random.randint(0, 3)):
         kind, scope = random.choice(("prefix", "ok", *HIDES)), random.choice(("all", "client", "server"))
         rules.append(Rule(kind, scope, made_pattern(front, *how), made_pattern(front, *how)))
-    last = random.choice(("ok", "bad", "prefix", "map", "none"))
+    last = random.choice(("ok", "bad", "prefix", "map", "none" if rules else "ok"))
     if last == "map":
         rules.append(Rule("map", "", made_pattern(front, *how), made_pattern(front, *how)))
-    elif last != "none" or not rules:
-        rules.append(Rule("ok" if last == "none" else last, "all", "", front if last == "prefix" else ""))
+    elif last != "none":
+        rules.append(Rule(last, "all", "", front if last == "prefix" else ""))
     return rules
 
 
@@ -142,14 +124,14 @@ def text_of(rules):
 
 
 def made_calls():
-    """Each call is a form, the rules of its texts, the texts, and the line that they get."""
+    """Each call is a form with its texts, and the line that it gets."""
     for _ in range(PAIRS):
         how = random.choice(LETTERS)
         front = made_part(*how)
         one, two = made_rules(front, *how), made_rules(front, *how)
-        for form, *lists in (("terminated", one), ("audit", one), ("audit", two), ("apart", one, two)):
+        for decide, *lists in ((terminated, one), (audit, one), (audit, two), (apart, one, two)):
             maps = [list(meant(it)) for it in lists]
-            yield form, maps, [text_of(it) for it in lists], DECISIONS[form](*maps, tried(sum(maps, [])))
+            yield [decide.__name__, *map(text_of, lists)], decide(*maps, tried(sum(maps, [])))
 
 
 def main(programs):
@@ -157,15 +139,12 @@ def main(programs):
         return __doc__
     random.seed(SEED)
     tally, calls = Tally(quietly=True), list(made_calls())
-    for form, mistake, decide in MISTAKES:
-        is_shown = any(decide(*maps) != line for called, maps, _, line in calls if called == form)
-        tally.see(f"`{form}` {mistake}", not is_shown and "no text shows this mistake")
 
     def see(it):
-        program, (form, _, words, line) = it
-        status, said = run([program, form, *words], SECONDS)
+        program, (words, line) = it
+        status, said = run([program, *words], SECONDS)
         found = (status, said) != (0, f"{line}\n") and f"status {status}, {said!r}, and not {line!r}"
-        tally.see(f"{os.path.basename(program)} {form} {words}", found)
+        tally.see(f"{os.path.basename(program)} {words}", found)
 
     with ThreadPoolExecutor(os.cpu_count()) as threads:
         list(threads.map(see, itertools.product(map(os.path.abspath, programs), calls)))

@@ -1,7 +1,4 @@
-"""What several parts of the tests compile with: the compilers, the flags, and the archive of the static library.
-
-It also looks at the run of a command, and at what the example prints.
-"""
+"""What several parts of the tests compile with: the compilers, the flags, and the archive of the static library."""
 import os
 import shutil
 from pathlib import Path

@@ -3,9 +3,10 @@
 
 usage: end_to_end.py PROGRAM.. -- TABLE..
 
-Each row of each table is run on each program. README.md, beside this file, says what a row holds. A row that differs is
+Each row of each table is run on each program. docs/maintain/TESTS.md says what a row holds. A row that differs is
 printed. The last line is 'N passed, N failed', and the exit status is 0 only if some passed and none failed.
 """
+import contextlib
 import json
 import os
 import resource
@@ -34,12 +35,10 @@ def texts_of(parts):
 
 
 def is_wanted_output(row, output):
-    """Whether standard output is what the row says."""
     if "json" in row:
-        try:
+        with contextlib.suppress(ValueError):
             return json.loads(output) == row["json"] and output.endswith(b"\n")
-        except ValueError:
-            return False
+        return False
     if "output_has" in row:
         return all(part.encode() in output for part in row["output_has"])
     return output == "".join(texts_of([row["output"]])).encode()
@@ -55,21 +54,16 @@ def is_wanted_error(row, errors):
 
 
 def start(program, row):
-    """Runs the program on the words of a row, with the standard output and the memory that the row gives it."""
     # (a byte that is no UTF-8 stands in a row as the character that Python gives it)
     words = [program, *(it.encode("utf-8", "surrogateescape") for it in texts_of(row["words"]))]
     if "stdout" in row:
         words = ["sh", "-c", STARTS[row["stdout"]], "sh", *words]
-
-    def limit_memory():
-        resource.setrlimit(resource.RLIMIT_AS, (row["memory"], row["memory"]))
-
-    how = {"stdin": subprocess.DEVNULL, "preexec_fn": limit_memory if "memory" in row else None}
+    limit = (row.get("memory", -1),) * 2
+    how = {"stdin": subprocess.DEVNULL, "preexec_fn": lambda: resource.setrlimit(resource.RLIMIT_AS, limit)}
     return subprocess.run(words, capture_output=True, timeout=SECONDS, **how)
 
 
 def differences(program, row):
-    """What the program did in another way than the row says."""
     before = sum(os.times()[2:4])
     try:
         ended = start(program, row)

@@ -1,15 +1,13 @@
 #!/usr/bin/env python3
-"""Compares what manual pages, docs/RECIPES.md and README.md show with what programs write.
+"""Compares what the pages show with what programs write, and sees that what they name is there.
 
 usage: pages.py PROGRAM..
 
-The name of a program is that of its file up to the dot, and its page is docs/NAME.1. `man` shows the page without a
-complaint, and the page has the forms or options that each build tells. Each build runs the commands of the examples and
-those of the program in README.md. virtiofs_mapaudit runs those of docs/RECIPES.md too. There each block of `sh` has
-commands, and the block of `text` after it is their whole output. The status of virtiofs_mapaudit is 0 if that ends with
-'nothing found', and else 5. A block of `console` is a command for a running daemon: PID becomes that of a shell with
-options of a daemon.
-The last line is 'N passed, N failed'.
+The name of a program is that of its file up to the dot, and its page is docs/NAME.1. `man` shows it without a complaint,
+and it has the forms or options that each build tells. Each build runs the examples of the manual pages. In README.md and
+the guides a block of `sh` or `console` before one of `text` is run at the top, by each build if it begins with a program's
+name, and `text` is all that is written. With PID it is for a running daemon. The values in a block of no language stand in
+the next command too. Links lead somewhere, and named files are there. The last line is 'N passed, N failed'.
 """
 import os
 import re
@@ -22,16 +20,18 @@ sys.dont_write_bytecode = True
 from tally import Tally, left_out, run
 
 TOP = Path(__file__).resolve().parent.parent
+GUIDES = ("README.md", "docs/ADMIN.md", "docs/C.md", "docs/RUST.md", "docs/RATTLE.md")
 OF_DAEMON = "--fd=3 --translate-uid map:0:100000:65536 --shared-dir=/srv --xattrmap=:map::user.virtiofs.:".split()
+# A file that a page names by its path from the top, and what in a path says that it is built, or left open by the page.
+NAMED = r"(?<![\w/.~$\"}-])(?:docs|tests|crates|examples|include|bindings|completions)/[\w./*-]*[\w*]"
+LEFT_OPEN = re.compile(r"/out(/|$)|[A-Z]+(/|$|\.(edit|1|rt)$)")
 
 
 def plain(text):
-    """A text of a page without its escapes."""
     return re.sub(r"\\f.", "", text).replace("\\-", "-").replace("\\&", "").replace("\\e", "\\")
 
 
 def section(page, name):
-    """What stands under a heading."""
     return re.search(rf"^\.SH {name}\n(.*?)(?=^\.SH |\Z)", page, re.M | re.S)[1]
 
 
@@ -49,42 +49,41 @@ def options_of_page(page):
 
 
 def examples(page):
-    """Each command of a manual page, with its output and the statuses that it may end with."""
+    """Each command of a manual page, with its output."""
     for block in re.findall(r"^\.EX\n(.*?)^\.EE$", section(page, "EXAMPLES"), re.M | re.S):
         for part in re.split(r"^\$ ", block.replace("\\\n", ""), flags=re.M)[1:]:
             command, output = part.split("\\fP\n", 1)
-            yield plain(command), plain(output), range(256)
+            yield plain(command), plain(output)
 
 
-def recipes(file):
-    """Each block of commands of a page in Markdown, with its output and statuses. The one for a daemon has no output."""
-    blocks = re.findall(r"^```(\w+)\n(.*?)^```$", (TOP / file).read_text("utf-8"), re.M | re.S)
-    for (kind, command), (after, output) in zip(blocks, [*blocks[1:], ("", "")]):
-        if kind == "console":
-            yield command, None, None
-        elif kind == "sh":
-            statuses = [0 if output.endswith("nothing found\n") else 5]
-            statuses = range(256) if command.startswith("virtiofs_mapcheck ") else statuses
-            yield command, output if after == "text" else "(no output follows the command)", statuses
+def commands(tally, file):
+    """Each command of a page in Markdown that has an output below it, or a PID in it."""
+    blocks = re.findall(r"^```(\w*)\n(.*?)^```$", (TOP / file).read_text("utf-8"), re.M | re.S)
+    for at, ((kind, text), (after, output)) in enumerate(zip(blocks, [*blocks[1:], ("", "")])):
+        if kind in ("sh", "console") and (after == "text" or "PID" in text):
+            yield text, output if after == "text" else None
+        elif not kind and text.startswith("--"):
+            checked = next((it for kind, it in blocks[at:] if kind == "sh"), "").split()
+            tally.see(f"values of the next command, {file}", [it for it in text.split() if ":" in it and it not in checked])
 
 
-def differs(command, wanted, statuses, environment):
-    """How a command line ends where that is not what is wanted, and else nothing."""
-    status, output = run(["bash", "-c", command], 60, env=environment)
-    return f"status {status}" if status not in statuses else output != wanted and f"{output}is not\n{wanted}"
+def differs(command, wanted, environment):
+    status, output = run(["bash", "-c", command], 600, env=environment, cwd=TOP)
+    is_right = status == (0 if wanted.endswith("nothing found\n") else 5) or not command.startswith("virtiofs_mapaudit ")
+    return f"status {status}" if not is_right else output != wanted and f"{output}is not\n{wanted}"
 
 
 def daemon_differs(command, environment, room):
-    """What is wrong with the command for a daemon that runs. It is run of a shell with options of a daemon."""
+    """What is wrong with the command for a daemon that runs."""
     wanted = run(["virtiofs_mapaudit", "--", *OF_DAEMON], env=environment)[1]
     Path(room, "virtiofsd").write_text("read -r line\n")
     with subprocess.Popen(["sh", "virtiofsd", *OF_DAEMON], cwd=room, stdin=subprocess.PIPE) as daemon:
-        found = differs(command.replace("PID", str(daemon.pid)), wanted, range(256), environment)
+        found = differs(command.replace("PID", str(daemon.pid)), wanted, environment)
     return found or "user 100000 does not come back" not in wanted and wanted
 
 
 def lacks(name, page, environment):
-    """Whether the forms, or the options, of the page are not those that the program tells."""
+    """The forms, or the options, of the page where they are not those that the program tells."""
     forms = forms_of_page(page)
     usage = run([name] if forms else [name, "--help"], env=environment)[1]
     told = re.findall(rf"{name} (\w+)", usage) if forms else options_in(usage)
@@ -102,40 +101,44 @@ def see_man(tally, name):
     tally.see(f"man shows {name}", ended.stderr or ended.returncode or name not in ended.stdout and "nothing is shown")
 
 
-def see_build(tally, program, page, commands):
-    """Runs commands with this build of the program first on the path."""
-    if not os.access(program, os.X_OK):
-        tally.see(program, "there is no such program")
-        return
+def see_names(tally, page):
+    """Sees that the links of a page lead somewhere, and that the files that it names are there."""
+    text, anchor = page.read_text("utf-8"), lambda it: re.sub(r"[^\w -]", "", it.lower()).replace(" ", "-")
+    for target in re.findall(r"\]\(([^)\s]+)\)", text if page.suffix == ".md" else ""):
+        file, _, part = target.partition("#")
+        to = page.parent / file if file else page
+        heads = map(anchor, re.findall(r"^#+ (.*)", to.read_text("utf-8"), re.M)) if part and to.is_file() else [part]
+        tally.see(f"{page.name} links {target}", ":" not in target and (not to.exists() or part not in heads) and "nowhere")
+    for it in set(re.findall(NAMED, plain(text))):
+        tally.see(f"{page.name} names {it}", not LEFT_OPEN.search(it) and not any(TOP.glob(it)) and "it is not there")
+
+
+def see_build(tally, programs, shown, asked):
+    """Runs commands with these programs, which one compiler built, first on the path."""
     with tempfile.TemporaryDirectory(prefix="path-") as room:
-        os.symlink(program.absolute(), f"{room}/{program.stem}")
         environment = {**os.environ, "PATH": f"{room}:{os.environ['PATH']}"}
-        tally.see(f"forms and options, by {program.name}", lacks(program.stem, page, environment))
-        for command, wanted, statuses in commands:
+        for it in programs:
+            os.symlink(it.absolute(), f"{room}/{it.stem}")
+            tally.see(f"forms and options, by {it.name}", lacks(it.stem, shown[it.stem], environment))
+        for command, wanted in asked:
             if wanted is None:
-                found = daemon_differs(command, environment, room)
-            else:
-                found = differs(command, wanted, statuses, environment)
-            tally.see(f"{command}, by {program.name}", found)
+                tally.see(f"{command}, by {programs[0].name}", daemon_differs(command, environment, room))
+            elif command.startswith("virtiofs_") or not programs[0].suffix:
+                tally.see(f"{command}, by {programs[0].name}", differs(command, wanted, environment))
 
 
-def main(programs):
-    tally = Tally(quietly=True)
-    for name in sorted({Path(it).stem for it in programs}):
-        page = (TOP / f"docs/{name}.1").read_text("utf-8")
-        commands = list(examples(page))
-        tally.see(f"examples of {name}", len(commands) < 2 and "the page has hardly any")
-        of_readme = [it for it in recipes("README.md") if it[0].startswith(f"{name} ")]
-        tally.see(f"README.md on {name}", not of_readme and "it has no command")
-        commands += of_readme
-        if name == "virtiofs_mapaudit":
-            of_recipes = list(recipes("docs/RECIPES.md"))
-            kinds = {wanted is None for _, wanted, _ in of_recipes}
-            tally.see("recipes", kinds != {True, False} and "there is none, or none for a daemon")
-            commands += of_recipes
+def main(words):
+    tally, programs = Tally(quietly=True), [Path(it) for it in words if os.access(it, os.X_OK)]
+    tally.see("programs", len(programs) != len(words) and "not all are there")
+    shown = {it.stem: (TOP / f"docs/{it.stem}.1").read_text("utf-8") for it in programs}
+    of_pages = {it: list(examples(page)) for it, page in shown.items()} | {it: list(commands(tally, it)) for it in GUIDES}
+    tally.see("commands", [it for it, found in of_pages.items() if not found and it != "docs/RATTLE.md"])
+    for page in (*TOP.glob("*.md"), *TOP.glob("docs/**/*.*")):
+        see_names(tally, page)
+    for name in sorted({it.stem for it in programs}):
         see_man(tally, name)
-        for program in (it for it in map(Path, programs) if it.stem == name):
-            see_build(tally, program, page, commands)
+    for suffix in sorted({it.suffix for it in programs}):
+        see_build(tally, [it for it in programs if it.suffix == suffix], shown, sum(of_pages.values(), []))
     return tally.end()
 
 

@@ -14,6 +14,7 @@ import sys
 import tempfile
 import threading
 import time
+from collections import namedtuple
 
 WAITED_AT, HELD = os.pipe()
 ENDING = threading.Event()
@@ -21,11 +22,8 @@ ENDING = threading.Event()
 GUARDED = '{ nice >/proc/self/autogroup; } 2>/dev/null; exec 3<&0 </dev/null; (read -r _ <&3; kill -9 0) >/dev/null 2>&1 & exec "$@" 3<&-'
 
 
-class Ended:
-    """How a command ended: its status (negative for a signal), what it said, and its processor time in seconds."""
-
-    def __init__(self, status, said, processor):
-        self.status, self.said, self.processor = status, said, processor
+# How a command ended: its status (negative for a signal), what it said, and its processor time in seconds.
+Ended = namedtuple("Ended", "status said processor")
 
 
 def run(words, folder=None, hear=None, **environment):
@@ -75,12 +73,6 @@ def made_room(name):
 
 def cores():
     return len(os.sched_getaffinity(0))
-
-
-def free_memory():
-    """The memory that is free, in bytes."""
-    with open("/proc/meminfo", encoding="utf-8") as lines:
-        return next(1024 * int(line.split()[1]) for line in lines if line.startswith("MemAvailable:"))
 
 
 def kit():

@@ -2,7 +2,7 @@
 //! virtiofsd's modules `idmap`, `soft_idmap` and `xattrmap`, over the proved library.
 //!
 //! This one file needs rustc 1.82 or later, any edition, and only std. Make it a module of a program, and link the
-//! archive `libvirtiofs_map_c.a` with the kit's `liblibc_c.a`; docs/EMBEDDING.md has the commands. The names, types,
+//! archive `libvirtiofs_map_c.a` with the kit's `liblibc_c.a`; docs/RUST.md has the commands. The names, types,
 //! kinds of error and texts are virtiofsd's; docs/DIFFERENCES.md has what differs.
 //!
 //! A map is a box of plain numbers, which are written once and then only read. So maps are `Send` and `Sync` as any box
@@ -15,6 +15,8 @@
 /// What `include/virtiofs_map.h` declares, as far as this file calls it.
 #[rustfmt::skip]
 pub(super) mod ffi {
+    use std::fmt::{self, Display, Formatter, Write};
+
     /// One specification.
     #[repr(C)]
     #[derive(Clone, Copy, Default)]
@@ -34,7 +36,7 @@ pub(super) mod ffi {
     }
 
     pub const OK: u32 = 0; pub const AS_IT_IS: u32 = 1; pub const DENIED: u32 = 3; pub const UNSUPPORTED: u32 = 4;
-    pub const NO_ROOM: u32 = 7; pub const GUEST_TO_HOST: u32 = 0;
+    pub const NO_ROOM: u32 = 7; pub const NO_ID: u32 = 13; pub const GUEST_TO_HOST: u32 = 0;
     pub const GUEST: u32 = 0; pub const HOST: u32 = 1; pub const SQUASH_GUEST: u32 = 2;
     pub const SQUASH_HOST: u32 = 3; pub const MAP: u32 = 4; pub const FORBID_GUEST: u32 = 5;
 
@@ -61,14 +63,14 @@ pub(super) mod ffi {
             out: *mut u8, room: usize, len: &mut usize) -> u32;
         pub fn virtiofs_map_names_server(bytes: *const u8, map_len: usize, list: *const u8, list_len: usize,
             out: *mut u8, room: usize, len: &mut usize) -> u32;
-        pub fn virtiofs_map_names_terminated(bytes: *const u8, map_len: usize, yes: &mut bool) -> u32;
+        pub fn virtiofs_map_names_is_terminated(bytes: *const u8, map_len: usize, yes: &mut bool) -> u32;
         pub fn virtiofs_map_names_audit(bytes: *const u8, map_len: usize, yes: &mut bool,
             out: *mut u8, room: usize, len: &mut usize) -> u32;
         pub fn virtiofs_map_names_audit_listed(bytes: *const u8, map_len: usize, yes: &mut bool,
             out: *mut u8, room: usize, len: &mut usize) -> u32;
-        pub fn virtiofs_map_names_apart(bytes: *const u8, map_len: usize, other_bytes: *const u8, other_len: usize,
+        pub fn virtiofs_map_names_keeps_apart(bytes: *const u8, map_len: usize, other_bytes: *const u8, other_len: usize,
             yes: &mut bool, out: *mut u8, room: usize, len: &mut usize) -> u32;
-        pub fn virtiofs_map_names_share_none(bytes: *const u8, map_len: usize, other_bytes: *const u8, other_len: usize,
+        pub fn virtiofs_map_names_shares_no_name(bytes: *const u8, map_len: usize, other_bytes: *const u8, other_len: usize,
             yes: &mut bool, out: *mut u8, room: usize, len: &mut usize) -> u32;
     }
 
@@ -86,6 +88,20 @@ pub(super) mod ffi {
     /// The text at fault, as far as the call quoted it.
     pub fn quoted(fault: &Fault, bytes: &[u8]) -> String {
         String::from_utf8_lossy(&bytes[..fault.quoted]).into_owned()
+    }
+
+    /// A text that may be hostile, in printable ASCII, as `virtiofs_fault_text` quotes it: a backslash is `\\`, and any
+    /// byte that is not printable is `\x` and two digits. So it ends no line of a log, and moves no cursor.
+    pub struct Escaped<'a>(pub &'a str);
+
+    impl Display for Escaped<'_> {
+        fn fmt(&self, f: &mut Formatter<'_>) -> fmt::Result {
+            self.0.bytes().try_for_each(|byte| match byte {
+                b'\\' => f.write_str("\\\\"),
+                b' '..=b'~' => f.write_char(char::from(byte)),
+                _ => write!(f, "\\x{byte:02x}"),
+            })
+        }
     }
 }
 
@@ -184,7 +200,7 @@ pub mod idmap {
 pub mod soft_idmap {
     /// Specifications, as `--translate-uid` and `--translate-gid` give them.
     pub mod cmdline {
-        use super::super::ffi;
+        use super::super::ffi::{self, Escaped};
         use std::error::Error;
         use std::fmt::{self, Display, Formatter};
         use std::num::ParseIntError;
@@ -208,7 +224,7 @@ pub mod soft_idmap {
             ForbidGuest { from_guest: u32, count: u32 },
         }
 
-        /// Why a text is no specification.
+        /// Why a text is no specification. What is printed of the text has printable ASCII alone.
         #[derive(Debug)]
         #[rustfmt::skip]
         pub enum IdMapError {
@@ -227,11 +243,13 @@ pub mod soft_idmap {
         impl Display for IdMapError {
             fn fmt(&self, f: &mut Formatter<'_>) -> fmt::Result {
                 match self {
-                    IdMapError::InvalidPrefix(prefix) => write!(f, "Invalid ID map prefix {prefix}"),
+                    IdMapError::InvalidPrefix(prefix) => write!(f, "Invalid ID map prefix {}", Escaped(prefix)),
                     IdMapError::InvalidLength { expected, seen } => {
                         write!(f, "Invalid ID map length (expected {expected} elements, got {seen} elements)")
                     }
-                    IdMapError::InvalidValue { value, error } => write!(f, "Invalid value {value} in ID map: {error}"),
+                    IdMapError::InvalidValue { value, error } => {
+                        write!(f, "Invalid value {} in ID map: {error}", Escaped(value))
+                    }
                     IdMapError::OutOfMemory => f.write_str("Out of memory"),
                 }
             }
@@ -393,7 +411,7 @@ pub mod soft_idmap {
     pub use self::id_types::{GuestGid, GuestId, GuestUid, HostGid, HostId, HostUid, Id};
     use std::convert::TryFrom;
     use std::error::Error;
-    use std::fmt::{self, Display, Formatter};
+    use std::fmt::{self, Debug, Display, Formatter};
     use std::io;
     use std::marker::PhantomData;
 
@@ -430,6 +448,43 @@ pub mod soft_idmap {
         }
     }
 
+    /// Why there is no id to act with. virtiofsd has no such type.
+    #[derive(Clone, Copy, Debug, Eq, PartialEq)]
+    #[rustfmt::skip]
+    pub enum CheckedMapError<Source: Id> {
+        /// A specification forbids the use of this id: EPERM.
+        Forbidden { id: Source },
+        /// This id is 4294967295, or becomes it: EINVAL.
+        NoId { id: Source },
+    }
+
+    impl<Source: Id> Display for CheckedMapError<Source> {
+        fn fmt(&self, f: &mut Formatter<'_>) -> fmt::Result {
+            match self {
+                CheckedMapError::Forbidden { id } => write!(f, "Use of ID {id} has been configured to fail"),
+                CheckedMapError::NoId { id } => write!(f, "ID {id} becomes 4294967295, which is no ID"),
+            }
+        }
+    }
+
+    impl<Source: Id> Error for CheckedMapError<Source> {}
+
+    impl<Source: Id> From<CheckedMapError<Source>> for io::Error {
+        fn from(error: CheckedMapError<Source>) -> Self {
+            let kind = match error {
+                CheckedMapError::Forbidden { .. } => io::ErrorKind::PermissionDenied,
+                CheckedMapError::NoId { .. } => io::ErrorKind::InvalidInput,
+            };
+            io::Error::new(kind, error)
+        }
+    }
+
+    impl<Guest: GuestId<HostType = Host>, Host: HostId<GuestType = Guest>> Debug for IdMap<Guest, Host> {
+        fn fmt(&self, f: &mut Formatter<'_>) -> fmt::Result {
+            f.debug_struct("IdMap").finish_non_exhaustive()
+        }
+    }
+
     impl<Guest: GuestId<HostType = Host>, Host: HostId<GuestType = Guest>> IdMap<Guest, Host> {
         /// The map under which every id keeps its number.
         pub fn empty() -> Self {
@@ -450,28 +505,55 @@ pub mod soft_idmap {
             &self.words
         }
 
-        /// The host's id for a guest's.
+        /// The host's id for a guest's, as virtiofsd answers it. The answer may be 4294967295.
+        ///
+        /// **To `chown` and `setresuid`, 4294967295 is no id: they read it as "leave unchanged". A file that is made so
+        /// for the guest belongs to the daemon's own user, which is root.** So a daemon that acts by the answer asks
+        /// [`checked_map_guest`](IdMap::checked_map_guest), or tests for 4294967295 itself.
         pub fn map_guest(&self, guest_id: Guest) -> Result<Host, MapError<Guest>> {
             match self.asked(ffi::virtiofs_map_ids_guest, guest_id.into_inner().into()) {
-                Some(host) => Ok(Host::from(host.into())),
-                None => Err(MapError::ExplicitFailMapping { id: guest_id }),
+                (ffi::OK | ffi::NO_ID, host) => Ok(Host::from(host.into())),
+                _ => Err(MapError::ExplicitFailMapping { id: guest_id }),
             }
         }
 
-        /// The guest's id for a host's.
+        /// The guest's id for a host's, as virtiofsd answers it. The answer may be 4294967295.
+        ///
+        /// **To `chown` and `setresuid`, 4294967295 is no id: they read it as "leave unchanged".** A guest that is told
+        /// of such an owner reads it so too; [`checked_map_host`](IdMap::checked_map_host) never answers it.
         pub fn map_host(&self, host_id: Host) -> Result<Guest, MapError<Host>> {
             match self.asked(ffi::virtiofs_map_ids_host, host_id.into_inner().into()) {
-                Some(guest) => Ok(Guest::from(guest.into())),
-                None => Err(MapError::ExplicitFailMapping { id: host_id }),
+                (ffi::OK | ffi::NO_ID, guest) => Ok(Guest::from(guest.into())),
+                _ => Err(MapError::ExplicitFailMapping { id: host_id }),
             }
         }
 
+        /// The host's id for a guest's, with which a daemon may act: never 4294967295.
+        pub fn checked_map_guest(&self, guest_id: Guest) -> Result<Host, CheckedMapError<Guest>> {
+            match self.asked(ffi::virtiofs_map_ids_guest, guest_id.into_inner().into()) {
+                (ffi::OK, host) => Ok(Host::from(host.into())),
+                (ffi::NO_ID, _) => Err(CheckedMapError::NoId { id: guest_id }),
+                _ => Err(CheckedMapError::Forbidden { id: guest_id }),
+            }
+        }
+
+        /// The guest's id for a host's: never 4294967295. No id of the host is forbidden.
+        pub fn checked_map_host(&self, host_id: Host) -> Result<Guest, CheckedMapError<Host>> {
+            match self.asked(ffi::virtiofs_map_ids_host, host_id.into_inner().into()) {
+                (ffi::OK, guest) => Ok(Guest::from(guest.into())),
+                (ffi::NO_ID, _) => Err(CheckedMapError::NoId { id: host_id }),
+                _ => Err(CheckedMapError::Forbidden { id: host_id }),
+            }
+        }
+
+        /// The code, and what the id becomes.
         #[inline(always)]
-        fn asked(&self, call: Lookup, number: u32) -> Option<u32> {
-            let mut to = 0;
+        fn asked(&self, call: Lookup, number: u32) -> (u32, u32) {
+            // (the call leaves this where the code is NO_ID)
+            let mut to = u32::MAX;
             // Sound: the words are lent for the call, a lookup of the library, which writes to `to` alone.
             let code = unsafe { call(self.words.as_ptr(), self.words.len(), number, &mut to) };
-            if code == ffi::OK { Some(to) } else { None }
+            (code, to)
         }
     }
 
@@ -488,8 +570,9 @@ pub mod soft_idmap {
         }
     }
 
+    /// virtiofsd's kind and text, behind the index of the specification in the list.
     pub(in super::super) fn error_of(fault: &ffi::Fault) -> io::Error {
-        let spec = cmdline::IdMap::of(fault.spec);
+        let (spec, place) = (cmdline::IdMap::of(fault.spec), fault.place);
         let (kind, text) = match fault.kind {
             ffi::FAULT_OVERFLOW => (io::ErrorKind::InvalidInput, format!("Parameter {spec}: Range overflow")),
             ffi::FAULT_INTERSECTS => {
@@ -501,7 +584,7 @@ pub mod soft_idmap {
             }
             _ => return io::ErrorKind::OutOfMemory.into(),
         };
-        io::Error::new(kind, text)
+        io::Error::new(kind, format!("specification {place}: {text}"))
     }
 
     /// What a specification sets up in a direction, as its faults print it.
@@ -519,12 +602,13 @@ pub mod soft_idmap {
 
 /// Maps of the names of extended attributes, as `--xattrmap` gives them.
 pub mod xattrmap {
-    use super::ffi;
+    use super::ffi::{self, Escaped};
     use std::borrow::Cow;
     use std::convert::TryFrom;
     use std::error;
     use std::ffi::{CStr, CString};
     use std::fmt::{self, Debug, Display, Formatter};
+    use std::io;
     use std::mem::MaybeUninit;
     use std::slice;
 
@@ -561,6 +645,28 @@ pub mod xattrmap {
         Prepend,
     }
 
+    impl ErrorKind {
+        /// What is wrong, for whoever wrote the text. What is quoted of it has printable ASCII alone.
+        pub fn sentence(&self) -> String {
+            let unexpected = |what: &str, got: &str, expected: &str| {
+                format!("invalid {what} '{}', expected one of: {expected}", Escaped(got))
+            };
+            match self {
+                ErrorKind::InvalidScope { got, expected } => return unexpected("scope", got, expected),
+                ErrorKind::InvalidType { got, expected } => return unexpected("type", got, expected),
+                ErrorKind::InvalidDelimiter => "the delimiter is not the rule's first",
+                ErrorKind::IncompleteRule => "the rule is incomplete",
+                ErrorKind::MapRuleViolation => "a map rule has to stand last",
+                ErrorKind::NoRulesProvided => "there are no rules",
+                ErrorKind::UnterminatedMapping => "no rule decides this name",
+                ErrorKind::NulInPattern { pattern: PatternField::Key } => "Key holds NUL",
+                ErrorKind::NulInPattern { pattern: PatternField::Prepend } => "Prepend holds NUL",
+                ErrorKind::OutOfMemory => "Out of memory",
+            }
+            .into()
+        }
+    }
+
     impl error::Error for ErrorKind {}
 
     impl Display for ErrorKind {
@@ -578,6 +684,17 @@ pub mod xattrmap {
         pub rule: Option<usize>,
     }
 
+    impl Error {
+        /// What is wrong, and in which rule, as `virtiofs_fault_text` writes it: `rule 2: the rule is incomplete`.
+        /// (What `Display` prints is virtiofsd's text, which has the names of this file.)
+        pub fn sentence(&self) -> String {
+            match self.rule {
+                Some(rule) => format!("rule {rule}: {}", self.cause.sentence()),
+                None => self.cause.sentence(),
+            }
+        }
+    }
+
     impl error::Error for Error {
         fn source(&self) -> Option<&(dyn error::Error + 'static)> {
             Some(&self.cause)
@@ -593,6 +710,18 @@ pub mod xattrmap {
     impl From<ErrorKind> for Error {
         fn from(cause: ErrorKind) -> Self {
             Error { cause, rule: None }
+        }
+    }
+
+    /// Says the sentence. The kind is `PermissionDenied` (EPERM) where no rule decides a name, `InvalidInput` (EINVAL)
+    /// where a text of rules is refused, and `OutOfMemory` (ENOMEM). virtiofsd has no such conversion.
+    impl From<Error> for io::Error {
+        fn from(error: Error) -> Self {
+            match error.cause {
+                ErrorKind::OutOfMemory => io::ErrorKind::OutOfMemory.into(),
+                ErrorKind::UnterminatedMapping => io::Error::new(io::ErrorKind::PermissionDenied, error.sentence()),
+                _ => io::Error::new(io::ErrorKind::InvalidInput, error.sentence()),
+            }
         }
     }
 
@@ -730,7 +859,7 @@ pub mod xattrmap {
         pub fn is_terminated(&self) -> bool {
             let (bytes, map_len, mut yes) = (self.bytes.as_ptr(), self.bytes.len(), false);
             // Sound: the map is lent for the call, which writes to `yes` alone.
-            unsafe { ffi::virtiofs_map_names_terminated(bytes, map_len, &mut yes) == ffi::OK && yes }
+            unsafe { ffi::virtiofs_map_names_is_terminated(bytes, map_len, &mut yes) == ffi::OK && yes }
         }
 
         /// Whether each name that passes, except the empty one, is listed back to the guest as itself.
@@ -747,13 +876,13 @@ pub mod xattrmap {
         /// Whether the other map hides every non-empty name of the host that the guest of this map can reach. Then
         /// names that the guest of this map reaches make no difference to the lists of the other.
         pub fn keeps_apart(&self, other: &XattrMap) -> Result<Audit, Error> {
-            self.compared(other, ffi::virtiofs_map_names_apart)
+            self.compared(other, ffi::virtiofs_map_names_keeps_apart)
         }
 
         /// Whether no non-empty name of the host is reached by the guest of this map and by that of the other. The
         /// name of a `No` is one of the guest of this map, and the least whose host name the other reaches too.
         pub fn shares_no_name(&self, other: &XattrMap) -> Result<Audit, Error> {
-            self.compared(other, ffi::virtiofs_map_names_share_none)
+            self.compared(other, ffi::virtiofs_map_names_shares_no_name)
         }
 
         fn compared(&self, other: &XattrMap, call: Comparison) -> Result<Audit, Error> {
@@ -774,7 +903,7 @@ pub mod xattrmap {
     type Comparison =
         unsafe extern "C" fn(*const u8, usize, *const u8, usize, &mut bool, *mut u8, usize, &mut usize) -> u32;
 
-    /// The answer of a decision, which is asked again where its name has more than `ROOM` bytes.
+    /// The answer of an audit, which is asked again where its name has more than `ROOM` bytes.
     fn told(ask: impl Fn(&mut bool, *mut u8, usize, &mut usize) -> u32) -> Result<Audit, Error> {
         let (mut yes, mut len, mut out) = (false, 0, vec![0; ROOM]);
         let mut code = ask(&mut yes, out.as_mut_ptr(), out.len(), &mut len);

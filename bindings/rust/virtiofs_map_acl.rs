@@ -6,7 +6,7 @@
 //! set no such values can leave it out.
 //!
 //! Each call changes ids in place, and nothing else: a value keeps its length. The whole value is tested first, and
-//! where the answer is an error, no byte has changed. No call takes memory.
+//! where the answer is an error, no byte has changed. No call takes memory but the two whose names end in `_alloc`.
 
 // (a program may need only a part of it)
 #![allow(dead_code)]
@@ -187,7 +187,7 @@ type Groups = IdMap<GuestGid, HostGid>;
 
 /// Makes an access control list of the guest one of the host: each id becomes what its map makes of it, in place.
 ///
-/// `room` needs one element for each entry of the value: a value of n bytes has (n - 4) / 8 entries.
+/// `room` needs one element for each entry of the value: `value.len() / 8` are enough.
 pub fn acl_to_host(users: &Users, groups: &Groups, value: &mut [u8], room: &mut [EntryRoom]) -> Result<(), AclError> {
     acl_across(virtiofs_map_acl_to_host, users, groups, value, room)
 }
@@ -195,6 +195,22 @@ pub fn acl_to_host(users: &Users, groups: &Groups, value: &mut [u8], room: &mut 
 /// Makes an access control list of the host one of the guest, as [`acl_to_host`] does the other way.
 pub fn acl_to_guest(users: &Users, groups: &Groups, value: &mut [u8], room: &mut [EntryRoom]) -> Result<(), AclError> {
     acl_across(virtiofs_map_acl_to_guest, users, groups, value, room)
+}
+
+/// [`acl_to_host`] with room of its own: one allocation, of twice the length of the value.
+pub fn acl_to_host_alloc(users: &Users, groups: &Groups, value: &mut [u8]) -> Result<(), AclError> {
+    let mut room = room_for(value);
+    acl_to_host(users, groups, value, &mut room)
+}
+
+/// [`acl_to_guest`] with room of its own: one allocation, of twice the length of the value.
+pub fn acl_to_guest_alloc(users: &Users, groups: &Groups, value: &mut [u8]) -> Result<(), AclError> {
+    let mut room = room_for(value);
+    acl_to_guest(users, groups, value, &mut room)
+}
+
+fn room_for(value: &[u8]) -> Vec<EntryRoom> {
+    vec![EntryRoom::default(); value.len() / 8]
 }
 
 /// Makes a capability of the guest one of the host, in place: the id of root becomes what the map makes of it. A value

@@ -17,11 +17,11 @@ use std::io;
 
 #[rustfmt::skip]
 unsafe extern "C" {
-    fn virtiofs_map_ids_come_back(specs: *const Spec, count: usize, yes: &mut bool, found: &mut IdsFound,
+    fn virtiofs_map_ids_comes_back(specs: *const Spec, count: usize, yes: &mut bool, found: &mut IdsFound,
         fault: &mut Fault) -> u32;
-    fn virtiofs_map_ids_alone(specs: *const Spec, count: usize, yes: &mut bool, found: &mut IdsFound,
+    fn virtiofs_map_ids_is_alone(specs: *const Spec, count: usize, yes: &mut bool, found: &mut IdsFound,
         fault: &mut Fault) -> u32;
-    fn virtiofs_map_ids_reach(specs: *const Spec, count: usize, first: u32, last: u32, yes: &mut bool,
+    fn virtiofs_map_ids_reaches(specs: *const Spec, count: usize, first: u32, last: u32, yes: &mut bool,
         found: &mut IdsFound, fault: &mut Fault) -> u32;
     fn virtiofs_map_ids_apart(specs: *const Spec, count: usize, others: *const Spec, other_count: usize,
         yes: &mut bool, found: &mut IdsFound, fault: &mut Fault) -> u32;
@@ -81,7 +81,7 @@ pub fn comes_back(specs: &[cmdline::IdMap]) -> io::Result<IdAudit<Astray>> {
     let specs = plain(specs);
     let answer = told(|yes, found, fault| {
         // Sound: the list is lent for the call, which writes to `yes`, `found` and `fault` alone.
-        unsafe { virtiofs_map_ids_come_back(specs.as_ptr(), specs.len(), yes, found, fault) }
+        unsafe { virtiofs_map_ids_comes_back(specs.as_ptr(), specs.len(), yes, found, fault) }
     })?;
     Ok(audit(answer, |it| Astray { guest: it.guest, host: it.host, back: it.other }))
 }
@@ -91,7 +91,7 @@ pub fn is_alone(specs: &[cmdline::IdMap]) -> io::Result<IdAudit<Shared>> {
     let specs = plain(specs);
     let answer = told(|yes, found, fault| {
         // Sound: the list is lent for the call, which writes to `yes`, `found` and `fault` alone.
-        unsafe { virtiofs_map_ids_alone(specs.as_ptr(), specs.len(), yes, found, fault) }
+        unsafe { virtiofs_map_ids_is_alone(specs.as_ptr(), specs.len(), yes, found, fault) }
     })?;
     Ok(audit(answer, shared))
 }
@@ -104,7 +104,7 @@ pub fn reaches(specs: &[cmdline::IdMap], first: u32, last: u32) -> io::Result<Op
     let specs = plain(specs);
     let (yes, it) = told(|yes, found, fault| {
         // Sound: the list is lent for the call, which writes to `yes`, `found` and `fault` alone.
-        unsafe { virtiofs_map_ids_reach(specs.as_ptr(), specs.len(), first, last, yes, found, fault) }
+        unsafe { virtiofs_map_ids_reaches(specs.as_ptr(), specs.len(), first, last, yes, found, fault) }
     })?;
     Ok(if yes { Some(Reaching { guest: it.guest, host: it.host }) } else { None })
 }
@@ -112,7 +112,7 @@ pub fn reaches(specs: &[cmdline::IdMap], first: u32, last: u32) -> io::Result<Op
 /// Whether two guests are apart on the host: no id of the host is reached by both. `No` has the least id of the first
 /// guest whose id of the host the second reaches too, and the least id of the second that becomes it.
 ///
-/// The error is that of the first list, or else of the second.
+/// The error is that of the first list, or else of the second, whose indexes in it continue those of the first.
 pub fn ids_apart(specs: &[cmdline::IdMap], others: &[cmdline::IdMap]) -> io::Result<IdAudit<Shared>> {
     let (specs, others) = (plain(specs), plain(others));
     let (list, count, other_list, other_count) = (specs.as_ptr(), specs.len(), others.as_ptr(), others.len());

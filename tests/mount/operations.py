@@ -1,125 +1,135 @@
-"""Operations on a mount, made at random, each compared with the program's answers and with what stands on the host.
-
-A worker has files of its own, so that it reads them on the host before and after each operation, past the mount.
-"""
+"""Operations at random of eight threads on a mount, compared with what virtiofs_mapcheck says, and the host shows."""
 import os
 import random
 import stat
+import time
 from concurrent import futures
 from pathlib import Path
 
-from mounting import acting_as, attributes_of, outcome, owners_of
+from mounts import OWN_NAMES, SHIFTED, Configuration, Mounted, outcome
 
-WORKERS = 8
-FILES = ("file0", "file1", "file2", "folder0")
-NAMES = (*FILES, "link0")
-VALUES = (b"", b"a", b"\0\xff" * 20, b"x" * 100)
-FLAGS = (0, 0, 0, os.XATTR_CREATE, os.XATTR_REPLACE)
+GUESTS = (0, 1, 4, 5, 6, 9, 10, 11, 99, 100, 500, 999, 1000, 1001, 65534, 65535, 65536, 4294967290, 4294967294)
+HOSTS = (0, 5, 500, 1000, 1001, 1002, 1005, 65534, 100000, 100005, 165535, 165536, 200000, 4294967294)
+NAMES = """user.note user.a user.o.a user.virtiofs.a user.virtiofs.security.a user.k7.x user.k33.note security.a
+    security.label trusted.a trusted.virtiofs.security.a trusted.virtiofs.x system.other""".split()
+HOST_NAMES = """user.virtiofs. user.virtiofs.user.x user.virtiofs.security.x user.p.user.x user.p7.user.k7.x user.x
+    user.o.x trusted.virtiofs.security.x trusted.virtiofs. trusted.x security.x security.selinux""".split()
+MANY_IDS = [f"map:{10 * it}:{5000 + 10 * (it * 37 % 101)}:10" for it in range(101)]
+MANY_RULES = " ".join(f":prefix:all:user.k{it}.:user.p{it}.:" for it in range(60))
+CONFIGURATIONS = (
+    Configuration("as it is"),
+    Configuration("labels", SHIFTED, ["map:0:200000:65536"], ":map:security.:trusted.virtiofs.:", "posix_acl"),
+    Configuration("squashed", ["squash-guest:0:1001:4294967295", "host:1001:1000:1"],
+                  ["squash-guest:0:1002:4294967295", "host:1002:1000:1"], OWN_NAMES),
+    Configuration("forbidden", ["map:0:1000:10", "forbid-guest:10:4294967284"], ["forbid-guest:5:1", "map:6:1000:100"],
+                  "/prefix/all/security./user.virtiofs./ /bad/server//security./ /bad/client/user.virtiofs.// "
+                  "/unsupported/all/trusted./trusted./ /ok/all///"),
+    Configuration("undecided", ["guest,4,4294967294,2"], ["squash-guest\\9\\4294967295\\2"],
+                  ",prefix,all,user.,user.p., \\bad\\client\\trusted.\\\\ :ok:server::user.o.:"),
+    Configuration("many", MANY_IDS, MANY_IDS, f"{MANY_RULES} {OWN_NAMES}"),
+)
+WORKERS, FILES, VALUES = 8, ("file0", "file1", "file2", "folder0"), (b"", b"a", b"\0\xff" * 20, b"x" * 100)
 # How something of a kind is made, and the mode that it has then.
-MAKERS = {
-    stat.S_IFREG: (lambda path: Path(path).touch(0o664, exist_ok=False), 0o644),
-    stat.S_IFDIR: (lambda path: os.mkdir(path, 0o775), 0o755),
-    stat.S_IFLNK: (lambda path: os.symlink("/anywhere", path), 0o777),
-    stat.S_IFIFO: (lambda path: os.mkfifo(path, 0o664), 0o644),
-}
+MAKERS = {stat.S_IFREG: (lambda path: Path(path).touch(0o664, exist_ok=False), 0o644),
+          stat.S_IFDIR: (lambda path: os.mkdir(path, 0o775), 0o755),
+          stat.S_IFLNK: (lambda path: os.symlink("/anywhere", path), 0o777),
+          stat.S_IFIFO: (lambda path: os.mkfifo(path, 0o664), 0o644)}
+SETTING = [("set", it) for it in (0, 0, os.XATTR_CREATE, os.XATTR_REPLACE)]
+OPERATIONS, ROUNDS_OF_KILLS, STEPS_OF_A_ROUND, SECONDS_OF_WORK = 450, 60, 10, 30
 
 
 class Worker:
-    """It makes operations on a mount. Each returns what it was, what came of it, and what has to come of it."""
+    """Its operations tell what they are, what the guest does, where the host shows it, and what both have to be."""
 
     def __init__(self, configuration, mounted, number):
-        self.it, self.random, self.made = configuration, random.Random(f"{configuration.name} {number}"), 0
-        # (in its folder each user of the guest may make files)
+        self.it, self.random, self.done = configuration, random.Random(f"{configuration.name} {number}"), 0
+        self.mounted = mounted
         self.host, self.guest = mounted.folder(str(number))
-        for name in NAMES:
-            kind = {"file": stat.S_IFREG, "fold": stat.S_IFDIR, "link": stat.S_IFLNK}[name[:4]]
-            MAKERS[kind][0](f"{self.host}/{name}")
+        for name, kind in zip((*FILES, "link0"), (*(stat.S_IFREG,) * 3, stat.S_IFDIR, stat.S_IFLNK)):
+            MAKERS[kind][0](self.host / name)
 
     def operations(self, count):
-        doing = (self.give, self.give, self.look, self.make, self.set, self.set, self.get, self.list, self.remove)
-        for _ in range(count):
-            operation = self.random.choice(doing)
+        """If the daemon is killed in mid-operation, the host shows the old or the new, and it is the last one."""
+        for self.done in range(count):
+            operation = self.random.choice((self.give, self.make, self.attribute, self.attribute))
+            answered, is_last = None, False
             try:
-                what, found, wanted = operation()
+                what, call, looked_at, answer, after = operation()
+                before, answered, found = looked_at(), outcome(call), looked_at()
+                is_last = self.mounted.is_killed and isinstance(answered, str)
+                wanted = (answered, after if found == after else before) if is_last else (answer, after)
             except Exception as error:  # (each fault is to be counted, whatever it is)
-                what, found, wanted = "ends early", repr(error), None
-            yield f"{self.it.name}: {operation.__name__} {what}", found, wanted
-
-    def paths(self, names):
-        name = self.random.choice(names)
-        return f"{self.host}/{name}", f"{self.guest}/{name}"
-
-    def owners(self, choices, *more):
-        return tuple(self.random.choice([*more, *it]) for it in choices)
+                what, found, wanted = f"{operation.__name__} ends early", error, None
+            yield what, (answered, found), wanted
+            if is_last:
+                return
 
     def give(self):
-        """chown of a file, a folder or a link."""
-        host, guest = self.paths(NAMES)
-        owners, before = self.owners(self.it.to_host, -1), owners_of(host)
-        wanted = self.it.owners_on_host(owners, before)
-        error, after = (wanted, before) if isinstance(wanted, str) else (None, wanted)
-        found = outcome(os.chown, guest, *owners, follow_symlinks=False), owners_of(host), owners_of(guest)
-        return f"to {owners} from {before}", found, (error, after, self.it.owners_for_guest(after))
-
-    def look(self):
-        """lstat after the host changed something."""
-        host, guest = self.paths(NAMES)
-        os.chown(host, *self.owners(self.it.to_guest), follow_symlinks=False)
-        return f"at {owners_of(host)}", owners_of(guest), self.it.owners_for_guest(owners_of(host))
+        """The guest gives a file, a folder or a link away, or looks at one that the host has given away."""
+        name, owners = self.random.choice((*FILES, "link0")), self.random.choices((-1, *GUESTS), k=2)
+        host, guest = self.host / name, self.guest / name
+        if self.random.random() < 0.3:
+            owners = os.chown(host, *self.random.choices(HOSTS, k=2), follow_symlinks=False) or (-1, -1)
+        before, call = host.owners(), lambda: os.chown(guest, *owners, follow_symlinks=False) or guest.owners()
+        wanted, what = self.it.owners_on_host(owners, before), f"give to {owners} from {before}"
+        if isinstance(wanted, str):
+            return what, call, host.owners, wanted, before
+        return what, call, host.owners, self.it.across("host", wanted), wanted
 
     def make(self):
-        """Something new, made by a user of the guest, and then removed."""
-        self.made += 1
-        host, guest = (f"{it}/made{self.made}" for it in (self.host, self.guest))
-        kind = self.random.choice(list(MAKERS))
-        owners = self.owners(self.it.to_host)
-        wanted, (maker, mode), what = self.it.owners_on_host(owners), MAKERS[kind], f"{kind:o} by {owners}"
-        with acting_as(*owners):
-            error = outcome(maker, guest)
-        if error or isinstance(wanted, str):
-            return what, (error, os.path.lexists(host)), (wanted, False)
-        found = owners_of(host), os.lstat(host).st_mode, owners_of(guest)
-        (os.rmdir if kind == stat.S_IFDIR else os.unlink)(guest)
-        return what, (*found, os.path.lexists(host)), (wanted, kind | mode, self.it.owners_for_guest(wanted), False)
+        """Something new is made by a user of the guest, or what was made is removed."""
+        host, guest = self.host / "made", self.guest / "made"
+        looked_at = lambda: (host.owners(), host.mode()) if os.path.lexists(host) else None
+        if looked_at():
+            return "remove", guest.rmdir if os.path.isdir(host) else guest.unlink, looked_at, None, None
+        kind, owners = self.random.choice(list(MAKERS)), self.random.choices(GUESTS, k=2)
+        (maker, mode), what, wanted = MAKERS[kind], f"make {kind:o} by {owners}", self.it.owners_on_host(owners)
+        call = lambda: outcome(maker, guest, by=owners) or guest.owners()
+        if isinstance(wanted, str):
+            return what, call, looked_at, wanted, None
+        return what, call, looked_at, self.it.across("host", wanted), (wanted, oct(kind | mode))
 
-    def set(self):
-        host, guest = self.paths(FILES)
-        name, value, flags = (self.random.choice(it) for it in (list(self.it.passed), VALUES, FLAGS))
-        before, (to, error) = attributes_of(host), self.it.host_name(name)
-        if not error and flags == os.XATTR_CREATE and to in before:
-            error = "EEXIST"
-        if not error and flags == os.XATTR_REPLACE and to not in before:
-            error = "ENODATA"
-        found = outcome(os.setxattr, guest, name, value, flags), attributes_of(host)
-        return f"{name} where there is {before}", found, (error, before if error else {**before, to: value})
-
-    def get(self):
-        host, guest = self.paths(FILES)
-        name = self.random.choice(list(self.it.passed))
+    def attribute(self):
+        """An attribute is set, got or removed, or all are listed, after the host may have set one or removed all."""
+        name, chance = self.random.choice(FILES), self.random.random()
+        host, guest = self.host / name, self.guest / name
+        for it in os.listxattr(host) if chance < 0.05 else []:
+            os.removexattr(host, it)
+        if chance > 0.95:
+            host.setxattr(self.random.choice(HOST_NAMES), b"of the host")
+        name, value, before = self.random.choice(NAMES), self.random.choice(VALUES), host.attributes()
+        what, flags = self.random.choice((*SETTING, ("get", 0), ("remove", 0), ("list", 0)))
+        if what == "list":
+            return what, lambda: os.listxattr(guest), host.attributes, self.it.list_for_guest(before), before
         to, error = self.it.host_name(name)
-        return name, outcome(os.getxattr, guest, name), error or attributes_of(host).get(to, "ENODATA")
-
-    def list(self):
-        host, guest = self.paths(FILES)
-        if self.random.random() < 0.3:
-            outcome(os.setxattr, host, self.random.choice(list(self.it.listed)), b"of the host")
-        names = os.listxattr(host)
-        return str(names), outcome(os.listxattr, guest), self.it.list_for_guest(names)
-
-    def remove(self):
-        host, guest = self.paths(FILES)
-        if self.random.random() < 0.2:
-            for it in os.listxattr(host):
-                os.removexattr(host, it)
-        name = self.random.choice(list(self.it.passed))
-        before, (to, error) = attributes_of(host), self.it.host_name(name)
-        error = error or (None if to in before else "ENODATA")
-        left = {it: value for it, value in before.items() if it != to}
-        return name, (outcome(os.removexattr, guest, name), attributes_of(host)), (error, left)
+        needs = what != "set" or flags == os.XATTR_REPLACE
+        if not error and (needs and to not in before or flags == os.XATTR_CREATE and to in before):
+            error = "ENODATA" if needs else "EEXIST"
+        call, answer, after = {
+            "set": (lambda: os.setxattr(guest, name, value, flags), None, {**before, to: value}),
+            "get": (lambda: os.getxattr(guest, name), before.get(to), before),
+            "remove": (lambda: os.removexattr(guest, name), None, {it: before[it] for it in before if it != to}),
+        }[what]
+        return f"{what} {name} of {before}", call, host.attributes, error or answer, before if error else after
 
 
-def operated(configuration, mounted, count):
-    """The operations of eight threads at once, each of which makes so many."""
-    workers = [Worker(configuration, mounted, it) for it in range(WORKERS)]
+def operated(mounted, asked=None):
+    """The operations of all threads, under the mount's configuration, or another one that is asked about."""
+    workers = [Worker(asked or mounted.configuration, mounted, it) for it in range(WORKERS)]
     with futures.ThreadPoolExecutor(WORKERS) as pool:
-        return [it for made in pool.map(lambda worker: [*worker.operations(count)], workers) for it in made]
+        return [it for made in pool.map(lambda worker: [*worker.operations(OPERATIONS)], workers) for it in made]
+
+
+def killed(room):
+    """The daemon is killed in mid-work."""
+    for number in range(ROUNDS_OF_KILLS):
+        it = Configuration(f"killed in round {number}", SHIFTED, SHIFTED)
+        with Mounted(room, it) as mounted, futures.ThreadPoolExecutor(WORKERS) as pool:
+            workers = [Worker(it, mounted, number) for number in range(WORKERS)]
+            made = pool.map(lambda worker: [it for it in worker.operations(10**9) if it[1] != it[2]], workers)
+            until = time.time() + SECONDS_OF_WORK
+            while sum(it.done for it in workers) < STEPS_OF_A_ROUND * (number + 1) and time.time() < until:
+                time.sleep(0.001)
+            mounted.kill()
+        yield from ((f"{it.name}: a thread", wrong, []) for wrong in made)
+        yield f"{it.name}: steps", sum(it.done for it in workers) >= STEPS_OF_A_ROUND * (number + 1), True

@@ -4,11 +4,9 @@ that reads its ranges or its tries without counting the step.
 
 caller.rt.txt is a program that must compile, or the refusals would show nothing. An edit puts 'new: TEXT' in the place
 of 'old: TEXT', which stands once in the program, or in the file of the library that 'in: PATH' names. The edited line
-must get 'error: NAME' first. `rt try` reads all from source, and proves nothing. It tells of borrows only if the types
-are right, so these edits have a copy of their own.
-
-A library that reads with a new counter, and throws that away, does compile. So the sources of ranges and tries are read
-for new counters. The ids of users and of groups must differ only in names. The last line is 'N passed, N failed'.
+must get 'error: NAME' first. (`rt try` tells of borrows only if the types are right, so these edits have a copy of their
+own.) The sources of ranges and tries are read for new counters that are thrown away. The ids of users and of groups must
+differ only in names. The last line is 'N passed, N failed'.
 """
 import difflib
 import os
@@ -38,30 +36,22 @@ UNCOUNTED = (
 LOST = "fn find(steps: &mut Steps) {\n    read(0, &mut Steps::new());\n    let mut spare = Steps::new();\n}\n"
 
 
-def new_counters(text):
-    """Each new counter of a source file: the function that it stands in, and whether its count is added to another."""
+def lost_counters(text):
+    """Each function of a source file that makes a new counter and does not add its count to another."""
     for function in re.split(r"\n(?= *(?:pub(?:\([^)]*\))? )?fn )", text):
-        name = re.search(r"\bfn (\w+)|\Z", function)[1]
         for line in re.findall(r"^.*\bSteps(?:::new| as )\b.*$", function, re.M):
             kept = re.fullmatch(r" *let mut (\w+) = Steps::new\(\);", line)
-            if kept:
-                yield name, function.count(line) == 1 and f"steps.add(&{kept[1]});" in function
-            else:
-                yield name, line.strip() == "steps.add(&Steps::new());"
+            added = f"steps.add(&{kept[1] if kept else 'Steps::new()'});"
+            if function.count(line) != 1 or added not in (function if kept else line):
+                yield re.search(r"\bfn (\w+)|\Z", function)[1]
 
 
 def see_counters(tally):
-    """Sees that a new counter stands only in a function that adds its count, or in one of UNCOUNTED."""
-    found = {it: [] for it in UNCOUNTED}
-    for file in sorted(SOURCE.rglob("*.rt")):
-        path = str(file.relative_to(SOURCE))
-        if path.startswith(("soft_idmap", "xattrmap")):
-            for function, is_added in new_counters(file.read_text("utf-8")):
-                found.setdefault((path, function), []).append(is_added or (path, function) in UNCOUNTED)
-    for (path, function), are_well in found.items():
-        is_lost = not all(are_well or [False])
-        tally.see(f"the new counter of {function} in {path}", is_lost and "there is none, or its count is lost")
-    tally.see("lost counters would be seen", [it for _, it in new_counters(LOST)] != [False, False] and "they are not")
+    """Sees that only the functions in UNCOUNTED lose a count."""
+    files = [it for of in ("soft_idmap", "xattrmap") for it in (SOURCE / f"{of}.rt", *(SOURCE / of).rglob("*.rt"))]
+    found = {(str(it.relative_to(SOURCE)), name) for it in files for name in lost_counters(it.read_text("utf-8"))}
+    tally.see("lost counters", found != set(UNCOUNTED) and f"they are in {sorted(found)}, and not in {UNCOUNTED}")
+    tally.see("lost counters would be seen", [*lost_counters(LOST)] != ["find", "find"] and "they are not")
 
 
 def see_names(tally):

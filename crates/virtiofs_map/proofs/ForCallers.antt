@@ -17,6 +17,8 @@ use Rattle.virtiofs_map.proofs.NumeralLemmas.{IsNumeral-one}
 use Rattle.virtiofs_map.proofs.SpecificationLawLemmas.{Says-one, Says-no_fault, HasSpecificationFault-one}
 use Rattle.virtiofs_map.proofs.SpecificationsLemmas.{AllSay-one, AllSay-no_fault, HasSpecsFault-one}
 use Rattle.virtiofs_map.proofs.RuleTextLemmas.{one_value, no_fault, one_fault}
+-- the first place of a list
+pub use Rattle.virtiofs_map.proofs.ServerListLemmas.{position-Some_is, position-None_is}
 -- lists that go by pairs
 pub use Rattle.virtiofs_map.proofs.ZipLemmas.{AllZip-push, AllZip-one}
 

@@ -93,7 +93,7 @@ cause_text kinds.MapRuleViolation = codes "a map rule has to stand last"
 cause_text kinds.NoRulesProvided = codes "there are no rules"
 cause_text kinds.UnterminatedMapping = codes "no rule fits the name"
 cause_text (kinds.NulInPattern pattern) = pattern_text pattern ++ codes " holds NUL"
-cause_text kinds.OutOfMemory = codes "out of memory"
+cause_text kinds.OutOfMemory = codes "Out of memory"
 
 -- the number of the rule that is blamed, counted from 1, if one is
 abbrev pub blamed_rule_text : Option ℕ → List ℕ

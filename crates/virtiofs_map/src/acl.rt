@@ -81,9 +81,9 @@ pub fn carries_ids(name: XattrName<'_>) -> Option<ValueKind>
 /// Converts an access control list of the guest, in place, into one for the host: each id of a user
 /// is mapped by `users`, and each id of a group by `groups`.
 ///
-/// `room` needs one element for each entry of the value: a value of n bytes has (n - 4) / 8
-/// entries. The content of `room` is overwritten. The entries are sorted in it, to see whether two
-/// ids would become the same id.
+/// `room` needs one element for each entry of the value: n / 8 are enough for n bytes. The content
+/// of `room` is overwritten. The entries are sorted in it, to see whether two ids would become the
+/// same id.
 ///
 /// # Errors
 ///

@@ -174,6 +174,11 @@ impl<Guest: GuestId<HostType = Host>, Host: HostId<GuestType = Guest>, A: Alloca
     /// A specification that covers the number of the id says what it becomes. An id that none
     /// covers keeps its number, as 4294967295 always does. Where a specification forbids the id,
     /// the error is [`MapError::ExplicitFailMapping`] with the id.
+    ///
+    /// **A host id of 4294967295 must not reach `chown`, `setresuid` or the like: Linux reads it as
+    /// "leave unchanged", so a file of the guest then belongs to the daemon's own user, often
+    /// root.** A guest may ask for any number, and a specification may lead to this one. So test the
+    /// result, and answer EINVAL.
     pub fn map_guest(&self, id: Guest) -> Result<Host, MapError<Guest>>
         ensures accepted { Accepted self.now }
         ensures looks_up { LooksUp self.now GuestToHost (Guest.number id) Host.number
@@ -189,7 +194,7 @@ impl<Guest: GuestId<HostType = Host>, Host: HostId<GuestType = Guest>, A: Alloca
 
     /// Maps an id of the guest as [`IdMap::map_guest`] does, and counts steps.
     ///
-    /// A step is a reading of a range; a range that is read twice counts twice. Let n be the number
+    /// A step is a reading of a range by the search, each time that it reads one. Let n be the number
     /// of specifications that cover one guest id or more. If n is 0, the lookup takes no step.
     /// Else it takes at least one, and at most as many as n has binary digits.
     pub fn map_guest_counted(&self, id: Guest, steps: &mut Steps) -> Result<Host, MapError<Guest>>
@@ -229,7 +234,7 @@ impl<Guest: GuestId<HostType = Host>, Host: HostId<GuestType = Guest>, A: Alloca
 
     /// Maps an id of the host as [`IdMap::map_host`] does, and counts steps.
     ///
-    /// A step is a reading of a range; a range that is read twice counts twice. Let n be the number
+    /// A step is a reading of a range by the search, each time that it reads one. Let n be the number
     /// of specifications that cover one host id or more. If n is 0, the lookup takes no step.
     /// Else it takes at least one, and at most as many as n has binary digits.
     pub fn map_host_counted(&self, id: Host, steps: &mut Steps) -> Result<Guest, MapError<Host>>

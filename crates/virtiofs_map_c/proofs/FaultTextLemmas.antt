@@ -7,7 +7,7 @@ use Rattle.std.specs.Option.{option_map}
 use Rattle.std.specs.Str.{chars}
 use Rattle.virtiofs_map.specs.AclPrinted.{acl_error_text, capability_error_text}
 use Rattle.virtiofs_map.specs.Build.{BuildFault, RangeOverflow, Intersects}
-use Rattle.virtiofs_map.specs.Printed.{blamed_rule_text, rules_error_text, unexpected_text}
+use Rattle.virtiofs_map.specs.Printed.{blamed_rule_text, unexpected_text}
 use Rattle.virtiofs_map.specs.Printed as printed
 use Rattle.virtiofs_map.specs.Refusal.{OutOfMemoryOr}
 use Rattle.virtiofs_map.specs.RulesFault.{HasRulesFault, fault_at, rules_fault_of}
@@ -28,7 +28,8 @@ use Rattle.virtiofs_map.specs.declared.xattrmap.errors.ErrorKind.TheVariants as 
 use Rattle.virtiofs_map.specs.declared.xattrmap.errors.PatternField.TheVariants.{Key, Prepend}
 use Rattle.virtiofs_map_c.specs.Arrays.{said, spec_as_c}
 use Rattle.virtiofs_map_c.specs.FaultText.{place_text, direction_of, said_text, said_entry_text, fault_text}
-use Rattle.virtiofs_map_c.specs.FaultText.{build_fault_text, HoldsText, IsToldWhole}
+use Rattle.virtiofs_map_c.specs.FaultText.{escaped, build_fault_text, escaped_cause_text, escaped_error_text, HoldsText}
+use Rattle.virtiofs_map_c.specs.FaultText.{IsToldWhole}
 use Rattle.virtiofs_map_c.specs.Faults.{build_told, direction_number}
 use Rattle.virtiofs_map_c.specs.Replies.{fitting}
 use Rattle.virtiofs_map_c.specs.Rules.{OfRules}
@@ -133,31 +134,31 @@ types expected utf8 are = sym (encodes-chars expected utf8) ∙ ap encode_utf8_a
 -- the sentence of a rule that has something else in the place of a word, as it is told
 unexpected : (k n : ℕ) (what expected got quoted : List ℕ) → k ≡ n + 1 → IsUtf8 got
     → take (length (encode_utf8_all (chars got))) quoted ≡ encode_utf8_all (chars got)
-    → place_text 2 k ++ (what ++ unexpected_text (cut (length (encode_utf8_all (chars got))) quoted) expected)
-    ≡ in_rule k (what ++ unexpected_text got expected)
+    → place_text 2 k ++ (what ++ unexpected_text (escaped (cut (length (encode_utf8_all (chars got))) quoted)) expected)
+    ≡ in_rule k (what ++ unexpected_text (escaped got) expected)
 unexpected k n what expected got quoted number utf8 whole =
     placed k n _ number
-    ∙ ap (λ (it : List ℕ). in_rule k (what ++ unexpected_text it expected))
+    ∙ ap (λ (it : List ℕ). in_rule k (what ++ unexpected_text (escaped it) expected))
     (quoted_whole _ _ quoted whole ∙ encodes-chars got utf8)
 
 -- an error that blames a rule
 text_in_rule : {A : Type 0} (k : ℕ) (cause : ErrorKind A) (text : List ℕ)
     → OutOfMemoryOr (fault_at (Some k) cause) (HasRulesFault text) → HoldsText cause
     → (fault : Fault) (quoted : List ℕ) → IsToldWhole (option_map OfRules (fault_at (Some k) cause)) fault quoted
-    → fault_text fault quoted ≡ in_rule k (printed.cause_text cause)
+    → fault_text fault quoted ≡ in_rule k (escaped_cause_text cause)
 text_in_rule k (kinds.InvalidScope got expected) text wrong holds fault quoted told =
     let (kind, rest, fields, other, are) = wrong.wrong in
     ap (λ (it : Fault). fault_text it quoted) told.numbers
     ∙ unexpected k _ (codes "invalid scope '") (codes "all, client, server") (string_bytes got) quoted
     wrong.number holds.0 told.bytes
-    ∙ ap (λ (it : List ℕ). in_rule k (codes "invalid scope '" ++ unexpected_text (string_bytes got) it))
+    ∙ ap (λ (it : List ℕ). in_rule k (codes "invalid scope '" ++ unexpected_text (escaped (string_bytes got)) it))
     (sym (scopes expected.now holds.1 are))
 text_in_rule k (kinds.InvalidType got expected) text wrong holds fault quoted told =
     let (rest, fields, other, map, are) = wrong.wrong in
     ap (λ (it : Fault). fault_text it quoted) told.numbers
     ∙ unexpected k _ (codes "invalid type '") (codes "prefix, ok, bad, map") (string_bytes got) quoted
     wrong.number holds.0 told.bytes
-    ∙ ap (λ (it : List ℕ). in_rule k (codes "invalid type '" ++ unexpected_text (string_bytes got) it))
+    ∙ ap (λ (it : List ℕ). in_rule k (codes "invalid type '" ++ unexpected_text (escaped (string_bytes got)) it))
     (sym (types expected.now holds.1 are))
 text_in_rule k kinds.IncompleteRule text wrong holds fault quoted told =
     ap (λ (it : Fault). fault_text it quoted) told.numbers ∙ placed k _ (codes "the rule is incomplete") wrong.number
@@ -177,7 +178,7 @@ text_in_rule k kinds.OutOfMemory text wrong holds fault quoted told = absurd wro
 text_in_none : {A : Type 0} (cause : ErrorKind A) (text : List ℕ)
     → OutOfMemoryOr (fault_at None cause) (HasRulesFault text)
     → (fault : Fault) (quoted : List ℕ) → IsToldWhole (option_map OfRules (fault_at None cause)) fault quoted
-    → fault_text fault quoted ≡ printed.cause_text cause
+    → fault_text fault quoted ≡ escaped_cause_text cause
 text_in_none kinds.NoRulesProvided text wrong fault quoted told = ap (λ (it : Fault). fault_text it quoted) told.numbers
 text_in_none kinds.OutOfMemory text wrong fault quoted told = ap (λ (it : Fault). fault_text it quoted) told.numbers
 text_in_none (kinds.InvalidScope got expected) text wrong fault quoted told = absurd wrong
@@ -191,7 +192,7 @@ text_in_none (kinds.NulInPattern pattern) text wrong fault quoted told = absurd 
 text_of_parts : {A : Type 0} (rule : Option ℕ) (cause : ErrorKind A) (text : List ℕ)
     → OutOfMemoryOr (fault_at rule cause) (HasRulesFault text) → HoldsText cause
     → (fault : Fault) (quoted : List ℕ) → IsToldWhole (option_map OfRules (fault_at rule cause)) fault quoted
-    → fault_text fault quoted ≡ blamed_rule_text rule ++ printed.cause_text cause
+    → fault_text fault quoted ≡ blamed_rule_text rule ++ escaped_cause_text cause
 text_of_parts None cause text wrong holds fault quoted told = text_in_none cause text wrong fault quoted told
 text_of_parts (Some k) cause text wrong holds fault quoted told =
     text_in_rule k cause text wrong holds fault quoted told
@@ -199,5 +200,5 @@ text_of_parts (Some k) cause text wrong holds fault quoted told =
 pub text_of_rules : {A : Type 0} (error : Error A) (text : List ℕ)
     → OutOfMemoryOr (rules_fault_of error) (HasRulesFault text) → HoldsText error.cause
     → (fault : Fault) (quoted : List ℕ) → IsToldWhole (option_map OfRules (rules_fault_of error)) fault quoted
-    → fault_text fault quoted ≡ rules_error_text error
+    → fault_text fault quoted ≡ escaped_error_text error
 text_of_rules error = text_of_parts error.rule error.cause

@@ -171,15 +171,14 @@ IsFront-start out = record { length_told = refl; are = sym (take_all (length out
 pub IsFront-whole : {text old new : List ℕ} {len : ℕ} → Writes text 0 old len new → IsFront text old len new
 IsFront-whole {text} {old} {new} {len} writes = writes [] old (IsFront-start old)
 
--- a text is told, with the code that says whether there is room for it
-pub front-told : (text old new : List ℕ) (code len : ℕ) → IsFront text old len new → length text ≤ 18446744073709551615
+-- a text is told, with the code that says whether there is room for it, in a buffer as long as any may be
+pub front-told : (text old new : List ℕ) (code len : ℕ) → IsFront text old len new → length new < 18446744073709551615
     → (len ≤ length new → code ≡ ok) → (length new < len → code ≡ no_room) → TellsFront text old code len new
-front-told text old new code len is short done not_done =
+front-told text old new code len is small done not_done =
     let same : length new ≡ length old = ap length is.are ∙ front-length text old in
-    let told : len ≡ length text = omega (arith, short, is.length_told) in
     record {
-      length_told = told;
-      fits = λ room. (done (omega (arith, room, told, same)), is.are ∙ front-fits text old room);
+      length_told = is.length_told;
+      fits = λ room. (done (omega (arith, room, is.length_told, same)), is.are ∙ front-fits text old room);
       does_not_fit = λ less.
-          (not_done (omega (arith, less, told, same)), is.are ∙ front-short text old (omega (arith, less)));
+          (not_done (omega (arith, less, small, is.length_told, same)), is.are ∙ front-short text old (omega (arith, less)));
     }

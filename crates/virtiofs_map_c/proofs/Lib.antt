@@ -1,5 +1,4 @@
 mod ArraysLemmas
-mod FaultLengthLemmas
 mod FaultTextLemmas
 mod FirstLemmas
 mod FrontLemmas

@@ -40,6 +40,9 @@ merges = 11
 abbrev pub root_moves : ℕ
 root_moves = 12
 
+abbrev pub no_id : ℕ
+no_id = 13
+
 -- ---- kinds of values
 
 abbrev pub no_ids : ℕ

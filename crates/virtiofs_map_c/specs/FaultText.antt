@@ -1,7 +1,8 @@
 -- The sentence by which a fault is told, as bytes. Of a list of specifications, a text of rules and a value with ids it
--- is what the library prints.
-use Rattle.std.specs.Prelude.{◌≡◌, ⊤, ℕ, ◌==◌, nat_lt, if◌then◌else◌, List, [], ◌++◌, length, take, codes, Option}
-use Rattle.std.specs.Prelude.{IsUtf8}
+-- is what the library prints, with the text at fault escaped.
+use Rattle.std.specs.Prelude.{◌≡◌, ⊤, ℕ, ◌/◌, ◌%◌, ◌==◌, ◌&&◌, nat_lt, nat_le, if◌then◌else◌, List, [], ◌∷◌, ◌++◌}
+use Rattle.std.specs.Prelude.{length, take, flat_map, codes, Option, IsUtf8}
+use Rattle.std.specs.Char.{digit_char}
 use Rattle.std.specs.Fmt.{decimal}
 use Rattle.std.specs.Option.{option_map_or}
 use Rattle.std.specs.String.{string_bytes}
@@ -9,10 +10,12 @@ use Rattle.virtiofs_map.specs.Build.{BuildFault, RangeOverflow, Intersects}
 use Rattle.virtiofs_map.specs.Mapping.{entry_of}
 use Rattle.virtiofs_map.specs.Printed.{specification_text, set_up_text, direction_text, build_error_text}
 use Rattle.virtiofs_map.specs.Printed.{unexpected_text}
+use Rattle.virtiofs_map.specs.Printed as printed
 use Rattle.virtiofs_map.specs.declared.cmdline.IdMap.{IdMap as Specification}
 use Rattle.virtiofs_map.specs.declared.soft_idmap.entry.Direction.{Direction}
 use Rattle.virtiofs_map.specs.declared.soft_idmap.entry.Direction.TheVariants.{GuestToHost, HostToGuest}
 use Rattle.virtiofs_map.specs.declared.soft_idmap.errors.IdMapBuildError.TheVariants as errors
+use Rattle.virtiofs_map.specs.declared.xattrmap.errors.Error.{Error}
 use Rattle.virtiofs_map.specs.declared.xattrmap.errors.ErrorKind.{ErrorKind}
 use Rattle.virtiofs_map.specs.declared.xattrmap.errors.ErrorKind.TheVariants as kinds
 use Rattle.virtiofs_map_c.specs.Arrays.{said}
@@ -77,16 +80,25 @@ version_text part version =
 abbrev pub room_text : ℕ → List ℕ
 room_text needed = codes "there are " ++ decimal needed ++ codes " entries"
 
+-- a backslash twice, any other printing byte of ASCII as itself, and the rest as `\x` and two hexadecimal digits
+abbrev pub escaped_byte : ℕ → List ℕ
+escaped_byte byte =
+    if byte == 92 then codes "\\\\"
+    else if nat_le 32 byte && nat_le byte 126 then byte ∷ []
+    else codes "\\x" ++ digit_char (byte / 16) ∷ digit_char (byte % 16) ∷ []
+
+abbrev pub escaped : List ℕ → List ℕ
+escaped bytes = flat_map escaped_byte bytes
+
 -- the text at fault: the bytes that were quoted of it, or three dots where there was no room for them
 abbrev pub text_at_fault : Fault → List ℕ → List ℕ
 text_at_fault fault quoted = if nat_lt fault.quoted fault.wanted then codes "..." else take fault.quoted quoted
 
--- the sentence of a kind that has only one for each part: rules and ids have each their own for memory, and lists and
--- capabilities for a length
+-- the sentence of a kind that has only one for each part: lists and capabilities have each their own for a length
 abbrev pub fixed_text : ℕ → ℕ → List ℕ
 fixed_text part kind =
     if kind == 0 then codes "there is no fault"
-    else if kind == 1 then (if part == 2 then codes "out of memory" else codes "Out of memory")
+    else if kind == 1 then codes "Out of memory"
     else if kind == 2 then codes "the text is not UTF-8"
     else if kind == 3 then codes "there is no such kind"
     else if kind == 9 then codes "A delimiter has been found that does not match the delimiter the map started with"
@@ -112,12 +124,14 @@ abbrev pub cause_text : Fault → List ℕ → List ℕ
 cause_text fault at_fault =
     if fault.kind == 4 then overflow_text fault.spec
     else if fault.kind == 5 then intersects_text fault.spec (direction_of fault.direction)
-    else if fault.kind == 6 then codes "Invalid ID map prefix " ++ at_fault
+    else if fault.kind == 6 then codes "Invalid ID map prefix " ++ escaped at_fault
     else if fault.kind == 7 then length_text fault.expected fault.seen
-    else if fault.kind == 8 then codes "Invalid value " ++ at_fault ++ codes " in ID map: " ++ number_text fault.number
+    else if fault.kind == 8 then codes "Invalid value " ++ escaped at_fault ++ codes " in ID map: " ++ number_text fault.number
     else if fault.kind == 11 then number_text fault.number
-    else if fault.kind == 12 then codes "invalid scope '" ++ unexpected_text at_fault (codes "all, client, server")
-    else if fault.kind == 13 then codes "invalid type '" ++ unexpected_text at_fault (codes "prefix, ok, bad, map")
+    else if fault.kind == 12 then
+    codes "invalid scope '" ++ unexpected_text (escaped at_fault) (codes "all, client, server")
+    else if fault.kind == 13 then
+    codes "invalid type '" ++ unexpected_text (escaped at_fault) (codes "prefix, ok, bad, map")
     else if fault.kind == 20 then version_text fault.part fault.seen
     else if fault.kind == 22 then room_text fault.expected
     else fixed_text fault.part fault.kind
@@ -134,6 +148,18 @@ build_fault_text (RangeOverflow spec index direction range_end) =
     place_text 1 index ++ build_error_text (errors.RangeOverflow spec index direction range_end)
 build_fault_text (Intersects spec index direction) =
     place_text 1 index ++ build_error_text (errors.Intersects spec index direction)
+
+-- what it prints of what is wrong with a rule, but with the text at fault escaped
+abbrev pub escaped_cause_text : {A : Type 0} → ErrorKind A → List ℕ
+escaped_cause_text (kinds.InvalidScope got expected) =
+    codes "invalid scope '" ++ unexpected_text (escaped (string_bytes got)) expected.now
+escaped_cause_text (kinds.InvalidType got expected) =
+    codes "invalid type '" ++ unexpected_text (escaped (string_bytes got)) expected.now
+escaped_cause_text other = printed.cause_text other
+
+-- what is wrong, and in which rule
+abbrev pub escaped_error_text : {A : Type 0} → Error A → List ℕ
+escaped_error_text error = printed.blamed_rule_text error.rule ++ escaped_cause_text error.cause
 
 -- what the error holds is text
 abbrev pub HoldsText : {A : Type 0} → ErrorKind A → Type 0

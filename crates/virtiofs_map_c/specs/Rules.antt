@@ -7,7 +7,7 @@ use Rattle.virtiofs_map.specs.RuleText.{SaysRules}
 use Rattle.virtiofs_map.specs.RulesFault.{RulesFault, NoRules, InRule, NotOfText, RuleFault, InvalidScope, InvalidType}
 use Rattle.virtiofs_map.specs.RulesFault.{IncompleteRule, MapRuleViolation, NulInPattern, HasRulesFault, rules_fault_of}
 use Rattle.virtiofs_map.specs.declared.xattrmap.errors.PatternField.TheVariants.{Key, Prepend}
-use Rattle.virtiofs_map_c.specs.Codes.{rule}
+use Rattle.virtiofs_map_c.specs.Codes.{no_part, rule}
 use Rattle.virtiofs_map_c.specs.Faults.{no_fault, told_at, failure_code}
 use Rattle.virtiofs_map_c.specs.Replies.{IsQuoted, fitting}
 use Rattle.virtiofs_map_c.specs.declared.fault.Fault.{Fault}
@@ -53,7 +53,7 @@ rule_quoted (NulInPattern field) = []
 
 -- what is told of what is wrong with a text of rules, or of out of memory, where there is room for that many bytes
 abbrev pub bytes_told : ℕ → Option BytesFault → Fault
-bytes_told room None = told_at 1 rule 0 0 0
+bytes_told room None = told_at 1 no_part 0 0 0
 bytes_told room (Some NotUtf8) = told_at 2 rule 0 0 0
 bytes_told room (Some (OfRules NoRules)) = told_at 16 rule 0 0 0
 bytes_told room (Some (OfRules (InRule k fault))) =

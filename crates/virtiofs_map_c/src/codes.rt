@@ -39,6 +39,9 @@ pub const MERGES: u32 = 11;
 /// The revision of a capability has no field for the id of root, which does not stay 0.
 pub const ROOT_MOVES: u32 = 12;
 
+/// The id, or what it becomes, is 4294967295, which is no id to Linux.
+pub const NO_ID: u32 = 13;
+
 /// The values of a name hold no ids.
 pub const NO_IDS: u32 = 0;
 

@@ -1,5 +1,5 @@
 //! Maps of ids, in the caller's words.
-ghost use Rattle.std.specs.Prelude.{◌≡◌, ℕ, ◌+◌, ◌*◌, ◌≤◌, length, min, List, Option, IfOk, IfErr, OnErr};
+ghost use Rattle.std.specs.Prelude.{◌≡◌, ◌≢◌, ℕ, ◌+◌, ◌*◌, ◌≤◌, length, min, List, Option, IfOk, IfErr, OnErr};
 ghost use Rattle.virtiofs_map.specs.Build.{HasFirstFault, build_fault_of};
 ghost use Rattle.virtiofs_map.specs.Image.{HasKind, IsImage};
 ghost use Rattle.virtiofs_map.specs.Mapping.{Becomes};
@@ -7,7 +7,7 @@ ghost use Rattle.virtiofs_map.specs.Refusal.{OutOfMemoryOr};
 ghost use Rattle.virtiofs_map.specs.declared.cmdline.IdMap.{IdMap as Specification};
 ghost use Rattle.virtiofs_map.specs.declared.soft_idmap.entry.Direction.TheVariants.{GuestToHost, HostToGuest};
 ghost use Rattle.virtiofs_map_c.specs.Arrays.{AreSaid, ArrayFault, HasArrayFault, array_fault_of};
-ghost use Rattle.virtiofs_map_c.specs.Codes.{no_map};
+ghost use Rattle.virtiofs_map_c.specs.Codes.{ok, no_map};
 ghost use Rattle.virtiofs_map_c.specs.Faults.{no_fault};
 ghost use Rattle.virtiofs_map_c.specs.Ids.{AnswersId, TellsId, LeadsBackIfMapped, IsIdCode, IsAnswerTold};
 ghost use Rattle.virtiofs_map_c.specs.Makes.{TellsFault, MakesOrTells, TellsThis, IsArrayTold, IsAnswered, TellsImage, IsAccepted};
@@ -18,7 +18,7 @@ mod decided;
 mod found;
 
 use crate::arrays::{ArrayError, Spec, read_all, tell};
-use crate::codes::{FORBIDDEN, NO_MAP, NO_ROOM, OK};
+use crate::codes::{FORBIDDEN, NO_ID, NO_MAP, NO_ROOM, OK};
 use crate::fault::Fault;
 use crate::texts::{TextsError, read_all as read_texts, tell_of_texts};
 use std::alloc::Global;
@@ -165,11 +165,13 @@ pub extern "C" fn virtiofs_map_ids_make_texts(
     }
 }
 
-/// Writes what an answer says of a number.
-fn tell_answer(answer: Answer, place: &mut u32) -> u32
-    ensures { IsAnswerTold answer place.old result place.new }
+/// Writes what an answer says of an id. 4294967295 is never written: a system call that sets an
+/// owner takes it for "leave unchanged".
+fn tell_answer(answer: Answer, id: u32, place: &mut u32) -> u32
+    ensures { IsAnswerTold answer id place.old result place.new }
 {
     match answer {
+        Answer::Becomes(value) if id == u32::MAX || value == u32::MAX => NO_ID,
         Answer::Becomes(value) => {
             *place = value;
             OK
@@ -185,13 +187,14 @@ pub extern "C" fn virtiofs_map_ids_guest(words: &[u32], guest: u32, host: &mut u
     ensures answer { (specs : List Specification) → IsImage specs words.now
         → AnswersId specs GuestToHost guest host.old result host.new }
     ensures exact { (specs : List Specification) (value : Option ℕ) → IsImage specs words.now
-        → Becomes specs GuestToHost guest value → TellsId value host.old result host.new }
+        → Becomes specs GuestToHost guest value → TellsId guest value host.old result host.new }
     ensures leads_back { (specs : List Specification) → IsImage specs words.now
         → LeadsBackIfMapped specs GuestToHost guest result host.new }
+    ensures no_id { guest ≡ 4294967295 → result ≢ ok }
     ensures code { IsIdCode host.old result host.new }
     ensures no_map { (¬ HasKind words.now) → result ≡ no_map }
 {
-    tell_answer(look_up(words, Direction::GuestToHost, guest), host)
+    tell_answer(look_up(words, Direction::GuestToHost, guest), guest, host)
 }
 
 /// The guest's id for a host's.
@@ -200,11 +203,12 @@ pub extern "C" fn virtiofs_map_ids_host(words: &[u32], host: u32, guest: &mut u3
     ensures answer { (specs : List Specification) → IsImage specs words.now
         → AnswersId specs HostToGuest host guest.old result guest.new }
     ensures exact { (specs : List Specification) (value : Option ℕ) → IsImage specs words.now
-        → Becomes specs HostToGuest host value → TellsId value guest.old result guest.new }
+        → Becomes specs HostToGuest host value → TellsId host value guest.old result guest.new }
     ensures leads_back { (specs : List Specification) → IsImage specs words.now
         → LeadsBackIfMapped specs HostToGuest host result guest.new }
+    ensures no_id { host ≡ 4294967295 → result ≢ ok }
     ensures code { IsIdCode guest.old result guest.new }
     ensures no_map { (¬ HasKind words.now) → result ≡ no_map }
 {
-    tell_answer(look_up(words, Direction::HostToGuest, host), guest)
+    tell_answer(look_up(words, Direction::HostToGuest, host), host, guest)
 }

@@ -121,7 +121,7 @@ pub extern "C" fn virtiofs_map_names_server(
 
 /// Whether no name is ever left without a rule.
 #[unsafe(no_mangle)]
-pub extern "C" fn virtiofs_map_names_terminated(bytes: &[u8], all: &mut bool) -> u32
+pub extern "C" fn virtiofs_map_names_is_terminated(bytes: &[u8], all: &mut bool) -> u32
     ensures done { (rules : List MappingRule) → IsImage rules bytes.now → result ≡ ok }
     ensures answer { (rules : List MappingRule) → IsImage rules bytes.now
         → IsTrue all.new ↔ Terminated rules }
@@ -180,7 +180,7 @@ pub extern "C" fn virtiofs_map_names_audit_listed(
 
 /// Whether the second map hides every name of the host that a guest with the first map can reach.
 #[unsafe(no_mangle)]
-pub extern "C" fn virtiofs_map_names_apart(
+pub extern "C" fn virtiofs_map_names_keeps_apart(
     alloc: Global,
     first: &[u8],
     second: &[u8],
@@ -202,7 +202,7 @@ pub extern "C" fn virtiofs_map_names_apart(
 
 /// Whether no name of the host is reached by a guest with the first map and by one with the second.
 #[unsafe(no_mangle)]
-pub extern "C" fn virtiofs_map_names_share_none(
+pub extern "C" fn virtiofs_map_names_shares_no_name(
     alloc: Global,
     first: &[u8],
     second: &[u8],

@@ -1,17 +1,17 @@
 //! The sentence by which a fault is told, for whoever prints it.
-ghost use Rattle.std.specs.Prelude.{◌≡◌, ◌<◌, ◌^◌, ◌++◌, ℕ, List, length, codes};
+ghost use Rattle.std.specs.Prelude.{◌≡◌, ◌++◌, ℕ, List, codes};
 ghost use Rattle.std.specs.Fmt.{decimal};
 ghost use Rattle.std.specs.Global.{Global};
 ghost use Rattle.std.specs.Option.{option_map};
 ghost use Rattle.virtiofs_map.specs.AclPrinted.{acl_error_text, capability_error_text};
 ghost use Rattle.virtiofs_map.specs.Build.{BuildFault};
-ghost use Rattle.virtiofs_map.specs.Printed.{unexpected_text, rules_error_text};
+ghost use Rattle.virtiofs_map.specs.Printed.{unexpected_text};
 ghost use Rattle.virtiofs_map.specs.Refusal.{OutOfMemoryOr};
 ghost use Rattle.virtiofs_map.specs.RulesFault.{HasRulesFault, rules_fault_of};
 ghost use Rattle.virtiofs_map.specs.declared.acl.errors.AclError.{AclError};
 ghost use Rattle.virtiofs_map.specs.declared.acl.errors.CapabilityError.{CapabilityError};
 ghost use Rattle.virtiofs_map.specs.declared.xattrmap.errors.Error.{Error as RulesError};
-ghost use Rattle.virtiofs_map_c.specs.FaultText.{place_text, text_at_fault, cause_text, fault_text, build_fault_text, HoldsText, IsToldWhole};
+ghost use Rattle.virtiofs_map_c.specs.FaultText.{escaped, place_text, text_at_fault, cause_text, fault_text, build_fault_text, escaped_error_text, HoldsText, IsToldWhole};
 ghost use Rattle.virtiofs_map_c.specs.Faults.{build_told};
 ghost use Rattle.virtiofs_map_c.specs.FrontParts.{Writes};
 ghost use Rattle.virtiofs_map_c.specs.Replies.{TellsFront};
@@ -24,7 +24,7 @@ mod values;
 
 use crate::codes::{ACL_ENTRY, NO_ROOM, OK, RULE, SPECIFICATION};
 use crate::fault::Fault;
-use crate::front::{put, say, say_number};
+use crate::front::{put_escaped, say, say_number};
 use fixed::{fixed_words, number_words};
 use ids::{direction_of, say_intersects, say_length, say_overflow, say_prefix, say_value};
 use values::{say_room, say_version};
@@ -43,7 +43,7 @@ pub extern "C" fn virtiofs_map_fault_text(
     ensures of_rules { (error : RulesError Global) (text : List ℕ)
         → OutOfMemoryOr (rules_fault_of error) (HasRulesFault text) → HoldsText error.cause
         → IsToldWhole (option_map OfRules (rules_fault_of error)) fault.now quoted.now
-        → fault_text fault.now quoted.now ≡ rules_error_text error }
+        → fault_text fault.now quoted.now ≡ escaped_error_text error }
     ensures of_acl { (room : ℕ) (error : AclError) → fault.now ≡ acl_told room error
         → fault_text fault.now quoted.now ≡ acl_error_text error }
     ensures of_capability { (error : CapabilityError) → fault.now ≡ capability_told error
@@ -82,8 +82,7 @@ fn say_numbered(words: &str, place: usize, out: &mut [u8], len: &mut usize)
 
 /// What was quoted of the text at fault, or three dots where there was no room for it.
 fn at_fault<'a>(fault: &Fault, quoted: &'a [u8]) -> &'a [u8]
-    ensures front { result.now ≡ text_at_fault fault.now quoted.now }
-    ensures fits { length result.now < 2 ^ 63 }
+    ensures { result.now ≡ text_at_fault fault.now quoted.now }
 {
     if fault.quoted < fault.wanted {
         return b"...";
@@ -115,11 +114,11 @@ fn say_cause(fault: &Fault, at_fault: &[u8], out: &mut [u8], len: &mut usize)
 
 /// Writes what a rule has in the place of a word, and the words that could stand there.
 fn say_unexpected(what: &str, got: &[u8], expected: &str, out: &mut [u8], len: &mut usize)
-    ensures { Writes (what.now ++ unexpected_text got.now expected.now)
+    ensures { Writes (what.now ++ unexpected_text (escaped got.now) expected.now)
         len.old out.old len.new out.new }
 {
     say(what, out, len);
-    put(got, out, len);
+    put_escaped(got, out, len);
     say("', expected one of: ", out, len);
     say(expected, out, len);
 }

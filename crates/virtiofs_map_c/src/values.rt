@@ -1,5 +1,6 @@
 //! Ids inside the caller's values, changed by the caller's maps.
-ghost use Rattle.std.specs.Prelude.{◌≡◌, ◌≢◌, ◌⊎◌, ◌↔◌, ◌≤◌, List, length};
+ghost use Rattle.std.specs.List.{before_first};
+ghost use Rattle.std.specs.Prelude.{◌≡◌, ◌≢◌, ◌==◌, ◌⊎◌, ◌↔◌, ◌≤◌, List, length, position};
 ghost use Rattle.virtiofs_map.specs.Image.{HasKind, IsImage};
 ghost use Rattle.virtiofs_map.specs.ValueKinds.{HasLists, HasCapability};
 ghost use Rattle.virtiofs_map.specs.declared.cmdline.IdMap.{IdMap as Specification};
@@ -18,14 +19,32 @@ use virtiofs_map::acl::{EntryRoom, ValueKind, carries_ids};
 use virtiofs_map::soft_idmap::Direction;
 use virtiofs_map::xattrmap::XattrName;
 
-/// Which ids the values of an attribute hold.
+/// Where the first zero stands.
+fn first_zero(name: &[u8]) -> Option<usize>
+    ensures { result ≡ position (λ byte. byte == 0) name.now }
+{
+    name.iter().position(|byte| *byte == 0)
+}
+
+/// A name up to its first zero, as C reads it.
+fn before_zero(name: &[u8]) -> &[u8]
+    ensures { result.now ≡ before_first (λ byte. byte == 0) name.now }
+{
+    match first_zero(name) {
+        Some(end) => &name[..end],
+        None => name,
+    }
+}
+
+/// Which ids the values of an attribute hold, whose name stands before the first zero.
 #[unsafe(no_mangle)]
 pub extern "C" fn virtiofs_map_carries_ids(name: &[u8]) -> u32
-    ensures lists { (result ≡ acl) ↔ HasLists name.now }
-    ensures capability { (result ≡ capability) ↔ HasCapability name.now }
+    ensures lists { (result ≡ acl) ↔ HasLists (before_first (λ byte. byte == 0) name.now) }
+    ensures capability { (result ≡ capability)
+        ↔ HasCapability (before_first (λ byte. byte == 0) name.now) }
     ensures kind { result ≤ 2 }
 {
-    let Some(name) = XattrName::new(name) else {
+    let Some(name) = XattrName::new(before_zero(name)) else {
         return NO_IDS;
     };
     match carries_ids(name) {

@@ -1,4 +1,4 @@
-//! How a daemon makes a map of user ids, and asks it. README.md shows a part of this file.
+//! How a daemon makes a map of user ids, and asks it. docs/RATTLE.md shows a part of this file.
 ghost use Rattle.std.specs.Prelude.{◌≡◌, None, Some, IfOk, MatchOption};
 ghost use Rattle.virtiofs_map.specs.Mapping.{Becomes};
 ghost use Rattle.virtiofs_map.specs.Specifications.{texts_of, AllSay};

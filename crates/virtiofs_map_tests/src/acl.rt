@@ -1,172 +1,139 @@
-//! Values of attributes that hold ids: as Linux writes them, at each boundary, and large.
+//! Values of attributes that hold ids: as Linux writes them, at fault, and large.
 
 mod by_linux;
-mod example;
 mod faults;
-mod hexadecimal;
-mod image;
 mod large;
 mod told;
 
+use crate::common::users_of;
 use by_linux::{CAPABILITIES, LISTS, REVISION_2};
 use std::alloc::Global;
-use std::process::Abort;
 use std::test::Fail;
-use told::{SHIFTED, capability_of, in_revision_3, is_value, list_of};
-use virtiofs_map::acl::{AclError, CapabilityError, ValueKind, carries_ids};
-use virtiofs_map::soft_idmap::Direction::{self, GuestToHost, HostToGuest};
+use told::{SHIFTED, check_capability, check_list, check_written, value_of};
+use virtiofs_map::acl::image::{translate_acl, translate_capability, write_revision_3};
+use virtiofs_map::acl::{CapabilityError, EntryRoom, ValueKind, carries_ids};
+use virtiofs_map::id_types::{GuestGid, HostGid};
+use virtiofs_map::soft_idmap::Direction::{GuestToHost, HostToGuest};
+use virtiofs_map::soft_idmap::IdMap;
 use virtiofs_map::xattrmap::XattrName;
+use virtiofs_map_callers::values::set_by_guest;
 
 /// Names, and which ids their values hold.
-static NAMES: [(&[u8], Option<ValueKind>); 9] = [
+static NAMES: [(&[u8], Option<ValueKind>); 5] = [
     (b"system.posix_acl_access", Some(ValueKind::Acl)),
     (b"system.posix_acl_default", Some(ValueKind::Acl)),
     (b"security.capability", Some(ValueKind::Capability)),
-    (b"", None),
-    (b"system.posix_acl", None),
-    (b"system.posix_acl_access.", None),
-    (b"System.posix_acl_access", None),
     (b"user.security.capability", None),
-    (b"security.selinux", None),
+    (b"", None),
+];
+
+/// Specifications of users, and why a capability without a field for root does not go across.
+static ROOTS: [(&str, Option<CapabilityError>); 4] = [
+    ("", None),
+    ("map:1:100001:65535", None),
+    ("map:0:100000:65536", Some(CapabilityError::RootMoves)),
+    ("forbid-guest:0:1", Some(CapabilityError::Forbidden)),
+];
+
+/// A capability, and the same in revision 3 with root 100000: revision 1 has one word for each set.
+static WITH_ROOT: [(&[u32], &[u32]); 2] = [
+    (
+        &[0x01000002, 0x00040000, 0, 0, 0],
+        &[0x01000003, 0x00040000, 0, 0, 0, 0xa0860100],
+    ),
+    (
+        &[0x01000001, 0x00040000, 0x02000000],
+        &[0x01000003, 0x00040000, 0x02000000, 0, 0, 0xa0860100],
+    ),
 ];
 
 #[test]
-fn tells_which_values_hold_ids(rt: HostRuntime) {
+fn tells_which_values_hold_ids(rt: HostRuntime) -> Result<(), Fail> {
     for &(bytes, wanted) in &NAMES {
-        let Some(name) = XattrName::new(bytes) else {
-            panic!(rt; "{bytes:?} is no name");
-        };
+        let name = XattrName::new(bytes).ok_or("a name holds a zero")?;
         assert!(rt; carries_ids(name) == wanted, "of {bytes:?}");
     }
-}
-
-/// Whether one list becomes another, and the fault that it has, if it has one.
-fn list_becomes(
-    alloc: Global,
-    direction: Direction,
-    from: &[&str],
-    to: &[&str],
-) -> Result<(bool, Option<AclError>), Fail> {
-    let (value, refusal) = list_of(alloc, SHIFTED, direction, from)?;
-    Ok((is_value(alloc, value.as_slice(), to)?, refusal))
-}
-
-/// Sees that one list becomes another.
-fn check_list(
-    rt: &impl Abort,
-    alloc: Global,
-    direction: Direction,
-    from: &[&str],
-    to: &[&str],
-) -> Result<(), Fail> {
-    let (becomes, refusal) = list_becomes(alloc, direction, from, to)?;
-    assert!(rt; becomes && refusal.is_none(), "{from:?}");
     Ok(())
 }
 
 #[test]
 fn lists_become_what_linux_writes_for_the_other_ids(rt: HostRuntime) -> Result<(), Fail> {
+    let alloc = rt.alloc();
     for &(guest, host) in &LISTS {
-        check_list(&rt, rt.alloc(), GuestToHost, guest, host)?;
-        check_list(&rt, rt.alloc(), HostToGuest, host, guest)?;
+        let (guest, host) = (value_of(alloc, guest)?, value_of(alloc, host)?);
+        check_list(&rt, alloc, SHIFTED, GuestToHost, &guest, &host, None)?;
+        check_list(&rt, alloc, SHIFTED, HostToGuest, &host, &guest, None)?;
     }
     Ok(())
-}
-
-/// Whether one capability becomes another, and why it does not, if it is refused.
-fn capability_becomes(
-    alloc: Global,
-    users: &[&str],
-    direction: Direction,
-    from: &[&str],
-    to: &[&str],
-) -> Result<(bool, Option<CapabilityError>), Fail> {
-    let (value, refusal) = capability_of(alloc, users, direction, from)?;
-    Ok((is_value(alloc, value.as_slice(), to)?, refusal))
-}
-
-/// Sees that one capability becomes another in revision 3.
-fn check_in_revision_3(
-    rt: &impl Abort,
-    alloc: Global,
-    direction: Direction,
-    from: &[&str],
-    to: &[&str],
-) -> Result<(), Fail> {
-    let (written, refusal) = in_revision_3(alloc, SHIFTED.users, direction, from)?;
-    let becomes = is_value(alloc, &written, to)?;
-    assert!(rt; becomes && refusal.is_none(), "{from:?}");
-    Ok(())
-}
-
-/// Sees that one capability becomes another, in place and in revision 3.
-fn check_capability(
-    rt: &impl Abort,
-    alloc: Global,
-    direction: Direction,
-    from: &[&str],
-    to: &[&str],
-) -> Result<(), Fail> {
-    let (becomes, refusal) = capability_becomes(alloc, SHIFTED.users, direction, from, to)?;
-    assert!(rt; becomes && refusal.is_none(), "{from:?}");
-    check_in_revision_3(rt, alloc, direction, from, to)
 }
 
 #[test]
 fn capabilities_become_what_linux_writes_for_the_other_root(rt: HostRuntime) -> Result<(), Fail> {
+    let (alloc, users) = (rt.alloc(), SHIFTED.users);
     for &(guest, host) in &CAPABILITIES {
-        check_capability(&rt, rt.alloc(), GuestToHost, guest, host)?;
-        check_capability(&rt, rt.alloc(), HostToGuest, host, guest)?;
+        let (guest, host) = (value_of(alloc, guest)?, value_of(alloc, host)?);
+        check_capability(&rt, alloc, users, GuestToHost, &guest, &host, None)?;
+        check_capability(&rt, alloc, users, HostToGuest, &host, &guest, None)?;
+        check_written(&rt, alloc, users, GuestToHost, &guest, &host, None)?;
+        check_written(&rt, alloc, users, HostToGuest, &host, &guest, None)?;
     }
-    Ok(())
-}
-
-/// Sees what becomes of a capability that has no field for root.
-fn check_revision_2(
-    rt: &impl Abort,
-    alloc: Global,
-    users: &[&str],
-    parts: &[&str],
-    wanted: Option<CapabilityError>,
-) -> Result<(), Fail> {
-    let (stays, refusal) = capability_becomes(alloc, users, GuestToHost, parts, parts)?;
-    assert!(rt; stays && refusal == wanted, "{users:?} {parts:?}");
     Ok(())
 }
 
 #[test]
 fn revision_2_goes_across_where_root_stays(rt: HostRuntime) -> Result<(), Fail> {
-    let moved = Some(CapabilityError::RootMoves);
-    let forbidden = Some(CapabilityError::Forbidden);
-    for parts in REVISION_2 {
-        check_revision_2(&rt, rt.alloc(), &[], parts, None)?;
-        check_revision_2(&rt, rt.alloc(), &["map:1:100001:65535"], parts, None)?;
-        check_revision_2(&rt, rt.alloc(), SHIFTED.users, parts, moved)?;
-        check_revision_2(&rt, rt.alloc(), &["forbid-guest:0:1"], parts, forbidden)?;
+    let alloc = rt.alloc();
+    for words in REVISION_2 {
+        let value = value_of(alloc, words)?;
+        for &(users, refusal) in &ROOTS {
+            check_capability(&rt, alloc, users, GuestToHost, &value, &value, refusal)?;
+        }
     }
     Ok(())
 }
 
-/// A capability, and the same in revision 3 with root 100000: revision 1 has one word for each set.
-const WITH_ROOT: [(&[&str], &[&str]); 2] = [
-    (
-        &["01000002", "00040000", "00000000", "00000000", "00000000"],
-        &[
-            "01000003", "00040000", "00000000", "00000000", "00000000", "a0860100",
-        ],
-    ),
-    (
-        &["01000001", "00040000", "02000000"],
-        &[
-            "01000003", "00040000", "02000000", "00000000", "00000000", "a0860100",
-        ],
-    ),
-];
-
 #[test]
 fn writes_the_same_in_revision_3(rt: HostRuntime) -> Result<(), Fail> {
-    for &(parts, wanted) in &WITH_ROOT {
-        check_in_revision_3(&rt, rt.alloc(), GuestToHost, parts, wanted)?;
+    let (alloc, users) = (rt.alloc(), SHIFTED.users);
+    for &(from, to) in &WITH_ROOT {
+        let (from, to) = (value_of(alloc, from)?, value_of(alloc, to)?);
+        check_written(&rt, alloc, users, GuestToHost, &from, &to, None)?;
     }
     Ok(())
+}
+
+#[test]
+fn words_that_are_no_image_change_nothing(rt: HostRuntime) {
+    let mut value = [2, 0, 0, 0];
+    let mut room = [EntryRoom::new(); 0];
+    let mut written = [255; 24];
+    assert!(rt; translate_acl(&[], &[], GuestToHost, &mut value, &mut room).is_none());
+    assert!(rt; translate_capability(&[], GuestToHost, &mut value).is_none());
+    assert!(rt; write_revision_3(&[], GuestToHost, &value, &mut written).is_none());
+    assert!(rt; value == [2, 0, 0, 0] && written == [255; 24]);
+}
+
+#[test]
+fn sets_values_of_the_guest(rt: HostRuntime) -> Result<(), Fail> {
+    let (guest, host) = LISTS[0];
+    let guest = value_of(rt.alloc(), guest)?;
+    let host = value_of(rt.alloc(), host)?;
+    let set = set_on_host(rt.alloc(), b"system.posix_acl_access", &guest)?;
+    assert!(rt; set.as_deref() == Some(host.as_slice()));
+    let set = set_on_host(rt.alloc(), b"user.note", &guest)?;
+    assert!(rt; set.as_deref() == Some(guest.as_slice()));
+    let set = set_on_host(rt.alloc(), b"security.capability", &guest)?;
+    assert!(rt; set.is_none());
+    Ok(())
+}
+
+/// What becomes of a value of that name; `None` where it is refused.
+fn set_on_host(alloc: Global, name: &[u8], value: &[u8]) -> Result<Option<Vec<u8>>, Fail> {
+    let name = XattrName::new(name).ok_or("a name holds a zero")?;
+    let users = users_of(alloc, SHIFTED.users).ok_or("no map")?;
+    let groups: IdMap<GuestGid, HostGid> = IdMap::empty(alloc);
+    let mut value = value.to_vec(alloc)?;
+    let mut room = [EntryRoom::new(); 8];
+    let is_set = set_by_guest(&users, &groups, name, value.as_mut_slice(), &mut room);
+    Ok(is_set.then_some(value))
 }

@@ -1,12 +1,8 @@
-//! Texts and names as nobody writes them but to do harm: very large, very many, or with one
-//! character changed. Each is answered, or refused with its own fault.
+//! Texts and names as nobody writes them but to do harm: very large, or very many. Each is
+//! answered, or refused with its own fault.
 //!
-//! The large ones are made when a test runs. A proof says that every text is answered rightly;
-//! these tests see that it is done in time, with the memory of an ordinary machine and without deep
-//! recursion.
+//! They are made when a test runs. A proof says that every text is answered rightly; these tests
+//! see that it is done in time, with the memory of an ordinary machine and without deep recursion.
 
-mod changed;
-mod grammars;
 mod large;
 mod many;
-mod names;

@@ -1,14 +1,9 @@
-//! Tests of the library `virtiofs_map`, by its public calls alone.
+//! Tests of the library `virtiofs_map`, by its public calls alone: they say what no contract says.
 //!
-//! Modules that are named as one of the library have known inputs of it, each with its answer. They
-//! also run the code of the crate `virtiofs_map_callers`, which calls the library as a daemon does:
-//! its contracts are proved there. The other modules show what the library does at its limits:
-//!
-//! - `refused`: each request for memory of each call is refused in turn.
-//! - `without_memory`: the calls that take no memory, under an allocator that grants none.
-//! - `hostile`: large texts, many rules and specifications, and texts with one character changed.
-//!
-//! There is nothing here but tests.
+//! Modules that are named as one of the library have known inputs with their answers, and printed
+//! texts. They also run the crate `virtiofs_map_callers`, which calls the library as a daemon does.
+//! `refused` refuses each request for memory of each call in turn. `without_memory` has the calls
+//! that take none. `hostile` has large texts and names, many rules and many specifications.
 #![tactic(auto)]
 
 #[cfg(test)]
@@ -17,6 +12,8 @@ mod acl;
 mod audit;
 #[cfg(test)]
 mod cmdline;
+#[cfg(test)]
+mod common;
 #[cfg(test)]
 mod hostile;
 #[cfg(test)]
@@ -29,8 +26,6 @@ mod idmap;
 mod refused;
 #[cfg(test)]
 mod soft_idmap;
-#[cfg(test)]
-mod told;
 #[cfg(test)]
 mod without_memory;
 #[cfg(test)]

@@ -2,45 +2,154 @@
 //! call's own form, or with the answer that it has with ample memory, and gives back all that it
 //! was granted. A map that was asked keeps its answers.
 
-mod asked;
-mod ids;
-mod maps;
-mod questions;
-mod tables;
+mod calls;
 
-use asked::Asked;
+use Asked::{
+    FromSpecs, FromStr, IdsApart, IsAlone, Of, Reached, ReachesAny, Rules, TryFrom, WriteImage,
+    WrittenRules,
+};
+use Question::{
+    Apart, ApartWithin, Audit, AuditCounted, AuditListed, Client, Cloned, ListedWithin, Server,
+    Shares, SharesWithin, Within,
+};
+pub(crate) use calls::Heap;
+use calls::{Asked, Question};
 use rationed::{Verdict, refuse_in_turn};
 use std::alloc::Global;
 use std::process::Abort;
-use std::test::Fail;
-use tables::{MAY_TAKE, TAKE, TAKE_NONE};
 
-/// Refuses each request of a call in turn, and gives how many it makes.
-fn requests_of(rt: &impl Abort, heap: Global, asked: &Asked) -> u64 {
-    let verdict = refuse_in_turn(heap, asked);
-    let Verdict::Passed { requests } = verdict else {
-        panic!(rt; "{asked:?}: {verdict:?}");
-    };
-    requests
-}
+/// Calls that cannot do without memory.
+static TAKE: [Asked; 72] = [
+    FromStr("foo:x"),
+    FromStr("foo:1"),
+    FromStr("foo"),
+    FromStr(":0:1:2"),
+    FromStr("map-0:1"),
+    FromStr("map:1:2"),
+    FromStr("forbid-guest:1:2:3"),
+    FromStr("map:0:1000:10"),
+    FromStr("map:-0:1:2"),
+    TryFrom(MEETING),
+    TryFrom(MIXED),
+    TryFrom("host:5000:1:2|squash-guest:20:7:5|map:0:1000:10"),
+    WriteImage(MEETING),
+    WriteImage(MIXED),
+    FromSpecs(MEETING),
+    FromSpecs(MIXED),
+    FromSpecs("squash-guest:20:7:5|host:5000:1:2|map:0:1000:10"),
+    FromSpecs("map:0:1000:10|squash-guest:20:7:5|host:5000:1:2"),
+    FromSpecs("map:0:1000:10|host:5000:1:2|squash-guest:20:7:5"),
+    FromSpecs("host:5000:1:2|squash-guest:20:7:5|map:0:1000:10"),
+    FromSpecs("host:5000:1:2|map:0:1000:10|squash-guest:20:7:5"),
+    FromSpecs("guest:0:100:10|guest:5:200:1|map:1:2"),
+    IsAlone(TEN),
+    IsAlone("squash-guest:20:7:5|guest:0:1000:10"),
+    IdsApart(TEN, "map:0:2000:10|forbid-guest:10:4294967285"),
+    IdsApart("squash-guest:20:7:5", "map:0:1000:10"),
+    Reached(TEN),
+    Reached("squash-guest:20:7:5|guest:0:1000:10"),
+    ReachesAny(TEN),
+    Rules("xokxallxxx"),
+    Rules(THREE),
+    Rules(":ok:all:::\u{a0}ok\u{a0}all\u{a0}\u{a0}\u{a0}"),
+    Rules(":bad:all:x:y: :map::P: :ok:all:::"),
+    Rules(":\u{170}refix:all:::"),
+    Rules(":ok:nope:::"),
+    Rules(LABELS),
+    Rules(":map::user.virtiofs.:"),
+    Rules(":TOMATOPIRATE:trusted.:virtiofs.user.:"),
+    WrittenRules(":bad:all:x:y: :map::P: :ok:all:::"),
+    WrittenRules(LABELS),
+    Of("xokxallxxx", Cloned),
+    Of(THREE, Cloned),
+    Of(LABELS, Cloned),
+    Of(LABELS, Client("trusted.a")),
+    Of(":map::user.virtiofs.:", Client("")),
+    Of(LABELS, Server("trusted.b\0")),
+    Of(LABELS, Server("user.virtiofs.foo\0")),
+    Of(
+        LABELS,
+        Server("user.virtiofs.a\0trusted.b\0c\0user.virtiofs."),
+    ),
+    Of(LABELS, Server("")),
+    Of(":ok:server::a:", Server("a1\0b\0a2\0")),
+    Of(LABELS, Audit),
+    Of(LOSING, Audit),
+    Of(":bad:server::u.xy: :prefix:all::u.:", Audit),
+    Of(":ok:client:::", Audit),
+    Of(LABELS, AuditCounted),
+    Of(LOSING, AuditCounted),
+    Of(LABELS, AuditListed),
+    Of(":map::a.:", AuditListed),
+    Of(":bad:client:xy:: :prefix:all::u.:", AuditListed),
+    Of(":ok:server:::", AuditListed),
+    Of(":map::a.:", Apart(":map::b.:")),
+    Of(":map::a.:", Apart(":map::a.b.:")),
+    Of(":map::a.:", Shares(":map::b.:")),
+    Of(":map::a.:", Shares(":map::a.b.:")),
+    Of(":ok:client:::", Shares(":prefix:client:k:p.: :bad:all:::")),
+    Of(LABELS, Within("trusted.")),
+    Of(":ok:client:::", Within("user.")),
+    Of(LABELS, ListedWithin("user.")),
+    Of(":map::a.:", ApartWithin("b", ":map::a.b.:")),
+    Of(":map:trusted.:a.:", ApartWithin("trusted.", ":map::b.:")),
+    Of(":map::a.:", SharesWithin("b", ":map::a.b.:")),
+    Of(":map::a.:", SharesWithin("c", ":map::b.:")),
+];
+
+/// Calls that may take memory or do without.
+static MAY_TAKE: [Asked; 11] = [
+    FromStr(""),
+    TryFrom("guest:0:1:0"),
+    WriteImage("guest:0:1:0"),
+    Rules(" "),
+    Rules(":"),
+    Rules(":prefix:all:a:b"),
+    Rules(":ok:all:a\0:"),
+    Rules(":ok:all:a\0"),
+    Of(":bad:all:::", Audit),
+    Of(":bad:all:::", AuditCounted),
+    Rules(":map:trusted.:virtiofs.user.::map:trusted.:virtiofs.user.:"),
+];
+
+/// Calls that take no memory, though they are handed an allocator.
+static TAKE_NONE: [Asked; 4] = [
+    Of(LABELS, Client("user.virtiofs.a")),
+    Of(LABELS, Client("c")),
+    Of(":unsupported:client:a:: :ok:all:::", Client("ab")),
+    Of(":ok:server::a:", Client("a1")),
+];
+
+const MEETING: &str = "guest:0:100:10|guest:5:200:1";
+
+const MIXED: &str = "squash-guest:20:7:5|map:0:1000:10|host:5000:1:2";
+
+const TEN: &str = "map:0:1000:10|forbid-guest:10:4294967285";
+
+const THREE: &str = ":ok:all:::\u{a0}ok\u{a0}all\u{a0}\u{a0}\u{a0}:ok:all:::";
+
+const LABELS: &str = ":map:trusted.:user.virtiofs.:";
+
+const LOSING: &str = ":prefix:client:trusted.:user.: :ok:all:::";
 
 #[test]
-fn calls_that_take_memory(rt: HostRuntime) -> Result<(), Fail> {
+fn calls_that_take_memory(rt: HostRuntime) {
     for asked in &TAKE {
         let requests = requests_of(&rt, rt.alloc(), asked);
-        println!(rt; "{requests} requests: {asked:?}")?;
-        assert!(rt; requests > 0, "{asked:?} makes no request");
+        // A list is made with one request.
+        let most = match asked {
+            Of(_, Server(_)) => 1,
+            _ => u64::MAX,
+        };
+        assert!(rt; 0 < requests && requests <= most, "{requests}: {asked:?}");
     }
-    Ok(())
 }
 
 #[test]
-fn calls_that_may_take_memory(rt: HostRuntime) -> Result<(), Fail> {
+fn calls_that_may_take_memory(rt: HostRuntime) {
     for asked in &MAY_TAKE {
-        let requests = requests_of(&rt, rt.alloc(), asked);
-        println!(rt; "{requests} requests: {asked:?}")?;
+        let _requests = requests_of(&rt, rt.alloc(), asked);
     }
-    Ok(())
 }
 
 #[test]
@@ -49,4 +158,13 @@ fn calls_that_take_no_memory(rt: HostRuntime) {
         let requests = requests_of(&rt, rt.alloc(), asked);
         assert!(rt; requests == 0, "{asked:?} makes {requests} requests");
     }
+}
+
+/// Refuses each request of a call in turn, and gives how many it makes.
+fn requests_of(rt: &impl Abort, heap: Global, asked: &Asked) -> u64 {
+    let verdict = refuse_in_turn(heap, asked);
+    let Verdict::Passed { requests } = verdict else {
+        panic!(rt; "{asked:?}: {verdict:?}");
+    };
+    requests
 }

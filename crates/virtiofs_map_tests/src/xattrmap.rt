@@ -1,7 +1,5 @@
-//! Tests of the maps of attribute names.
+//! Maps of attribute names: their texts, names of the guest, and lists of the host.
 
 mod client;
-mod example;
-mod listed;
 mod server;
 mod texts;

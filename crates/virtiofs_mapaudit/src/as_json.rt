@@ -16,6 +16,9 @@ use std::alloc::{AllocError, Global};
 use virtiofs_options::front::Asked;
 use writer::Writer;
 
+/// The version of the schema, which is the first digit of the program's.
+const SCHEMA: usize = 2;
+
 /// Writes what is found of ids of one kind.
 fn write_kind(json: &mut Writer, guest: usize, kind: IdKind, found: &Option<KindFindings>) {
     let Some(found) = found else {
@@ -124,6 +127,7 @@ fn write_report(
     refusals: &str,
 ) {
     json.begin_object();
+    write_count(json, "schema", SCHEMA);
     json.key("guests");
     write_all_shown(alloc, json, asked, sets);
     json.key("findings");

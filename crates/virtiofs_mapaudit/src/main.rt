@@ -29,7 +29,7 @@ use virtiofs_options::guest::Guest;
 use virtiofs_options::words::{Words, read_words};
 
 const USAGE: &str = "usage: virtiofs_mapaudit [OPTIONS] [-- COMMAND LINE OF THE DAEMON]..
-virtiofs_mapaudit(1) says more: man -l docs/virtiofs_mapaudit.1
+virtiofs_mapaudit(1) says more: man virtiofs_mapaudit
 ";
 
 /// Audits what the program's arguments set up, and writes what it finds to standard output. Texts

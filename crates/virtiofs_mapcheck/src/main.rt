@@ -35,7 +35,7 @@ const USAGE: &str = "usage: virtiofs_mapcheck ids SPEC.. ask QUERY..
        virtiofs_mapcheck terminated RULES
        virtiofs_mapcheck audit RULES
        virtiofs_mapcheck apart RULES RULES
-virtiofs_mapcheck(1) says what each form answers: man -l docs/virtiofs_mapcheck.1
+virtiofs_mapcheck(1) says what each form answers: man virtiofs_mapcheck
 ";
 
 /// Answers the program's arguments on standard output.

@@ -90,7 +90,7 @@ fn of_daemon<'a>(alloc: Global, command: Command<'a>) -> Result<Command<'a>, All
 /// The program, with no options yet.
 fn program<'a>(alloc: Global) -> Command<'a> {
     Command::new(alloc, "virtiofs_mapaudit")
-        .version("1.0")
+        .version("2.0.0")
         .about(
             "Says what the options of a virtiofsd do to ids and names, and what is wrong with them.",
         )

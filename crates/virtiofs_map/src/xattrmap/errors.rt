@@ -111,7 +111,7 @@ impl<A: Allocator> fmt::Display for ErrorKind<A> {
                 let name = name_of(*pattern);
                 write!(f, "{name} holds NUL")
             }
-            ErrorKind::OutOfMemory => write!(f, "out of memory"),
+            ErrorKind::OutOfMemory => write!(f, "Out of memory"),
         }
     }
 }

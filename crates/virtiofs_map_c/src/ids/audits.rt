@@ -1,5 +1,5 @@
 //! Decisions about all ids that arrays of specifications map.
-ghost use Rattle.std.specs.Prelude.{◌≡◌, ◌↔◌, List, IsTrue, false};
+ghost use Rattle.std.specs.Prelude.{◌≡◌, ◌↔◌, List, IsTrue, true, false};
 ghost use Rattle.virtiofs_map.specs.IdAudit.{IsAstray, ComesBack, IsShared, IsAlone, GoesInto, Between, ReachedBy, AreIdsApart};
 ghost use Rattle.virtiofs_map.specs.declared.cmdline.IdMap.{IdMap as Specification};
 ghost use Rattle.virtiofs_map_c.specs.Arrays.{AreSaid, ArrayFault, HasArrayFault};
@@ -30,7 +30,7 @@ fn write(least: Option<IdsFound>, found: &mut IdsFound) -> bool
 
 /// Whether each id comes back: what it becomes on the host becomes that id again.
 #[unsafe(no_mangle)]
-pub extern "C" fn virtiofs_map_ids_come_back(
+pub extern "C" fn virtiofs_map_ids_comes_back(
     alloc: Global,
     specs: &[Spec],
     yes: &mut bool,
@@ -66,7 +66,7 @@ pub extern "C" fn virtiofs_map_ids_come_back(
 
 /// Whether each id has an id of the host of its own.
 #[unsafe(no_mangle)]
-pub extern "C" fn virtiofs_map_ids_alone(
+pub extern "C" fn virtiofs_map_ids_is_alone(
     alloc: Global,
     specs: &[Spec],
     yes: &mut bool,
@@ -100,9 +100,10 @@ pub extern "C" fn virtiofs_map_ids_alone(
     }
 }
 
-/// Whether some id becomes an id of the host from `first` to `last`.
+/// Whether some id becomes an id of the host from `first` to `last`. A call that fails says that one
+/// may: whoever looks at the answer alone is then not told that none does.
 #[unsafe(no_mangle)]
-pub extern "C" fn virtiofs_map_ids_reach(
+pub extern "C" fn virtiofs_map_ids_reaches(
     alloc: Global,
     specs: &[Spec],
     first: u32,
@@ -116,7 +117,7 @@ pub extern "C" fn virtiofs_map_ids_reach(
         → TellsReach (GoesInto list (Between first last)) (IsReachTold list)
         yes.new found.old found.new }
     ensures no_fault { result ≡ ok → fault.new ≡ no_fault }
-    ensures keeps { (¬ result ≡ ok) → (yes.new ≡ false) × (found.new ≡ found.old) }
+    ensures keeps { (¬ result ≡ ok) → (yes.new ≡ true) × (found.new ≡ found.old) }
     ensures refused { (¬ result ≡ ok) →
         TellsFault (HasArrayFault specs.now) (IsArrayTold result fault.new) }
     ensures complete { IsAccepted specs.now
@@ -131,7 +132,7 @@ pub extern "C" fn virtiofs_map_ids_reach(
             OK
         }
         Err(error) => {
-            *yes = false;
+            *yes = true;
             tell(&error, fault)
         }
     }

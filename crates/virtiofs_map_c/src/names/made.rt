@@ -4,7 +4,7 @@ ghost use Rattle.virtiofs_map.specs.Refusal.{OutOfMemoryOr};
 ghost use Rattle.virtiofs_map.specs.Rule.{MappingRule};
 ghost use Rattle.virtiofs_map_c.specs.Names.{TellsNames};
 ghost use Rattle.virtiofs_map_c.specs.Rules.{BytesSayRules, OfRules, HasBytesFault, bytes_fault_of, bytes_told, bytes_quoted, IsBytesTold};
-ghost use Rattle.virtiofs_map_c.specs.Codes.{rule};
+ghost use Rattle.virtiofs_map_c.specs.Codes.{no_part, rule};
 ghost use Rattle.virtiofs_map_c.specs.Faults.{told_at, failure_code};
 ghost use Rattle.virtiofs_map_c.specs.Replies.{IsQuoted};
 ghost use Rattle.virtiofs_map.specs.RulesFault.{fault_at};
@@ -12,7 +12,7 @@ ghost use Rattle.std.specs.Option.{option_map};
 
 use super::reading::ReadError;
 use crate::buffer::{Quoted, quote};
-use crate::codes::{NO_MEMORY, NO_ROOM, OK, REFUSED, RULE};
+use crate::codes::{NO_MEMORY, NO_PART, NO_ROOM, OK, REFUSED, RULE};
 use crate::fault::Fault;
 use std::alloc::Global;
 use virtiofs_map::xattrmap::image::ImageWritten;
@@ -68,6 +68,13 @@ fn of_text(kind: u32) -> Fault
     Fault::at(kind, RULE, 0, Quoted::nothing())
 }
 
+/// That a request for memory was refused.
+fn of_memory() -> Fault
+    ensures { result ≡ told_at 1 no_part 0 0 0 }
+{
+    Fault::at(1, NO_PART, 0, Quoted::nothing())
+}
+
 /// What C is told of an error that blames a rule.
 fn told_of_rule(number: usize, cause: &ErrorKind, quoted: &mut [u8]) -> Fault
     ensures told { result ≡ bytes_told
@@ -101,7 +108,7 @@ fn told_of_none(cause: &ErrorKind) -> Fault
 {
     match cause {
         ErrorKind::NoRulesProvided => of_text(16),
-        ErrorKind::OutOfMemory => of_text(1),
+        ErrorKind::OutOfMemory => of_memory(),
         ErrorKind::InvalidScope { .. } => Fault::none(),
         ErrorKind::InvalidType { .. } => Fault::none(),
         ErrorKind::IncompleteRule => Fault::none(),
@@ -119,7 +126,7 @@ fn told(error: &ReadError, quoted: &mut [u8]) -> Fault
 {
     match error {
         ReadError::NotUtf8 => of_text(2),
-        ReadError::OutOfMemory => of_text(1),
+        ReadError::OutOfMemory => of_memory(),
         ReadError::Rules(error) => match error.rule {
             None => told_of_none(&error.cause),
             Some(number) => told_of_rule(number, &error.cause, quoted),

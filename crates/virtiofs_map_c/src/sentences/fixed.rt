@@ -2,16 +2,15 @@
 ghost use Rattle.std.specs.Prelude.{◌≡◌};
 ghost use Rattle.virtiofs_map_c.specs.FaultText.{fixed_text, number_text};
 
-use crate::codes::{CAPABILITY_VALUE, RULE};
+use crate::codes::CAPABILITY_VALUE;
 
-/// The sentence of a kind that has only one for each part: rules and ids have each their own for
-/// memory, and lists and capabilities for a length.
+/// The sentence of a kind that has only one for each part: lists and capabilities have each their
+/// own for a length.
 pub fn fixed_words(part: u32, kind: u32) -> &'static str
     ensures { result.now ≡ fixed_text part kind }
 {
     match kind {
         0 => "there is no fault",
-        1 if part == RULE => "out of memory",
         1 => "Out of memory",
         2 => "the text is not UTF-8",
         3 => "there is no such kind",

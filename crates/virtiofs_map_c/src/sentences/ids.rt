@@ -4,13 +4,13 @@ ghost use Rattle.std.specs.Fmt.{decimal};
 ghost use Rattle.virtiofs_map.specs.Mapping.{entry_of};
 ghost use Rattle.virtiofs_map.specs.Printed.{range_text, direction_text, specification_text, set_up_text};
 ghost use Rattle.virtiofs_map.specs.declared.soft_idmap.entry.Direction.TheVariants.{GuestToHost, HostToGuest};
-ghost use Rattle.virtiofs_map_c.specs.FaultText.{direction_of, said_text, said_entry_text, overflow_text, intersects_text, length_text, number_text};
+ghost use Rattle.virtiofs_map_c.specs.FaultText.{escaped, direction_of, said_text, said_entry_text, overflow_text, intersects_text, length_text, number_text};
 ghost use Rattle.virtiofs_map_c.specs.Arrays.{said};
 ghost use Rattle.virtiofs_map_c.specs.FrontParts.{Writes};
 
 use super::fixed::number_words;
 use crate::arrays::{Spec, read};
-use crate::front::{put, say, say_number};
+use crate::front::{put_escaped, say, say_number};
 use virtiofs_map::cmdline;
 use virtiofs_map::soft_idmap::Direction;
 
@@ -45,10 +45,11 @@ pub fn say_intersects(spec: &Spec, direction: Direction, out: &mut [u8], len: &m
 
 /// Writes that a word is none of the six.
 pub fn say_prefix(word: &[u8], out: &mut [u8], len: &mut usize)
-    ensures { Writes (codes "Invalid ID map prefix " ++ word.now) len.old out.old len.new out.new }
+    ensures { Writes (codes "Invalid ID map prefix " ++ escaped word.now)
+        len.old out.old len.new out.new }
 {
     say("Invalid ID map prefix ", out, len);
-    put(word, out, len);
+    put_escaped(word, out, len);
 }
 
 /// Writes that a word takes another count of numbers.
@@ -65,11 +66,11 @@ pub fn say_length(expected: usize, seen: usize, out: &mut [u8], len: &mut usize)
 /// Writes that a field is no number below 2^32.
 pub fn say_value(field: &[u8], number: u32, out: &mut [u8], len: &mut usize)
     ensures { Writes
-        (codes "Invalid value " ++ field.now ++ codes " in ID map: " ++ number_text number)
+        (codes "Invalid value " ++ escaped field.now ++ codes " in ID map: " ++ number_text number)
         len.old out.old len.new out.new }
 {
     say("Invalid value ", out, len);
-    put(field, out, len);
+    put_escaped(field, out, len);
     say(" in ID map: ", out, len);
     say(number_words(number), out, len);
 }

@@ -1,111 +1,110 @@
-//! Texts of 1 MiB: a character takes some microseconds in a build that is not optimized.
-//! `tests/embedding/large.rs` reads such texts of 16 MiB, in an optimized build.
+//! Texts of 1 MiB, and names of 64 KiB: a character takes some microseconds in this build.
+//! `tests/embedding/large.c` reads such texts of 16 MiB, in an optimized build.
 
-use crate::hostile::grammars::{Grammar, fault_of};
-use Grammar::{Namespace, Rules, Specification};
-use std::alloc::Global;
+use crate::common::first;
+use std::alloc::{AllocError, Global};
 use std::process::Abort;
-use virtiofs_map::Steps;
-use virtiofs_map::xattrmap::{Side, XattrMap, XattrName};
+use std::test::Fail;
+use virtiofs_map::cmdline;
+use virtiofs_map::idmap::{IdMapError, UidMap};
+use virtiofs_map::xattrmap::{AppliedRule, Side, XattrMap, XattrName};
 
-/// A text that has a character of one byte 1,048,576 times between two texts; `None` where memory ends.
-fn large(alloc: Global, front: &str, c: &str, back: &str) -> Option<String> {
-    let piece = c.repeat(alloc, 1024).ok()?;
-    let all = piece.repeat(alloc, 1024).ok()?;
-    format!(in alloc; "{front}{all}{back}").ok()
-}
+/// A text's front, a character that comes after it over and over, its back, and how the text of the
+/// fault begins: one word, one field, nothing but separators.
+type Row = (&'static str, &'static str, &'static str, &'static str);
 
-/// A text, a character that comes after it over and over, a text after that, and the fault of the
-/// whole.
-type Row = (&'static str, &'static str, &'static str, char);
-
-/// One word; one word before a number; one field; nothing but separators, blanks or zeros.
-static SPECIFICATIONS: [Row; 6] = [
-    ("", "a", "", '0'),
-    ("", "a", ":0", 'p'),
-    ("map:", "9", ":0:1", 'v'),
-    ("", ":", "", 'v'),
-    ("", " ", "", 'v'),
-    ("", "\0", "", 'v'),
+static SPECIFICATIONS: [Row; 4] = [
+    ("", "a", "", "Invalid ID map length"),
+    ("", "a", ":0", "Invalid ID map prefix aaa"),
+    ("map:", "9", ":0:1", "Invalid value 999"),
+    ("", ":", "", "Invalid value  in"),
 ];
 
-/// One word, one field, nothing but delimiters, nothing but blanks.
-static RANGES: [Row; 4] = [
-    ("", "a", "", 'd'),
-    (":0:", "9", ":1:", 'v'),
-    ("", ":", "", 'i'),
-    ("", " ", "", 'i'),
-];
-
-/// One word; one field that is not closed; a key of zeros; nothing but delimiters; one field that is
-/// closed; nothing but blanks.
 static RULES: [Row; 6] = [
-    ("", "a", "", 't'),
-    (":ok:", "a", "", 'i'),
-    (":ok:all:", "\0", "::", 'k'),
-    ("", ":", "", 't'),
-    (":ok:", "a", ":::", 's'),
-    ("", " ", "", 'e'),
+    ("", "a", "", "rule 1: invalid type ''"),
+    (":ok:", "a", "", "rule 1: the rule is incomplete"),
+    (":ok:all:", "\0", "::", "rule 1: Key holds NUL"),
+    ("", ":", "", "rule 1: invalid type ''"),
+    (":ok:", "a", ":::", "rule 1: invalid scope 'aaa"),
+    ("", " ", "", "there are no rules"),
 ];
 
-fn assert_fault(rt: &impl Abort, alloc: Global, grammar: Grammar, row: &Row) {
-    let (front, c, back, wanted) = *row;
-    let Some(text) = large(alloc, front, c, back) else {
-        panic!(rt; "memory ends");
-    };
-    let told = fault_of(alloc, grammar, text.as_str());
-    assert!(rt; told == wanted, "{told} of {grammar:?} {row:?}");
-}
-
-fn assert_faults(rt: &impl Abort, alloc: Global, grammar: Grammar, rows: &[Row]) {
-    for row in rows {
-        assert_fault(rt, alloc, grammar, row);
+#[test]
+fn large_specifications_are_refused(rt: HostRuntime) -> Result<(), Fail> {
+    for &(front, c, back, wanted) in &SPECIFICATIONS {
+        let text = large(rt.alloc(), front, c, back)?;
+        let read = cmdline::IdMap::from_str(rt.alloc(), text.as_str());
+        let said = read.err().ok_or("read")?.to_string(rt.alloc())?;
+        assert!(rt; said.starts_with(wanted), "{wanted}");
     }
+    Ok(())
 }
 
 #[test]
-fn large_specifications_are_refused(rt: HostRuntime) {
-    assert_faults(&rt, rt.alloc(), Specification, &SPECIFICATIONS);
+fn large_ranges_are_refused(rt: HostRuntime) -> Result<(), Fail> {
+    let text = large(rt.alloc(), "", ":", "")?;
+    let fault = UidMap::from_str(text.as_str()).err();
+    assert!(rt; fault == Some(IdMapError::IncompleteMap));
+    let text = large(rt.alloc(), ":0:", "9", ":1:")?;
+    let fault = UidMap::from_str(text.as_str()).err();
+    assert!(rt; matches!(fault, Some(IdMapError::InvalidValue(_))));
+    Ok(())
 }
 
 #[test]
-fn large_ranges_are_refused(rt: HostRuntime) {
-    assert_faults(&rt, rt.alloc(), Namespace, &RANGES);
-}
-
-#[test]
-fn large_rules_are_refused(rt: HostRuntime) {
-    assert_faults(&rt, rt.alloc(), Rules, &RULES);
-}
-
-/// The position of the rule that decides a name of the guest, and how many steps it took to find.
-fn deciding(map: &XattrMap, name: &str) -> (Option<usize>, u64) {
-    let mut steps = Steps::new();
-    let position = match XattrName::new(name.as_bytes()) {
-        Some(name) => map.first_rule(Side::Client, name, &mut steps),
-        None => None,
-    };
-    (position, steps.count())
-}
-
-/// The map of one rule with a large key, and of one for the other names.
-fn large_map(rt: &impl Abort, alloc: Global) -> XattrMap {
-    let Some(text) = large(alloc, ":bad:client:", "a", ":: :ok:all:::") else {
-        panic!(rt; "memory ends");
-    };
-    let Ok(map) = XattrMap::try_from(alloc, text.as_str()) else {
-        panic!(rt; "the rules are refused");
-    };
-    map
+fn large_rules_are_refused(rt: HostRuntime) -> Result<(), Fail> {
+    for &(front, c, back, wanted) in &RULES {
+        let text = large(rt.alloc(), front, c, back)?;
+        let read = XattrMap::try_from(rt.alloc(), text.as_str());
+        let said = read.err().ok_or("read")?.to_string(rt.alloc())?;
+        assert!(rt; said.starts_with(wanted), "{wanted}");
+    }
+    Ok(())
 }
 
 /// A walk along a large name counts one step for each byte, and one for the root.
 #[test]
-fn a_large_pattern_is_read(rt: HostRuntime) {
-    let map = large_map(&rt, rt.alloc());
-    let Some(name) = large(rt.alloc(), "", "a", "") else {
-        panic!(rt; "memory ends");
+fn a_large_pattern_is_read(rt: HostRuntime) -> Result<(), Fail> {
+    let text = large(rt.alloc(), ":bad:client:", "a", ":: :ok:all:::")?;
+    let map = XattrMap::try_from(rt.alloc(), text.as_str())?;
+    let name = large(rt.alloc(), "", "a", "")?;
+    let found = first(&map, Side::Client, name.as_str())?;
+    assert_eq!(rt; found, (Some(0), 1_048_577));
+    assert_eq!(rt; first(&map, Side::Client, "ab")?, (Some(1), 2));
+    Ok(())
+}
+
+/// Names of one byte over and over, and of every byte.
+#[test]
+fn names_of_64_kib_come_back(rt: HostRuntime) -> Result<(), Fail> {
+    let alike = vec![in rt.alloc(); 255; 65536]?;
+    let mut name = Vec::new(rt.alloc());
+    for at in 0..65536_usize {
+        name.push((at % 255 + 1) as u8)?;
+    }
+    for text in [":ok:all:::", ":map::user.virtiofs.:"] {
+        let map = XattrMap::try_from(rt.alloc(), text)?;
+        assert_back(&rt, rt.alloc(), &map, alike.as_slice())?;
+        assert_back(&rt, rt.alloc(), &map, name.as_slice())?;
+    }
+    Ok(())
+}
+
+/// A text that has a character of one byte 1,048,576 times between two texts.
+fn large(alloc: Global, front: &str, c: &str, back: &str) -> Result<String, AllocError> {
+    let piece = c.repeat(alloc, 1024)?;
+    let all = piece.repeat(alloc, 1024)?;
+    format!(in alloc; "{front}{all}{back}")
+}
+
+/// Sees that a name passes, with or without a prepend, and that it is listed back.
+fn assert_back(rt: &impl Abort, alloc: Global, map: &XattrMap, bytes: &[u8]) -> Result<(), Fail> {
+    let name = XattrName::new(bytes).ok_or("a name holds a zero")?;
+    let AppliedRule::Pass(passed) = map.map_client_xattr(alloc, name)? else {
+        return Err(Fail::from("the name does not pass"));
     };
-    assert!(rt; deciding(&map, name.as_str()) == (Some(0), 1_048_577));
-    assert!(rt; deciding(&map, "ab") == (Some(1), 2));
+    assert!(rt; passed.as_bytes().ends_with(bytes));
+    let listed = map.map_server_xattrlist(alloc, passed.as_bytes().to_vec(alloc)?)?;
+    assert!(rt; listed.as_slice().split_last() == Some((&0, bytes)));
+    Ok(())
 }

@@ -1,492 +1,220 @@
-//! Texts of rules, with the rules that they stand for or with what is wrong with them.
+//! Texts of rules: which mean the same, what is wrong with others, and which rule is the first.
 
+use crate::common::first;
 use std::alloc::{AllocError, Global};
 use std::process::Abort;
 use std::test::Fail;
-use virtiofs_map::Steps;
-use virtiofs_map::xattrmap::{Error, ErrorKind, PatternField, Side, XattrMap, XattrName};
+use virtiofs_map::xattrmap::Side::{self, Client, Server};
+use virtiofs_map::xattrmap::{Error, ErrorKind, PatternField, XattrMap};
 
-/// Whether a map equals the map of a text.
-fn is_map_of(alloc: Global, map: &XattrMap, text: &str) -> Result<bool, Fail> {
-    let other = XattrMap::try_from(alloc, text)?;
-    Ok(*map == other)
-}
-
-/// Whether the maps of two texts are equal.
-fn mean_the_same(alloc: Global, one: &str, other: &str) -> Result<bool, Fail> {
-    let map = XattrMap::try_from(alloc, one)?;
-    is_map_of(alloc, &map, other)
-}
-
-/// Whether the map of a text equals its clone.
-fn equals_its_clone(alloc: Global, text: &str) -> Result<bool, Fail> {
-    let map = XattrMap::try_from(alloc, text)?;
-    Ok(map.clone(alloc)? == map)
-}
-
-/// Two texts, and whether they mean the same.
-static COMPARED: [(&str, &str, bool); 16] = [
-    ("xokxallxxx", ":ok:all:::", true),
-    ("obadoallooo", ":bad:all:::", true),
-    ("obadoallooo", ":ok:all:::", false),
-    (
+/// Texts that mean the same, and not the same as those of other rows.
+static ALIKE: [&[&str]; 11] = [
+    &[":ok:all:::", "xokxallxxx", "\0ok\0all\0\0\0"],
+    &[
+        ":ok:all::::ok:all::::ok:all:::",
         ":ok:all:::\u{a0}ok\u{a0}all\u{a0}\u{a0}\u{a0}:ok:all:::",
-        ":ok:all::::ok:all::::ok:all:::",
-        true,
-    ),
-    (
         ":ok:all:::\u{b}ok\u{b}all\u{b}\u{b}\u{b}:ok:all:::",
-        ":ok:all::::ok:all::::ok:all:::",
-        true,
-    ),
-    (":ok:all::::ok:all:::", ":ok:all:::", false),
-    ("\0ok\0all\0\0\0", ":ok:all:::", true),
-    (
-        "\n        /prefix/all/trusted./user.virtiofs./\n        /bad/server//trusted./\n        /bad/client/user.virtiofs.//\n        /ok/all///\n        ",
-        ":prefix:all:trusted.:user.virtiofs.::bad:server::trusted.::bad:client:user.virtiofs.:::ok:all:::",
-        true,
-    ),
-    (
-        ":prefix:all:trusted.:user.virtiofs.: /prefix/all/trusted./user.virtiofs./",
-        ":prefix:all:trusted.:user.virtiofs.::prefix:all:trusted.:user.virtiofs.:",
-        true,
-    ),
-    (":map::P:   ", ":prefix:all::P::bad:all:::", true),
-    (
+    ],
+    &[":bad:all:::", "obadoallooo"],
+    &[":prefix:all::P::bad:all:::", ":map::P:   "],
+    &[":prefix:client:trusted.:user.virtiofs.:"],
+    &[":prefix:all:trusted.:user.virtiofs.:"],
+    &[":prefix:all:user.virtiofs.:trusted.:"],
+    &[
+        ":prefix:all::user.virtiofs.::bad:all:::",
         ":map::user.virtiofs.:",
-        ":prefix:all::user.virtiofs.::bad:all:::",
-        true,
-    ),
-    (
-        ":map:trusted.:user.virtiofs.:",
-        ":prefix:all::user.virtiofs.::bad:all:::",
-        false,
-    ),
-    (
-        ":map:trusted.:user.virtiofs.:",
+    ],
+    &[
+        ":prefix:all:trusted.:user.virtiofs.::bad:server::trusted.:\
+         :bad:client:user.virtiofs.:::ok:all:::",
+        "\n        /prefix/all/trusted./user.virtiofs./\n        /bad/server//trusted./\n        \
+         /bad/client/user.virtiofs.//\n        /ok/all///\n        ",
+    ],
+    &[
+        ":prefix:all:trusted.:user.virtiofs.::prefix:all:trusted.:user.virtiofs.:",
+        ":prefix:all:trusted.:user.virtiofs.: /prefix/all/trusted./user.virtiofs./",
+    ],
+    &[
         ":prefix:all:trusted.:user.virtiofs.: :bad:all:user.virtiofs.:trusted.: :ok:all:::",
-        true,
-    ),
-    (
-        ":prefix:client:trusted.:user.virtiofs.:",
-        ":prefix:all:trusted.:user.virtiofs.:",
-        false,
-    ),
-    (
-        ":unsupported:server::security.:",
-        ":bad:server::security.:",
-        false,
-    ),
-    (":ok:all:é:ü.:", ":ok:all:ü.:é:", false),
+        ":map:trusted.:user.virtiofs.:",
+    ],
 ];
 
 #[test]
 fn compares_by_what_rules_mean(rt: HostRuntime) -> Result<(), Fail> {
-    for &(one, other, wanted) in &COMPARED {
-        assert_eq!(rt;
-            mean_the_same(rt.alloc(), one, other)?,
-            wanted,
-            "{one:?} {other:?}"
-        );
-        assert!(rt; equals_its_clone(rt.alloc(), one)?, "the clone of {one:?}");
+    for (row, texts) in ALIKE.iter().enumerate() {
+        for text in *texts {
+            let map = XattrMap::try_from(rt.alloc(), text)?;
+            assert!(rt; map.clone(rt.alloc())? == map, "the clone of {text:?}");
+            assert_alike(&rt, rt.alloc(), &map, row)?;
+        }
     }
     Ok(())
 }
 
-/// What is to be wrong with a text.
-#[derive(Clone, Copy)]
-enum Wrong {
-    Scope(&'static str),
-    Type(&'static str),
-    Incomplete,
-    AfterMap,
-    Nothing,
-    Nul(PatternField),
-}
+const INCOMPLETE: &str = "the rule is incomplete";
 
-fn cause_of(alloc: Global, wrong: Wrong) -> Result<ErrorKind, AllocError> {
-    Ok(match wrong {
-        Wrong::Scope(got) => ErrorKind::InvalidScope {
-            got: String::from_str(alloc, got)?,
-            expected: "all, client, server",
-        },
-        Wrong::Type(got) => ErrorKind::InvalidType {
-            got: String::from_str(alloc, got)?,
-            expected: "prefix, ok, bad, map",
-        },
-        Wrong::Incomplete => ErrorKind::IncompleteRule,
-        Wrong::AfterMap => ErrorKind::MapRuleViolation,
-        Wrong::Nothing => ErrorKind::NoRulesProvided,
-        Wrong::Nul(pattern) => ErrorKind::NulInPattern { pattern },
-    })
-}
+const LAST: &str = "a map rule has to stand last";
 
-fn assert_fault(
-    rt: &impl Abort,
-    alloc: Global,
-    text: &str,
-    wrong: Wrong,
-    rule: Option<usize>,
-) -> Result<(), Fail> {
-    let cause = cause_of(alloc, wrong)?;
-    let error = XattrMap::try_from(alloc, text).err();
-    assert_eq!(rt; error, Some(Error { cause, rule }), "of {text:?}");
-    Ok(())
-}
-
-/// A text, what is wrong with it, and the number of the rule at fault.
-static FAULTS: [(&str, Wrong, Option<usize>); 24] = [
-    (" ", Wrong::Nothing, None),
-    (":", Wrong::Incomplete, Some(1)),
+/// A text that says no rules, the number of the rule at fault, and what is printed of it.
+static FAULTS: [(&str, usize, &str); 17] = [
+    (":", 1, INCOMPLETE),
     (
         ":ok:all:::\u{a0}ok\u{a0}all\u{a0}\u{a0}\u{a0}",
-        Wrong::Incomplete,
-        Some(2),
+        2,
+        INCOMPLETE,
     ),
-    (
-        ":ok:all:::\u{b}ok\u{b}all\u{b}\u{b}\u{b}",
-        Wrong::Incomplete,
-        Some(2),
-    ),
-    (":ok:all:::\u{feff}", Wrong::Incomplete, Some(2)),
-    ("\u{feff}:ok:all:::", Wrong::Incomplete, Some(1)),
-    (":map::P:\u{200b}", Wrong::AfterMap, Some(1)),
-    (":prefix:all:a:b", Wrong::Incomplete, Some(1)),
-    (":prefix:client:hi", Wrong::Incomplete, Some(1)),
+    (":prefix:all:a:b", 1, INCOMPLETE),
     (
         ":map:trusted.:virtiofs.user.::map:trusted.:virtiofs.user.:",
-        Wrong::AfterMap,
-        Some(1),
+        1,
+        LAST,
     ),
-    (
-        ":bad:all:x:y: :map::P: :ok:all:::",
-        Wrong::AfterMap,
-        Some(2),
-    ),
-    (":map::P: x", Wrong::AfterMap, Some(1)),
-    (":map:all:x:y:", Wrong::AfterMap, Some(1)),
-    (":ok:all:a\0:", Wrong::Nul(PatternField::Key), Some(1)),
-    (":ok:all:a\0", Wrong::Incomplete, Some(1)),
-    (":map:a\0:b\0:", Wrong::Nul(PatternField::Key), Some(1)),
-    (":map:a:b\0:", Wrong::Nul(PatternField::Prepend), Some(1)),
-    (":prefix:all:a:b\0", Wrong::Incomplete, Some(1)),
-    (":\u{170}refix:all:::", Wrong::Type("\u{170}refix"), Some(1)),
-    ("ookoallooo", Wrong::Type(""), Some(1)),
-    (
-        ":TOMATOPIRATE:trusted.:virtiofs.user.:",
-        Wrong::Type("TOMATOPIRATE"),
-        Some(1),
-    ),
-    (":ok:all::::bad:nope:::", Wrong::Scope("nope"), Some(2)),
-    (":ok:all::: :bad:nope\0:::", Wrong::Scope("nope\0"), Some(2)),
-    ("/prefix/helloworld///", Wrong::Scope("helloworld"), Some(1)),
+    (":bad:all:x:y: :map::P: :ok:all:::", 2, LAST),
+    (":ok:all:a\0:", 1, "Key holds NUL"),
+    (":ok:all:a\0", 1, INCOMPLETE),
+    (":map:a\0:b\0:", 1, "Key holds NUL"),
+    (":map:a:b\0:", 1, "Prepend holds NUL"),
+    (":prefix:all:a:b\0", 1, INCOMPLETE),
+    (":map::P: x", 1, LAST),
+    (":map:all:x:y:", 1, LAST),
+    (":ok:all:::\u{b}ok\u{b}all\u{b}\u{b}\u{b}", 2, INCOMPLETE),
+    (":ok:all:::\u{feff}", 2, INCOMPLETE),
+    ("\u{feff}:ok:all:::", 1, INCOMPLETE),
+    (":map::P:\u{200b}", 1, LAST),
+    (":prefix:client:hi", 1, INCOMPLETE),
+];
+
+/// A text of which the first rule has no such type, and what stands there.
+static TYPES: [(&str, &str); 3] = [
+    (":\u{170}refix:all:::", "\u{170}refix"),
+    ("ookoallooo", ""),
+    (":TOMATOPIRATE:trusted.:virtiofs.user.:", "TOMATOPIRATE"),
+];
+
+/// A text, the number of the rule that has no such scope, and what stands there.
+static SCOPES: [(&str, usize, &str); 3] = [
+    (":ok:all::::bad:nope:::", 2, "nope"),
+    (":ok:all::: :bad:nope\0:::", 2, "nope\0"),
+    ("/prefix/helloworld///", 1, "helloworld"),
 ];
 
 #[test]
 fn tells_the_first_fault(rt: HostRuntime) -> Result<(), Fail> {
-    for &(text, wrong, rule) in &FAULTS {
-        assert_fault(&rt, rt.alloc(), text, wrong, rule)?;
+    let alloc = rt.alloc();
+    assert_fault(&rt, alloc, " ", "there are no rules")?;
+    for &(text, rule, cause) in &FAULTS {
+        let printed = format!(in alloc; "rule {rule}: {cause}")?;
+        assert_fault(&rt, alloc, text, printed.as_str())?;
     }
-    Ok(())
-}
-
-/// A text of rules, and how many rules are written in it.
-static WRITTEN: [(&str, usize); 11] = [
-    (":ok:all:::", 1),
-    (":bad:all:::", 1),
-    (":prefix:client:a:b:", 1),
-    (":unsupported:server::b:", 1),
-    (":map::a.:", 1),
-    (":map:a:b:", 1),
-    (":ok:all::: :map::a.:", 2),
-    (":ok:all::: :map:a:b:", 2),
-    (":ok:all::::ok:all:::", 2),
-    ("/bad/all/// :ok:all:::\u{a0}", 2),
-    (
-        ":bad:client:a:: :ok:server::b: :prefix:all:c:d: :map:e:f:",
-        4,
-    ),
-];
-
-#[test]
-fn counts_the_rules_as_they_are_written(rt: HostRuntime) -> Result<(), Fail> {
-    for &(text, wanted) in &WRITTEN {
-        let written = XattrMap::written_rules(rt.alloc(), text)?;
-        assert_eq!(rt; written, wanted, "of {text:?}");
+    for &(text, got) in &TYPES {
+        let types = "prefix, ok, bad, map";
+        let printed = format!(in alloc; "rule 1: invalid type '{got}', expected one of: {types}")?;
+        assert_fault(&rt, alloc, text, printed.as_str())?;
     }
-    Ok(())
-}
-
-/// Asserts that a count of the rules of a text fails as a reading of it does.
-fn assert_uncounted(
-    rt: &impl Abort,
-    alloc: Global,
-    text: &str,
-    wrong: Wrong,
-    rule: Option<usize>,
-) -> Result<(), Fail> {
-    let cause = cause_of(alloc, wrong)?;
-    let error = XattrMap::written_rules(alloc, text).err();
-    assert_eq!(rt; error, Some(Error { cause, rule }), "of {text:?}");
-    Ok(())
-}
-
-#[test]
-fn counts_no_rules_of_a_text_at_fault(rt: HostRuntime) -> Result<(), Fail> {
-    assert_uncounted(&rt, rt.alloc(), "", Wrong::Nothing, None)?;
-    for &(text, wrong, rule) in &FAULTS {
-        assert_uncounted(&rt, rt.alloc(), text, wrong, rule)?;
-    }
-    Ok(())
-}
-
-/// The text of what is wrong with a text.
-fn message_of(alloc: Global, text: &str) -> Result<String, Fail> {
-    let error = XattrMap::try_from(alloc, text).err().ok_or("read")?;
-    Ok(error.to_string(alloc)?)
-}
-
-/// A text of no map, and what is printed of it.
-static MESSAGES: [(&str, &str); 7] = [
-    (" ", "there are no rules"),
-    (
-        ":ok:nope:::",
-        "rule 1: invalid scope 'nope', expected one of: all, client, server",
-    ),
-    (
-        ":nope:all:::",
-        "rule 1: invalid type 'nope', expected one of: prefix, ok, bad, map",
-    ),
-    (":ok:all::: :", "rule 2: the rule is incomplete"),
-    (":map::: x", "rule 1: a map rule has to stand last"),
-    (":ok:all:\0::", "rule 1: Key holds NUL"),
-    (":ok:all::\0:", "rule 1: Prepend holds NUL"),
-];
-
-#[test]
-fn prints_errors_of_texts(rt: HostRuntime) -> Result<(), Fail> {
-    for &(text, message) in &MESSAGES {
-        assert_eq!(rt; message_of(rt.alloc(), text)?.as_str(), message);
+    for &(text, rule, got) in &SCOPES {
+        let front = format!(in alloc; "rule {rule}: invalid scope '{got}'")?;
+        let printed = format!(in alloc; "{front}, expected one of: all, client, server")?;
+        assert_fault(&rt, alloc, text, printed.as_str())?;
     }
     Ok(())
 }
 
 #[test]
 fn prints_other_errors(rt: HostRuntime) -> Result<(), Fail> {
-    let error = Error::from(ErrorKind::<Global>::UnterminatedMapping);
-    assert_eq!(rt;
-        error.to_string(rt.alloc())?.as_str(),
-        "no rule fits the name"
-    );
-    let error = Error::<Global>::from(AllocError);
-    assert_eq!(rt; error.to_string(rt.alloc())?.as_str(), "out of memory");
+    let pattern = PatternField::Key;
+    let cause = ErrorKind::NulInPattern { pattern };
+    let rule = Some(1);
+    let error = XattrMap::try_from(rt.alloc(), ":ok:all:a\0:").err();
+    assert!(rt; error == Some(Error { cause, rule }));
+    let text = Error::from(ErrorKind::<Global>::UnterminatedMapping).to_string(rt.alloc())?;
+    assert_eq!(rt; text.as_str(), "no rule fits the name");
+    let text = Error::<Global>::from(AllocError).to_string(rt.alloc())?;
+    assert_eq!(rt; text.as_str(), "Out of memory");
+    let text = ErrorKind::<Global>::InvalidDelimiter.to_string(rt.alloc())?;
+    assert_eq!(rt; text.as_str(), "the delimiter is not the rule's first");
     Ok(())
 }
 
 #[test]
-fn prints_a_kind_of_error(rt: HostRuntime) -> Result<(), Fail> {
-    let error = ErrorKind::<Global>::InvalidDelimiter;
-    assert_eq!(rt;
-        error.to_string(rt.alloc())?.as_str(),
-        "the delimiter is not the rule's first"
-    );
+fn counts_the_rules_as_they_are_written(rt: HostRuntime) -> Result<(), Fail> {
+    let written = XattrMap::written_rules(rt.alloc(), ":ok:all::: :map:a:b:")?;
+    assert_eq!(rt; written, 2);
     Ok(())
 }
 
-/// A name that is asked for: its side, its bytes, the position that is to be answered, and how many
-/// steps that takes.
-type Asked = (Side, &'static str, Option<usize>, u64);
+const NESTED: &str = ":ok:all:a:a: :bad:all:abc:abc: :bad:all:::";
 
-/// The first rule of a name, and the steps that it took to find it.
-fn first(map: &XattrMap, side: Side, name: &[u8]) -> Result<(Option<usize>, u64), Fail> {
-    let name = XattrName::new(name).ok_or("a name holds a zero")?;
-    let mut steps = Steps::new();
-    let found = map.first_rule(side, name, &mut steps);
-    Ok((found, steps.count()))
-}
+const TWICE: &str = ":ok:all:a:a: :bad:all:a:a: :ok:all:::";
 
-fn assert_first(rt: &impl Abort, map: &XattrMap, asked: &Asked) -> Result<(), Fail> {
-    let (side, name, expected, steps) = *asked;
-    let answer = first(map, side, name.as_bytes())?;
-    assert_eq!(rt; answer, (expected, steps), "of {name:?}");
-    Ok(())
-}
+const SIDES: &str = ":bad:server:zzz:a: :ok:all:b:b:";
 
-fn assert_all(rt: &impl Abort, map: &XattrMap, asked: &[Asked]) -> Result<(), Fail> {
-    for one in asked {
-        assert_first(rt, map, one)?;
-    }
-    Ok(())
-}
+const SINGLE: &str = ":prefix:client:trusted.:user.virtiofs.:";
 
-/// A map and its clone find the same.
-fn assert_asked(rt: &impl Abort, alloc: Global, text: &str, asked: &[Asked]) -> Result<(), Fail> {
-    let map = XattrMap::try_from(alloc, text)?;
-    assert_all(rt, &map, asked)?;
-    assert_all(rt, &map.clone(alloc)?, asked)
-}
+const LABELS: &str = ":map:trusted.:user.virtiofs.:";
 
-/// Texts, each with names that are asked for.
-static ASKED: [(&str, &[Asked]); 10] = [
-    (
-        ":prefix:client:trusted.:user.virtiofs.:",
-        &[
-            (Side::Client, "trusted.a", Some(0), 9),
-            (Side::Client, "user.virtiofs.a", None, 1),
-            (Side::Client, "trust", None, 6),
-            (Side::Client, "trusting", None, 6),
-            (Side::Server, "user.virtiofs.a", None, 1),
-        ],
-    ),
-    (
-        ":ok:client:trusted.a:: :bad:client:trusted.b::",
-        &[
-            (Side::Client, "trusted.b", Some(1), 10),
-            (Side::Client, "trusted.c", None, 9),
-            (Side::Client, "truth", None, 4),
-        ],
-    ),
-    (
-        ":prefix:all::user.virtiofs.::bad:all:::",
-        &[
-            (Side::Client, "user.virtiofs.a", Some(0), 1),
-            (Side::Server, "user.virtiofs.a", Some(0), 15),
-            (Side::Server, "x", Some(1), 1),
-        ],
-    ),
-    (
-        ":unsupported:server::security.:",
-        &[
-            (Side::Client, "security.a", None, 1),
-            (Side::Server, "security.a", Some(0), 10),
-            (Side::Server, "x", None, 1),
-        ],
-    ),
-    (
-        ":ok:all:é:ü.:",
-        &[
-            (Side::Client, "éa", Some(0), 3),
-            (Side::Client, "ü.", None, 2),
-            (Side::Server, "ü.", Some(0), 4),
-            (Side::Server, "é", None, 2),
-        ],
-    ),
-    (
-        ":ok:all:a:a: :bad:all:a:a: :ok:all:::",
-        &[
-            (Side::Client, "abc", Some(0), 2),
-            (Side::Client, "", Some(2), 1),
-        ],
-    ),
-    (
-        ":bad:server:zzz:a: :ok:all:b:b:",
-        &[
-            (Side::Client, "zzzz", None, 1),
-            (Side::Client, "b", Some(1), 2),
-            (Side::Server, "ab", Some(0), 2),
-            (Side::Server, "c", None, 1),
-        ],
-    ),
-    (
-        ":map:trusted.:user.virtiofs.:",
-        &[
-            (Side::Client, "trusted.a", Some(0), 9),
-            (Side::Client, "user.virtiofs.a", Some(1), 15),
-            (Side::Client, "x", Some(2), 1),
-            (Side::Server, "user.virtiofs.a", Some(0), 15),
-            (Side::Server, "trusted.a", Some(1), 9),
-            (Side::Server, "x", Some(2), 1),
-        ],
-    ),
-    (":ok:server::a:", &[(Side::Client, "abc", None, 1)]),
-    (
-        ":ok:all:a:a: :bad:all:abc:abc: :bad:all:::",
-        &[(Side::Client, "abcd", Some(0), 4)],
-    ),
+/// Rules, the side of a name, the name, the position of its first rule, and how many steps that is.
+static ASKED: [(&str, Side, &str, Option<usize>, u64); 16] = [
+    (NESTED, Client, "abcd", Some(0), 4),
+    (TWICE, Client, "abc", Some(0), 2),
+    (TWICE, Client, "", Some(2), 1),
+    (SIDES, Client, "zzzz", None, 1),
+    (SIDES, Client, "b", Some(1), 2),
+    (SIDES, Server, "ab", Some(0), 2),
+    (SIDES, Server, "c", None, 1),
+    (LABELS, Client, "trusted.a", Some(0), 9),
+    (LABELS, Client, "user.virtiofs.a", Some(1), 15),
+    (LABELS, Client, "x", Some(2), 1),
+    (LABELS, Server, "user.virtiofs.a", Some(0), 15),
+    (LABELS, Server, "trusted.a", Some(1), 9),
+    (LABELS, Server, "x", Some(2), 1),
+    (":ok:server::a:", Client, "abc", None, 1),
+    (SINGLE, Client, "trusted.a", Some(0), 9),
+    (SINGLE, Server, "user.virtiofs.a", None, 1),
 ];
 
 #[test]
 fn finds_the_first_rule(rt: HostRuntime) -> Result<(), Fail> {
-    for &(text, asked) in &ASKED {
-        assert_asked(&rt, rt.alloc(), text, asked)?;
+    for &(text, side, name, position, steps) in &ASKED {
+        let map = XattrMap::try_from(rt.alloc(), text)?;
+        let found = first(&map, side, name)?;
+        assert_eq!(rt; found, (position, steps), "{name:?} of {text:?}");
+        let copy = map.clone(rt.alloc())?;
+        assert_eq!(rt; first(&copy, side, name)?, found, "{name:?}");
     }
     Ok(())
-}
-
-/// A text of so many letters.
-fn letters(alloc: Global, count: usize) -> Result<String, AllocError> {
-    let mut text = String::new(alloc);
-    for _ in 0..count {
-        text.push('a')?;
-    }
-    Ok(text)
-}
-
-/// A map with a pattern of 20000 letters.
-fn long_pattern(alloc: Global) -> Result<XattrMap, Fail> {
-    let key = letters(alloc, 20000)?;
-    let text = format!(in alloc; ":bad:all:{key}:{key}: :ok:all:::")?;
-    Ok(XattrMap::try_from(alloc, text.as_str())?)
-}
-
-/// Asks for a name of so many letters.
-fn first_of_letters(alloc: Global, count: usize) -> Result<(Option<usize>, u64), Fail> {
-    let map = long_pattern(alloc)?;
-    let name = letters(alloc, count)?;
-    first(&map, Side::Client, name.as_bytes())
 }
 
 #[test]
 fn counts_along_a_long_pattern(rt: HostRuntime) -> Result<(), Fail> {
-    assert_eq!(rt; first_of_letters(rt.alloc(), 19999)?, (Some(1), 20000));
-    assert_eq!(rt; first_of_letters(rt.alloc(), 20001)?, (Some(0), 20001));
+    let key = "a".repeat(rt.alloc(), 20000)?;
+    let text = format!(in rt.alloc(); ":bad:all:{key}:{key}: :ok:all:::")?;
+    let map = XattrMap::try_from(rt.alloc(), text.as_str())?;
+    let longer = "a".repeat(rt.alloc(), 20001)?;
+    let found = first(&map, Client, longer.as_str())?;
+    assert_eq!(rt; found, (Some(0), 20001));
+    let shorter = "a".repeat(rt.alloc(), 19999)?;
+    let found = first(&map, Client, shorter.as_str())?;
+    assert_eq!(rt; found, (Some(1), 20000));
     Ok(())
 }
 
-/// How many rules `many_rules` has.
-const MANY: usize = 100;
-
-/// The rule at that place, with a key and a prepend of its own.
-fn line_of(alloc: Global, n: usize) -> Result<String, AllocError> {
-    format!(in alloc; ":prefix:all:key{n}.:host{n}.:\n")
-}
-
-/// A text of many rules.
-fn many_rules(alloc: Global) -> Result<String, AllocError> {
-    let mut text = String::new(alloc);
-    for n in 0..MANY {
-        text.push_str(line_of(alloc, n)?.as_str())?;
+/// Sees that a map is that of the texts of its row, and of no other row.
+fn assert_alike(rt: &impl Abort, alloc: Global, map: &XattrMap, row: usize) -> Result<(), Fail> {
+    for (at, texts) in ALIKE.iter().enumerate() {
+        for text in *texts {
+            let other = XattrMap::try_from(alloc, text)?;
+            assert!(rt; (*map == other) == (at == row), "row {row}: {text:?}");
+        }
     }
-    Ok(text)
-}
-
-/// The rule at that place decides the names that begin with its key and with its prepend.
-fn assert_line(rt: &impl Abort, alloc: Global, map: &XattrMap, n: usize) -> Result<(), Fail> {
-    let of_guest = format!(in alloc; "key{n}.a")?;
-    let of_host = format!(in alloc; "host{n}.a")?;
-    let (decides, _) = first(map, Side::Client, of_guest.as_bytes())?;
-    assert_eq!(rt; decides, Some(n));
-    let (decides, _) = first(map, Side::Server, of_host.as_bytes())?;
-    assert_eq!(rt; decides, Some(n));
     Ok(())
 }
 
-/// The clone of the map of many rules, where it is that map.
-fn clone_of_many(alloc: Global) -> Result<XattrMap, Fail> {
-    let text = many_rules(alloc)?;
-    let map = XattrMap::try_from(alloc, text.as_str())?;
-    let copy = map.clone(alloc)?;
-    if copy != map {
-        return Err(Fail::from("the clone is another map"));
-    }
-    Ok(copy)
-}
-
-#[test]
-fn clones_many_rules(rt: HostRuntime) -> Result<(), Fail> {
-    let copy = clone_of_many(rt.alloc())?;
-    for n in 0..MANY {
-        assert_line(&rt, rt.alloc(), &copy, n)?;
-    }
+/// Sees that a text is read, and its rules counted, with the error that is printed so.
+fn assert_fault(rt: &impl Abort, alloc: Global, text: &str, printed: &str) -> Result<(), Fail> {
+    let error = XattrMap::try_from(alloc, text).err().ok_or("read")?;
+    assert_eq!(rt; error.to_string(alloc)?.as_str(), printed);
+    let uncounted = XattrMap::written_rules(alloc, text).err();
+    assert!(rt; uncounted == Some(error), "of {text:?}");
     Ok(())
 }

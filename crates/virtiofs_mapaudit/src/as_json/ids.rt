@@ -75,7 +75,7 @@ pub(super) fn write_meeting(
     let Some(it) = found else {
         return;
     };
-    begin_found(json, Whose::Guests(first, second), "one_on_host");
+    begin_found(json, Whose::Guests(first, second), "id_of_both");
     write_text(json, "ids", word(kind));
     write_number(json, "id", it.guest);
     write_number(json, "other", it.other);

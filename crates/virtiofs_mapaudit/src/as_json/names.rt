@@ -99,7 +99,7 @@ pub(super) fn write_between(
     let (whose, back) = (Whose::Guests(first, second), Whose::Guests(second, first));
     write_reported(alloc, json, whose, "shown_to_other", &found.seen);
     write_reported(alloc, json, back, "shown_to_other", &found.seen_back);
-    write_reported(alloc, json, whose, "one_on_host", &found.shared);
+    write_reported(alloc, json, whose, "name_of_both", &found.shared);
 }
 
 /// Writes what becomes of a name from the guest.

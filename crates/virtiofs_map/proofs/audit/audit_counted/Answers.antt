@@ -9,9 +9,6 @@ use Rattle.virtiofs_map.proofs.audit.AuditLeastLemmas.{found_least, answers_all,
 use Rattle.virtiofs_map.proofs.audit.AuditLostLemmas.{lost_decide, sound_where_none, none_where_sound}
 use Rattle.virtiofs_map.proofs.audit.audit_counted.Goals as goal
 
-pub returns-in_err-try_guest_names : goal.returns-in_err-try_guest_names
-returns-in_err-try_guest_names g c = search rules
-
 pub returns : goal.returns
 returns g c =
     let map = c.args.map.now in

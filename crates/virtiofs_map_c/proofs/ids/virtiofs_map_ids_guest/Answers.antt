@@ -1,10 +1,10 @@
 use Rattle.virtiofs_map.specs.declared.soft_idmap.entry.Direction.TheVariants.{GuestToHost}
-use Rattle.virtiofs_map_c.proofs.IdsLemmas.{tells_value, tells_answer, tells_back}
+use Rattle.virtiofs_map_c.proofs.IdsLemmas.{tells_value, tells_answer, tells_back, tells_code, tells_none}
 use Rattle.virtiofs_map_c.proofs.ids.virtiofs_map_ids_guest.Goals as goal
 
 pub returns-clause-exact : goal.returns-clause-exact
 returns-clause-exact c =
-    λ specs value image becomes. tells_value value _ _ _ _ c.tell_answer.ensures
+    λ specs value image becomes. tells_value c.args.guest value _ _ _ _ c.tell_answer.ensures
     (c.look_up.ensures.exact specs value image becomes)
 
 pub returns-clause-answer : goal.returns-clause-answer
@@ -16,3 +16,9 @@ pub returns-clause-leads_back : goal.returns-clause-leads_back
 returns-clause-leads_back c =
     λ specs image both. tells_back specs GuestToHost c.args.guest _ _ _ _ c.tell_answer.ensures
     (c.look_up.ensures.leads_back specs image both)
+
+pub returns-clause-no_id : goal.returns-clause-no_id
+returns-clause-no_id c = tells_none c.args.guest _ _ _ _ c.tell_answer.ensures
+
+pub returns-clause-code : goal.returns-clause-code
+returns-clause-code c = tells_code c.args.guest _ _ _ _ c.tell_answer.ensures

@@ -27,6 +27,3 @@ returns-in_default-2 c =
       code = decision_code c.decide.result _ _ _ _ _ tells;
       no_map = λ other. decision_none c.decide.result _ _ _ _ _ tells (c.decide.ensures.closed other);
     }
-
-pub returns-in-NoMap-clause-no_map : goal.returns-in-NoMap-clause-no_map
-returns-in-NoMap-clause-no_map c = search rules

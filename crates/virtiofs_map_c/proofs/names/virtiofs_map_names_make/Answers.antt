@@ -15,9 +15,6 @@ pub returns-in-Err-clause-faulty : goal.returns-in-Err-clause-faulty
 returns-in-Err-clause-faulty c =
     rules_faulty _ _ _ _ _ (_, c.in-Err.ensures.refused, c.tell_of_rules.ensures)
 
-pub returns-in-Err-clause-keeps : goal.returns-in-Err-clause-keeps
-returns-in-Err-clause-keeps c = search rules
-
 pub returns-in-Ok-clause-made : goal.returns-in-Ok-clause-made
 returns-in-Ok-clause-made c = λ _. c.in-Ok.ensures.made
 

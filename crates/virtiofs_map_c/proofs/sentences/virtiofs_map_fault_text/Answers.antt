@@ -1,8 +1,7 @@
-use Rattle.std.proofs.Common.{◌++◌, List, ℕ, refl, subst, arith}
+use Rattle.std.proofs.Common.{◌++◌, List, ℕ, refl, subst, arith, rules}
 use Rattle.virtiofs_map_c.specs.FaultText.{place_text, cause_text}
 use Rattle.virtiofs_map_c.specs.Replies.{TellsFront}
 use Rattle.virtiofs_map_c.specs.declared.fault.Fault.{Fault}
-use Rattle.virtiofs_map_c.proofs.FaultLengthLemmas.{sentence-short}
 use Rattle.virtiofs_map_c.proofs.FaultTextLemmas.{text_of_acl, text_of_capability, text_of_rules}
 use Rattle.virtiofs_map_c.proofs.FrontLemmas.{Writes-then, IsFront-whole, front-told}
 use Rattle.virtiofs_map_c.proofs.sentences.virtiofs_map_fault_text.Goals as goal
@@ -14,9 +13,9 @@ IsTold fault old code len new at_fault =
 
 pub returns-then-out-len-clause-text : goal.returns-then-out-len-clause-text
 returns-then-out-len-clause-text c =
-    subst (IsTold c.args.fault.now c.args.out.now 7 c.say_cause.new.len c.say_cause.new.out) c.at_fault.ensures.front
+    subst (IsTold c.args.fault.now c.args.out.now 7 c.say_cause.new.len c.say_cause.new.out) c.at_fault.ensures
     (front-told _ _ _ _ _ (IsFront-whole (Writes-then c.say_place.ensures c.say_cause.ensures))
-    (omega (arith, sentence-short c.args.fault.now c.at_fault.result.now, c.at_fault.ensures.fits))
+    (search rules)
     (λ room. absurd (omega (arith, room, c.if-out-len.true))) (λ short. refl))
 
 pub returns-then-out-len-clause-of_rules : goal.returns-then-out-len-clause-of_rules
@@ -25,9 +24,9 @@ returns-then-out-len-clause-of_rules c = λ error text wrong holds told.
 
 pub returns-clause-text : goal.returns-clause-text
 returns-clause-text c =
-    subst (IsTold c.args.fault.now c.args.out.now 0 c.say_cause.new.len c.say_cause.new.out) c.at_fault.ensures.front
+    subst (IsTold c.args.fault.now c.args.out.now 0 c.say_cause.new.len c.say_cause.new.out) c.at_fault.ensures
     (front-told _ _ _ _ _ (IsFront-whole (Writes-then c.say_place.ensures c.say_cause.ensures))
-    (omega (arith, sentence-short c.args.fault.now c.at_fault.result.now, c.at_fault.ensures.fits))
+    (search rules)
     (λ room. refl) (λ short. absurd (omega (arith, short, c.if-out-len.false))))
 
 pub returns-clause-of_rules : goal.returns-clause-of_rules

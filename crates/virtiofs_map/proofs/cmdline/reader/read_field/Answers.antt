@@ -7,6 +7,3 @@ pub returns-in_ok-value-in-Err-clause-answer : goal.returns-in_ok-value-in-Err-c
 returns-in_ok-value-in-Err-clause-answer g c =
     let same : string_bytes c.in_ok-value-in-Err.value ≡ c.args.field.now = search rules in
     (ap (λ field. InvalidValue (chars field)) same, c.in-Err.ensures.refused)
-
-pub returns-in_ok-value-in-Err-clause-explained : goal.returns-in_ok-value-in-Err-clause-explained
-returns-in_ok-value-in-Err-clause-explained g c = search rules

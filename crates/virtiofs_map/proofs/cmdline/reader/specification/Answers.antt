@@ -18,6 +18,3 @@ returns-in_err-from_guest-in-text-clause-refused g c =
     rw (p.1, p.2)
     (IsWordFault-count (ForbidGuest 0 0) _ _ _ (sym c.as_str.ensures.value ∙ c.in-text.is)
     c.in_err-from_guest-in-text.ensures.answer)
-
-pub returns-in_ok-guest-in-map-clause-numbers : goal.returns-in_ok-guest-in-map-clause-numbers
-returns-in_ok-guest-in-map-clause-numbers g c = search rules

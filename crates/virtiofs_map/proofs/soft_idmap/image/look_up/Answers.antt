@@ -16,6 +16,3 @@ returns-clause-leads_back c = λ specs image mapped.
     rw c.in-Some.ensures.ranges (IsOfWords-ranges specs c.args.words.now c.args.direction image.held) in
     SaysIn-leads_back specs c.args.direction c.args.n _ image.held.accepted mapped
     (c.look_up.ensures.says specs c.args.direction has)
-
-pub returns-clause-says : goal.returns-clause-says
-returns-clause-says c = search rules

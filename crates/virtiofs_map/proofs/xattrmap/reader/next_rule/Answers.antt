@@ -35,6 +35,3 @@ returns-then-not-is_empty-clause-err g c =
         chars_nonempty _ c.in_ok-rule.ensures.text.2 _ c.is_empty.ensures c.if-not-is_empty.true,
       ),
     )
-
-pub returns-clause-err : goal.returns-clause-err
-returns-clause-err g c = search rules

@@ -6,6 +6,3 @@ pub returns : goal.returns
 returns g c =
     let one = from_one c.args.map.now c.args.written c.args.place c.if-place-written.false in
     ((λ yes. one.0 (c.decides.ensures.names.0 yes)), (λ some. c.decides.ensures.names.1 (one.1 some)))
-
-pub returns-then-place-written : goal.returns-then-place-written
-returns-then-place-written g c = search rules

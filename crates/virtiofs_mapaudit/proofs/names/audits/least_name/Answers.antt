@@ -7,6 +7,3 @@ pub returns-in-Yes : goal.returns-in-Yes
 returns-in-Yes g c =
     none_found (HasFault c.args.fault c.args.map.now c.args.other.now) c.in_ok-all.all c.none.result c.in-Yes.is
     c.in_ok-all.ensures c.none.ensures
-
-pub returns : goal.returns
-returns g c = search rules

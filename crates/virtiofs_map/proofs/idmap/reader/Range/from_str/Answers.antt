@@ -36,6 +36,3 @@ returns-clause-read c =
     let three = c.in-Some.ensures.three in
     SaysNamespace-parts _ _ _ _ _ _ _ _ _ found three c.in_ok-inside.ensures.read c.in_ok-outside.ensures.read
     c.in_ok-count.ensures.read
-
-pub returns-in_default-clause-refused : goal.returns-in_default-clause-refused
-returns-in_default-clause-refused c = search rules

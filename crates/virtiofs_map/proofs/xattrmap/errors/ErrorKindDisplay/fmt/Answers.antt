@@ -4,6 +4,3 @@ use Rattle.virtiofs_map.proofs.xattrmap.errors.ErrorKindDisplay.fmt.Goals as goa
 pub returns-in-InvalidType-clause-writes : goal.returns-in-InvalidType-clause-writes
 returns-in-InvalidType-clause-writes g c plain ok =
     rw c.in-InvalidType.is (c.write-in-InvalidType.ensures.writes plain ok)
-
-pub returns-in-InvalidScope-clause-writes : goal.returns-in-InvalidScope-clause-writes
-returns-in-InvalidScope-clause-writes g c = search rules

@@ -41,6 +41,3 @@ overflow_add-shared_length c =
     let within = (shared_within c.in_ok-label.label.now c.in_ok-byte.after.now).1 in
     let size = ap length c.in_ok-byte.ensures.cases.0 in
     grind (arith, c.shared_length.ensures, within, size)
-
-pub returns-clause-step : goal.returns-clause-step
-returns-clause-step c = search rules

@@ -1,0 +1,26 @@
+use Rattle.virtiofs_map.specs.IdAudit.{IsShared, IsAlone}
+use Rattle.virtiofs_map_c.specs.IdsFound.{IsSharedTold}
+use Rattle.virtiofs_map_c.proofs.ArraysLemmas.{IsAccepted-no_fault, array_complete, array_faulty}
+use Rattle.virtiofs_map_c.proofs.IdsFoundLemmas.{audit_told, audit_yes}
+use Rattle.virtiofs_map_c.proofs.ids.audits.virtiofs_map_ids_is_alone.Goals as goal
+
+pub returns-in-Ok-clause-answer : goal.returns-in-Ok-clause-answer
+returns-in-Ok-clause-answer c = λ list are _.
+    audit_told IsShared IsSharedTold c.args.specs.now c.in-Ok.least _ _ _ c.write.ensures
+    IsAlone c.in-Ok.ensures.decided list are
+
+pub returns-in-Ok-clause-alone : goal.returns-in-Ok-clause-alone
+returns-in-Ok-clause-alone c = λ list are _.
+    audit_yes IsShared IsSharedTold c.args.specs.now c.in-Ok.least _ _ _ c.write.ensures
+    IsAlone c.in-Ok.ensures.decided list are
+
+pub returns-in-Ok-clause-faulty : goal.returns-in-Ok-clause-faulty
+returns-in-Ok-clause-faulty c = λ wrong has.
+    let of = c.in-Ok.ensures.decided in
+    absurd (IsAccepted-no_fault _ (record { list = of.list; are = of.are; accepted = of.accepted }) wrong has)
+
+pub returns-in-Err-clause-complete : goal.returns-in-Err-clause-complete
+returns-in-Err-clause-complete c = array_complete _ _ _ _ (_, c.in-Err.ensures.refused, c.tell.ensures)
+
+pub returns-in-Err-clause-faulty : goal.returns-in-Err-clause-faulty
+returns-in-Err-clause-faulty c = array_faulty _ _ _ (_, c.in-Err.ensures.refused, c.tell.ensures)

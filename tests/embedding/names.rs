@@ -1,0 +1,152 @@
+//! What `virtiofs_map.rs` does itself with attribute names: its types and errors, names that are borrowed or owned, the
+//! buffers that it lends, and what its maps pass on and give back. What is wanted is worked out by hand from the
+//! documentation.
+
+#[path = "../../bindings/rust/virtiofs_map.rs"]
+mod virtiofs_map;
+
+use std::borrow::Cow;
+use std::error::Error as _;
+use std::ffi::CString;
+use std::io::{self, ErrorKind::InvalidInput, ErrorKind::OutOfMemory, ErrorKind::PermissionDenied};
+use virtiofs_map::xattrmap::{AppliedRule, Audit, Error, ErrorKind, PatternField, XattrMap};
+
+const MAP: &str = ":map:trusted.:user.virtiofs.:";
+
+#[test]
+fn names_and_lists_are_answered() {
+    for (text, asked, wanted, list, listed) in [
+        (MAP, &b"trusted.a"[..], Some(pass(b"user.virtiofs.trusted.a")),
+            &b"user.virtiofs.a\0trusted.b\0c\0"[..], Some(&b"a\0c\0"[..])),
+        (MAP, b"user.virtiofs.a", Some(AppliedRule::Deny), b"user.virtiofs.", Some(b"\0")),
+        (":ok:all:::", b"\xff\xc3", Some(pass(b"\xff\xc3")), b"a\0b", Some(b"a\0b\0")),
+        (":prefix:all::\u{e9}:", b"", Some(pass(b"\xc3\xa9")), b"", Some(b"\0")),
+        (":unsupported:client:a:: :ok:server:::", b"a", Some(AppliedRule::Unsupported), b"\xff\0", Some(b"\xff\0")),
+        (":ok:client:a:: :ok:server::a:", b"b", None, b"b\0", None),
+    ] {
+        let (map, name, no_rule) = (rules(text), name(asked), || Error::from(ErrorKind::UnterminatedMapping));
+        assert_eq!(map.map_client_xattr(&name), wanted.ok_or_else(no_rule), "{text}");
+        assert_eq!(map.map_server_xattrlist(list.to_vec()), listed.map(Vec::from).ok_or_else(no_rule), "{text}");
+    }
+}
+
+#[test]
+fn texts_of_which_no_map_is_made() {
+    use ErrorKind::{IncompleteRule, InvalidScope, InvalidType, MapRuleViolation, NoRulesProvided, NulInPattern};
+    let scope = |got: &str| InvalidScope { got: got.into(), expected: "all, client, server".into() };
+    let of_type = |got: &str| InvalidType { got: got.into(), expected: "prefix, ok, bad, map".into() };
+    for (text, cause, rule, sentence) in [
+        (":ok:all::: :bad:\x1b[2J\n\\\0 ~\x7f\u{e9}:::", scope("\x1b[2J\n\\\0 ~\x7f\u{e9}"), Some(2),
+            r"rule 2: invalid scope '\x1b[2J\x0a\\\x00 ~\x7f\xc3\xa9', expected one of: all, client, server"),
+        (":\u{170}refix:all:::", of_type("\u{170}refix"), Some(1),
+            r"rule 1: invalid type '\xc5\xb0refix', expected one of: prefix, ok, bad, map"),
+        (":prefix:client:hi", IncompleteRule, Some(1), "rule 1: the rule is incomplete"),
+        (":bad:all:x:y: :map::P: :ok:all:::", MapRuleViolation, Some(2), "rule 2: a map rule has to stand last"),
+        (" ", NoRulesProvided, None, "there are no rules"),
+        (":ok:all:a\0:b:", NulInPattern { pattern: PatternField::Key }, Some(1), "rule 1: Key holds NUL"),
+        (":map:a:b\0:", NulInPattern { pattern: PatternField::Prepend }, Some(1), "rule 1: Prepend holds NUL"),
+    ] {
+        let error = XattrMap::try_from(text).unwrap_err();
+        assert_eq!((error.sentence().as_str(), &error), (sentence, &Error { cause, rule }));
+        let error = io::Error::from(error);
+        assert_eq!((error.kind(), error.to_string().as_str()), (InvalidInput, sentence));
+    }
+    for (cause, sentence, kind) in [
+        (ErrorKind::UnterminatedMapping, "no rule decides this name", PermissionDenied),
+        (ErrorKind::InvalidDelimiter, "the delimiter is not the rule's first", InvalidInput),
+        (ErrorKind::OutOfMemory, "Out of memory", OutOfMemory),
+    ] {
+        assert_eq!((cause.sentence().as_str(), io::Error::from(Error::from(cause)).kind()), (sentence, kind));
+    }
+}
+
+/// Of each map: that it is terminated, and its two audits.
+#[test]
+fn audits_of_one_map() {
+    for (text, is_terminated, audit, audit_listed) in [
+        (MAP, true, Audit::Yes, no(b"user.virtiofs.")),
+        (":map::a.:", true, Audit::Yes, Audit::Yes),
+        (":prefix:client:trusted.:user.: :ok:all:::", true, no(b"trusted."), no(b"trusted.")),
+        (":ok:client:::", false, no(b"\x01"), Audit::Yes),
+    ] {
+        let map = rules(text);
+        assert_eq!(map.is_terminated(), is_terminated, "{text}");
+        assert_eq!((map.audit(), map.audit_listed()), (Ok(audit), Ok(audit_listed)), "{text}");
+    }
+}
+
+#[test]
+fn audits_of_two_maps() {
+    for (first, second, keeps_apart, shares_no_name) in [
+        (":map::a.:", ":map::b.:", Audit::Yes, Audit::Yes),
+        (":map::a.:", ":map::a.b.:", no(b"b."), no(b"b.")),
+        (":map::a.b.:", ":map::a.:", no(b""), no(b"")),
+        (":ok:client::: :bad:server:::", ":ok:client::: :bad:server:::", Audit::Yes, no(b"\x01")),
+    ] {
+        let (first, second) = (rules(first), rules(second));
+        assert_eq!(first.keeps_apart(&second), Ok(keeps_apart));
+        assert_eq!(first.shares_no_name(&second), Ok(shares_no_name));
+    }
+}
+
+fn name(text: &[u8]) -> CString {
+    CString::new(text).expect("a name holds no zero")
+}
+
+fn pass(text: &[u8]) -> AppliedRule<'static> {
+    AppliedRule::Pass(Cow::Owned(name(text)))
+}
+
+fn no(text: &[u8]) -> Audit {
+    Audit::No(name(text))
+}
+
+fn rules(text: &str) -> XattrMap {
+    XattrMap::try_from(text).expect("a text of rules")
+}
+
+/// Answers of just the room that the file lends, of one byte less or more, and of many.
+#[test]
+fn answers_have_any_length() {
+    let map = rules(":prefix:client:a:pre.:");
+    for len in [5, 255, 256, 257, 5000] {
+        let (asked, key) = (name(&b"a".repeat(len - 4)), "k".repeat(len));
+        let Ok(AppliedRule::Pass(Cow::Owned(passed))) = map.map_client_xattr(&asked) else { panic!("{len}") };
+        assert_eq!(passed.to_bytes_with_nul(), [b"pre.", asked.to_bytes_with_nul()].concat());
+        let audited = rules(&format!(":prefix:client:{key}:user.: :ok:all:::"));
+        assert_eq!(audited.audit(), Ok(no(key.as_bytes())), "{len}");
+        let list = [&b"a".repeat(len)[..], b"\0", &b"b".repeat(len)].concat();
+        assert_eq!(rules(":ok:all:::").map_server_xattrlist(list.clone()), Ok([&list[..], b"\0"].concat()));
+    }
+}
+
+#[test]
+fn a_name_that_passes_as_it_is_is_borrowed() {
+    let (map, asked) = (rules(":ok:all:::"), name(b"user.virtiofs.potato"));
+    let Ok(AppliedRule::Pass(Cow::Borrowed(passed))) = map.map_client_xattr(&asked) else { panic!("it is owned") };
+    drop(map);
+    assert_eq!(passed.as_ptr(), asked.as_ptr());
+}
+
+#[test]
+fn errors_have_a_source() {
+    let error = XattrMap::try_from(":prefix:client:hi").unwrap_err();
+    assert_eq!(error.source().unwrap().to_string(), "IncompleteRule");
+    assert_eq!(error.to_string(), "Error { cause: IncompleteRule, rule: Some(1) }");
+    assert_eq!(Error::from(ErrorKind::OutOfMemory), Error { cause: ErrorKind::OutOfMemory, rule: None });
+}
+
+/// Equal rules, in whatever words; and other rules that do the same to all names.
+#[test]
+fn maps_are_equal_where_their_rules_are() {
+    for (one, other, are_equal) in [
+        (MAP, "/prefix/all/trusted./user.virtiofs./ /bad/all/user.virtiofs./trusted./ =ok=all===", true),
+        (":ok:all:::", ":ok:all::: :bad:all:::", false),
+        (":bad:all:::", ":unsupported:all:::", false),
+        (":ok:client:a::", ":ok:all:a::", false),
+        (":ok:all:a:b:", ":ok:all:b:a:", false),
+    ] {
+        assert_eq!(rules(one).clone() == rules(other), are_equal, "{one}");
+    }
+    assert_eq!(format!("{:?}", rules(MAP)), "XattrMap { .. }");
+}
