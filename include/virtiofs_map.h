@@ -186,7 +186,7 @@ struct virtiofs_text {
 
 /* ---- faults ---- */
 
-/* Why no map is made, or why a text or a value is rejected. */
+/* Why no map is made, or why a text or a value is refused. */
 enum virtiofs_fault_kind {
     VIRTIOFS_FAULT_NONE = 0,   /* nothing is wrong */
     VIRTIOFS_FAULT_MEMORY = 1, /* comes with the code VIRTIOFS_NO_MEMORY, and has no part */
@@ -340,7 +340,7 @@ static inline enum virtiofs_code virtiofs_fault_text(const struct virtiofs_fault
 /* ---- maps of ids ----
  *
  * virtiofs_uids_.. are for users and virtiofs_gids_.. for groups. The two differ only in the
- * types of their maps, so that a compiler rejects a map of the one where the other is needed.
+ * types of their maps, so that a compiler refuses a map of the one where the other is needed.
  */
 
 /* The most words that a map of `count` user specifications takes. A buffer of that
