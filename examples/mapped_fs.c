@@ -21,6 +21,7 @@
 #include <grp.h>
 #include <linux/capability.h>
 #include <linux/limits.h>
+#include <linux/magic.h>
 #include <pthread.h>
 #include <sched.h>
 #include <signal.h>
@@ -34,30 +35,39 @@
 #include <sys/syscall.h>
 #include <sys/sysmacros.h>
 #include <sys/uio.h>
+#include <sys/vfs.h>
 #include <sys/xattr.h>
 #include <unistd.h>
 
 #include "virtiofs_map.h"
 
 #define UNUSED __attribute__((unused))
+#define HELD __attribute__((cleanup(let_go))) /* let go of where its function ends */
 
-enum { BUCKETS = 65536, NAME_ROOM = XATTR_NAME_MAX + 1, PROC_ROOM = 32, CAPABILITY_ROOM = 24, SHORT_VALUE = 256 };
+enum { BUCKETS = 65536, PROC_ROOM = 32, CAPABILITY_ROOM = 24, SHORT_VALUE = 256 };
 
-/* A file of the directory that the kernel knows by number. */
+/* A mount with files that are opened by their handles. */
+struct mount {
+    struct mount *next;
+    int id, fd;   /* its number, and a folder in it, opened for reading: O_PATH does not suffice to open others by it */
+    size_t nodes; /* how many need it */
+};
+
+/* A file of the directory that the kernel knows by number. It has a descriptor; or a mount and a handle, by which it is
+   opened for each request. */
 struct node {
     struct node *next; /* of its bucket */
     dev_t dev;
     ino_t ino;
     mode_t mode;       /* its type stays what it is; the rest is not looked at */
-    int fd;            /* opened with O_PATH: it reads nothing and follows nothing */
     uint64_t lookups;  /* how often the kernel was told of it, and has not forgotten it */
-    uint64_t opens;    /* how often it is open */
-    fuse_ino_t parent; /* the folder in which it was looked up last, and the name there */
-    char *name;
+    int fd;            /* opened with O_PATH: it reads nothing and follows nothing; or -1 */
+    struct mount *mount;
+    struct file_handle *handle;
 };
 
 /* The directory, and how its owners and names are seen. The options and the maps are made before the first request and
-   only read from then on, so no thread locks anything to ask them. `lock` is for the nodes. */
+   only read from then on, so no thread locks anything to ask them. `lock` is for the nodes and mounts. */
 struct share {
     const char *directory;
     int posix_acl, readdirplus;
@@ -65,11 +75,10 @@ struct share {
     struct virtiofs_uids users;
     struct virtiofs_gids groups;
     struct virtiofs_names names;
-    struct fuse_session *session;
     struct node root;
     pthread_mutex_t lock;
-    pthread_cond_t is_full; /* there are more than `most` nodes */
-    size_t count, most, forgotten;
+    size_t held, most; /* how many nodes have a descriptor, and how many may, where the others can have a handle */
+    struct mount *mounts;
     struct node *buckets[BUCKETS];
 };
 
@@ -127,60 +136,45 @@ static bool is_access_list(const char *name)
     return !strcmp(name, ACCESS_LISTS[0]) || !strcmp(name, ACCESS_LISTS[1]);
 }
 
-/* Names that the guest neither lists nor uses, whatever the rules say: access control lists, where `posix_acl` is not
-   given; and all other names in `system.`, since for these the kernel tests no right of the caller. It leaves that to
-   the file system, so that anybody in the guest could set them on every file. */
-static bool is_left_out(const struct share *share, const char *name)
+/* Whether the guest may list and use a name that is this one on the host, whatever the rules say. None in `system.`, on
+   either side: for these the kernel tests no right of the caller. It leaves that to the file system, so that anybody in
+   the guest could set them on every file. Under `posix_acl` it does test who sets an access control list, but by the
+   name alone: for `posix_acl_access`, say, a right to write would do. So a list has its own name on both sides. */
+static bool may_cross(const struct share *share, const char *guest, const char *host)
 {
-    if (is_access_list(name))
-        return !share->posix_acl;
-    return !strncmp(name, "system.", strlen("system."));
+    if (share->posix_acl && is_access_list(guest))
+        return !strcmp(guest, host);
+    return strncmp(guest, "system.", strlen("system.")) && strncmp(host, "system.", strlen("system."));
 }
 
-/* The host's name for one of the guest's, with a zero after it. */
-static int name_to_host(const struct share *share, const char *guest, char host[NAME_ROOM])
+/* The host's name for one of the guest's. */
+static int name_to_host(const struct share *share, const char *guest, char host[VIRTIOFS_NAME_ROOM])
 {
-    const uint8_t *name = (const uint8_t *)guest;
-    size_t name_len = strlen(guest), len;
-    if (is_left_out(share, guest))
+    if (!may_cross(share, guest, guest))
         return ENOTSUP;
-    uint32_t code = virtiofs_names_client(share->names, name, name_len, (uint8_t *)host, XATTR_NAME_MAX, &len);
-    if (code == VIRTIOFS_AS_IT_IS)
-        len = (size_t)snprintf(host, NAME_ROOM, "%s", guest);
-    else if (code != VIRTIOFS_OK && code != VIRTIOFS_NO_ROOM)
-        return virtiofs_code_errno(code);
-    if (len > XATTR_NAME_MAX) /* (ERANGE would tell a caller of getxattr that its buffer is too short.) */
+    uint32_t code = virtiofs_names_host(share->names, guest, host);
+    if (code == VIRTIOFS_NO_ROOM) /* (ERANGE would tell a caller of getxattr that its buffer is too short.) */
         return ENAMETOOLONG;
-    host[len] = '\0';
-    return is_left_out(share, host) ? ENOTSUP : 0;
+    return code != VIRTIOFS_OK ? virtiofs_code_errno(code) : may_cross(share, guest, host) ? 0 : ENOTSUP;
 }
 
-/* Takes out of a list what the guest does not use, and empty names, with which a kernel gives up the whole list (EIO):
-   a name that is a prepend alone is listed so, and a list of which nothing is left. A zero stands behind the list. */
-static size_t without_left_out(const struct share *share, char *list, size_t len)
+/* Makes a list of the host, behind which a zero stands, the guest's, in `guest` with room for one byte more. It leaves
+   out empty names, with which a kernel gives up the whole list (EIO): a name that is a prepend alone is listed so. */
+static int list_to_guest(const struct share *share, const char *host, size_t host_len, char *guest, size_t *len)
 {
-    size_t kept = 0, size;
-    for (const char *name = list; name < list + len; name += size) {
-        size = strlen(name) + 1;
-        if (size == 1 || is_left_out(share, name))
+    const char *end = host + host_len;
+    size_t size, shown;
+    for (*len = 0; host < end; host += size) {
+        char *name = guest + *len;
+        size = strlen(host) + 1;
+        if (!may_cross(share, host, host))
             continue;
-        memmove(list + kept, name, size);
-        kept += size;
+        uint32_t code = virtiofs_names_server(share->names, host, size, name, size, &shown);
+        if (code != VIRTIOFS_OK)
+            return virtiofs_code_errno(code);
+        if (shown > 1 && may_cross(share, name, host))
+            *len += shown;
     }
-    return kept;
-}
-
-/* Makes a list of the host the guest's, in `guest` with room for one byte more than `host` has, and for a zero. */
-static int list_to_guest(const struct share *share, char *host, size_t host_len, char *guest, size_t *len)
-{
-    const uint8_t *list = (const uint8_t *)host;
-    host[host_len] = '\0';
-    host_len = without_left_out(share, host, host_len);
-    uint32_t code = virtiofs_names_server(share->names, list, host_len, (uint8_t *)guest, host_len + 1, len);
-    if (code != VIRTIOFS_OK)
-        return virtiofs_code_errno(code);
-    guest[*len] = '\0';
-    *len = without_left_out(share, guest, *len);
     return 0;
 }
 
@@ -189,11 +183,6 @@ static int list_to_guest(const struct share *share, char *host, size_t host_len,
 static struct node *node_of(struct share *share, fuse_ino_t number)
 {
     return number == FUSE_ROOT_ID ? &share->root : (struct node *)(uintptr_t)number;
-}
-
-static int fd_of(fuse_req_t req, fuse_ino_t number)
-{
-    return node_of(share_of(req), number)->fd;
 }
 
 /* A path for the calls that take no descriptor of this kind. It leads to the file that was opened and to no other, also
@@ -215,31 +204,103 @@ static struct node **bucket_of(struct share *share, dev_t dev, ino_t ino)
     return &share->buckets[(ino ^ dev * 31) % BUCKETS];
 }
 
-/* The node of the file behind a descriptor, which is the node's from then on, or closed. NULL: memory ran out. (While a
-   descriptor holds a file, no other file gets its number.) */
-static struct node *found_or_made(struct share *share, int fd, const struct stat *file, fuse_ino_t parent,
-                                  const char *name)
+static void close_any(int fd)
 {
-    struct node **bucket = bucket_of(share, file->st_dev, file->st_ino), *node;
-    pthread_mutex_lock(&share->lock);
-    for (node = *bucket; node && (node->ino != file->st_ino || node->dev != file->st_dev); node = node->next) { }
-    if (!node && (node = calloc(1, sizeof *node))) {
-        *node = (struct node){ *bucket, file->st_dev, file->st_ino, file->st_mode, fd, 0, 0, parent, NULL };
-        *bucket = node;
-        fd = -1;
-        if (++share->count > share->most)
-            pthread_cond_signal(&share->is_full);
-    }
-    if (node) {
-        node->lookups++;
-        node->parent = parent;
-        free(node->name);
-        node->name = strdup(name);
-    }
-    pthread_mutex_unlock(&share->lock);
     if (fd >= 0)
         close(fd);
+}
+
+/* The handle of the file behind a descriptor, which leads to it as long as it is there, and never to another one; and
+   the number of its mount. NULL: memory ran out, or its file system has no handles, or FUSE's, which need not last. */
+static struct file_handle *handle_of(int fd, int *mount_id)
+{
+    struct file_handle *handle = calloc(1, sizeof *handle + MAX_HANDLE_SZ);
+    struct statfs told;
+    if (handle) {
+        handle->handle_bytes = MAX_HANDLE_SZ;
+        if (!name_to_handle_at(fd, "", handle, mount_id, AT_EMPTY_PATH) && !fstatfs(fd, &told)
+            && told.f_type != FUSE_SUPER_MAGIC)
+            return handle;
+    }
+    free(handle);
+    return NULL;
+}
+
+/* The mount of that number. A new one is opened by the folder in which a file was looked up, or, where that is in
+   another mount, by the file, which then is what is mounted. NULL: memory ran out, or the file is no folder then, or it
+   cannot be opened by its handle, as without CAP_DAC_READ_SEARCH. */
+static struct mount *mount_of(struct share *share, int id, struct file_handle *handle, int folder, int file)
+{
+    char path[PROC_ROOM];
+    struct mount *mount = share->mounts;
+    for (; mount && mount->id != id; mount = mount->next) { }
+    if (mount)
+        return mount;
+    int folder_id = -1;
+    free(handle_of(folder, &folder_id));
+    int fd = open(proc_path(folder_id == id ? folder : file, path), O_RDONLY | O_DIRECTORY | O_CLOEXEC);
+    int again = open_by_handle_at(fd, handle, O_PATH | O_CLOEXEC);
+    if (again >= 0 && (mount = calloc(1, sizeof *mount))) {
+        *mount = (struct mount){ share->mounts, id, fd, 0 };
+        share->mounts = mount;
+        fd = -1;
+    }
+    close_any(again);
+    close_any(fd);
+    return mount;
+}
+
+/* Whether a node is of a file. While a descriptor holds a file, no other file gets its number. A handle holds nothing,
+   and differs from that of a file that gets the number later. */
+static bool is_of(const struct node *node, const struct stat *file, const struct file_handle *handle)
+{
+    const struct file_handle *own = node->handle;
+    return node->ino == file->st_ino && node->dev == file->st_dev
+        && (!own || (handle && own->handle_bytes == handle->handle_bytes
+                     && !memcmp(own, handle, sizeof *own + own->handle_bytes)));
+}
+
+/* The node of the file behind a descriptor, which is the node's from then on, or closed. NULL: memory ran out. */
+static struct node *found_or_made(struct share *share, const struct stat *file, int folder, int fd)
+{
+    struct node **bucket = bucket_of(share, file->st_dev, file->st_ino), *node;
+    int id = -1;
+    pthread_mutex_lock(&share->lock);
+    bool is_full = share->held >= share->most;
+    struct file_handle *handle = is_full || share->mounts ? handle_of(fd, &id) : NULL;
+    for (node = *bucket; node && !is_of(node, file, handle); node = node->next) { }
+    if (!node && (node = calloc(1, sizeof *node))) {
+        struct mount *mount = is_full && handle ? mount_of(share, id, handle, folder, fd) : NULL;
+        *node = (struct node){ *bucket, file->st_dev, file->st_ino, file->st_mode, 0, -1, mount, handle };
+        *bucket = node;
+        if (mount) {
+            mount->nodes++;
+            handle = NULL;
+        } else {
+            share->held++;
+            node->handle = NULL;
+            node->fd = fd;
+            fd = -1;
+        }
+    }
+    if (node)
+        node->lookups++;
+    pthread_mutex_unlock(&share->lock);
+    free(handle);
+    close_any(fd);
     return node;
+}
+
+/* A node needs its mount no more. Nothing in it is kept open after the last one, so that the host can unmount it. */
+static void leave(struct share *share, struct mount *mount)
+{
+    struct mount **at = &share->mounts;
+    if (--mount->nodes)
+        return;
+    for (; *at != mount; at = &(*at)->next) { }
+    *at = mount->next;
+    close(mount->fd);
+    free(mount);
 }
 
 static void forget(struct share *share, fuse_ino_t number, uint64_t lookups)
@@ -251,27 +312,41 @@ static void forget(struct share *share, fuse_ino_t number, uint64_t lookups)
     if (is_forgotten) {
         for (; *at != node; at = &(*at)->next) { }
         *at = node->next;
-        share->count--;
-        share->forgotten++;
+        share->held -= node->fd >= 0;
+        if (node->mount)
+            leave(share, node->mount);
     }
     pthread_mutex_unlock(&share->lock);
     if (is_forgotten) {
-        close(node->fd);
-        free(node->name);
+        close_any(node->fd);
+        free(node->handle);
         free(node);
     }
 }
 
-static void count_open(struct share *share, fuse_ino_t number, bool is_open)
+/* A node's descriptor for one request, and the error where there is none: ESTALE for a file that is gone. */
+struct held {
+    int fd, error, closed; /* the last one is closed then, if it is not below 0 */
+};
+
+/* A thread holds what it needs before it acts as the caller, who may open nothing by a handle. */
+static struct held hold(fuse_req_t req, fuse_ino_t number)
 {
-    pthread_mutex_lock(&share->lock);
-    node_of(share, number)->opens += is_open ? 1 : UINT64_MAX;
-    pthread_mutex_unlock(&share->lock);
+    const struct node *node = node_of(share_of(req), number);
+    if (!node->mount)
+        return (struct held){ node->fd, 0, -1 };
+    int fd = open_by_handle_at(node->mount->fd, node->handle, O_PATH | O_CLOEXEC);
+    return (struct held){ fd, error_after(fd), fd };
+}
+
+static void let_go(const struct held *held)
+{
+    close_any(held->closed);
 }
 
 /* Makes an entry of the file behind a descriptor, which is a node's from then on, or closed. Below 0 it is that of a
    call that failed. Where there is no error, the kernel is told of the entry, or it is forgotten. */
-static int entry_of(fuse_req_t req, int fd, fuse_ino_t parent, const char *name, struct fuse_entry_param *entry)
+static int entry_of(fuse_req_t req, int folder, int fd, struct fuse_entry_param *entry)
 {
     struct share *share = share_of(req);
     struct stat file = { 0 };
@@ -280,75 +355,28 @@ static int entry_of(fuse_req_t req, int fd, fuse_ino_t parent, const char *name,
     if (!error)
         error = attributes_to_guest(share, &entry->attr);
     if (!error) {
-        entry->ino = (uintptr_t)found_or_made(share, fd, &file, parent, name);
+        entry->ino = (uintptr_t)found_or_made(share, &file, folder, fd);
         return entry->ino ? 0 : ENOMEM;
     }
-    if (fd >= 0)
-        close(fd);
+    close_any(fd);
     return error;
 }
 
 /* The same of what stands under a name. */
-static int look_up(fuse_req_t req, fuse_ino_t parent, const char *name, struct fuse_entry_param *entry)
+static int look_up(fuse_req_t req, int folder, const char *name, struct fuse_entry_param *entry)
 {
     if (!is_plain(name))
         return EINVAL;
-    return entry_of(req, openat(fd_of(req, parent), name, O_PATH | O_NOFOLLOW | O_CLOEXEC), parent, name, entry);
+    return entry_of(req, folder, openat(folder, name, O_PATH | O_NOFOLLOW | O_CLOEXEC), entry);
 }
 
 /* Answers with an error, or with what stands under a name. */
-static void reply_entry(fuse_req_t req, int error, fuse_ino_t parent, const char *name)
+static void reply_entry(fuse_req_t req, int error, int folder, const char *name)
 {
     struct fuse_entry_param entry;
     if (!error)
-        error = look_up(req, parent, name, &entry);
+        error = look_up(req, folder, name, &entry);
     error ? fuse_reply_err(req, error) : fuse_reply_entry(req, &entry);
-}
-
-/* ---- having nodes forgotten ---- */
-
-/* Has the kernel forget the node at a place of a bucket, so that this program is told to forget it too. It leaves one
-   that is open alone, and at first each folder: in a process that works there getcwd would fail until somebody looks
-   the folder up again. The lock is held, but not while the kernel is asked. False: there is no such place. */
-static bool have_forgotten(struct share *share, size_t bucket, size_t place, bool takes_folders)
-{
-    char name[NAME_MAX + 1];
-    const struct node *node = share->buckets[bucket];
-    for (; node && place; place--)
-        node = node->next;
-    if (!node)
-        return false;
-    if (node->opens || !node->name || (S_ISDIR(node->mode) && !takes_folders))
-        return true;
-    fuse_ino_t parent = node->parent;
-    snprintf(name, sizeof name, "%s", node->name);
-    pthread_mutex_unlock(&share->lock);
-    fuse_lowlevel_notify_inval_entry(share->session, parent, name, strlen(name));
-    pthread_mutex_lock(&share->lock);
-    return true;
-}
-
-/* Goes over all nodes, again and again, as long as there are too many of them. It is a thread of its own: a kernel that
-   waits for an answer about a folder would not let a thread that has to answer take something out of it. */
-static void *keep_few(void *data)
-{
-    struct share *share = data;
-    bool takes_folders = false;
-    pthread_mutex_lock(&share->lock);
-    for (;;) {
-        size_t forgotten = share->forgotten;
-        for (size_t bucket = 0; bucket < BUCKETS; bucket++) {
-            while (share->count <= share->most)
-                pthread_cond_wait(&share->is_full, &share->lock);
-            for (size_t place = 0; have_forgotten(share, bucket, place, takes_folders); place++) { }
-        }
-        bool is_idle = share->forgotten == forgotten;
-        pthread_mutex_unlock(&share->lock);
-        usleep(is_idle && takes_folders ? 1000000 : 1000);
-        pthread_mutex_lock(&share->lock);
-        takes_folders = is_idle;
-    }
-    return NULL;
 }
 
 /* ---- acting as the caller ---- */
@@ -435,9 +463,9 @@ static int act_as_writer(fuse_req_t req, const struct fuse_file_info *opened)
 
 /* Begins to make something under a name. The kernel has tested the caller's rights by the guest's ids, with all groups
    of the caller (default_permissions). The host's ids are not asked again, since only one group is known here. */
-static int begin_making(fuse_req_t req, const char *name)
+static int begin_making(fuse_req_t req, const struct held *folder, const char *name)
 {
-    return is_plain(name) ? act_as_caller(req, CAP_DAC_OVERRIDE) : EINVAL;
+    return folder->error ? folder->error : is_plain(name) ? act_as_caller(req, CAP_DAC_OVERRIDE) : EINVAL;
 }
 
 /* Ends it, or a write. Tells the error of the call that was made as the caller. */
@@ -452,61 +480,73 @@ static int end_acting(ssize_t status)
 
 static void on_lookup(fuse_req_t req, fuse_ino_t parent, const char *name)
 {
-    reply_entry(req, 0, parent, name);
+    const struct held folder HELD = hold(req, parent);
+    reply_entry(req, folder.error, folder.fd, name);
 }
 
 static void on_mkdir(fuse_req_t req, fuse_ino_t parent, const char *name, mode_t mode)
 {
-    int error = begin_making(req, name);
-    reply_entry(req, error ? error : end_acting(mkdirat(fd_of(req, parent), name, mode)), parent, name);
+    const struct held folder HELD = hold(req, parent);
+    int error = begin_making(req, &folder, name);
+    reply_entry(req, error ? error : end_acting(mkdirat(folder.fd, name, mode)), folder.fd, name);
 }
 
 /* A device is made only where the caller is root on the host too: no other user gets CAP_MKNOD. */
 static void on_mknod(fuse_req_t req, fuse_ino_t parent, const char *name, mode_t mode, dev_t device)
 {
-    int error = begin_making(req, name);
-    reply_entry(req, error ? error : end_acting(mknodat(fd_of(req, parent), name, mode, device)), parent, name);
+    const struct held folder HELD = hold(req, parent);
+    int error = begin_making(req, &folder, name);
+    reply_entry(req, error ? error : end_acting(mknodat(folder.fd, name, mode, device)), folder.fd, name);
 }
 
 static void on_symlink(fuse_req_t req, const char *text, fuse_ino_t parent, const char *name)
 {
-    int error = begin_making(req, name);
-    reply_entry(req, error ? error : end_acting(symlinkat(text, fd_of(req, parent), name)), parent, name);
+    const struct held folder HELD = hold(req, parent);
+    int error = begin_making(req, &folder, name);
+    reply_entry(req, error ? error : end_acting(symlinkat(text, folder.fd, name)), folder.fd, name);
 }
 
 static void on_link(fuse_req_t req, fuse_ino_t number, fuse_ino_t parent, const char *name)
 {
     char path[PROC_ROOM];
-    const char *file = proc_path(fd_of(req, number), path);
-    int made = is_plain(name) ? linkat(AT_FDCWD, file, fd_of(req, parent), name, AT_SYMLINK_FOLLOW) : 0;
-    reply_entry(req, error_after(made), parent, name);
+    const struct held file HELD = hold(req, number), folder HELD = hold(req, parent);
+    int error = file.error ? file.error : folder.error;
+    if (!error && is_plain(name))
+        error = error_after(linkat(AT_FDCWD, proc_path(file.fd, path), folder.fd, name, AT_SYMLINK_FOLLOW));
+    reply_entry(req, error, folder.fd, name);
 }
 
 static void on_unlink(fuse_req_t req, fuse_ino_t parent, const char *name)
 {
-    fuse_reply_err(req, is_plain(name) ? error_after(unlinkat(fd_of(req, parent), name, 0)) : EINVAL);
+    const struct held folder HELD = hold(req, parent);
+    int error = is_plain(name) ? folder.error : EINVAL;
+    fuse_reply_err(req, error ? error : error_after(unlinkat(folder.fd, name, 0)));
 }
 
 static void on_rmdir(fuse_req_t req, fuse_ino_t parent, const char *name)
 {
-    fuse_reply_err(req, is_plain(name) ? error_after(unlinkat(fd_of(req, parent), name, AT_REMOVEDIR)) : EINVAL);
+    const struct held folder HELD = hold(req, parent);
+    int error = is_plain(name) ? folder.error : EINVAL;
+    fuse_reply_err(req, error ? error : error_after(unlinkat(folder.fd, name, AT_REMOVEDIR)));
 }
 
 /* The third flag that there is would leave a device of root's behind. */
 static void on_rename(fuse_req_t req, fuse_ino_t parent, const char *name, fuse_ino_t new_parent, const char *new_name,
                       unsigned int flags)
 {
-    int error = EINVAL;
-    if (is_plain(name) && is_plain(new_name) && !(flags & ~(unsigned)(RENAME_NOREPLACE | RENAME_EXCHANGE)))
-        error = error_after(renameat2(fd_of(req, parent), name, fd_of(req, new_parent), new_name, flags));
-    fuse_reply_err(req, error);
+    const struct held from HELD = hold(req, parent), to HELD = hold(req, new_parent);
+    int error = from.error ? from.error : to.error;
+    if (!is_plain(name) || !is_plain(new_name) || flags & ~(unsigned)(RENAME_NOREPLACE | RENAME_EXCHANGE))
+        error = EINVAL;
+    fuse_reply_err(req, error ? error : error_after(renameat2(from.fd, name, to.fd, new_name, flags)));
 }
 
 static void on_readlink(fuse_req_t req, fuse_ino_t number)
 {
     char text[PATH_MAX + 1];
-    ssize_t len = readlinkat(fd_of(req, number), "", text, PATH_MAX);
-    int error = error_after(len);
+    const struct held link HELD = hold(req, number);
+    ssize_t len = link.error ? 0 : readlinkat(link.fd, "", text, PATH_MAX);
+    int error = link.error ? link.error : error_after(len);
     text[error ? 0 : len] = '\0';
     error ? fuse_reply_err(req, error) : fuse_reply_readlink(req, text);
 }
@@ -521,11 +561,12 @@ static void on_forget(fuse_req_t req, fuse_ino_t number, uint64_t lookups)
 
 static void on_getattr(fuse_req_t req, fuse_ino_t number, struct fuse_file_info *opened UNUSED)
 {
-    struct stat file;
-    int error = error_after(fstat(fd_of(req, number), &file));
+    struct stat told;
+    const struct held file HELD = hold(req, number);
+    int error = file.error ? file.error : error_after(fstat(file.fd, &told));
     if (!error)
-        error = attributes_to_guest(share_of(req), &file);
-    error ? fuse_reply_err(req, error) : fuse_reply_attr(req, &file, share_of(req)->timeout);
+        error = attributes_to_guest(share_of(req), &told);
+    error ? fuse_reply_err(req, error) : fuse_reply_attr(req, &told, share_of(req)->timeout);
 }
 
 /* Both owners of a request are mapped before either is set, so that one that is forbidden changes nothing. */
@@ -553,12 +594,13 @@ static void on_setattr(fuse_req_t req, fuse_ino_t number, struct stat *wanted, i
                        struct fuse_file_info *opened)
 {
     char path[PROC_ROOM];
-    int fd = fd_of(req, number), error = set_owners(req, fd, wanted, which);
+    const struct held file HELD = hold(req, number);
+    int error = file.error ? file.error : set_owners(req, file.fd, wanted, which);
     const struct timespec times[2] = {
         time_for(wanted->st_atim, which & FUSE_SET_ATTR_ATIME, which & FUSE_SET_ATTR_ATIME_NOW),
         time_for(wanted->st_mtim, which & FUSE_SET_ATTR_MTIME, which & FUSE_SET_ATTR_MTIME_NOW),
     };
-    proc_path(fd, path);
+    proc_path(file.fd, path);
     if (!error && which & FUSE_SET_ATTR_MODE)
         error = error_after(chmod(path, wanted->st_mode));
     if (!error && which & FUSE_SET_ATTR_SIZE)
@@ -587,19 +629,20 @@ static void make_and_open(fuse_req_t req, fuse_ino_t parent, const char *name, m
 {
     struct fuse_entry_param entry;
     char path[PROC_ROOM];
-    int fd = -1, error = how & O_CREAT && !is_plain(name) ? EINVAL : act_as_caller(req, CAP_DAC_OVERRIDE);
+    const struct held folder HELD = hold(req, parent);
+    int fd = -1, error = how & O_CREAT && !is_plain(name) ? EINVAL : folder.error;
+    if (!error)
+        error = act_as_caller(req, CAP_DAC_OVERRIDE);
     if (!error) {
-        fd = openat(fd_of(req, parent), name, flags_for(opened->flags) | how, mode);
+        fd = openat(folder.fd, name, flags_for(opened->flags) | how, mode);
         error = end_acting(fd);
     }
     if (error == EEXIST && !(opened->flags & O_EXCL))
         error = ESTALE;
     if (!error)
-        error = entry_of(req, open(proc_path(fd, path), O_PATH | O_CLOEXEC), parent, name, &entry);
-    if (!error)
-        count_open(share_of(req), entry.ino, true);
-    else if (fd >= 0)
-        close(fd);
+        error = entry_of(req, folder.fd, open(proc_path(fd, path), O_PATH | O_CLOEXEC), &entry);
+    if (error)
+        close_any(fd);
     opened->fh = (uint64_t)fd;
     error ? fuse_reply_err(req, error) : fuse_reply_create(req, &entry, opened);
 }
@@ -613,15 +656,13 @@ static void on_create(fuse_req_t req, fuse_ino_t parent, const char *name, mode_
 static void on_open(fuse_req_t req, fuse_ino_t number, struct fuse_file_info *opened)
 {
     char path[PROC_ROOM];
-    const struct node *node = node_of(share_of(req), number);
-    int fd = -1, error = EPERM;
-    if (S_ISREG(node->mode)) {
-        fd = open(proc_path(node->fd, path), flags_for(opened->flags));
+    const struct held file HELD = hold(req, number);
+    int fd = -1, error = S_ISREG(node_of(share_of(req), number)->mode) ? file.error : EPERM;
+    if (!error) {
+        fd = open(proc_path(file.fd, path), flags_for(opened->flags));
         error = error_after(fd);
     }
     opened->fh = (uint64_t)fd;
-    if (!error)
-        count_open(share_of(req), number, true);
     error ? fuse_reply_err(req, error) : fuse_reply_open(req, opened);
 }
 
@@ -683,9 +724,8 @@ static void on_fsync(fuse_req_t req, fuse_ino_t number UNUSED, int only_data, st
     fuse_reply_err(req, error_after(only_data ? fdatasync((int)opened->fh) : fsync((int)opened->fh)));
 }
 
-static void on_release(fuse_req_t req, fuse_ino_t number, struct fuse_file_info *opened)
+static void on_release(fuse_req_t req, fuse_ino_t number UNUSED, struct fuse_file_info *opened)
 {
-    count_open(share_of(req), number, false);
     fuse_reply_err(req, error_after(close((int)opened->fh)));
 }
 
@@ -700,7 +740,10 @@ static void on_tmpfile(fuse_req_t req, fuse_ino_t parent, mode_t mode, struct fu
 static void on_statx(fuse_req_t req, fuse_ino_t number, int flags, int mask, struct fuse_file_info *opened UNUSED)
 {
     struct statx told = { 0 };
-    int error = error_after(statx(fd_of(req, number), "", flags | AT_EMPTY_PATH, (unsigned)mask, &told));
+    const struct held held HELD = hold(req, number);
+    int error = held.error;
+    if (!error)
+        error = error_after(statx(held.fd, "", flags | AT_EMPTY_PATH, (unsigned)mask, &told));
     struct stat file = { .st_dev = makedev(told.stx_dev_major, told.stx_dev_minor), .st_ino = told.stx_ino,
                          .st_uid = told.stx_uid, .st_gid = told.stx_gid };
     if (!error)
@@ -716,30 +759,31 @@ static void on_statx(fuse_req_t req, fuse_ino_t number, int flags, int mask, str
 
 static void on_opendir(fuse_req_t req, fuse_ino_t number, struct fuse_file_info *opened)
 {
-    int fd = openat(fd_of(req, number), ".", flags_for(opened->flags) | O_DIRECTORY);
+    const struct held file HELD = hold(req, number);
+    int fd = file.error ? -1 : openat(file.fd, ".", flags_for(opened->flags) | O_DIRECTORY);
     DIR *folder = fd < 0 ? NULL : fdopendir(fd);
-    int error = folder ? 0 : errno;
+    int error = file.error ? file.error : folder ? 0 : errno;
     opened->fh = (uintptr_t)folder;
-    if (error && fd >= 0)
-        close(fd);
+    if (error)
+        close_any(fd);
     error ? fuse_reply_err(req, error) : fuse_reply_open(req, opened);
 }
 
 /* Adds an entry, or tells how much room it takes. With `plus` it comes with what a look-up tells, if that succeeds. */
-static size_t add_entry(fuse_req_t req, fuse_ino_t number, char *to, size_t room, const struct dirent *it, bool plus)
+static size_t add_entry(fuse_req_t req, dev_t dev, DIR *folder, char *to, size_t room, const struct dirent *it,
+                        bool plus)
 {
-    struct share *share = share_of(req);
-    ino_t ino = number_to_guest(share, node_of(share, number)->dev, it->d_ino);
+    ino_t ino = number_to_guest(share_of(req), dev, it->d_ino);
     const struct stat file = { .st_ino = ino, .st_mode = (mode_t)DTTOIF(it->d_type) };
     struct fuse_entry_param entry;
     if (!plus)
         return fuse_add_direntry(req, to, room, it->d_name, &file, it->d_off);
-    bool is_told = !look_up(req, number, it->d_name, &entry);
+    bool is_told = !look_up(req, dirfd(folder), it->d_name, &entry);
     if (!is_told)
         entry = (struct fuse_entry_param){ .attr = file };
     size_t taken = fuse_add_direntry_plus(req, to, room, it->d_name, &entry, it->d_off);
     if (is_told && taken > room)
-        forget(share, entry.ino, 1);
+        forget(share_of(req), entry.ino, 1);
     return taken;
 }
 
@@ -759,7 +803,7 @@ static void list_folder(fuse_req_t req, fuse_ino_t number, size_t size, off_t at
         error = errno;
         if (!entry)
             break;
-        taken = add_entry(req, number, entries + len, size - len, entry, plus);
+        taken = add_entry(req, node_of(share_of(req), number)->dev, folder, entries + len, size - len, entry, plus);
     }
     error && !len ? fuse_reply_err(req, error) : fuse_reply_buf(req, entries, len);
     free(entries);
@@ -789,7 +833,8 @@ static void on_releasedir(fuse_req_t req, fuse_ino_t number UNUSED, struct fuse_
 static void on_statfs(fuse_req_t req, fuse_ino_t number)
 {
     struct statvfs told;
-    int error = error_after(fstatvfs(fd_of(req, number), &told));
+    const struct held file HELD = hold(req, number);
+    int error = file.error ? file.error : error_after(fstatvfs(file.fd, &told));
     error ? fuse_reply_err(req, error) : fuse_reply_statfs(req, &told);
 }
 
@@ -848,11 +893,12 @@ static void reply_bytes(fuse_req_t req, int error, const void *bytes, size_t len
    kernel clears as much memory as it is told that there is. */
 static void on_getxattr(fuse_req_t req, fuse_ino_t number, const char *guest_name, size_t room)
 {
-    char name[NAME_ROOM], path[PROC_ROOM];
+    char name[VIRTIOFS_NAME_ROOM], path[PROC_ROOM];
     uint8_t value[XATTR_SIZE_MAX];
     size_t len = 0;
-    int error = name_to_host(share_of(req), guest_name, name);
-    proc_path(fd_of(req, number), path);
+    const struct held file HELD = hold(req, number);
+    int error = file.error ? file.error : name_to_host(share_of(req), guest_name, name);
+    proc_path(file.fd, path);
     if (!error) {
         ssize_t read = getxattr(path, name, value, SHORT_VALUE);
         if (read < 0 && errno == ERANGE)
@@ -867,10 +913,14 @@ static void on_getxattr(fuse_req_t req, fuse_ino_t number, const char *guest_nam
 
 static void on_listxattr(fuse_req_t req, fuse_ino_t number, size_t room)
 {
-    char path[PROC_ROOM], host[XATTR_LIST_MAX + 1], guest[XATTR_LIST_MAX + 2];
+    char path[PROC_ROOM], host[XATTR_LIST_MAX + 1], guest[XATTR_LIST_MAX + 1];
     size_t len = 0;
-    ssize_t read = listxattr(proc_path(fd_of(req, number), path), host, XATTR_LIST_MAX);
-    int error = read < 0 ? errno : list_to_guest(share_of(req), host, (size_t)read, guest, &len);
+    const struct held file HELD = hold(req, number);
+    ssize_t read = file.error ? 0 : listxattr(proc_path(file.fd, path), host, XATTR_LIST_MAX);
+    int error = file.error ? file.error : error_after(read);
+    host[error ? 0 : read] = '\0';
+    if (!error)
+        error = list_to_guest(share_of(req), host, (size_t)read, guest, &len);
     reply_bytes(req, error, guest, len, room);
 }
 
@@ -879,9 +929,10 @@ static void on_listxattr(fuse_req_t req, fuse_ino_t number, size_t room)
 static void on_setxattr(fuse_req_t req, fuse_ino_t number, const char *guest_name, const char *value, size_t len,
                         int flags)
 {
-    char name[NAME_ROOM], path[PROC_ROOM];
+    char name[VIRTIOFS_NAME_ROOM], path[PROC_ROOM];
     uint8_t changed[XATTR_SIZE_MAX + CAPABILITY_ROOM];
-    int error = len > XATTR_SIZE_MAX ? E2BIG : name_to_host(share_of(req), guest_name, name);
+    const struct held file HELD = hold(req, number);
+    int error = len > XATTR_SIZE_MAX ? E2BIG : file.error ? file.error : name_to_host(share_of(req), guest_name, name);
     if (!error) {
         memcpy(changed, value, len);
         error = value_across(share_of(req), true, name, changed, &len);
@@ -890,7 +941,7 @@ static void on_setxattr(fuse_req_t req, fuse_ino_t number, const char *guest_nam
     if (is_as_caller)
         error = act_as_caller(req, CAP_FOWNER);
     if (!error)
-        error = error_after(setxattr(proc_path(fd_of(req, number), path), name, changed, len, flags));
+        error = error_after(setxattr(proc_path(file.fd, path), name, changed, len, flags));
     if (is_as_caller)
         act_as_root();
     fuse_reply_err(req, error);
@@ -898,10 +949,11 @@ static void on_setxattr(fuse_req_t req, fuse_ino_t number, const char *guest_nam
 
 static void on_removexattr(fuse_req_t req, fuse_ino_t number, const char *guest_name)
 {
-    char name[NAME_ROOM], path[PROC_ROOM];
-    int error = name_to_host(share_of(req), guest_name, name);
+    char name[VIRTIOFS_NAME_ROOM], path[PROC_ROOM];
+    const struct held file HELD = hold(req, number);
+    int error = file.error ? file.error : name_to_host(share_of(req), guest_name, name);
     if (!error)
-        error = error_after(removexattr(proc_path(fd_of(req, number), path), name));
+        error = error_after(removexattr(proc_path(file.fd, path), name));
     fuse_reply_err(req, error);
 }
 
@@ -936,26 +988,32 @@ static const struct fuse_lowlevel_ops OPERATIONS = {
 #endif
 };
 
-/* Answers requests until it is unmounted, or a signal ends it, whose number fuse_session_loop returns. */
-static int answer(struct share *share, const struct fuse_cmdline_opts *words)
+static void *cancelled(void *data)
+{
+    pause();
+    return data;
+}
+
+/* Answers requests until it is unmounted, or a signal ends it, whose number fuse_session_loop returns. At the end
+   libfuse cancels its threads. The first time, the C library opens a file for that, and aborts where it cannot. So
+   a thread is cancelled before the first request, when descriptors are left. */
+static int answer(struct fuse_session *session, const struct fuse_cmdline_opts *words)
 {
     pthread_t thread;
-    if (fuse_daemonize(words->foreground) || pthread_create(&thread, NULL, keep_few, share))
+    if (fuse_daemonize(words->foreground) || pthread_create(&thread, NULL, cancelled, NULL) || pthread_cancel(thread)
+        || pthread_join(thread, NULL))
         return 1;
-    int status = words->singlethread ? fuse_session_loop(share->session)
-                                     : fuse_session_loop_mt(share->session, words->clone_fd);
-    pthread_mutex_lock(&share->lock); /* (so that the thread does nothing more with the session) */
-    return status < 0;
+    return (words->singlethread ? fuse_session_loop(session) : fuse_session_loop_mt(session, words->clone_fd)) < 0;
 }
 
 static int serve(struct share *share, struct fuse_args *args, const struct fuse_cmdline_opts *words)
 {
-    struct fuse_session *session = share->session = fuse_session_new(args, &OPERATIONS, sizeof OPERATIONS, share);
+    struct fuse_session *session = fuse_session_new(args, &OPERATIONS, sizeof OPERATIONS, share);
     int status = 1;
     if (!session)
         return 1;
     if (!fuse_set_signal_handlers(session) && !fuse_session_mount(session, words->mountpoint)) {
-        status = answer(share, words);
+        status = answer(session, words);
         fuse_session_unmount(session);
     }
     fuse_remove_signal_handlers(session);
@@ -1054,11 +1112,10 @@ static bool made_names(const struct fuse_args *values, struct virtiofs_names *na
 /* Whether a name is the same on both sides. */
 static bool stays(const struct share *share, const char *name)
 {
-    char host[NAME_ROOM], list[NAME_ROOM], guest[NAME_ROOM + 1];
+    char host[VIRTIOFS_NAME_ROOM], guest[VIRTIOFS_NAME_ROOM];
     size_t len;
-    snprintf(list, sizeof list, "%s", name);
     return !name_to_host(share, name, host) && !strcmp(host, name)
-        && !list_to_guest(share, list, strlen(name) + 1, guest, &len) && !strcmp(guest, name);
+        && !list_to_guest(share, name, strlen(name) + 1, guest, &len) && len && !strcmp(guest, name);
 }
 
 /* Makes all that requests are answered with. Where it cannot, it says why. */
@@ -1082,7 +1139,7 @@ static bool is_ready(struct share *share)
         return false;
     }
     share->root.dev = file.st_dev;
-    return !pthread_mutex_init(&share->lock, NULL) && !pthread_cond_init(&share->is_full, NULL);
+    return !pthread_mutex_init(&share->lock, NULL);
 }
 
 /* What this process is for the host: it has no umask and no groups of its own, and as many open files as Linux allows,

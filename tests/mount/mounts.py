@@ -4,11 +4,11 @@ import ctypes
 import errno
 import functools
 import os
-import subprocess
 import tempfile
 import threading
 import time
 from pathlib import Path
+from subprocess import DEVNULL, PIPE, STDOUT, Popen
 
 from compiling import TOP
 from tally import run
@@ -16,7 +16,7 @@ from tally import run
 LIBC = ctypes.CDLL(None, use_errno=True)
 # The error where the host has no id, or the one that no file can have; and by the first word of the answer on a name.
 NO_ID, NO_NAME = {None: "EPERM", 2**32 - 1: "EINVAL"}, {"deny": "EPERM", "refused:": "EPERM", "unsupported": "ENOTSUP"}
-SHIFTED, OWN_NAMES, SECONDS_TO_END = ["map:0:100000:65536"], ":map::user.virtiofs.:", 20
+SHIFTED, OWN_NAMES, SECONDS_TO_END = ["map:0:100000:65536"], ":map::user.virtiofs.:", 60
 
 
 @functools.cache
@@ -67,9 +67,7 @@ class Configuration:
 class File(str):
     """A path on one side of a mount. Its functions are those of os, as `outcome` tells of them."""
 
-    def __getattr__(self, function):
-        return lambda *words, **named: outcome(getattr(os, function), self, *words, **named)
-
+    __getattr__ = lambda self, function: lambda *words, **named: outcome(getattr(os, function), self, *words, **named)
     __truediv__ = lambda self, name: File(f"{self}/{name}")
     owners = lambda self: os.lstat(self)[4:6]
     mode = lambda self: oct(os.lstat(self).st_mode)
@@ -85,8 +83,7 @@ class Mounted(contextlib.AbstractContextManager):
         self.host = host or File(tempfile.mkdtemp(dir=f"{room}/files"))
         os.chmod(self.host, 0o755)
         words = [*it.before, f"{room}/mapped_fs", "-f", *it.options(), self.host, self.guest]
-        to = {"stdin": subprocess.DEVNULL, "stdout": subprocess.PIPE, "stderr": subprocess.STDOUT, "errors": "replace"}
-        self.daemon = subprocess.Popen(words, **to)
+        self.daemon = Popen(words, stdin=DEVNULL, stdout=PIPE, stderr=STDOUT, errors="replace")
         while not os.path.ismount(self.guest):
             if self.daemon.poll() is not None:
                 raise OSError(errno.EIO, f"nothing is mounted: {self.daemon.stdout.read()}")
@@ -111,6 +108,14 @@ class Mounted(contextlib.AbstractContextManager):
         return self.host / name, self.guest / name
 
     folder = lambda self, name, mode=0o777, owners=(0, 0): self.file(name, mode, owners, Path.mkdir)
+
+
+def waited(holds, seconds=60):
+    """Waits until a condition holds, or time is up. Returns whether it holds."""
+    until = time.monotonic() + seconds
+    while not (it := holds()) and time.monotonic() < until:
+        time.sleep(0.001)
+    return it
 
 
 def outcome(call, *arguments, by=(0, 0), **named):

@@ -2,11 +2,10 @@
 import os
 import random
 import stat
-import time
 from concurrent import futures
 from pathlib import Path
 
-from mounts import OWN_NAMES, SHIFTED, Configuration, Mounted, outcome
+from mounts import OWN_NAMES, SHIFTED, Configuration, Mounted, outcome, waited
 
 GUESTS = (0, 1, 4, 5, 6, 9, 10, 11, 99, 100, 500, 999, 1000, 1001, 65534, 65535, 65536, 4294967290, 4294967294)
 HOSTS = (0, 5, 500, 1000, 1001, 1002, 1005, 65534, 100000, 100005, 165535, 165536, 200000, 4294967294)
@@ -35,7 +34,7 @@ MAKERS = {stat.S_IFREG: (lambda path: Path(path).touch(0o664, exist_ok=False), 0
           stat.S_IFLNK: (lambda path: os.symlink("/anywhere", path), 0o777),
           stat.S_IFIFO: (lambda path: os.mkfifo(path, 0o664), 0o644)}
 SETTING = [("set", it) for it in (0, 0, os.XATTR_CREATE, os.XATTR_REPLACE)]
-OPERATIONS, ROUNDS_OF_KILLS, STEPS_OF_A_ROUND, SECONDS_OF_WORK = 450, 60, 10, 30
+OPERATIONS, ROUNDS_OF_KILLS, STEPS_OF_A_ROUND = 450, 60, 10
 
 
 class Worker:
@@ -127,9 +126,7 @@ def killed(room):
         with Mounted(room, it) as mounted, futures.ThreadPoolExecutor(WORKERS) as pool:
             workers = [Worker(it, mounted, number) for number in range(WORKERS)]
             made = pool.map(lambda worker: [it for it in worker.operations(10**9) if it[1] != it[2]], workers)
-            until = time.time() + SECONDS_OF_WORK
-            while sum(it.done for it in workers) < STEPS_OF_A_ROUND * (number + 1) and time.time() < until:
-                time.sleep(0.001)
+            is_worked = waited(lambda: sum(it.done for it in workers) >= STEPS_OF_A_ROUND * (number + 1))
             mounted.kill()
         yield from ((f"{it.name}: a thread", wrong, []) for wrong in made)
-        yield f"{it.name}: steps", sum(it.done for it in workers) >= STEPS_OF_A_ROUND * (number + 1), True
+        yield f"{it.name}: steps", is_worked, True

@@ -17,8 +17,8 @@ sys.dont_write_bytecode = True
 sys.path.insert(0, str(Path(__file__).resolve().parents[1]))
 from cases import CASES, REFUSED
 from compiling import C_FLAGS, INCLUDE, LINKED, SANITIZED, TOP, compiler
-from files import FILE_CASES, over_the_dead, told_of_itself
-from mounts import Configuration, Mounted, outcome
+from files import FILE_CASES, over_the_dead
+from mounts import Configuration, Mounted, outcome, waited
 from operations import CONFIGURATIONS, killed, operated
 from tally import Tally, left_out, run
 
@@ -56,10 +56,13 @@ def mounted(room):
 
 
 def refused(room):
-    """A configuration that is refused ends the example before anything is mounted."""
+    """A configuration that is refused, and a question about the example, end it before anything is mounted."""
+    for word, told in (("-h", "-o translate_uid=SPEC"), ("-V", "libfuse 3.")):
+        status, said = run([f"{room}/mapped_fs", word])
+        yield f"mapped_fs {word}", (status, told in said), (0, True)
     host, guest = (tempfile.mkdtemp(dir=room) for _ in range(2))
     for *given, told in REFUSED:
-        status, said = run([f"{room}/mapped_fs", "-f", *Configuration("", *given).options(), host, guest], 20)
+        status, said = run([f"{room}/mapped_fs", "-f", *Configuration("", *given).options(), host, guest], 60)
         yield told, (status, said.count("\n"), told in said or said, os.path.ismount(guest)), (1, 1, True, False)
 
 
@@ -76,6 +79,7 @@ def trying(room):
     printed = [*said.split(f"{ENDED}\n")[:-1], *[f"status {status}: {said}"] * len(commands)]
     yield from ((command.strip(), found, wanted) for (command, wanted), found in zip(commands, printed))
     yield "what is still mounted", re.findall(r"^mapped_fs .*", Path("/proc/mounts").read_text(), re.M), []
+    yield "the daemon's end", waited(lambda: "/mapped_fs" not in run(["sh", "-c", "ls -l /proc/[0-9]*/exe"])[1]), True
 
 
 def main(words):
@@ -104,8 +108,8 @@ def main(words):
         # (files in memory are quick, and have room for a list of 64 KiB; not each kernel gives them all attributes)
         run(["mount", "-t", "tmpfs", "-o", "nosuid,nodev,mode=755", "tests", files])
         if outcome(os.setxattr, files, "user.tried", b""):
-            run(["umount", files])
-        for part in (mounted, refused, over_the_dead, told_of_itself, killed, trying) if not status else ():
+            run(["sh", "-c", f"umount {files} && mount --bind {files} {files}"])
+        for part in (mounted, refused, over_the_dead, killed, trying) if not status else ():
             for what, found, wanted in seen(part, room):
                 tally.see(what, "" if found == wanted else f"{found!s:.2000}, not {wanted!s:.2000}")
         run(["umount", "--all", "--lazy", "--types", "fuse.mapped_fs"])
