@@ -19,7 +19,7 @@ use Rattle.virtiofs_map.specs.declared.xattrmap.errors.ErrorKind.TheVariants.{Un
 use Rattle.virtiofs_map.specs.Audit.{IsMostAdded}
 use Rattle.virtiofs_mapaudit.specs.NameTable.{stands, shown, guest_line, host_line, too_long_lines, table_lines, ShowsNames}
 use Rattle.virtiofs_mapaudit.specs.NameTableParts.{is_shown, names_of}
-use Rattle.virtiofs_mapaudit.specs.Written.{written}
+use Rattle.virtiofs_output.specs.Written.{written}
 
 -- ---- the bytes of a name
 

@@ -32,7 +32,7 @@ use Rattle.virtiofs_mapaudit.specs.Refusals.{TellsWhere, Adds, IsSomeRefused, Te
 use Rattle.virtiofs_mapaudit.specs.Refusals.{TellsSpecs, TellsRanges, TellsNames, TellsGuest, TellsGuests, place_of}
 use Rattle.virtiofs_mapaudit.specs.Refusals.{TellsIds, refusal_line, rules_refusal_line}
 use Rattle.virtiofs_mapaudit.specs.IdLines.{translating, ranging}
-use Rattle.virtiofs_mapaudit.specs.Written.{line}
+use Rattle.virtiofs_output.specs.Written.{line}
 use Rattle.virtiofs_mapaudit.specs.declared.ids.kind.IdKind.{IdKind}
 use Rattle.virtiofs_mapaudit.specs.declared.ids.kind.IdKind.TheVariants.{Users, Groups}
 use Rattle.virtiofs_options.specs.declared.guest.Guest.{Guest}
@@ -191,12 +191,6 @@ pub tells_fault : {F T E : Type 0} (r : Result T E) (told : Option F) (fault : F
     → OnOk r ((f : F) × (told ≡ Some f))
 tells_fault (Ok x) told fault is = (fault, is)
 tells_fault (Err e) told fault is = tt
-
--- a word was written
-pub word_pushed : {T E : Type 0} (r : Result T E) (old new word : List ℕ) → new ≡ (if is_ok r then old ++ word else old)
-    → OnOk r (new ≡ old ++ word)
-word_pushed (Ok x) old new word wrote = wrote
-word_pushed (Err e) old new word wrote = tt
 
 -- a reason was written
 pub why_pushed : {T E : Type 0} (r : Result T E) (old told written_too new front back : List ℕ) → told ≡ old ++ front

@@ -12,7 +12,6 @@ pub mod NameTable
 pub mod NameTableParts
 pub mod Namespace
 pub mod Ordinal
-pub mod Output
 pub mod OutsideParts
 pub mod PairFindings
 pub mod PairLines
@@ -23,4 +22,3 @@ pub mod Refusals
 pub mod Report
 pub mod ReportParts
 pub mod Said
-pub mod Written

@@ -4,7 +4,7 @@ use Rattle.std.specs.Fmt.{decimal}
 use Rattle.virtiofs_map.specs.Names.{begins}
 use Rattle.virtiofs_map.specs.declared.audit.answer.Audit.{Audit}
 use Rattle.virtiofs_map.specs.declared.audit.answer.Audit.TheVariants.{Yes, No}
-use Rattle.virtiofs_mapaudit.specs.Written.{quoted}
+use Rattle.virtiofs_output.specs.Written.{quoted}
 use Rattle.virtiofs_mapaudit.specs.declared.names.found.LeastName.{LeastName}
 use Rattle.virtiofs_mapaudit.specs.declared.names.found.NameFindings.{NameFindings}
 

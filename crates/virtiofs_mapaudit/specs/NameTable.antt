@@ -5,7 +5,7 @@ use Rattle.virtiofs_map.specs.Audit.{IsMostAdded}
 use Rattle.virtiofs_map.specs.Names.{ClientAnswer, Passes, IsDenied, IsUnsupported, IsUnterminated, client_answer}
 use Rattle.virtiofs_map.specs.Names.{HostAnswer, IsListed, IsHidden, IsUndecided, host_answer}
 use Rattle.virtiofs_map.specs.Rule.{MappingRule}
-use Rattle.virtiofs_mapaudit.specs.Written.{written, line}
+use Rattle.virtiofs_output.specs.Written.{written, line}
 
 -- the names that are shown
 abbrev pub shown : List (List ℕ)

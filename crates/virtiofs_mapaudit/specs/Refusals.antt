@@ -17,7 +17,7 @@ use Rattle.virtiofs_mapaudit.specs.Guests.{SaysRange, RefusesSpecs, RefusesRange
 use Rattle.virtiofs_mapaudit.specs.IdLines.{translating, ranging}
 use Rattle.virtiofs_mapaudit.specs.Lists.{AnyTwoHave}
 use Rattle.virtiofs_mapaudit.specs.RangeLines.{place_text}
-use Rattle.virtiofs_mapaudit.specs.Written.{written, line}
+use Rattle.virtiofs_output.specs.Written.{written, line}
 use Rattle.virtiofs_options.specs.declared.guest.Guest.{Guest}
 use Rattle.virtiofs_mapaudit.specs.declared.ids.kind.IdKind.{IdKind}
 use Rattle.virtiofs_mapaudit.specs.declared.ids.kind.IdKind.TheVariants.{Users, Groups}

@@ -1,32 +1,28 @@
 //! Says what the options of a virtiofsd do to ids and names, and what is wrong with them.
 #![tactic(auto)]
 
-ghost use Rattle.std.specs.Prelude.{◌≡◌, ◌≢◌, ◌↔◌, [], IsTrue, IsErrOf, string_bytes};
+ghost use Rattle.std.specs.Prelude.{◌≡◌, ◌≢◌, ◌↔◌, [], IsTrue, IsFalse, string_bytes};
 
 mod as_json;
 mod audit;
-mod emit;
 mod ids;
 mod lines;
 mod names;
 mod ordinal;
-mod outcome;
 mod pairs;
 mod report;
 mod setup;
-mod tally;
-mod written;
 
 use crate::audit::{Said, say};
-use crate::emit::emit;
-use crate::outcome::{AuditFault, Audited};
-use crate::tally::{Tally, WriteFailed};
 use std::alloc::Global;
 use std::process::ExitCode;
 use std::{env, io};
 use virtiofs_options::front::Asked;
 use virtiofs_options::guest::Guest;
 use virtiofs_options::words::{Words, read_words};
+use virtiofs_output::emit::emit;
+use virtiofs_output::outcome::{AnswerFault, Answered, status};
+use virtiofs_output::tally::{Tally, WriteFailed};
 
 const USAGE: &str = "usage: virtiofs_mapaudit [OPTIONS] [-- COMMAND LINE OF THE DAEMON]..
 virtiofs_mapaudit(1) says more: man virtiofs_mapaudit
@@ -43,18 +39,18 @@ fn main(rt: HostRuntime) -> ExitCode {
 }
 
 /// The arguments after the program's name; `None` where one is not UTF-8.
-fn arguments(rt: &HostRuntime) -> Result<Option<Vec<String>>, AuditFault> {
+fn arguments(rt: &HostRuntime) -> Result<Option<Vec<String>>, AnswerFault> {
     match env::args(rt) {
         Ok(all) => Ok(Some(all.skip(1).collect(rt.alloc())?)),
-        Err(error) if error.kind() == io::ErrorKind::OutOfMemory => Err(AuditFault::OutOfMemory),
+        Err(error) if error.kind() == io::ErrorKind::OutOfMemory => Err(AnswerFault::OutOfMemory),
         Err(_) => Ok(None),
     }
 }
 
-fn run(rt: &HostRuntime) -> Result<Audited, AuditFault> {
+fn run(rt: &HostRuntime) -> Result<Answered, AnswerFault> {
     let Some(arguments) = arguments(rt)? else {
         let _ = eprint!(rt; "virtiofs_mapaudit: a word is not UTF-8\n{USAGE}");
-        return Ok(Audited::WrongWords);
+        return Ok(Answered::WrongWords);
     };
     let words: Vec<&str> = arguments
         .iter()
@@ -63,11 +59,11 @@ fn run(rt: &HostRuntime) -> Result<Audited, AuditFault> {
     match read_words(rt.alloc(), words.as_slice())? {
         Words::Shown(text) => {
             write_whole(rt, text.as_str())?;
-            Ok(Audited::Clean)
+            Ok(Answered::Given)
         }
         Words::Wrong(text) => {
             let _ = eprint!(rt; "virtiofs_mapaudit: {text}{USAGE}");
-            Ok(Audited::WrongWords)
+            Ok(Answered::WrongWords)
         }
         Words::Audit { asked, guests } => answer(rt, asked, guests.as_slice()),
     }
@@ -78,7 +74,7 @@ fn answer(
     rt: &HostRuntime,
     asked: Asked,
     guests: &[Guest<'_, Global>],
-) -> Result<Audited, AuditFault> {
+) -> Result<Answered, AnswerFault> {
     let said = say(rt.alloc(), asked, guests)?;
     write_whole(rt, said.text.as_str())?;
     if !asked.quiet {
@@ -92,42 +88,23 @@ fn answer(
 fn write_whole(rt: &HostRuntime, text: &str) -> Result<(), WriteFailed> {
     let mut out = Tally::new(rt.stdout());
     emit(text.as_bytes(), &mut out)?;
-    match out.flush() {
-        Ok(()) => Ok(()),
-        Err(_) => Err(WriteFailed),
-    }
+    out.flush()
 }
 
 /// How the program ends where everything was written.
-fn ended(said: &Said) -> Audited
-    ensures refused { (result ≡ Audited.Refused) ↔ (string_bytes said.now.refusals ≢ []) }
-    ensures found { (result ≡ Audited.Found)
+fn ended(said: &Said) -> Answered
+    ensures given { (result ≡ Answered.Given)
+        ↔ (string_bytes said.now.refusals ≡ []) × IsFalse said.now.is_found }
+    ensures refused { (result ≡ Answered.Refused) ↔ (string_bytes said.now.refusals ≢ []) }
+    ensures found { (result ≡ Answered.Found)
         ↔ (string_bytes said.now.refusals ≡ []) × IsTrue said.now.is_found }
 {
     if !said.refusals.is_empty() {
-        return Audited::Refused;
+        return Answered::Refused;
     }
     if said.is_found {
-        Audited::Found
+        Answered::Found
     } else {
-        Audited::Clean
-    }
-}
-
-fn status(ended: Result<Audited, AuditFault>) -> u8
-    ensures clean { (result ≡ 0) ↔ (ended ≡ Ok Audited.Clean) }
-    ensures refused { (result ≡ 1) ↔ (ended ≡ Ok Audited.Refused) }
-    ensures wrong_words { (result ≡ 2) ↔ (ended ≡ Ok Audited.WrongWords) }
-    ensures out_of_memory { (result ≡ 3) ↔ IsErrOf ended AuditFault.OutOfMemory }
-    ensures write { (result ≡ 4) ↔ IsErrOf ended AuditFault.Write }
-    ensures found { (result ≡ 5) ↔ (ended ≡ Ok Audited.Found) }
-{
-    match ended {
-        Ok(Audited::Clean) => 0,
-        Ok(Audited::Refused) => 1,
-        Ok(Audited::WrongWords) => 2,
-        Ok(Audited::Found) => 5,
-        Err(AuditFault::OutOfMemory) => 3,
-        Err(AuditFault::Write) => 4,
+        Answered::Given
     }
 }

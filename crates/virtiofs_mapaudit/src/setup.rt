@@ -14,13 +14,13 @@ ghost use Rattle.virtiofs_map.specs.Specifications.{SpecsFault, specs_fault_of, 
 use crate::ids::audits::Ids;
 use crate::ids::kind::{IdKind, ranging, translating};
 use crate::ids::ranges::push_place;
-use crate::written::push_written;
 use std::alloc::{AllocError, Allocator};
 use virtiofs_map::cmdline;
 use virtiofs_map::idmap::UidMap;
 use virtiofs_map::soft_idmap::{IdMap, IdMapBuildError, SpecsError};
 use virtiofs_map::xattrmap::{Error, ErrorKind, XattrMap};
 use virtiofs_options::guest::Guest;
+use virtiofs_output::written::push_written;
 
 /// What the options of a daemon set up for ids of one kind.
 #[derive(Drop)]

@@ -9,7 +9,7 @@ use Rattle.virtiofs_mapcheck.specs.AttributesAnswer.{undecided, AnswersName, Ans
 use Rattle.virtiofs_mapcheck.specs.AttributesAnswer.{AnswersServer}
 use Rattle.virtiofs_mapcheck.specs.Outcome.{AreOne}
 use Rattle.virtiofs_mapcheck.specs.Words.{words_of}
-use Rattle.virtiofs_mapcheck.specs.Written.{written}
+use Rattle.virtiofs_output.specs.Written.{written}
 use Rattle.virtiofs_mapcheck.proofs.OutcomeLemmas.{IsGiven-one, IsRefused-one}
 use Rattle.virtiofs_mapcheck.proofs.RulesAnswerLemmas.{WithRules-one}
 

@@ -17,9 +17,9 @@ use Rattle.virtiofs_mapcheck.specs.AuditsAnswer.{AnswersApart}
 use Rattle.virtiofs_mapcheck.specs.AuditsParts.{audit_text}
 use Rattle.virtiofs_mapcheck.specs.Outcome.{AreOne}
 use Rattle.virtiofs_mapcheck.specs.RulesAnswer.{WithRules}
-use Rattle.virtiofs_mapcheck.specs.Written.{written, line}
-use Rattle.virtiofs_mapcheck.specs.declared.outcome.Answered.{Answered}
-use Rattle.virtiofs_mapcheck.specs.declared.outcome.Answered.TheVariants.{Given}
+use Rattle.virtiofs_output.specs.Written.{written, line}
+use Rattle.virtiofs_output.specs.declared.outcome.Answered.{Answered}
+use Rattle.virtiofs_output.specs.declared.outcome.Answered.TheVariants.{Given}
 use Rattle.virtiofs_mapcheck.proofs.OutcomeLemmas.{IsGiven-one}
 use Rattle.virtiofs_mapcheck.proofs.RulesAnswerLemmas.{WithRules-one}
 

@@ -24,10 +24,10 @@ use Rattle.virtiofs_map.proofs.ForCallers.{lookup_one_value, texts_one_value, te
 use Rattle.virtiofs_map.proofs.ForCallers.{AllZip-one}
 use Rattle.virtiofs_mapcheck.specs.IdsAnswer.{IsLine, GivesIds, specification_fault_text, at_index, specs_fault_text}
 use Rattle.virtiofs_mapcheck.specs.IdsAnswer.{RefusesIds, AnswersIds}
-use Rattle.virtiofs_mapcheck.specs.Outcome.{AreOne}
+use Rattle.virtiofs_mapcheck.specs.Outcome.{refusal, AreOne}
 use Rattle.virtiofs_mapcheck.specs.Words.{words_of}
-use Rattle.virtiofs_mapcheck.specs.Written.{line, refusal}
-use Rattle.virtiofs_mapcheck.specs.declared.outcome.Answered.TheVariants.{Refused}
+use Rattle.virtiofs_output.specs.Written.{line}
+use Rattle.virtiofs_output.specs.declared.outcome.Answered.TheVariants.{Refused}
 use Rattle.virtiofs_mapcheck.specs.declared.words.Query.{Query}
 use Rattle.virtiofs_mapcheck.proofs.OutcomeLemmas.{refused_alike, told_fault}
 

@@ -5,7 +5,7 @@ use Rattle.virtiofs_map.specs.Printed.{namespace_text}
 use Rattle.virtiofs_map.proofs.ForCallers.{namespace_one_value, namespace_no_fault, namespace_one_fault}
 use Rattle.virtiofs_mapcheck.specs.NamespaceAnswer.{namespace_fault_text, AnswersNamespace}
 use Rattle.virtiofs_mapcheck.specs.Outcome.{AreOne}
-use Rattle.virtiofs_mapcheck.specs.Written.{line}
+use Rattle.virtiofs_output.specs.Written.{line}
 use Rattle.virtiofs_mapcheck.proofs.OutcomeLemmas.{refused_alike}
 
 one_range_text : (a b c x y z : ℕ) → (a ≡ x) × (b ≡ y) × (c ≡ z) → namespace_text a b c ≡ namespace_text x y z

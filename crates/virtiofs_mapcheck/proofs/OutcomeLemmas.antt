@@ -1,9 +1,8 @@
 -- Answers that are one outcome with one text.
 use Rattle.std.proofs.Common.{◌≡◌, ℕ, List, Option, Some, sym, ap, ◌∙◌, subst}
 use Rattle.virtiofs_map.specs.Refusal.{OutOfMemoryOr}
-use Rattle.virtiofs_mapcheck.specs.Outcome.{IsGiven, IsRefused, AreOne}
-use Rattle.virtiofs_mapcheck.specs.Written.{refusal}
-use Rattle.virtiofs_mapcheck.specs.declared.outcome.Answered.{Answered}
+use Rattle.virtiofs_mapcheck.specs.Outcome.{refusal, IsGiven, IsRefused, AreOne}
+use Rattle.virtiofs_output.specs.declared.outcome.Answered.{Answered}
 
 pub IsGiven-one : (said : List ℕ) → AreOne (IsGiven said)
 IsGiven-one said answered other text another one two = (one.0 ∙ sym two.0, one.1 ∙ sym two.1)

@@ -10,10 +10,9 @@ use Rattle.virtiofs_map.specs.declared.xattrmap.errors.Error.{Error}
 use Rattle.virtiofs_map.specs.declared.xattrmap.errors.ErrorKind.{ErrorKind}
 use Rattle.virtiofs_map.specs.declared.xattrmap.errors.ErrorKind.TheVariants.{NoRulesProvided}
 use Rattle.virtiofs_map.proofs.ForCallers.{rules_one_value, rules_no_fault, rules_one_fault}
-use Rattle.virtiofs_mapcheck.specs.Outcome.{AreOne}
+use Rattle.virtiofs_mapcheck.specs.Outcome.{refusal, AreOne}
 use Rattle.virtiofs_mapcheck.specs.RulesAnswer.{rules_fault_text, RefusesRules, WithRules}
-use Rattle.virtiofs_mapcheck.specs.Written.{refusal}
-use Rattle.virtiofs_mapcheck.specs.declared.outcome.Answered.{Answered}
+use Rattle.virtiofs_output.specs.declared.outcome.Answered.{Answered}
 
 -- ---- from what the library answers
 

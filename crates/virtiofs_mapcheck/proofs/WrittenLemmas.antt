@@ -3,7 +3,7 @@ use Rattle.std.proofs.Common.{◌≡◌, ℕ, List, ◌++◌, Option, Some, Resu
 use Rattle.std.proofs.Common.{string_bytes, sym, ap, ◌∙◌, append_assoc}
 use Rattle.std.specs.Str.{chars, encode_utf8_all}
 use Rattle.std.proofs.lemmas.Str.{encodes-chars, IsUtf8-string_bytes}
-use Rattle.virtiofs_mapcheck.specs.Written.{quoted}
+use Rattle.virtiofs_output.specs.Written.{quoted}
 
 -- a fault that an error tells was said at the end
 pub fault_pushed : {F T E : Type 0} (text_of : F → List ℕ) (told : Option F) (fault : F) (r : Result T E)
@@ -11,12 +11,6 @@ pub fault_pushed : {F T E : Type 0} (text_of : F → List ℕ) (told : Option F)
     → OnOk r ((x : F) × (told ≡ Some x) × (new ≡ old ++ text_of x))
 fault_pushed text_of told fault (Ok x) old new tells wrote = (fault, tells, wrote)
 fault_pushed text_of told fault (Err e) old new tells wrote = tt
-
--- a word was written
-pub word_pushed : {T E : Type 0} (r : Result T E) (old new word : List ℕ) → new ≡ (if is_ok r then old ++ word else old)
-    → OnOk r (new ≡ old ++ word)
-word_pushed (Ok x) old new word wrote = wrote
-word_pushed (Err e) old new word wrote = tt
 
 -- a word and another were written
 pub words_pushed : {T E : Type 0} (r : Result T E) (old mid new front word said : List ℕ) → mid ≡ old ++ front

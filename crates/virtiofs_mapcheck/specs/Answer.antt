@@ -7,9 +7,9 @@ use Rattle.virtiofs_mapcheck.specs.NamespaceAnswer.{AnswersNamespace}
 use Rattle.virtiofs_mapcheck.specs.Outcome.{AreOne}
 use Rattle.virtiofs_mapcheck.specs.Words.{Form, Ids, Namespace, Client, Server, Terminated, Audit, Apart, HasForm}
 use Rattle.virtiofs_mapcheck.specs.Words.{HasNoForm}
-use Rattle.virtiofs_mapcheck.specs.Written.{line}
-use Rattle.virtiofs_mapcheck.specs.declared.outcome.Answered.{Answered}
-use Rattle.virtiofs_mapcheck.specs.declared.outcome.Answered.TheVariants.{WrongWords}
+use Rattle.virtiofs_output.specs.Written.{line}
+use Rattle.virtiofs_output.specs.declared.outcome.Answered.{Answered}
+use Rattle.virtiofs_output.specs.declared.outcome.Answered.TheVariants.{WrongWords}
 
 -- the outcome and the text that the words of a form come to
 abbrev pub AnswersForm : Form → Answered → List ℕ → Type 0

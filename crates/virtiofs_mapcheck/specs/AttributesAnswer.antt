@@ -5,8 +5,8 @@ use Rattle.virtiofs_map.specs.Names.{ClientAnswer, Passes, IsDenied, IsUnsupport
 use Rattle.virtiofs_map.specs.Names.{server_answer}
 use Rattle.virtiofs_mapcheck.specs.Outcome.{IsGiven, IsRefused}
 use Rattle.virtiofs_mapcheck.specs.RulesAnswer.{WithRules}
-use Rattle.virtiofs_mapcheck.specs.Written.{written}
-use Rattle.virtiofs_mapcheck.specs.declared.outcome.Answered.{Answered}
+use Rattle.virtiofs_output.specs.Written.{written}
+use Rattle.virtiofs_output.specs.declared.outcome.Answered.{Answered}
 
 -- what is said of names that no rule decides
 abbrev pub undecided : List ℕ

@@ -4,8 +4,8 @@ use Rattle.virtiofs_map.specs.Audit.{IsLeast, IsLost, IsSeen, Terminated}
 use Rattle.virtiofs_map.specs.Rule.{MappingRule}
 use Rattle.virtiofs_mapcheck.specs.Outcome.{IsGiven}
 use Rattle.virtiofs_mapcheck.specs.RulesAnswer.{WithRules}
-use Rattle.virtiofs_mapcheck.specs.Written.{written}
-use Rattle.virtiofs_mapcheck.specs.declared.outcome.Answered.{Answered}
+use Rattle.virtiofs_output.specs.Written.{written}
+use Rattle.virtiofs_output.specs.declared.outcome.Answered.{Answered}
 
 -- `yes` where no name is bad, and else `no` with the least name that is
 abbrev pub SaysLeast : (List ℕ → Type 0) → Answered → List ℕ → Type 0

@@ -2,7 +2,7 @@
 use Rattle.std.specs.Prelude.{ℕ, List, ◌++◌, codes}
 use Rattle.virtiofs_map.specs.declared.audit.answer.Audit.{Audit}
 use Rattle.virtiofs_map.specs.declared.audit.answer.Audit.TheVariants.{Yes, No}
-use Rattle.virtiofs_mapcheck.specs.Written.{written}
+use Rattle.virtiofs_output.specs.Written.{written}
 
 -- `yes`, or `no` and the name
 abbrev pub audit_text : {A : Type 0} → Audit A → List ℕ

@@ -11,9 +11,9 @@ use Rattle.virtiofs_map.specs.Specifications.{AllSay, SpecsFault, Unread, Unbuil
 use Rattle.virtiofs_map.specs.declared.cmdline.IdMap.{IdMap}
 use Rattle.virtiofs_map.specs.declared.soft_idmap.errors.IdMapBuildError.TheVariants as errors
 use Rattle.virtiofs_mapcheck.specs.Outcome.{IsRefused}
-use Rattle.virtiofs_mapcheck.specs.Written.{quoted, line}
-use Rattle.virtiofs_mapcheck.specs.declared.outcome.Answered.{Answered}
-use Rattle.virtiofs_mapcheck.specs.declared.outcome.Answered.TheVariants.{Given}
+use Rattle.virtiofs_output.specs.Written.{quoted, line}
+use Rattle.virtiofs_output.specs.declared.outcome.Answered.{Answered}
+use Rattle.virtiofs_output.specs.declared.outcome.Answered.TheVariants.{Given}
 use Rattle.virtiofs_mapcheck.specs.declared.words.Query.{Query}
 
 -- the line of a query: the number that the other becomes, or that its use fails

@@ -5,8 +5,6 @@ pub mod AuditsParts
 pub mod IdsAnswer
 pub mod NamespaceAnswer
 pub mod Outcome
-pub mod Output
 pub mod RulesAnswer
 pub mod Words
 pub mod WordsParts
-pub mod Written

@@ -5,7 +5,7 @@ use Rattle.virtiofs_map.specs.NamespaceText.{SaysNamespace, NamespaceFault, Inva
 use Rattle.virtiofs_map.specs.NamespaceText.{InvalidValue, HasNamespaceFault}
 use Rattle.virtiofs_map.specs.Printed.{namespace_text}
 use Rattle.virtiofs_mapcheck.specs.Outcome.{IsGiven, IsRefused}
-use Rattle.virtiofs_mapcheck.specs.declared.outcome.Answered.{Answered}
+use Rattle.virtiofs_output.specs.declared.outcome.Answered.{Answered}
 
 -- the text says a range, and the answer is its printed form
 abbrev pub GivesNamespace : List ℕ → Answered → List ℕ → Type 0

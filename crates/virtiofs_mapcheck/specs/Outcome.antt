@@ -1,8 +1,12 @@
 -- How an answer ends: its outcome and its whole text.
-use Rattle.std.specs.Prelude.{◌≡◌, ℕ, List}
-use Rattle.virtiofs_mapcheck.specs.Written.{line, refusal}
-use Rattle.virtiofs_mapcheck.specs.declared.outcome.Answered.{Answered}
-use Rattle.virtiofs_mapcheck.specs.declared.outcome.Answered.TheVariants.{Given, Refused}
+use Rattle.std.specs.Prelude.{◌≡◌, ℕ, List, ◌++◌, codes}
+use Rattle.virtiofs_output.specs.Written.{line}
+use Rattle.virtiofs_output.specs.declared.outcome.Answered.{Answered}
+use Rattle.virtiofs_output.specs.declared.outcome.Answered.TheVariants.{Given, Refused}
+
+-- the line of a refusal
+abbrev pub refusal : List ℕ → List ℕ
+refusal why = line (codes "refused: " ++ why)
 
 -- the answer is given, and its text is that line
 abbrev pub IsGiven : List ℕ → Answered → List ℕ → Type 0

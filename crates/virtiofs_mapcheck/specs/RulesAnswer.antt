@@ -8,9 +8,10 @@ use Rattle.virtiofs_map.specs.RulesFault.{RuleFault, InvalidScope, InvalidType, 
 use Rattle.virtiofs_map.specs.RulesFault.{NulInPattern, RulesFault, NoRules, InRule, NotOfText, HasRulesFault}
 use Rattle.virtiofs_map.specs.declared.xattrmap.errors.PatternField.{PatternField}
 use Rattle.virtiofs_map.specs.declared.xattrmap.errors.PatternField.TheVariants.{Key, Prepend}
-use Rattle.virtiofs_mapcheck.specs.Written.{quoted, refusal}
-use Rattle.virtiofs_mapcheck.specs.declared.outcome.Answered.{Answered}
-use Rattle.virtiofs_mapcheck.specs.declared.outcome.Answered.TheVariants.{Refused}
+use Rattle.virtiofs_output.specs.Written.{quoted}
+use Rattle.virtiofs_mapcheck.specs.Outcome.{refusal}
+use Rattle.virtiofs_output.specs.declared.outcome.Answered.{Answered}
+use Rattle.virtiofs_output.specs.declared.outcome.Answered.TheVariants.{Refused}
 
 -- how a pattern is named
 abbrev pub pattern_word : PatternField → List ℕ

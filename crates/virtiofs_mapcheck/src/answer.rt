@@ -1,19 +1,19 @@
 //! What the program answers to its words.
 ghost use Rattle.std.specs.Prelude.{◌≡◌, ◌↔◌, ℕ, List, IsTrue, IsFalse, IsErrOf, IfOk, string_bytes};
 ghost use Rattle.virtiofs_mapcheck.specs.Answer.{Answers, HasOneAnswer};
-ghost use Rattle.virtiofs_mapcheck.specs.Output.{Writes, WritesFrontOf};
+ghost use Rattle.virtiofs_output.specs.Output.{Writes, WritesFrontOf};
 ghost use Rattle.virtiofs_mapcheck.specs.Words.{words_of};
 
 use crate::attributes::{answer_client, answer_server};
 use crate::audits::{answer_apart, answer_audit, answer_terminated};
-use crate::emit::emit;
 use crate::ids::answer_ids;
 use crate::namespace::answer_namespace;
-use crate::outcome::{AnswerFault, Answered};
-use crate::tally::Tally;
 use crate::words::{Words, read_words};
 use std::alloc::{AllocError, Allocator};
 use std::io::Write;
+use virtiofs_output::emit::emit;
+use virtiofs_output::outcome::{AnswerFault, Answered};
+use virtiofs_output::tally::Tally;
 
 /// The outcome of words, and the whole text.
 fn text_of<A: Allocator + Copy>(

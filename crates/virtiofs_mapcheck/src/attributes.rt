@@ -4,14 +4,15 @@ ghost use Rattle.virtiofs_map.specs.LookupAnswers.{meaning};
 ghost use Rattle.virtiofs_map.specs.Names.{client_answer, server_answer};
 ghost use Rattle.virtiofs_mapcheck.specs.AttributesAnswer.{undecided, AnswersName, AnswersList, list_of, AnswersClient, AnswersServer};
 ghost use Rattle.virtiofs_mapcheck.specs.Words.{words_of};
-ghost use Rattle.virtiofs_mapcheck.specs.Written.{written, line, refusal};
-ghost use Rattle.virtiofs_mapcheck.specs.declared.outcome.Answered.TheVariants.{Given};
+ghost use Rattle.virtiofs_output.specs.Written.{written, line};
+ghost use Rattle.virtiofs_mapcheck.specs.Outcome.{refusal};
+ghost use Rattle.virtiofs_output.specs.declared.outcome.Answered.TheVariants.{Given};
 
-use crate::outcome::Answered;
 use crate::rules::read_rules;
-use crate::written::push_written;
 use std::alloc::{AllocError, Allocator};
 use virtiofs_map::xattrmap::{AppliedRule, Error, ErrorKind, XattrMap, XattrName};
+use virtiofs_output::outcome::Answered;
+use virtiofs_output::written::push_written;
 
 /// The line for names that no rule decides. Any other error of a lookup is answered as out of
 /// memory.

@@ -4,14 +4,14 @@ ghost use Rattle.virtiofs_map.specs.Audit.{IsLost, IsSeen};
 ghost use Rattle.virtiofs_mapcheck.specs.AuditsAnswer.{SaysLeast, SaysTerminated, AnswersTerminated, AnswersAudit, AnswersApart};
 ghost use Rattle.virtiofs_mapcheck.specs.AuditsParts.{audit_text};
 ghost use Rattle.virtiofs_mapcheck.specs.RulesAnswer.{WithRules};
-ghost use Rattle.virtiofs_mapcheck.specs.Written.{line};
+ghost use Rattle.virtiofs_output.specs.Written.{line};
 
-use crate::outcome::Answered;
 use crate::rules::read_rules;
-use crate::written::push_written;
 use std::alloc::{AllocError, Allocator};
 use virtiofs_map::audit::{Audit, audit, keeps_apart};
 use virtiofs_map::xattrmap::XattrMap;
+use virtiofs_output::outcome::Answered;
+use virtiofs_output::written::push_written;
 
 /// The line of an audit: `yes`, or `no` and the name that shows it.
 fn audit_line<A: Allocator>(alloc: A, audit: &Audit<A>) -> Result<String<A>, AllocError>

@@ -6,15 +6,15 @@ ghost use Rattle.virtiofs_map.specs.SpecificationText.{SpecificationFault, speci
 ghost use Rattle.virtiofs_map.specs.Specifications.{SpecsFault, specs_fault_of};
 ghost use Rattle.virtiofs_mapcheck.specs.IdsAnswer.{IsLine, specification_fault_text, at_index, specs_fault_text, AnswersIds};
 ghost use Rattle.virtiofs_mapcheck.specs.Words.{words_of};
-ghost use Rattle.virtiofs_mapcheck.specs.Written.{refusal};
+ghost use Rattle.virtiofs_mapcheck.specs.Outcome.{refusal};
 
-use crate::outcome::Answered;
 use crate::words::Query;
-use crate::written::push_quoted;
 use std::alloc::{AllocError, Allocator};
 use virtiofs_map::cmdline;
 use virtiofs_map::id_types::{GuestUid, HostUid};
 use virtiofs_map::soft_idmap::{Direction, IdMap, IdMapBuildError, SpecsError};
+use virtiofs_output::outcome::Answered;
+use virtiofs_output::written::push_quoted;
 
 /// Writes the line of a query at the end of a text.
 fn push_line<A: Allocator>(

@@ -2,31 +2,26 @@
 #![tactic(auto)]
 
 ghost use Rattle.std.specs.Prelude.{◌≡◌, ◌↔◌, ◌⊎◌, ℕ, List, IfOk, OnOk, IsTrue, IsFalse, IsErrOf};
+ghost use Rattle.std.specs.Io.KnownBytes.{Appends};
 ghost use Rattle.virtiofs_mapcheck.specs.Answer.{Answers};
-ghost use Rattle.virtiofs_mapcheck.specs.Output.{Writes, WritesFrontOf};
+ghost use Rattle.virtiofs_output.specs.Output.{Writes, WritesFrontOf};
 ghost use Rattle.virtiofs_mapcheck.specs.Words.{words_of};
 
 mod answer;
 mod attributes;
 mod audits;
-mod emit;
 mod ids;
 mod namespace;
-mod outcome;
 mod rules;
-mod tally;
-#[cfg(test)]
-mod testing;
 mod words;
-mod written;
 
 use crate::answer::answer;
-use crate::outcome::{AnswerFault, Answered};
-use crate::tally::Tally;
 use std::alloc::Allocator;
 use std::io::Write;
 use std::process::ExitCode;
 use std::{env, io};
+use virtiofs_output::outcome::{AnswerFault, Answered, status};
+use virtiofs_output::tally::Tally;
 
 const USAGE: &str = "usage: virtiofs_mapcheck ids SPEC.. ask QUERY..
        virtiofs_mapcheck ns TEXT
@@ -85,47 +80,35 @@ fn print_answer<A: Allocator + Copy, W: Write>(
     // flush failed.
     ensures write { IsErrOf result AnswerFault.Write → (answered : _) × (text : List ℕ)
         × Answers (words_of words.now) answered text
-        × (WritesFrontOf out.old out.new text ⊎ Writes out.old out.new text) }
+        × (WritesFrontOf out.old out.new text ⊎ Appends out.old.bytes out.new.bytes text) }
+    ensures failed { IsErrOf result AnswerFault.Write ↔ IsTrue out.new.failed }
     ensures flushed { OnOk result (IsTrue out.new.flushed) }
 {
     let answered = answer(alloc, words, out)?;
-    match out.flush() {
-        Ok(()) => Ok(answered),
-        Err(_) => Err(AnswerFault::Write),
-    }
-}
-
-fn status(ended: Result<Answered, AnswerFault>) -> u8
-    ensures given { (result ≡ 0) ↔ (ended ≡ Ok Answered.Given) }
-    ensures refused { (result ≡ 1) ↔ (ended ≡ Ok Answered.Refused) }
-    ensures wrong_words { (result ≡ 2) ↔ (ended ≡ Ok Answered.WrongWords) }
-    ensures out_of_memory { (result ≡ 3) ↔ IsErrOf ended AnswerFault.OutOfMemory }
-    ensures write { (result ≡ 4) ↔ IsErrOf ended AnswerFault.Write }
-{
-    match ended {
-        Ok(Answered::Given) => 0,
-        Ok(Answered::Refused) => 1,
-        Ok(Answered::WrongWords) => 2,
-        Err(AnswerFault::OutOfMemory) => 3,
-        Err(AnswerFault::Write) => 4,
-    }
+    out.flush()?;
+    Ok(answered)
 }
 
 #[cfg(test)]
 mod tests {
-    use crate::outcome::{AnswerFault, Answered};
     use crate::print_answer;
-    use crate::tally::Tally;
-    use crate::testing::Grudging;
     use std::io::BufWriter;
     use std::test::Fail;
+    use virtiofs_output::outcome::{AnswerFault, Answered};
+    use virtiofs_output::tally::Tally;
 
     #[test]
     fn a_failed_flush_is_a_failed_write(rt: HostRuntime) -> Result<(), Fail> {
-        for (most, wanted) in [(16, Ok(Answered::WrongWords)), (0, Err(AnswerFault::Write))] {
-            let held_back = BufWriter::new(rt.alloc(), Grudging::new(most, None))?;
-            let ended = print_answer(rt.alloc(), &[], &mut Tally::new(held_back));
-            assert_eq!(rt; ended, wanted, "{most} bytes a call");
+        for (room, wanted) in [(16, Ok(Answered::WrongWords)), (0, Err(AnswerFault::Write))] {
+            let mut bytes = [0; 16];
+            let held_back = BufWriter::new(rt.alloc(), &mut bytes[..room])?;
+            let mut out = Tally::new(held_back);
+            assert_eq!(rt;
+                print_answer(rt.alloc(), &[], &mut out),
+                wanted,
+                "{room} bytes"
+            );
+            assert_eq!(rt; out.failed(), wanted.is_err(), "{room} bytes");
         }
         Ok(())
     }

@@ -2,9 +2,9 @@
 ghost use Rattle.std.specs.Prelude.{IfOk, string_bytes};
 ghost use Rattle.virtiofs_mapcheck.specs.NamespaceAnswer.{AnswersNamespace};
 
-use crate::outcome::Answered;
 use std::alloc::{AllocError, Allocator};
 use virtiofs_map::idmap::{IdMapError, UidMap};
+use virtiofs_output::outcome::Answered;
 
 /// The range that a text says, or what is wrong with the text.
 pub(crate) fn answer_namespace<A: Allocator>(

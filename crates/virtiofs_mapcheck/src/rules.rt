@@ -4,11 +4,11 @@ ghost use Rattle.std.specs.Str.{chars};
 ghost use Rattle.virtiofs_map.specs.RuleText.{SaysRules};
 ghost use Rattle.virtiofs_map.specs.RulesFault.{RuleFault, rule_fault_of, RulesFault, NoRules, InRule, rules_fault_of};
 ghost use Rattle.virtiofs_mapcheck.specs.RulesAnswer.{pattern_word, rule_fault_text, rules_fault_text, RefusesRules};
-ghost use Rattle.virtiofs_mapcheck.specs.Written.{refusal};
+ghost use Rattle.virtiofs_mapcheck.specs.Outcome.{refusal};
 
-use crate::written::push_quoted;
 use std::alloc::{AllocError, Allocator};
 use virtiofs_map::xattrmap::{Error, ErrorKind, PatternField, XattrMap};
+use virtiofs_output::written::push_quoted;
 
 /// The word for a pattern of a rule.
 fn pattern_name(pattern: PatternField) -> &'static str

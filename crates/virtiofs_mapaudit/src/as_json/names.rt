@@ -5,10 +5,10 @@ use super::writer::Writer;
 use crate::names::found::{LeastName, NameFindings};
 use crate::names::table::SHOWN;
 use crate::pairs::NamesBetween;
-use crate::written::push_written;
 use std::alloc::Global;
 use virtiofs_map::audit::Audit;
 use virtiofs_map::xattrmap::{AppliedRule, ErrorKind, XattrMap, XattrName};
+use virtiofs_output::written::push_written;
 
 /// Writes a name: its text, and whether that is escaped as in the lines since the bytes are no
 /// UTF-8.

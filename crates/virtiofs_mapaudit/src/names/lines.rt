@@ -3,9 +3,9 @@ ghost use Rattle.std.specs.Prelude.{◌≡◌, ◌++◌, OnOk, [], flat_map, str
 ghost use Rattle.virtiofs_mapaudit.specs.NameLines.{is_usual, or_name, also, said, lines_round, unruled_lines, idle_lines, name_lines};
 
 use super::found::{LeastName, NameFindings};
-use crate::written::push_quoted;
 use std::alloc::{AllocError, Allocator};
 use virtiofs_map::audit::Audit;
+use virtiofs_output::written::push_quoted;
 
 /// Whether a name begins with `user.`, `trusted.`, `security.` or `system.`.
 fn is_usual(name: &[u8]) -> bool

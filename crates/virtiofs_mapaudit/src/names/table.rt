@@ -6,9 +6,9 @@ ghost use Rattle.virtiofs_map.specs.Names.{client_answer, IsUnterminated, host_a
 ghost use Rattle.virtiofs_mapaudit.specs.NameTable.{becomes, guest_line, stands, host_line, ShowsNames, too_long_line, too_long_lines};
 ghost use Rattle.virtiofs_mapaudit.specs.NameTableParts.{is_shown, names_of};
 
-use crate::written::push_written;
 use std::alloc::{AllocError, Allocator};
 use virtiofs_map::xattrmap::{AppliedRule, Error, ErrorKind, XattrMap, XattrName};
+use virtiofs_output::written::push_written;
 
 /// The names that are shown: those that programs use, and one for each beginning.
 pub(crate) const SHOWN: [&str; 9] = [

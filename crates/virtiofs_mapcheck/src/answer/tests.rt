@@ -2,13 +2,12 @@
 //! rows of the program stand in `tests/program.jsonl`, at the top of the repository.
 
 use crate::answer::answer;
-use crate::outcome::Answered::{Given, Refused, WrongWords};
-use crate::outcome::{AnswerFault, Answered};
-use crate::tally::Tally;
-use crate::testing::Grudging;
 use std::alloc::Global;
 use std::process::Abort;
 use std::test::Fail;
+use virtiofs_output::outcome::Answered::{Given, Refused, WrongWords};
+use virtiofs_output::outcome::{AnswerFault, Answered};
+use virtiofs_output::tally::Tally;
 
 /// Words with a bar between each two, what they come to, and the text.
 type Row = (&'static str, Answered, &'static str);
@@ -218,52 +217,16 @@ fn no_words_are_wrong_words(rt: HostRuntime) -> Result<(), Fail> {
 
 const TWO_LINES: &[u8; 10] = b"1005\n1006\n";
 
-/// Answers the two lines to a writer that takes at most `most` bytes a call and fails at a call.
-fn answered_grudgingly(
-    rt: &HostRuntime,
-    most: usize,
-    failing: Option<usize>,
-) -> (Result<Answered, AnswerFault>, Tally<Grudging>) {
-    let words = ["ids", "map:0:1000:10", "ask", "guest=5", "guest=6"];
-    let mut out = Tally::new(Grudging::new(most, failing));
-    let ended = answer(rt.alloc(), words.as_slice(), &mut out);
-    (ended, out)
-}
-
-#[test]
-fn writes_by_as_many_calls_as_it_takes(rt: HostRuntime) {
-    for most in [1, 3, 16] {
-        let (ended, out) = answered_grudgingly(&rt, most, None);
-        assert_eq!(rt; ended, Ok(Given), "{most} bytes a call");
-        assert!(rt; !out.failed());
-        assert_eq!(rt;
-            out.into_inner().held(),
-            TWO_LINES.as_slice(),
-            "{most} bytes a call"
-        );
-    }
-}
-
 #[test]
 fn a_failed_write_leaves_the_beginning(rt: HostRuntime) {
-    for failing in 1..=TWO_LINES.len() {
-        let (ended, out) = answered_grudgingly(&rt, 1, Some(failing));
-        assert_eq!(rt; ended, Err(AnswerFault::Write), "call {failing}");
+    let words = ["ids", "map:0:1000:10", "ask", "guest=5", "guest=6"];
+    for room in 0..TWO_LINES.len() {
+        let mut bytes = [0; TWO_LINES.len()];
+        let mut out = Tally::new(&mut bytes[..room]);
+        let ended = answer(rt.alloc(), words.as_slice(), &mut out);
+        assert_eq!(rt; ended, Err(AnswerFault::Write), "{room} bytes");
         assert!(rt; out.failed());
-        assert_eq!(rt;
-            out.into_inner().held(),
-            &TWO_LINES[..failing - 1],
-            "call {failing}"
-        );
-    }
-    for (most, failing, held) in [(3, Some(3), 6), (0, None, 0)] {
-        let (ended, out) = answered_grudgingly(&rt, most, failing);
-        assert_eq!(rt; ended, Err(AnswerFault::Write), "{most} bytes a call");
-        assert!(rt; out.failed());
-        assert_eq!(rt;
-            out.into_inner().held(),
-            &TWO_LINES[..held],
-            "{most} bytes a call"
-        );
+        assert_eq!(rt; out.into_inner().len(), 0, "{room} bytes");
+        assert_eq!(rt; &bytes[..room], &TWO_LINES[..room], "{room} bytes");
     }
 }

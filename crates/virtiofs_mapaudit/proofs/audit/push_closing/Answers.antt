@@ -1,6 +1,6 @@
 use Rattle.std.proofs.Common.{append-nil, codes, string_bytes, sym}
 use Rattle.virtiofs_mapaudit.proofs.ReportLemmas.{closing_whole, closing_rest}
-use Rattle.virtiofs_mapaudit.proofs.SetUpLemmas.{word_pushed}
+use Rattle.virtiofs_output.proofs.ForCallers.{word_pushed}
 use Rattle.virtiofs_mapaudit.proofs.audit.push_closing.Goals as goal
 
 pub returns-then-is_found : goal.returns-then-is_found

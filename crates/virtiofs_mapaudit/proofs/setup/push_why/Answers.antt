@@ -1,5 +1,5 @@
 use Rattle.std.proofs.Common.{◌++◌, ◌∙◌, ap, codes, string_bytes}
-use Rattle.virtiofs_mapaudit.specs.Written.{written}
+use Rattle.virtiofs_output.specs.Written.{written}
 use Rattle.virtiofs_mapaudit.proofs.SetUpLemmas.{why_pushed}
 use Rattle.virtiofs_mapaudit.proofs.setup.push_why.Goals as goal
 

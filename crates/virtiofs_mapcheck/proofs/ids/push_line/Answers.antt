@@ -1,7 +1,7 @@
 use Rattle.std.proofs.Common.{refl, inl, inr, ◌++◌, ◌∷◌, []}
 use Rattle.std.specs.Fmt.{decimal}
 use Rattle.virtiofs_map.specs.Printed.{forbidden_text}
-use Rattle.virtiofs_mapcheck.specs.Written.{line}
+use Rattle.virtiofs_output.specs.Written.{line}
 use Rattle.virtiofs_mapcheck.proofs.QueryLineLemmas.{line_written}
 use Rattle.virtiofs_mapcheck.proofs.ids.push_line.Goals as goal
 

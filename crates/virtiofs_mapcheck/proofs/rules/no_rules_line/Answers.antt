@@ -1,5 +1,5 @@
 use Rattle.std.proofs.Common.{◌≡◌, ℕ, List, [], ◌∷◌, ◌++◌, codes, ap, ◌∙◌, arith}
-use Rattle.virtiofs_mapcheck.specs.Written.{refusal}
+use Rattle.virtiofs_mapcheck.specs.Outcome.{refusal}
 use Rattle.virtiofs_mapcheck.proofs.rules.no_rules_line.Goals as goal
 
 written : (text mid new which rest end : List ℕ) → text ≡ codes "refused: " ++ which → mid ≡ text ++ rest

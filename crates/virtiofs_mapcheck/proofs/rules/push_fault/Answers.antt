@@ -2,7 +2,8 @@ use Rattle.std.proofs.Common.{ℕ, List, ◌++◌, refl, ap, codes, string_bytes
 use Rattle.std.specs.Str.{chars}
 use Rattle.virtiofs_map.specs.RulesFault.{InvalidScope, InvalidType, IncompleteRule, NulInPattern}
 use Rattle.virtiofs_mapcheck.specs.RulesAnswer.{rule_fault_text}
-use Rattle.virtiofs_mapcheck.proofs.WrittenLemmas.{fault_pushed, word_pushed, words_pushed, field_pushed}
+use Rattle.virtiofs_output.proofs.ForCallers.{word_pushed}
+use Rattle.virtiofs_mapcheck.proofs.WrittenLemmas.{fault_pushed, words_pushed, field_pushed}
 use Rattle.virtiofs_mapcheck.proofs.rules.push_fault.Goals as goal
 
 pub returns-in_ok-push_str-in-InvalidScope : goal.returns-in_ok-push_str-in-InvalidScope

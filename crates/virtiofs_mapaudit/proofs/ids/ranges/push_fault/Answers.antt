@@ -1,5 +1,5 @@
 use Rattle.std.proofs.Common.{codes, string_bytes}
-use Rattle.virtiofs_mapaudit.proofs.SetUpLemmas.{word_pushed}
+use Rattle.virtiofs_output.proofs.ForCallers.{word_pushed}
 use Rattle.virtiofs_mapaudit.proofs.ids.ranges.push_fault.Goals as goal
 
 pub returns-in-Empty : goal.returns-in-Empty

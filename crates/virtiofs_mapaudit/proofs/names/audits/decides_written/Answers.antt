@@ -1,4 +1,3 @@
-use Rattle.std.proofs.Common.{rules}
 use Rattle.virtiofs_mapaudit.proofs.NameLemmas.{from_one}
 use Rattle.virtiofs_mapaudit.proofs.names.audits.decides_written.Goals as goal
 

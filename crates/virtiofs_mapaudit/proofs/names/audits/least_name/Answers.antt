@@ -1,4 +1,3 @@
-use Rattle.std.proofs.Common.{rules}
 use Rattle.virtiofs_mapaudit.specs.NameParts.{HasFault}
 use Rattle.virtiofs_mapaudit.proofs.NameLemmas.{none_found}
 use Rattle.virtiofs_mapaudit.proofs.names.audits.least_name.Goals as goal

@@ -1,17 +1,16 @@
-//! A writer that remembers whether a write to it failed, and whether it was flushed since.
-ghost use Rattle.std.specs.Prelude.{◌≡◌, ◌<◌, ◌≤◌, length, take, IfOk, IsTrue, IsFalse, OnOk, OnErr};
+//! A writer that remembers whether a write or a flush failed, and whether it was flushed since.
+ghost use Rattle.std.specs.Prelude.{◌≡◌, ◌↔◌, ◌<◌, ◌≤◌, length, take, IfOk, IsOk, IsTrue, IsFalse, OnOk, OnErr};
 ghost use Rattle.std.specs.Io.KnownBytes.{Appends, Keeps};
 
-use std::io;
 use std::io::Write;
 use std::marker::Model;
 
-/// A writer, whether a write to it failed, and whether it was flushed since the last write.
+/// A writer, whether a write or a flush failed, and whether it was flushed since the last write.
 ///
 /// A write fails where the writer answers a fault, an interruption included, or takes no byte of
-/// a piece that has some. Nothing else makes a tally failed, and a failed one stays failed. A
-/// contract sees the bytes that the writer tells it holds, whether it failed, and whether it was
-/// flushed.
+/// a piece that has some. A flush fails where the writer answers a fault. Nothing else makes a
+/// tally failed, and a failed one stays failed. A contract sees the bytes that the writer tells it
+/// holds, whether the tally failed, and whether it was flushed.
 #[derive(Drop)]
 pub struct Tally<W: Write> {
     writer: W,
@@ -20,7 +19,7 @@ pub struct Tally<W: Write> {
 }
 
 impl<W: Write> Model for Tally<W> {
-    ghost use Rattle.virtiofs_mapcheck.specs.Output.{Output};
+    ghost use Rattle.virtiofs_output.specs.Output.{Output};
 
     ghost Value = { Output };
 
@@ -31,15 +30,18 @@ impl<W: Write> Model for Tally<W> {
     } };
 }
 
-/// A write failed: the writer answered a fault, or took no byte of a piece that has some.
+/// A write or a flush failed: the writer answered a fault, or took no byte of a piece that has
+/// some.
 #[derive(Clone, Copy, Debug, PartialEq, Eq)]
-pub(crate) struct WriteFailed;
+pub struct WriteFailed;
 
 impl<W: Write> Tally<W> {
-    /// A tally of what is written to `out` from here on. It has not failed, and takes no memory.
+    /// A tally of what is written to `out` from here on. It has not failed, was not flushed, and
+    /// takes no memory.
     pub fn new(out: W) -> Self
         ensures bytes { result.bytes ≡ W.contents out }
         ensures sound { IsFalse result.failed }
+        ensures unflushed { IsFalse result.flushed }
     {
         Tally {
             writer: out,
@@ -48,7 +50,7 @@ impl<W: Write> Tally<W> {
         }
     }
 
-    /// Whether a write failed. It takes no memory.
+    /// Whether a write or a flush failed. It takes no memory.
     pub fn failed(&self) -> bool
         ensures { result ≡ self.now.failed }
     {
@@ -92,15 +94,24 @@ impl<W: Write> Tally<W> {
         }
     }
 
-    /// Flushes the writer: what it held back is written. A flush that fails makes no tally failed.
-    pub(crate) fn flush(&mut self) -> io::Result<()>
+    /// Flushes the writer: what it held back is written.
+    ///
+    /// # Errors
+    ///
+    /// `WriteFailed`: the writer answered a fault, and the tally has failed from here on.
+    pub fn flush(&mut self) -> Result<(), WriteFailed>
         ensures kept { Keeps self.old.bytes self.new.bytes }
-        ensures same { self.new.failed ≡ self.old.failed }
-        ensures flushed { OnOk result (IsTrue self.new.flushed) }
+        ensures sound { OnOk result (self.new.failed ≡ self.old.failed) }
+        ensures fails { OnErr result (IsTrue self.new.failed) }
+        ensures flushed { IsOk result ↔ IsTrue self.new.flushed }
     {
-        self.writer.flush()?;
-        self.is_flushed = true;
-        Ok(())
+        self.is_flushed = self.writer.flush().is_ok();
+        self.has_failed |= !self.is_flushed;
+        if self.is_flushed {
+            Ok(())
+        } else {
+            Err(WriteFailed)
+        }
     }
 }
 

@@ -1,4 +1,4 @@
--- How the program writes bytes and lines.
+-- How the programs write bytes and lines.
 use Rattle.std.specs.Prelude.{ℕ, ◌/◌, ◌%◌, List, [], ◌∷◌, ◌++◌, codes, flat_map, if◌then◌else◌, ◌==◌, nat_le, ◌&&◌}
 use Rattle.std.specs.Char.{digit_char}
 
@@ -12,14 +12,10 @@ written_byte byte =
 abbrev pub written : List ℕ → List ℕ
 written bytes = flat_map written_byte bytes
 
--- bytes between quotes, as the program writes them
+-- bytes between quotes
 abbrev pub quoted : List ℕ → List ℕ
 quoted bytes = codes "'" ++ written bytes ++ codes "'"
 
 -- a text and its line feed
 abbrev pub line : List ℕ → List ℕ
 line text = text ++ 10 ∷ []
-
--- the line of a refusal
-abbrev pub refusal : List ℕ → List ℕ
-refusal why = line (codes "refused: " ++ why)

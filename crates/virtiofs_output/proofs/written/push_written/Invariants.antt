@@ -1,6 +1,6 @@
 use Rattle.std.proofs.Common.{◌≡◌, ◌++◌, take, string_bytes}
-use Rattle.virtiofs_mapaudit.specs.Written.{written}
-use Rattle.virtiofs_mapaudit.proofs.written.push_written.Given as goal
+use Rattle.virtiofs_output.specs.Written.{written}
+use Rattle.virtiofs_output.proofs.written.push_written.Given as goal
 
 -- the bytes so far were written
 abbrev pub invariant-loop-byte : goal.invariant-loop-byte

@@ -6,7 +6,7 @@ use Rattle.std.proofs.lemmas.List.{take_rest}
 use Rattle.std.proofs.KnownBytes.{Appends-nil, Appends-kept, Appends-trans}
 use Rattle.std.proofs.lemmas.Result.{err_from_is_err_and}
 use Rattle.std.proofs.lemmas.Bool.{eqb-true}
-use Rattle.virtiofs_mapcheck.proofs.emit.emit.Goals as goal
+use Rattle.virtiofs_output.proofs.emit.emit.Goals as goal
 
 moves_front : (text done rest : List ℕ) (n : ℕ) → text ≡ done ++ rest
     → text ≡ (done ++ take n rest) ++ take (length rest - n) (drop n rest)

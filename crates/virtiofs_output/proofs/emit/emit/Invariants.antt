@@ -1,7 +1,7 @@
 -- What is gone from `rest` was appended, and no write has failed yet; each turn shortens `rest`.
 use Rattle.std.proofs.Common.{◌≡◌, ℕ, List, ◌++◌, length, IsFalse}
 use Rattle.std.specs.Io.KnownBytes.{Appends}
-use Rattle.virtiofs_mapcheck.proofs.emit.emit.Given as goal
+use Rattle.virtiofs_output.proofs.emit.emit.Given as goal
 
 abbrev pub invariant-loop-rest : goal.invariant-loop-rest
 invariant-loop-rest g l =

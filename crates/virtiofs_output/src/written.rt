@@ -1,7 +1,7 @@
-//! How the program writes bytes.
+//! How the programs write bytes: in printable ASCII, so that no name or text breaks its line.
 ghost use Rattle.std.specs.Prelude.{◌≡◌, ◌<◌, ◌++◌, OnOk, string_bytes};
 ghost use Rattle.std.specs.Char.{digit_char};
-ghost use Rattle.virtiofs_mapcheck.specs.Written.{written, written_byte, quoted};
+ghost use Rattle.virtiofs_output.specs.Written.{written, written_byte, quoted};
 
 use std::alloc::{AllocError, Allocator};
 
@@ -17,8 +17,7 @@ fn hex_digit(value: u8) -> char
     }
 }
 
-/// Writes a byte at the end of a text: a backslash twice, any other printing byte of ASCII as
-/// itself, and the rest as `\x` and two lower case hexadecimal digits.
+/// Writes a byte at the end of a text, as `push_written` does.
 fn push_byte<A: Allocator>(text: &mut String<A>, byte: u8) -> Result<(), AllocError>
     ensures { OnOk result (string_bytes text.new ≡ string_bytes text.old ++ written_byte byte) }
 {
@@ -33,11 +32,13 @@ fn push_byte<A: Allocator>(text: &mut String<A>, byte: u8) -> Result<(), AllocEr
     text.push(hex_digit(byte % 16))
 }
 
-/// Writes bytes at the end of a text.
-pub(crate) fn push_written<A: Allocator>(
-    text: &mut String<A>,
-    bytes: &[u8],
-) -> Result<(), AllocError>
+/// Writes bytes at the end of a text: a backslash twice, any other printing byte of ASCII as
+/// itself, and the rest as `\x` and two lower case hexadecimal digits.
+///
+/// # Errors
+///
+/// `AllocError`: a request for memory was refused. A part of the bytes may have been written.
+pub fn push_written<A: Allocator>(text: &mut String<A>, bytes: &[u8]) -> Result<(), AllocError>
     ensures { OnOk result (string_bytes text.new ≡ string_bytes text.old ++ written bytes.now) }
 {
     for byte in bytes {
@@ -46,11 +47,13 @@ pub(crate) fn push_written<A: Allocator>(
     Ok(())
 }
 
-/// Writes bytes between quotes at the end of a text.
-pub(crate) fn push_quoted<A: Allocator>(
-    text: &mut String<A>,
-    bytes: &[u8],
-) -> Result<(), AllocError>
+/// Writes bytes at the end of a text, as `push_written` does, between single quotes. A quote among
+/// the bytes stands for itself.
+///
+/// # Errors
+///
+/// `AllocError`: a request for memory was refused. A part of the bytes may have been written.
+pub fn push_quoted<A: Allocator>(text: &mut String<A>, bytes: &[u8]) -> Result<(), AllocError>
     ensures { OnOk result (string_bytes text.new ≡ string_bytes text.old ++ quoted bytes.now) }
 {
     text.push_str("'")?;
