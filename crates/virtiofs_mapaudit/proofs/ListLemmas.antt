@@ -1,7 +1,9 @@
 -- Lists of which some item has a property.
 use Rattle.std.proofs.Common.{◌≡◌, ◌≢◌, ◌⊎◌, ◌↔◌, inl, inr, ℕ, ◌+◌, ◌<◌, List, [], ◌∷◌, ◌++◌, length, take, get_or}
-use Rattle.std.proofs.Common.{refl, sym, ap, ◌∙◌, arith, length-append}
+use Rattle.std.proofs.Common.{true, false, zero, suc, refl, sym, ap, ◌∙◌, arith, append_assoc}
+use Rattle.std.proofs.lemmas.Bool.{true≢false}
 use Rattle.std.proofs.lemmas.List.{take_more}
+use Rattle.std.specs.Bool.{◌==◌}
 use Rattle.virtiofs_mapaudit.specs.Lists.{AnyHas, AnyTwoHave}
 
 -- ---- one more item
@@ -39,6 +41,21 @@ AnyHas-push P xs x = (
   only (inl here) = here
   only (inr none) = absurd none
 
+-- the item at a place
+pub AnyHas-at : {A : Type 0} (P : A → Type 0) (xs : List A) (i : ℕ) (d : A) → i < length xs → P (get_or xs i d) → AnyHas P xs
+AnyHas-at P [] i d below here = absurd (omega (arith, below))
+AnyHas-at P (x ∷ xs) zero d below here = inl here
+AnyHas-at P (x ∷ xs) (suc i) d below here = inr (AnyHas-at P xs i d (omega (arith, below)) here)
+
+-- none of the items so far, nor the next one
+pub AnyHas-none : {A : Type 0} (P : A → Type 0) (xs : List A) (i : ℕ) (x : A) → x ≡ get_or xs i x → i < length xs
+    → (¬ AnyHas P (take i xs)) → (¬ P x) → ¬ AnyHas P (take (i + 1) xs)
+AnyHas-none P xs i x is below none not some =
+    elim ((AnyHas-push P (take i xs) x).0 (rw (more_at xs i x is below) at some)) [
+      | inl before ↦ none before
+      | inr here ↦ not here
+    ]
+
 -- one more of both lists
 pub AnyTwoHave-push : {A B : Type 0} (R : A → B → Type 0) (xs : List A) (ys : List B) (x : A) (y : B)
     → length ys ≡ length xs
@@ -63,11 +80,30 @@ AnyTwoHave-push R (a ∷ xs) (b ∷ ys) x y same =
           ]),
     )
 
--- ---- texts that grow
+-- whether a list is empty
+pub is_none : {T : Type 0} (xs : List T) → true ≡ (length xs == 0) → ¬ (xs ≢ [])
+is_none [] none some = some refl
+is_none (x ∷ xs) none some = grind arith
 
--- a text grows where something is added
-pub grows : (before after more : List ℕ) → after ≡ before ++ more → (length before < length after) ↔ (more ≢ [])
-grows before after [] added =
-    ((λ longer none. omega (arith, longer, ap length added, length-append before [])), (λ some. absurd (some refl)))
-grows before after (c ∷ more) added =
-    ((λ longer none. (cc)), (λ some. omega (arith, ap length added, length-append before (c ∷ more))))
+pub is_some : {T : Type 0} (xs : List T) → false ≡ (length xs == 0) → xs ≢ []
+is_some [] some none = absurd (true≢false (sym some))
+is_some (x ∷ xs) some none = cc
+
+-- ---- items that are added
+
+-- in two parts
+pub in_two : {T : Type 0} (old x y one new : List T) → one ≡ old ++ x → new ≡ one ++ y → new ≡ old ++ (x ++ y)
+in_two old x y one new first second = second ∙ ap (λ xs. xs ++ y) first ∙ append_assoc old x y
+
+-- in three parts
+pub in_three : {T : Type 0} (old x y z one two new : List T) → one ≡ old ++ x → two ≡ one ++ y → new ≡ two ++ z
+    → new ≡ old ++ (x ++ y ++ z)
+in_three old x y z one two new first second third =
+    third ∙ ap (λ xs. xs ++ z) (in_two old x y one two first second) ∙ append_assoc old (x ++ y) z
+
+-- in four parts
+pub in_four : {T : Type 0} (old x y z w one two three new : List T) → one ≡ old ++ x → two ≡ one ++ y
+    → three ≡ two ++ z → new ≡ three ++ w → new ≡ old ++ (x ++ y ++ z ++ w)
+in_four old x y z w one two three new first second third fourth =
+    fourth ∙ ap (λ xs. xs ++ w) (in_three old x y z one two three first second third)
+    ∙ append_assoc old (x ++ y ++ z) w

@@ -1,38 +1,22 @@
 -- Names that are reported, and the rules that decide none.
 use Rattle.std.proofs.Common.{◌≡◌, ◌↔◌, ◌∙◌, ℕ, ◌+◌, ◌<◌, Bool, true, false, cond, ltb, Some, None, IsTrue, List, []}
-use Rattle.std.proofs.Common.{◌∷◌, ◌++◌, length, codes, Contains, inl, inr, refl, sym, subst, arith}
+use Rattle.std.proofs.Common.{◌∷◌, ◌++◌, ◌≤◌, length, map, Contains, inl, inr, refl, sym, ap, subst, arith, rules, append_assoc, Result, Ok, Err, OnOk}
+use Rattle.std.proofs.lemmas.List.{map-append}
 use Rattle.std.proofs.lemmas.Bool.{cases_eq, ltb-true, true≢false}
-use Rattle.std.proofs.lemmas.List.Elements.{Contains-append_left, Contains-push, Contains-push_cases}
-use Rattle.virtiofs_map.specs.Audit.{AnswersLeast, Within, Decides}
+use Rattle.std.proofs.lemmas.List.Elements.{Contains-append_left, Contains-append_right, Contains-push, Contains-push_cases, All-append}
+use Rattle.virtiofs_map.specs.Audit.{Decides, IsLost, IsStray, IsSeen, IsShared}
 use Rattle.virtiofs_map.specs.Names.{fits, first}
 use Rattle.virtiofs_map.specs.Rule.{MappingRule}
-use Rattle.virtiofs_map.specs.declared.audit.answer.Audit.{Audit}
-use Rattle.virtiofs_map.specs.declared.audit.answer.Audit.TheVariants.{Yes}
 use Rattle.virtiofs_map.specs.declared.xattrmap.scopes.Side.{Side}
 use Rattle.std.specs.List.{position_or_len}
-use Rattle.virtiofs_mapaudit.specs.NameFindings.{FindsName, DecidesWritten, AreIdle}
+use Rattle.virtiofs_mapaudit.specs.Lists.{Adds, AreRising}
+use Rattle.virtiofs_mapaudit.proofs.ListLemmas.{in_three, in_four}
+use Rattle.virtiofs_mapaudit.specs.NameFindings.{DecidesWritten, FindsIdle, FindsLeast, FindsNames, FindsUnruled}
+use Rattle.virtiofs_mapaudit.specs.PairFindings.{FindsNamesBetween}
+use Rattle.virtiofs_mapaudit.specs.declared.setup.NamesSetUp.{NamesSetUp}
 use Rattle.virtiofs_mapaudit.specs.NameParts.{DecidesFrom}
-use Rattle.virtiofs_mapaudit.specs.declared.names.found.LeastName.{LeastName}
-
--- ---- no name is bad
-
-none_within : (bad : List ℕ → Type 0) (beginning : List ℕ) → ((name : List ℕ) → ¬ bad name) → (name : List ℕ)
-    → ¬ Within beginning bad name
-none_within bad beginning none name within = none name within.is_bad
-
--- where no name is bad, none is reported
-pub none_found : {A : Type 0} (bad : List ℕ → Type 0) (all : Audit A) (found : LeastName A) → all ≡ Yes
-    → AnswersLeast bad all
-    → found ≡ record { all = Yes; user = Yes; trusted = Yes; security = Yes; system = Yes } → FindsName bad found
-none_found {A} bad all found is least same =
-    let none : (name : List ℕ) → ¬ bad name = subst (λ (answer : Audit A). AnswersLeast bad answer) is least in
-    subst (λ (it : LeastName A). FindsName bad it) (sym same) (record {
-      all = none;
-      user = none_within bad (codes "user.") none;
-      trusted = none_within bad (codes "trusted.") none;
-      security = none_within bad (codes "security.") none;
-      system = none_within bad (codes "system.") none;
-    })
+use Rattle.virtiofs_mapaudit.specs.declared.finding.Finding.{Finding}
+use Rattle.virtiofs_mapaudit.specs.declared.finding.Finding.TheVariants.{IdleRule, NotListed, ListedElsewhere, ShownToOther, NameOfBoth}
 
 -- ---- rules that decide no name
 
@@ -70,11 +54,72 @@ idle_pushed rules written i idle new below none pushed =
       ],
     ))
 
+-- numbers that rise, and a greater one
+rising_push : (ns : List ℕ) (i : ℕ) → AreRising ns → ((n : ℕ) → Contains ns n → n < i) → AreRising (ns ++ i ∷ [])
+rising_push [] i rising below = (search rules, tt)
+rising_push (n ∷ ns) i (above, rising) below = (
+  All-append (λ m. n < m) ns (i ∷ []) above (search (rules, below n (0, search arith, refl))),
+  rising_push ns i rising (λ m has. below m (Contains-append_right (n ∷ []) ns m has)),
+)
+
+-- these are the findings of the places below that one of the written rules that decide no name
+pub record FindsIdleBelow {A : Type 0} (rules : List MappingRule) (written below : ℕ) (found : List (Finding A)) : Type
+    0 where
+  pub places : List ℕ
+  pub idle : AreIdleBelow rules written below places
+  pub order : AreRising places
+  pub are : found ≡ map IdleRule places
+
+pub idle_none : {A : Type 0} (rules : List MappingRule) (written : ℕ) → FindsIdleBelow {A = A} rules written 0 []
+idle_none rules written = record { places = []; idle = none_idle rules written; order = tt; are = refl }
+
+-- the rule at the next place decides a name
+pub idle_goes_on : {A : Type 0} (rules : List MappingRule) (written i : ℕ) (before after : List (Finding A))
+    → Adds (FindsIdleBelow rules written i) before after → DecidesWritten rules written i
+    → Adds (FindsIdleBelow rules written (i + 1)) before after
+idle_goes_on rules written i before after so_far decides = record {
+  more = so_far.more;
+  is = record {
+    places = so_far.is.places;
+    idle = idle_skipped rules written i so_far.is.places so_far.is.idle decides;
+    order = so_far.is.order;
+    are = so_far.is.are;
+  };
+  added = so_far.added;
+}
+
+-- the rule at the next place decides none
+pub idle_grows : {A : Type 0} (rules : List MappingRule) (written i : ℕ) (before after next : List (Finding A))
+    → Adds (FindsIdleBelow rules written i) before after → (¬ DecidesWritten rules written i)
+    → next ≡ after ++ IdleRule i ∷ [] → Adds (FindsIdleBelow rules written (i + 1)) before next
+idle_grows rules written i before after next so_far none pushed = record {
+  more = so_far.more ++ IdleRule i ∷ [];
+  is = record {
+    places = so_far.is.places ++ i ∷ [];
+    idle = idle_pushed rules written i so_far.is.places _ so_far.is.idle none refl;
+    order = rising_push so_far.is.places i so_far.is.order (λ n has. ((so_far.is.idle n).0 has).0);
+    are = ap (λ found. found ++ IdleRule i ∷ []) so_far.is.are ∙ sym (map-append IdleRule so_far.is.places (i ∷ []));
+  };
+  added =
+      pushed ∙ ap (λ found. found ++ IdleRule i ∷ []) so_far.added ∙ append_assoc before so_far.more (IdleRule i ∷ []);
+}
+
 -- all rules were asked
-pub idle_all : (rules : List MappingRule) (written i : ℕ) (idle : List ℕ) → i ≡ written
-    → AreIdleBelow rules written i idle → AreIdle rules written idle
-idle_all rules written i idle all below place =
-    subst (λ (n : ℕ). Contains idle place ↔ ((place < n) × (¬ DecidesWritten rules written place))) all (below place)
+pub idle_all : {A : Type 0} (rules : List MappingRule) (written i : ℕ) (before after : List (Finding A))
+    → ¬ (i < written) → i ≤ written → Adds (FindsIdleBelow rules written i) before after
+    → Adds (FindsIdle rules written) before after
+idle_all rules written i before after over within so_far = record {
+  more = so_far.more;
+  is = record {
+    places = so_far.is.places;
+    idle =
+        λ place. subst (λ (n : ℕ). Contains so_far.is.places place ↔ ((place < n) × (¬ DecidesWritten rules written place)))
+        (omega (arith, over, within)) (so_far.is.idle place);
+    order = so_far.is.order;
+    are = so_far.is.are;
+  };
+  added = so_far.added;
+}
 
 -- ---- the rules that the last written one stands for
 
@@ -108,3 +153,50 @@ from_one rules written place not_last = (
 -- a test that fails
 pub decides_not : {P : Type 0} (test : Bool) → IsTrue test ↔ P → test ≡ false → ¬ P
 decides_not test says fails holds = true≢false (sym (says.1 holds) ∙ fails)
+
+-- ---- the parts of what is found
+
+-- what is found of names, part by part
+pub names_found : {A V E : Type 0} (r : Result V E) (rules : List MappingRule) (written : ℕ)
+    (a b c d e : List (Finding A))
+    → Adds (FindsUnruled rules) a b → Adds (FindsLeast NotListed (IsLost rules)) b c
+    → Adds (FindsLeast ListedElsewhere (IsStray rules)) c d → OnOk r (Adds (FindsIdle rules written) d e)
+    → OnOk r (Adds (FindsNames rules written) a e)
+names_found (Ok x) rules written a b c d e unruled lost stray idle = record {
+  more = unruled.more ++ lost.more ++ stray.more ++ idle.more;
+  is = record {
+    of_unruled = unruled.more;
+    of_lost = lost.more;
+    of_stray = stray.more;
+    of_idle = idle.more;
+    unruled = unruled.is;
+    lost = lost.is;
+    stray = stray.is;
+    idle = idle.is;
+    whole = refl;
+  };
+  added = in_four a unruled.more lost.more stray.more idle.more b c d e unruled.added lost.added stray.added idle.added;
+}
+names_found (Err f) rules written a b c d e unruled lost stray idle = tt
+
+-- what is found of the names of two guests, part by part
+pub between_found : {A V E : Type 0} (r : Result V E) (number number_2 : ℕ) (one other : NamesSetUp A)
+    (a b c d : List (Finding A))
+    → Adds (FindsLeast (ShownToOther number number_2) (IsSeen one.map other.map)) a b
+    → Adds (FindsLeast (ShownToOther number_2 number) (IsSeen other.map one.map)) b c
+    → OnOk r (Adds (FindsLeast (NameOfBoth number number_2) (IsShared one.map other.map)) c d)
+    → OnOk r (Adds (FindsNamesBetween number number_2 one other) a d)
+between_found (Ok x) number number_2 one other a b c d seen back shared = record {
+  more = seen.more ++ back.more ++ shared.more;
+  is = record {
+    of_seen = seen.more;
+    of_seen_back = back.more;
+    of_shared = shared.more;
+    seen = seen.is;
+    seen_back = back.is;
+    shared = shared.is;
+    whole = refl;
+  };
+  added = in_three a seen.more back.more shared.more b c d seen.added back.added shared.added;
+}
+between_found (Err f) number number_2 one other a b c d seen back shared = tt

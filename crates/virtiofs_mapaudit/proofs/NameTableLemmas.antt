@@ -130,13 +130,11 @@ module _ {A : Type 0} (rules : List MappingRule) (name : List ℕ) (shown : is_s
       hidden_from {A = A} (host_answer rules name) (sym (listing_alone {A = A} rules name shown) ∙ sym are ∙ none)
 
 -- a word and what stands behind it were written
-pub stands_pushed : {T E : Type 0} (r : Result T E) (old mid new name : List ℕ) (answer : HostAnswer)
-    → answer ≡ IsListed name → mid ≡ old ++ codes "listed as "
-    → OnOk r (new ≡ mid ++ written name) → OnOk r (new ≡ old ++ stands answer)
-stands_pushed (Ok x) old mid new name answer is start wrote =
-    wrote ∙ ap (λ (xs : List ℕ). xs ++ written name) start ∙ append_assoc old (codes "listed as ") (written name)
-    ∙ ap (λ (it : HostAnswer). old ++ stands it) (sym is)
-stands_pushed (Err e) old mid new name answer is start wrote = tt
+pub stands_pushed : {T E : Type 0} (r : Result T E) (old new name : List ℕ) (answer : HostAnswer)
+    → answer ≡ IsListed name → OnOk r (new ≡ old ++ (codes "listed as " ++ written name))
+    → OnOk r (new ≡ old ++ stands answer)
+stands_pushed (Ok x) old new name answer is wrote = wrote ∙ ap (λ (it : HostAnswer). old ++ stands it) (sym is)
+stands_pushed (Err e) old new name answer is wrote = tt
 
 -- a word was written
 pub word_pushed : {T E : Type 0} (r : Result T E) (old new word : List ℕ) (answer told : HostAnswer) → answer ≡ told

@@ -1,79 +1,81 @@
 -- What is found of guests, and its text.
-use Rattle.std.proofs.Common.{◌≡◌, ◌≢◌, ◌⊎◌, ◌↔◌, inl, inr, ℕ, ◌+◌, ◌<◌, ◌≤◌, Bool, IsTrue, IsFalse, true, false, codes, string_bytes, List}
+use Rattle.std.proofs.Common.{◌≡◌, ◌≢◌, ◌↔◌, inl, inr, ℕ, ◌+◌, ◌<◌, ◌≤◌, Bool, IsTrue, IsFalse, string_bytes, List}
 use Rattle.std.proofs.Common.{[], ◌∷◌, ◌++◌, length, take, get_or, All, Result, Ok, Err, OnOk, refl, sym, ap, ◌∙◌}
-use Rattle.std.proofs.Common.{subst, arith, rules, append_assoc, append-nil}
-use Rattle.std.specs.Bool.{◌==◌}
-use Rattle.std.proofs.lemmas.Bool.{true≢false, cases_lt}
+use Rattle.std.proofs.Common.{subst, arith, rules, append_assoc, append-nil, Option}
+use Rattle.std.proofs.lemmas.Bool.{cases_lt}
 use Rattle.std.proofs.lemmas.Grind.{flat_map-append}
 use Rattle.std.proofs.lemmas.List.{take_all, length-take-le}
 use Rattle.std.proofs.lemmas.List.Elements.{All-append}
 use Rattle.std.proofs.lemmas.Option.{slice_get_read}
 use Rattle.std.proofs.lemmas.Slice.Zip.{AllZip-long}
 use Rattle.std.specs.List.{AllZip}
+use Rattle.std.specs.declared.vec.Vec.{Vec}
 use Rattle.virtiofs_map.proofs.ForCallers.{AllZip-push}
-use Rattle.virtiofs_mapaudit.proofs.ListLemmas.{more_at, AnyHas-left, AnyHas-right, AnyHas-push, grows}
-use Rattle.virtiofs_mapaudit.specs.GuestLines.{guest_lines}
-use Rattle.virtiofs_mapaudit.specs.NameLines.{lines_round}
-use Rattle.virtiofs_mapaudit.specs.PairLines.{seen_before, seen_after, shared_before, shared_after, between_lines}
-use Rattle.virtiofs_mapaudit.specs.PairLines.{pair_lines}
-use Rattle.virtiofs_mapaudit.specs.declared.pairs.NamesBetween.{NamesBetween}
-use Rattle.std.specs.Borrow.{Bor}
-use Rattle.virtiofs_mapaudit.specs.Lists.{AnyHas}
+use Rattle.virtiofs_mapaudit.proofs.ListLemmas.{more_at, AnyHas-left, AnyHas-right, in_two}
+use Rattle.virtiofs_mapaudit.specs.FindingText.{findings_text}
+use Rattle.virtiofs_mapaudit.specs.Lists.{Adds, listed}
+use Rattle.virtiofs_mapaudit.specs.IdFindings.{FindsIds}
 use Rattle.virtiofs_mapaudit.specs.PairFindings.{FindsPair}
-use Rattle.virtiofs_mapaudit.specs.Report.{FindsGuest, FindsReport, IsFound, IsPairOf, HasPair}
+use Rattle.virtiofs_mapaudit.specs.Ranges.{FindsFault}
+use Rattle.virtiofs_mapaudit.specs.Report.{FindsGuest, FindsKind, ids_found, FindsReport, IsFound, IsPairOf, HasPair}
 use Rattle.virtiofs_mapaudit.specs.ReportParts.{AddsPairs, AreCompared}
-use Rattle.virtiofs_mapaudit.specs.Said.{Says, AreTables, specs_given, ranges_given, rules_given, set_up_line}
-use Rattle.virtiofs_mapaudit.specs.Said.{guests_text, pairs_text, closing, report_text}
+use Rattle.virtiofs_mapaudit.specs.Said.{Says, AreTables, rules_given, options_text, set_up_line}
+use Rattle.virtiofs_mapaudit.specs.Said.{guests_text, pairs_text, IsPlain}
 use Rattle.virtiofs_mapaudit.specs.Guests.{SetsUp}
-use Rattle.virtiofs_mapaudit.specs.Refusals.{TellsWhere, IsSomeRefused, Adds, TellsGuests}
+use Rattle.virtiofs_mapaudit.specs.Refusals.{TellsWhere, IsSomeRefused, TellsGuests}
 use Rattle.virtiofs_mapaudit.specs.declared.audit.Said.{Said}
 use Rattle.virtiofs_mapaudit.specs.declared.audit.Pair.{Pair}
 use Rattle.virtiofs_mapaudit.specs.declared.audit.Report.{Report}
 use Rattle.virtiofs_options.specs.declared.front.Asked.{Asked}
 use Rattle.virtiofs_options.specs.declared.guest.Guest.{Guest}
-use Rattle.virtiofs_mapaudit.specs.declared.report.GuestFindings.{GuestFindings}
+use Rattle.virtiofs_mapaudit.specs.declared.finding.Finding.{Finding}
+use Rattle.virtiofs_mapaudit.specs.declared.finding.Finding.TheVariants.{Range}
+use Rattle.virtiofs_mapaudit.specs.declared.ids.found.IdFindings.{IdFindings}
+use Rattle.virtiofs_mapaudit.specs.declared.ids.kind.IdKind.{IdKind}
+use Rattle.virtiofs_mapaudit.specs.declared.ids.ranges.RangeFound.{RangeFound}
+use Rattle.virtiofs_mapaudit.specs.declared.setup.IdSetUp.{IdSetUp}
 use Rattle.virtiofs_mapaudit.specs.declared.setup.SetUp.{SetUp}
 
 -- ---- the text of guests
 
 -- one more guest
 pub guests_more : {A : Type 0} (n : ℕ) (guests : List (Guest A)) (tables : List (List ℕ))
-    (found : List (GuestFindings A))
-    (guest : Guest A) (table : List ℕ) (one : GuestFindings A) → length tables ≡ length guests
+    (found : List (Vec (Finding A) A))
+    (guest : Guest A) (table : List ℕ) (one : Vec (Finding A) A) → length tables ≡ length guests
     → length found ≡ length guests
     → guests_text n (guests ++ guest ∷ []) (tables ++ table ∷ []) (found ++ one ∷ [])
-    ≡ guests_text n guests tables found ++ (set_up_line (n + length guests) guest ++ table ++ guest_lines one)
+    ≡ guests_text n guests tables found ++ (set_up_line (n + length guests) guest ++ table ++ findings_text one.items)
 guests_more n [] [] [] guest table one same same_too =
-    append-nil (set_up_line n guest ++ table ++ guest_lines one)
-    ∙ ap (λ k. set_up_line k guest ++ table ++ guest_lines one) (omega arith)
+    append-nil (set_up_line n guest ++ table ++ findings_text one.items)
+    ∙ ap (λ k. set_up_line k guest ++ table ++ findings_text one.items) (omega arith)
 guests_more n [] (t ∷ tables) found guest table one same same_too = absurd (omega (arith, same))
 guests_more n [] [] (f ∷ found) guest table one same same_too = absurd (omega (arith, same_too))
 guests_more n (g ∷ guests) [] found guest table one same same_too = absurd (omega (arith, same))
 guests_more n (g ∷ guests) (t ∷ tables) [] guest table one same same_too = absurd (omega (arith, same_too))
 guests_more n (g ∷ guests) (t ∷ tables) (f ∷ found) guest table one same same_too =
-    let first = set_up_line n g ++ t ++ guest_lines f in
+    let first = set_up_line n g ++ t ++ findings_text f.items in
     let later =
     guests_more (n + 1) guests tables found guest table one (omega (arith, same)) (omega (arith, same_too)) in
     ap (λ x. first ++ x) later
     ∙ sym (append_assoc first (guests_text (n + 1) guests tables found)
-    (set_up_line ((n + 1) + length guests) guest ++ table ++ guest_lines one))
-    ∙ ap (λ k. (first ++ guests_text (n + 1) guests tables found) ++ (set_up_line k guest ++ table ++ guest_lines one))
+    (set_up_line ((n + 1) + length guests) guest ++ table ++ findings_text one.items))
+    ∙ ap (λ k. (first ++ guests_text (n + 1) guests tables found) ++ (set_up_line k guest ++ table ++ findings_text one.items))
     (omega arith)
 
 -- the text of one more guest, in three parts
-pub text_more : {A : Type 0} (guests : List (Guest A)) (tables : List (List ℕ)) (found : List (GuestFindings A))
-    (guests_next : List (Guest A)) (found_next : List (GuestFindings A))
-    (guest : Guest A) (table : List ℕ) (one : GuestFindings A) (before text set_up tabled next : List ℕ) (place : ℕ)
+pub text_more : {A : Type 0} (guests : List (Guest A)) (tables : List (List ℕ)) (found : List (Vec (Finding A) A))
+    (guests_next : List (Guest A)) (found_next : List (Vec (Finding A) A))
+    (guest : Guest A) (table : List ℕ) (one : Vec (Finding A) A) (before text set_up tabled next : List ℕ) (place : ℕ)
     → guests_next ≡ guests ++ guest ∷ [] → found_next ≡ found ++ one ∷ [] → length guests ≡ place
     → length tables ≡ length guests → length found ≡ length guests → text ≡ before ++ guests_text 1 guests tables found
-    → set_up ≡ text ++ set_up_line (place + 1) guest → tabled ≡ set_up ++ table → next ≡ tabled ++ guest_lines one
+    → set_up ≡ text ++ set_up_line (place + 1) guest → tabled ≡ set_up ++ table → next ≡ tabled ++ findings_text one.items
     → next ≡ before ++ guests_text 1 guests_next (tables ++ table ∷ []) found_next
 text_more guests tables found guests_next found_next guest table one before text set_up tabled next place more
     more_found long same same_too whole first second third =
-    third ∙ ap (λ x. x ++ guest_lines one) second ∙ ap (λ x. (x ++ table) ++ guest_lines one) first
-    ∙ ap (λ x. ((x ++ set_up_line (place + 1) guest) ++ table) ++ guest_lines one) whole
-    ∙ gathered before (guests_text 1 guests tables found) (set_up_line (place + 1) guest) table (guest_lines one)
-    ∙ ap (λ k. before ++ (guests_text 1 guests tables found ++ ((set_up_line k guest ++ table) ++ guest_lines one)))
+    third ∙ ap (λ x. x ++ findings_text one.items) second ∙ ap (λ x. (x ++ table) ++ findings_text one.items) first
+    ∙ ap (λ x. ((x ++ set_up_line (place + 1) guest) ++ table) ++ findings_text one.items) whole
+    ∙ gathered before (guests_text 1 guests tables found) (set_up_line (place + 1) guest) table (findings_text one.items)
+    ∙ ap (λ k. before ++ (guests_text 1 guests tables found ++ ((set_up_line k guest ++ table) ++ findings_text one.items)))
     (omega (arith, long))
     ∙ ap (λ x. before ++ x) (sym (guests_more 1 guests tables found guest table one same same_too))
     ∙ ap (λ xs. before ++ guests_text 1 xs (tables ++ table ∷ []) (found ++ one ∷ [])) (sym more)
@@ -81,23 +83,46 @@ text_more guests tables found guests_next found_next guest table one before text
       gathered : (a b x y z : List ℕ) → (((a ++ b) ++ x) ++ y) ++ z ≡ a ++ (b ++ ((x ++ y) ++ z))
       gathered a b x y z = simp append_assoc
 
+-- ---- ids of a kind
+
+-- what is found of ids of a kind, part by part
+pub kind_found : {A V E : Type 0} (r : Result V E) (kind : IdKind) (set : IdSetUp A) (range : Option RangeFound)
+    (ids : IdFindings) (in_namespace : Bool) (a b c : List (Finding A)) → FindsFault set.ranges.items range
+    → FindsIds set.map set.ranges.items ids → (IsTrue in_namespace ↔ (set.ranges.items ≢ []))
+    → b ≡ a ++ listed (Range kind) range → OnOk r (c ≡ b ++ ids_found kind in_namespace ids)
+    → OnOk r (Adds (FindsKind kind set) a c)
+kind_found (Ok x) kind set range ids in_namespace a b c finds_range finds_ids namespace first second = record {
+  more = listed (Range kind) range ++ ids_found kind in_namespace ids;
+  is = record {
+    range = range;
+    ids = ids;
+    in_namespace = in_namespace;
+    finds_range = finds_range;
+    finds_ids = finds_ids;
+    namespace = namespace;
+    whole = refl;
+  };
+  added = in_two a _ _ b c first second;
+}
+kind_found (Err e) kind set range ids in_namespace a b c finds_range finds_ids namespace first second = tt
+
 -- ---- pairs
 
 -- one more pair
 pub pairs_more : {A : Type 0} (pairs : List (Pair A)) (pair : Pair A)
-    → pairs_text (pairs ++ pair ∷ []) ≡ pairs_text pairs ++ pair_lines pair.first pair.second pair.found
+    → pairs_text (pairs ++ pair ∷ []) ≡ pairs_text pairs ++ findings_text pair.found.items
 pairs_more pairs pair =
-    flat_map-append (λ one. pair_lines one.first one.second one.found) pairs (pair ∷ [])
-    ∙ ap (λ x. pairs_text pairs ++ x) (append-nil (pair_lines pair.first pair.second pair.found))
+    flat_map-append (λ one. findings_text one.found.items) pairs (pair ∷ [])
+    ∙ ap (λ x. pairs_text pairs ++ x) (append-nil (findings_text pair.found.items))
 
 -- what was found between one more pair
 pub pairs_written : {A : Type 0} (pairs : List (Pair A)) (i : ℕ) (pair : Pair A) (old text next : List ℕ)
     → pair ≡ get_or pairs i pair → i < length pairs
-    → text ≡ old ++ pairs_text (take i pairs) → next ≡ text ++ pair_lines pair.first pair.second pair.found
+    → text ≡ old ++ pairs_text (take i pairs) → next ≡ text ++ findings_text pair.found.items
     → next ≡ old ++ pairs_text (take (i + 1) pairs)
 pairs_written pairs i pair old text next is below so_far one =
-    one ∙ ap (λ x. x ++ pair_lines pair.first pair.second pair.found) so_far
-    ∙ append_assoc old (pairs_text (take i pairs)) (pair_lines pair.first pair.second pair.found)
+    one ∙ ap (λ x. x ++ findings_text pair.found.items) so_far
+    ∙ append_assoc old (pairs_text (take i pairs)) (findings_text pair.found.items)
     ∙ ap (λ x. old ++ x) (sym (pairs_more (take i pairs) pair))
     ∙ ap (λ xs. old ++ pairs_text xs) (sym (more_at pairs i pair is below))
 
@@ -145,7 +170,7 @@ pub compared_one : {A : Type 0} (sets : List (SetUp A)) (place earlier : ℕ) (o
     (before after next : List (Pair A)) (pair : Pair A)
     → one ≡ get_or sets earlier one → other ≡ get_or sets place other → place < length sets → earlier < place
     → AddsPairs sets place earlier before after → next ≡ after ++ pair ∷ []
-    → pair.first ≡ earlier + 1 → pair.second ≡ place + 1 → FindsPair one other pair.found
+    → pair.first ≡ earlier + 1 → pair.second ≡ place + 1 → FindsPair pair.first pair.second one other pair.found.items
     → AddsPairs sets place (earlier + 1) before next
 compared_one sets place earlier one other before after next pair is is_too below order so_far pushed first second
     finds =
@@ -177,12 +202,12 @@ compared_all sets place count before after over so_far =
 -- ---- the report
 
 -- the guests before that place were audited, and each two of them compared
-abbrev pub AreAudited : {A : Type 0} → List (SetUp A) → ℕ → List (GuestFindings A) → List (Pair A) → Type 0
+abbrev pub AreAudited : {A : Type 0} → List (SetUp A) → ℕ → List (Vec (Finding A) A) → List (Pair A) → Type 0
 AreAudited sets place guests pairs =
     AllZip FindsGuest (take place sets) guests × All (IsPairOf sets) pairs × AreCompared place pairs
 
 -- none at first
-pub audited_none : {A : Type 0} (sets : List (SetUp A)) (guests : List (GuestFindings A)) (pairs : List (Pair A))
+pub audited_none : {A : Type 0} (sets : List (SetUp A)) (guests : List (Vec (Finding A) A)) (pairs : List (Pair A))
     → guests ≡ [] → pairs ≡ []
     → AreAudited sets 0 guests pairs
 audited_none sets guests pairs none none_too =
@@ -190,8 +215,8 @@ audited_none sets guests pairs none none_too =
 
 -- one more guest
 pub audited_more : {A : Type 0} (sets : List (SetUp A)) (place : ℕ) (set : SetUp A)
-    (guests more : List (GuestFindings A)) (pairs next : List (Pair A))
-    (one : GuestFindings A) → set ≡ get_or sets place set → place < length sets → AreAudited sets place guests pairs
+    (guests more : List (Vec (Finding A) A)) (pairs next : List (Pair A))
+    (one : Vec (Finding A) A) → set ≡ get_or sets place set → place < length sets → AreAudited sets place guests pairs
     → more ≡ guests ++ one ∷ []
     → FindsGuest set one → AddsPairs sets place place pairs next → AreAudited sets (place + 1) more next
 audited_more sets place set guests more pairs next one is below (each, all, compared) pushed finds adds = (
@@ -212,7 +237,7 @@ audited_all sets report place over (each, all, compared) = record {
 -- ---- the text of all guests
 
 -- the guests before that place were written, with these tables
-abbrev pub AreWritten : {A : Type 0} → Asked → List (Guest A) → List (SetUp A) → List (GuestFindings A) → ℕ → List ℕ
+abbrev pub AreWritten : {A : Type 0} → Asked → List (Guest A) → List (SetUp A) → List (Vec (Finding A) A) → ℕ → List ℕ
     → List ℕ → Type 0
 AreWritten asked guests sets found place before text =
     (tables : List (List ℕ)) × AllZip (AreTables asked) (take place sets) tables
@@ -220,12 +245,12 @@ AreWritten asked guests sets found place before text =
 
 -- one more guest was written
 pub written_more : {A : Type 0} (asked : Asked) (guests : List (Guest A)) (sets : List (SetUp A))
-    (found : List (GuestFindings A)) (place : ℕ)
-    (guest : Guest A) (set : SetUp A) (one : GuestFindings A) (before text set_up tabled next table : List ℕ)
+    (found : List (Vec (Finding A) A)) (place : ℕ)
+    (guest : Guest A) (set : SetUp A) (one : Vec (Finding A) A) (before text set_up tabled next table : List ℕ)
     → guest ≡ get_or guests place guest → set ≡ get_or sets place set → one ≡ get_or found place one
     → place < length guests → length sets ≡ length guests → length found ≡ length guests
     → AreWritten asked guests sets found place before text → set_up ≡ text ++ set_up_line (place + 1) guest
-    → AreTables asked set table → tabled ≡ set_up ++ table → next ≡ tabled ++ guest_lines one
+    → AreTables asked set table → tabled ≡ set_up ++ table → next ≡ tabled ++ findings_text one.items
     → AreWritten asked guests sets found (place + 1) before next
 written_more asked guests sets found place guest set one before text set_up tabled next table is_guest is_set is_one
     below same same_too (tables, all, whole) first are second third =
@@ -245,7 +270,7 @@ written_more asked guests sets found place guest set one before text set_up tabl
 
 -- all guests were written
 pub written_all : {A : Type 0} (asked : Asked) (guests : List (Guest A)) (sets : List (SetUp A))
-    (found : List (GuestFindings A)) (place : ℕ)
+    (found : List (Vec (Finding A) A)) (place : ℕ)
     (before text : List ℕ) → length guests ≤ place → length sets ≡ length guests → length found ≡ length guests
     → AreWritten asked guests sets found place before text
     → (tables : List (List ℕ)) × AllZip (AreTables asked) sets tables
@@ -256,112 +281,31 @@ written_all asked guests sets found place before text over same same_too (tables
   rw (take_all place guests over, take_all place found (omega (arith, over, same_too))) at whole,
 )
 
--- ---- whether anything was found
-
--- something was found of the items so far and of one more
-pub found_more : {X : Type 0} (P : X → Type 0) (xs : List X) (place : ℕ) (x : X) (flag next : Bool) (before : ℕ)
-    (text longer lines : List ℕ)
-    → x ≡ get_or xs place x → place < length xs → (IsTrue flag ↔ AnyHas P (take place xs)) → (P x ↔ (lines ≢ []))
-    → longer ≡ text ++ lines → before ≡ length text → (IsTrue next ↔ (IsTrue flag ⊎ (before < length longer)))
-    → IsTrue next ↔ AnyHas P (take (place + 1) xs)
-found_more P xs place x flag next before text longer lines here below so_far one added is told =
-    let push = AnyHas-push P (take place xs) x in
-    let grown = grows text longer lines added in
-    rw (more_at xs place x here below) (
-      (λ yes. push.1
-          (elim (told.0 yes) [
-            | inl was ↦ inl (so_far.0 was)
-            | inr more ↦ inr (one.1 (grown.0 (subst (λ n. n < length longer) is more)))
-          ])),
-      (λ some. told.1
-          (elim (push.0 some) [
-            | inl was ↦ inl (so_far.1 was)
-            | inr new ↦ inr (subst (λ n. n < length longer) (sym is) (grown.1 (one.0 new)))
-          ])),
-    )
-
--- of all items
-pub found_all : {X : Type 0} (P : X → Type 0) (xs : List X) (place : ℕ) (flag : Bool) → length xs ≤ place
-    → (IsTrue flag ↔ AnyHas P (take place xs)) → (IsTrue flag ↔ AnyHas P xs)
-found_all P xs place flag over so_far = subst (λ ys. IsTrue flag ↔ AnyHas P ys) (take_all place xs over) so_far
-
--- the parts of a text, one after the other
-pub three_texts : (old one two new a b c : List ℕ) → one ≡ old ++ a → two ≡ one ++ b → new ≡ two ++ c
-    → new ≡ old ++ ((a ++ b) ++ c)
-three_texts old one two new a b c first second third =
-    third ∙ ap (λ x. x ++ c) second ∙ ap (λ x. (x ++ b) ++ c) first ∙ simp append_assoc
-
 -- what the options of a guest are
-pub set_up_parts : {A T E : Type 0} (r : Result T E) (number : ℕ) (guest : Guest A) (old one two new : List ℕ)
-    (users groups ranges of_groups : List (Bor (List ℕ)))
-    (rules : List ℕ) → users ≡ guest.translate_uid.items → groups ≡ guest.translate_gid.items
-    → ranges ≡ guest.uid_map.items
-    → of_groups ≡ guest.gid_map.items → rules_given guest.xattrmap ≡ rules
-    → one ≡ old ++ specs_given number (length users) (length groups)
-    → two ≡ one ++ ranges_given (length ranges) (length of_groups)
-    → OnOk r (new ≡ two ++ rules) → OnOk r (new ≡ old ++ set_up_line number guest)
-set_up_parts (Ok x) number guest old one two new users groups ranges of_groups rules u g r o are first second third =
-    three_texts old one two new
-    (specs_given number (length guest.translate_uid.items) (length guest.translate_gid.items))
-    (ranges_given (length guest.uid_map.items) (length guest.gid_map.items)) (rules_given guest.xattrmap)
-    (first ∙ ap (λ xs. old ++ specs_given number (length xs) (length groups)) u
-    ∙ ap (λ xs. old ++ specs_given number (length guest.translate_uid.items) (length xs)) g)
-    (second ∙ ap (λ xs. one ++ ranges_given (length xs) (length of_groups)) r
-    ∙ ap (λ xs. one ++ ranges_given (length guest.uid_map.items) (length xs)) o)
-    (third ∙ ap (λ xs. two ++ xs) (sym are))
-set_up_parts (Err e) number guest old one two new users groups ranges of_groups rules u g r o are first second third =
-    tt
-
--- what was found of the names of two guests
-pub between_parts : {A T E : Type 0} (r : Result T E) (first second : ℕ) (found : NamesBetween A)
-    (old one two new a b c d e f : List ℕ)
-    → a ≡ seen_before first → b ≡ seen_after second → c ≡ seen_before second → d ≡ seen_after first
-    → e ≡ shared_before first → f ≡ shared_after second
-    → one ≡ old ++ lines_round a found.seen found.seen.all b
-    → two ≡ one ++ lines_round c found.seen_back found.seen_back.all d
-    → OnOk r (new ≡ two ++ lines_round e found.shared found.shared.all f)
-    → OnOk r (new ≡ old ++ between_lines first second found)
-between_parts (Ok x) first second found old one two new a b c d e f is_a is_b is_c is_d is_e is_f seen back shared =
-    three_texts old one two new (lines_round (seen_before first) found.seen found.seen.all (seen_after second))
-    (lines_round (seen_before second) found.seen_back found.seen_back.all (seen_after first))
-    (lines_round (shared_before first) found.shared found.shared.all (shared_after second))
-    (seen ∙ ap (λ x. old ++ lines_round x found.seen found.seen.all b) is_a
-    ∙ ap (λ x. old ++ lines_round (seen_before first) found.seen found.seen.all x) is_b)
-    (back ∙ ap (λ x. one ++ lines_round x found.seen_back found.seen_back.all d) is_c
-    ∙ ap (λ x. one ++ lines_round (seen_before second) found.seen_back found.seen_back.all x) is_d)
-    (shared ∙ ap (λ x. two ++ lines_round x found.shared found.shared.all f) is_e
-    ∙ ap (λ x. two ++ lines_round (shared_before first) found.shared found.shared.all x) is_f)
-between_parts (Err x) first second found old one two new a b c d e f is_a is_b is_c is_d is_e is_f seen back shared = tt
-
--- what is said at the end where nothing was found and nothing was refused
-pub closing_whole : (refusals : List ℕ) → true ≡ (length refusals == 0)
-    → closing false refusals ≡ codes "nothing found\n"
-closing_whole [] none = refl
-closing_whole (c ∷ refusals) none = grind arith
-
--- and where something was refused
-pub closing_rest : (refusals : List ℕ) → false ≡ (length refusals == 0)
-    → closing false refusals ≡ codes "nothing found in what was not refused\n"
-closing_rest [] some = absurd (true≢false (sym some))
-closing_rest (c ∷ refusals) some = refl
+pub set_up_written : {A V E : Type 0} (r : Result V E) (old new : List ℕ) (number users groups inside inside_groups : ℕ)
+    (rules : List ℕ) (guest : Guest A)
+    → users ≡ length guest.translate_uid.items → groups ≡ length guest.translate_gid.items
+    → inside ≡ length guest.uid_map.items → inside_groups ≡ length guest.gid_map.items
+    → rules ≡ rules_given guest.xattrmap
+    → OnOk r (new ≡ old ++ options_text number users groups inside inside_groups rules)
+    → OnOk r (new ≡ old ++ set_up_line number guest)
+set_up_written r old new number users groups inside inside_groups rules guest u g i j are written =
+    rw (u, g, i, j, are) at written
 
 -- what is said is all of this
 pub says_all : {A : Type 0} (asked : Asked) (guests : List (Guest A)) (said : Said) (sets : List (SetUp A))
-    (report : Report A) (tables : List (List ℕ))
-    (plain : List ℕ) → AllZip SetsUp guests sets → FindsReport sets report → AllZip (AreTables asked) sets tables
+    (report : Report A) → AllZip SetsUp guests sets → FindsReport sets report
     → (IsTrue said.is_found ↔ IsFound report) → TellsWhere (IsSomeRefused guests sets) [] (string_bytes said.refusals)
     → Adds (TellsGuests 1 guests) [] (string_bytes said.refusals)
-    → plain ≡ report_text guests tables report said.is_found (string_bytes said.refusals)
     → (IsTrue asked.quiet → string_bytes said.text ≡ [])
-    → (IsFalse asked.quiet → IsFalse asked.json → string_bytes said.text ≡ plain)
+    → (IsFalse asked.quiet → IsFalse asked.json
+    → IsPlain asked guests sets report said.is_found (string_bytes said.refusals) (string_bytes said.text))
     → Says asked guests said
-says_all asked guests said sets report tables plain sets_up finds are found tells says whole quiet as_is = record {
+says_all asked guests said sets report sets_up finds found tells says quiet plain = record {
   sets = sets;
   report = report;
-  tables = tables;
   sets_up = sets_up;
   finds = finds;
-  are_tables = are;
   found = found;
   refused = (
     (λ some. tells.where_refused.0 (λ none. some (tells.added ∙ none))),
@@ -369,5 +313,5 @@ says_all asked guests said sets report tables plain sets_up finds are found tell
   );
   refusals = subst (TellsGuests 1 guests) (sym says.added) says.is;
   quiet = quiet;
-  plain = λ loud text. as_is loud text ∙ whole;
+  plain = plain;
 }

@@ -1,7 +1,7 @@
 -- What the options of a guest set up, and what is told of texts that are refused.
 use Rattle.std.proofs.Common.{◌≡◌, ◌≢◌, ◌⊎◌, ◌↔◌, inl, inr, ℕ, ◌+◌, ◌<◌, ◌≤◌, List, [], ◌∷◌, ◌++◌, length, take, get_or}
 use Rattle.std.proofs.Common.{Option, Some, None, Result, Ok, Err, OnOk, refl, sym, ap, ◌∙◌, subst, append_assoc, arith}
-use Rattle.std.proofs.Common.{append-nil, is_ok, if◌then◌else◌}
+use Rattle.std.proofs.Common.{append-nil}
 use Rattle.std.specs.Prelude.{IsSomeAnd, slice_get, slice_index_or, Contains, zero, suc}
 use Rattle.std.specs.Borrow.{Bor}
 use Rattle.std.specs.List.{AllZip}
@@ -28,17 +28,17 @@ use Rattle.virtiofs_map.specs.declared.soft_idmap.errors.SpecsError.TheVariants 
 use Rattle.virtiofs_map.specs.declared.xattrmap.errors.Error.{Error}
 use Rattle.virtiofs_map.proofs.ForCallers.{AllZip-push, texts_no_fault, namespace_no_fault, rules_no_fault}
 use Rattle.virtiofs_mapaudit.specs.Guests.{SaysRange, RefusesRanges, ReadsText, SetsUp, IsRefused}
-use Rattle.virtiofs_mapaudit.specs.Refusals.{TellsWhere, Adds, IsSomeRefused, TellsPlace, TellsBuildFault, TellsSpecsFault}
+use Rattle.virtiofs_mapaudit.specs.Lists.{Adds}
+use Rattle.virtiofs_mapaudit.specs.Refusals.{TellsWhere, IsSomeRefused, TellsPlace, TellsBuildFault, TellsSpecsFault}
 use Rattle.virtiofs_mapaudit.specs.Refusals.{TellsSpecs, TellsRanges, TellsNames, TellsGuest, TellsGuests, place_of}
 use Rattle.virtiofs_mapaudit.specs.Refusals.{TellsIds, refusal_line, rules_refusal_line}
-use Rattle.virtiofs_mapaudit.specs.IdLines.{translating, ranging}
-use Rattle.virtiofs_output.specs.Written.{line}
+use Rattle.virtiofs_mapaudit.specs.KindWords.{translating, ranging}
 use Rattle.virtiofs_mapaudit.specs.declared.ids.kind.IdKind.{IdKind}
 use Rattle.virtiofs_mapaudit.specs.declared.ids.kind.IdKind.TheVariants.{Users, Groups}
 use Rattle.virtiofs_options.specs.declared.guest.Guest.{Guest}
 use Rattle.virtiofs_mapaudit.specs.declared.setup.NamesSetUp.{NamesSetUp}
 use Rattle.virtiofs_mapaudit.specs.declared.setup.SetUp.{SetUp}
-use Rattle.virtiofs_mapaudit.proofs.ListLemmas.{more_at, AnyTwoHave-push}
+use Rattle.virtiofs_mapaudit.proofs.ListLemmas.{in_two, more_at, AnyTwoHave-push}
 
 -- ---- where something is told
 
@@ -71,9 +71,9 @@ pub tells_specs : (P : Type 0) (number : ℕ) (option : List ℕ) (error : Optio
     → TellsWhere P before after
 tells_specs P number option error before after (fault, is, adds) holds =
     record {
-      told = adds.told;
+      told = adds.more;
       added = adds.added;
-      where_refused = ((λ _. holds), (λ _. specs_some number option fault adds.told adds.is));
+      where_refused = ((λ _. holds), (λ _. specs_some number option fault adds.more adds.is));
     }
 
 -- a range was told of
@@ -177,13 +177,12 @@ tells_all guests sets place before after over so_far =
 -- ---- what is told
 
 -- text that was added in two parts
-pub adds_both : (P Q R : List ℕ → Type 0) (before between after : List ℕ) → Adds P before between
-    → Adds Q between after
+adds_both : (P Q R : List ℕ → Type 0) (before between after : List ℕ) → Adds P before between → Adds Q between after
     → ((first second : List ℕ) → P first → Q second → R (first ++ second)) → Adds R before after
 adds_both P Q R before between after first second whole = record {
-  told = first.told ++ second.told;
-  is = whole first.told second.told first.is second.is;
-  added = second.added ∙ ap (λ x. x ++ second.told) first.added ∙ append_assoc before first.told second.told;
+  more = first.more ++ second.more;
+  is = whole first.more second.more first.is second.is;
+  added = in_two before first.more second.more between after first.added second.added;
 }
 
 -- a call that tells a fault
@@ -192,21 +191,12 @@ pub tells_fault : {F T E : Type 0} (r : Result T E) (told : Option F) (fault : F
 tells_fault (Ok x) told fault is = (fault, is)
 tells_fault (Err e) told fault is = tt
 
--- a reason was written
-pub why_pushed : {T E : Type 0} (r : Result T E) (old told written_too new front back : List ℕ) → told ≡ old ++ front
-    → written_too ≡ told ++ back → new ≡ (if is_ok r then written_too ++ 10 ∷ [] else written_too)
-    → OnOk r (new ≡ old ++ line (front ++ back))
-why_pushed (Ok x) old told written_too new front back is_told is_written is_new =
-    is_new ∙ ap (λ xs. xs ++ 10 ∷ []) is_written ∙ ap (λ xs. (xs ++ back) ++ 10 ∷ []) is_told
-    ∙ ap (λ xs. xs ++ 10 ∷ []) (append_assoc old front back) ∙ append_assoc old (front ++ back) (10 ∷ [])
-why_pushed (Err e) old told written_too new front back is_told is_written is_new = tt
-
 -- a line about a place
 pub adds_place : {T E : Type 0} (r : Result T E) (before after : List ℕ) (number place : ℕ) (option why : List ℕ)
     → OnOk r (after ≡ before ++ refusal_line number place option why)
     → OnOk r (Adds (TellsPlace number option place) before after)
 adds_place (Ok x) before after number place option why added =
-    record { told = refusal_line number place option why; is = (why, refl); added = added }
+    record { more = refusal_line number place option why; is = (why, refl); added = added }
 adds_place (Err e) before after number place option why added = tt
 
 -- a line about a specification of which no map is made
@@ -219,7 +209,7 @@ adds_build (Ok x) error fault before after number option why about is added = (
   fault,
   about,
   record {
-    told = refusal_line number (place_of fault) option why;
+    more = refusal_line number (place_of fault) option why;
     is = record { error = error; about = about; line = ap (refusal_line number (place_of fault) option) is };
     added = added;
   },
@@ -235,7 +225,7 @@ pub adds_unread : {A T E : Type 0} (r : Result T E) (error : SpecsError A) (inde
     → OnOk r ((f : SpecsFault) × (specs_fault_of error ≡ Some f) × Adds (TellsSpecsFault number option f) before after)
 adds_unread (Ok x) error index cause number option before after is adds (fault, tells) =
     (Unread index fault, ap specs_fault_of is ∙ ap (option_map (Unread index)) tells, adds)
-adds_unread (Err e) error index cause number option before after is adds told = tt
+adds_unread (Err e) error index cause number option before after is adds more = tt
 
 -- and so is that of the map
 pub adds_unbuilt : {A T E : Type 0} (r : Result T E) (error : SpecsError A) (cause : IdMapBuildError)
@@ -251,7 +241,7 @@ adds_unbuilt (Err e) error cause number option before after is told = tt
 pub adds_no_specs : (number : ℕ) (option : List ℕ) (texts : List (List ℕ)) (specs : List IdMap) (before after : List ℕ)
     → after ≡ before → AllSay texts specs → Accepted specs → Adds (TellsSpecs number option texts) before after
 adds_no_specs number option texts specs before after same say accepted = record {
-  told = [];
+  more = [];
   is = inl ((λ wrong. texts_no_fault texts specs wrong.0 say accepted wrong.1), refl);
   added = same ∙ sym (append-nil before);
 }
@@ -264,7 +254,7 @@ pub adds_specs : (number : ℕ) (option : List ℕ) (texts : List (List ℕ)) (e
     → Adds (TellsSpecs number option texts) before after
 adds_specs number option texts None before after about (fault, is, adds) = absurd (cc)
 adds_specs number option texts (Some one) before after about (fault, is, adds) = record {
-  told = adds.told;
+  more = adds.more;
   is = inr (fault, subst (HasSpecsFault texts) (same_Some _ _ is) about, adds.is);
   added = adds.added;
 }
@@ -274,7 +264,7 @@ pub adds_no_ranges : (number : ℕ) (option : List ℕ) (texts : List (List ℕ)
     (before after : List ℕ)
     → after ≡ before → AllZip SaysRange texts ranges → Adds (TellsRanges number option texts) before after
 adds_no_ranges number option texts ranges before after same say = record {
-  told = [];
+  more = [];
   is = inl ((λ wrong. none_wrong wrong.0 wrong.1 wrong.2 wrong.3), refl);
   added = same ∙ sym (append-nil before);
 } where
@@ -301,7 +291,7 @@ pub adds_range : (number : ℕ) (option why : List ℕ) (texts : List (Bor (List
     → after ≡ before ++ refusal_line number i option why
     → Adds (TellsRanges number option (texts_of texts)) before after
 adds_range number option why texts ranges i d fault before after below say wrong added = record {
-  told = refusal_line number i option why;
+  more = refusal_line number i option why;
   is = inr (
     i,
     record { before = ranges; say = say; here = here },
@@ -322,7 +312,7 @@ pub adds_no_rules : {A : Type 0} (number : ℕ) (rules : Option (Bor (List ℕ))
     (before after : List ℕ)
     → rules ≡ Some text → after ≡ before → ReadsText (chars text.now) set → Adds (TellsNames A number rules) before after
 adds_no_rules {A = A} number rules text set before after is same read = record {
-  told = [];
+  more = [];
   is =
       subst (λ r. TellsNames A number r []) (sym is)
       (inl ((λ wrong. rules_no_fault (chars text.now) set.map wrong.0 read.0 wrong.1), refl));
@@ -336,7 +326,7 @@ pub adds_rules : {A : Type 0} (number : ℕ) (text : Bor (List ℕ)) (error : Er
     → after ≡ before ++ rules_refusal_line number why
     → Adds (TellsNames A number (Some text)) before after
 adds_rules number text error why before after about (fault, is) same added = record {
-  told = rules_refusal_line number why;
+  more = rules_refusal_line number why;
   is = inr (record {
     error = error;
     fault = fault;
@@ -356,7 +346,7 @@ pub adds_no_names : (A : Type 0) (number : ℕ) (rules : Option (Bor (List ℕ))
     → after ≡ before
     → Adds (TellsNames A number rules) before after
 adds_no_names A number None before after is same =
-    record { told = []; is = refl; added = same ∙ sym (append-nil before) }
+    record { more = []; is = refl; added = same ∙ sym (append-nil before) }
 adds_no_names A number (Some text) before after is same = absurd (cc)
 
 -- what is told of both options of a kind

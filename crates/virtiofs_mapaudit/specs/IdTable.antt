@@ -10,7 +10,7 @@ use Rattle.virtiofs_map.specs.declared.soft_idmap.entry.Direction.TheVariants.{G
 use Rattle.virtiofs_map.specs.declared.soft_idmap.piece.Outcome.{Outcome}
 use Rattle.virtiofs_map.specs.declared.soft_idmap.piece.Outcome.TheVariants.{Kept, OneToOne, AllToOne, Forbidden}
 use Rattle.virtiofs_map.specs.declared.soft_idmap.piece.Piece.{Piece}
-use Rattle.virtiofs_mapaudit.specs.IdLines.{one_of}
+use Rattle.virtiofs_mapaudit.specs.KindWords.{one_of}
 use Rattle.virtiofs_mapaudit.specs.declared.ids.kind.IdKind.{IdKind}
 use Rattle.virtiofs_mapaudit.specs.declared.ids.table.Span.{Span}
 

@@ -1,12 +1,11 @@
-pub mod GuestLines
+pub mod FindingText
 pub mod Guests
 pub mod IdFindings
-pub mod IdLines
 pub mod IdParts
 pub mod IdTable
+pub mod KindWords
 pub mod Lists
 pub mod NameFindings
-pub mod NameLines
 pub mod NameParts
 pub mod NameTable
 pub mod NameTableParts
@@ -14,9 +13,8 @@ pub mod Namespace
 pub mod Ordinal
 pub mod OutsideParts
 pub mod PairFindings
-pub mod PairLines
-pub mod RangeLines
 pub mod RangeParts
+pub mod RangeText
 pub mod Ranges
 pub mod Refusals
 pub mod Report

@@ -1,41 +1,48 @@
--- What is found between two guests of one directory.
-use Rattle.std.specs.Prelude.{◌≡◌, List, Option, Some, None}
+-- What is found between two guests of one directory, which have these numbers.
+use Rattle.std.specs.Prelude.{◌≡◌, ℕ, List, [], ◌++◌, Option, Some, None}
 use Rattle.virtiofs_map.specs.Audit.{IsSeen, IsShared}
-use Rattle.virtiofs_map.specs.Rule.{MappingRule}
 use Rattle.virtiofs_mapaudit.specs.IdFindings.{FindsMeeting}
-use Rattle.virtiofs_mapaudit.specs.NameFindings.{FindsName}
+use Rattle.virtiofs_mapaudit.specs.Lists.{listed}
+use Rattle.virtiofs_mapaudit.specs.NameFindings.{FindsLeast}
+use Rattle.virtiofs_mapaudit.specs.declared.finding.Finding.{Finding}
+use Rattle.virtiofs_mapaudit.specs.declared.finding.Finding.TheVariants.{IdOfBoth, ShownToOther, NameOfBoth}
 use Rattle.virtiofs_mapaudit.specs.declared.ids.found.IdFound.{IdFound}
-use Rattle.virtiofs_mapaudit.specs.declared.pairs.NamesBetween.{NamesBetween}
-use Rattle.virtiofs_mapaudit.specs.declared.pairs.PairFindings.{PairFindings}
+use Rattle.virtiofs_mapaudit.specs.declared.ids.kind.IdKind.{IdKind}
+use Rattle.virtiofs_mapaudit.specs.declared.ids.kind.IdKind.TheVariants.{Users, Groups}
 use Rattle.virtiofs_mapaudit.specs.declared.setup.IdSetUp.{IdSetUp}
 use Rattle.virtiofs_mapaudit.specs.declared.setup.NamesSetUp.{NamesSetUp}
 use Rattle.virtiofs_mapaudit.specs.declared.setup.SetUp.{SetUp}
 
+-- what is found where both are there; nothing where one of the two is not
+abbrev pub FindsBoth : {R F : Type 0} → (R → R → List F → Type 0) → Option R → Option R → List F → Type 0
+FindsBoth Finds None second found = found ≡ []
+FindsBoth Finds (Some one) None found = found ≡ []
+FindsBoth Finds (Some one) (Some other) found = Finds one other found
+
 -- the least id of the first guest whose id of the host the second reaches too
-abbrev pub FindsMeetingOf : {A : Type 0} → Option (IdSetUp A) → Option (IdSetUp A) → Option IdFound → Type 0
-FindsMeetingOf None second found = found ≡ None
-FindsMeetingOf (Some one) None found = found ≡ None
-FindsMeetingOf (Some one) (Some other) found =
-    FindsMeeting one.map one.ranges.items other.map other.ranges.items found
+abbrev pub FindsIdOfBoth : {A : Type 0} → ℕ → ℕ → IdKind → IdSetUp A → IdSetUp A → List (Finding A) → Type 0
+FindsIdOfBoth number number_2 kind one other found =
+    (met : Option IdFound) × FindsMeeting one.map one.ranges.items other.map other.ranges.items met
+    × (found ≡ listed (IdOfBoth number number_2 kind) met)
 
 -- names of each that lists of the other show, and names that lead to one name of the host
-pub record FindsNamesBetween {A : Type 0} (rules others : List MappingRule) (found : NamesBetween A) : Type 0 where
-  pub seen : FindsName (IsSeen rules others) found.seen
-  pub seen_back : FindsName (IsSeen others rules) found.seen_back
-  pub shared : FindsName (IsShared rules others) found.shared
+pub record FindsNamesBetween {A : Type 0} (number number_2 : ℕ) (one other : NamesSetUp A)
+    (found : List (Finding A)) : Type 0 where
+  pub of_seen : List (Finding A)
+  pub of_seen_back : List (Finding A)
+  pub of_shared : List (Finding A)
+  pub seen : FindsLeast (ShownToOther number number_2) (IsSeen one.map other.map) of_seen
+  pub seen_back : FindsLeast (ShownToOther number_2 number) (IsSeen other.map one.map) of_seen_back
+  pub shared : FindsLeast (NameOfBoth number number_2) (IsShared one.map other.map) of_shared
+  pub whole : found ≡ of_seen ++ of_seen_back ++ of_shared
 
-abbrev pub FindsNamesBetweenSets : {A : Type 0} → NamesSetUp A → NamesSetUp A → NamesBetween A → Type 0
-FindsNamesBetweenSets one other = FindsNamesBetween one.map other.map
-
--- nothing is found where one of the two is not there
-abbrev pub FindsBoth : {R T : Type 0} → (R → R → T → Type 0) → Option R → Option R → Option T → Type 0
-FindsBoth Finds None second found = found ≡ None
-FindsBoth Finds (Some one) None found = found ≡ None
-FindsBoth Finds (Some one) (Some other) None = ⊥
-FindsBoth Finds (Some one) (Some other) (Some found) = Finds one other found
-
--- what is found between two guests
-pub record FindsPair {A : Type 0} (first second : SetUp A) (found : PairFindings A) : Type 0 where
-  pub users : FindsMeetingOf first.users second.users found.users
-  pub groups : FindsMeetingOf first.groups second.groups found.groups
-  pub names : FindsBoth FindsNamesBetweenSets first.names second.names found.names
+-- what is found between two guests, in order
+pub record FindsPair {A : Type 0} (number number_2 : ℕ) (first second : SetUp A) (found : List (Finding A)) : Type
+    0 where
+  pub of_users : List (Finding A)
+  pub of_groups : List (Finding A)
+  pub of_names : List (Finding A)
+  pub users : FindsBoth (FindsIdOfBoth number number_2 Users) first.users second.users of_users
+  pub groups : FindsBoth (FindsIdOfBoth number number_2 Groups) first.groups second.groups of_groups
+  pub names : FindsBoth (FindsNamesBetween number number_2) first.names second.names of_names
+  pub whole : found ≡ of_users ++ of_groups ++ of_names

@@ -14,10 +14,10 @@ use Rattle.virtiofs_map.specs.declared.idmap.UidMap.{UidMap}
 use Rattle.virtiofs_map.specs.declared.soft_idmap.errors.IdMapBuildError.{IdMapBuildError}
 use Rattle.virtiofs_map.specs.declared.xattrmap.errors.Error.{Error}
 use Rattle.virtiofs_mapaudit.specs.Guests.{SaysRange, RefusesSpecs, RefusesRanges, RefusesRules, IsRefused}
-use Rattle.virtiofs_mapaudit.specs.IdLines.{translating, ranging}
-use Rattle.virtiofs_mapaudit.specs.Lists.{AnyTwoHave}
-use Rattle.virtiofs_mapaudit.specs.RangeLines.{place_text}
-use Rattle.virtiofs_output.specs.Written.{written, line}
+use Rattle.virtiofs_mapaudit.specs.KindWords.{translating, ranging}
+use Rattle.virtiofs_mapaudit.specs.Lists.{AnyTwoHave, joined}
+use Rattle.virtiofs_mapaudit.specs.RangeText.{place_text}
+use Rattle.virtiofs_output.specs.Written.{written}
 use Rattle.virtiofs_options.specs.declared.guest.Guest.{Guest}
 use Rattle.virtiofs_mapaudit.specs.declared.ids.kind.IdKind.{IdKind}
 use Rattle.virtiofs_mapaudit.specs.declared.ids.kind.IdKind.TheVariants.{Users, Groups}
@@ -35,29 +35,18 @@ pub record TellsWhere (Refused : Type 0) (before after : List ℕ) : Type 0 wher
 abbrev pub IsSomeRefused : {A : Type 0} → List (Guest A) → List (SetUp A) → Type 0
 IsSomeRefused guests sets = AnyTwoHave IsRefused guests sets
 
--- a text for which `IsTold` holds was added
-pub record Adds (IsTold : List ℕ → Type 0) (before after : List ℕ) : Type 0 where
-  pub told : List ℕ
-  pub is : IsTold told
-  pub added : after ≡ before ++ told
-
 -- ---- one line
 
--- the number of a guest
-abbrev pub guest_number : ℕ → List ℕ
-guest_number number = codes "guest " ++ decimal number ++ codes ": "
-
--- something is refused, and why. The reason is written as the program writes bytes, so that it stays on its line
-abbrev pub refused_for : List ℕ → List ℕ
-refused_for why = line (codes " is refused: " ++ written why)
-
--- the option of that guest at that place, counted from 0, is refused, and why
+-- the option of that guest at that place, counted from 0, is refused, and why. The reason is written as the program
+-- writes bytes, so that it stays on its line
 abbrev pub refusal_line : ℕ → ℕ → List ℕ → List ℕ → List ℕ
-refusal_line number place option why = guest_number number ++ place_text place option ++ refused_for why
+refusal_line number place option why =
+    joined (codes "guest " ∷ decimal number ∷ codes ": " ∷ place_text place option ∷ codes " is refused: " ∷ written why ∷ codes "\n" ∷ [])
 
 -- the rules of that guest are refused, and why
 abbrev pub rules_refusal_line : ℕ → List ℕ → List ℕ
-rules_refusal_line number why = guest_number number ++ codes "--xattrmap" ++ refused_for why
+rules_refusal_line number why =
+    joined (codes "guest " ∷ decimal number ∷ codes ": --xattrmap is refused: " ∷ written why ∷ codes "\n" ∷ [])
 
 -- the line about the text at that place; the reason may be any text
 abbrev pub TellsPlace : ℕ → List ℕ → ℕ → List ℕ → Type 0

@@ -1,44 +1,60 @@
 -- What is found of guests, of what their options set up.
-use Rattle.std.specs.Prelude.{◌≡◌, ◌≢◌, ◌⊎◌, ◌↔◌, ℕ, ◌+◌, ◌<◌, IsTrue, List, [], length, slice_get, All, Option, Some, None}
+use Rattle.std.specs.Prelude.{◌≡◌, ◌≢◌, ◌⊎◌, ◌↔◌, ℕ, ◌+◌, ◌<◌, Bool, IsTrue, List, [], ◌++◌, length, slice_get, All}
+use Rattle.std.specs.Prelude.{Option, Some, None}
 use Rattle.std.specs.List.{AllZip}
-use Rattle.virtiofs_mapaudit.specs.GuestLines.{guest_lines}
+use Rattle.std.specs.declared.vec.Vec.{Vec}
 use Rattle.virtiofs_mapaudit.specs.IdFindings.{FindsIds}
-use Rattle.virtiofs_mapaudit.specs.Lists.{AnyHas}
+use Rattle.virtiofs_mapaudit.specs.Lists.{AnyHas, listed, if_so}
 use Rattle.virtiofs_mapaudit.specs.NameFindings.{FindsNames}
 use Rattle.virtiofs_mapaudit.specs.PairFindings.{FindsPair}
-use Rattle.virtiofs_mapaudit.specs.PairLines.{pair_lines}
 use Rattle.virtiofs_mapaudit.specs.Ranges.{FindsFault}
 use Rattle.virtiofs_mapaudit.specs.declared.audit.Pair.{Pair}
 use Rattle.virtiofs_mapaudit.specs.declared.audit.Report.{Report}
-use Rattle.virtiofs_mapaudit.specs.declared.names.found.NameFindings.{NameFindings}
-use Rattle.virtiofs_mapaudit.specs.declared.report.GuestFindings.{GuestFindings}
-use Rattle.virtiofs_mapaudit.specs.declared.report.KindFindings.{KindFindings}
+use Rattle.virtiofs_mapaudit.specs.declared.finding.Finding.{Finding}
+use Rattle.virtiofs_mapaudit.specs.declared.finding.Finding.TheVariants.{PosixAcl, Range, Id}
+use Rattle.virtiofs_mapaudit.specs.declared.ids.found.IdFault.TheVariants.{NotBack, Shared, Root, Lacking}
+use Rattle.virtiofs_mapaudit.specs.declared.ids.found.IdFindings.{IdFindings}
+use Rattle.virtiofs_mapaudit.specs.declared.ids.kind.IdKind.{IdKind}
+use Rattle.virtiofs_mapaudit.specs.declared.ids.kind.IdKind.TheVariants.{Users, Groups}
+use Rattle.virtiofs_mapaudit.specs.declared.ids.ranges.RangeFound.{RangeFound}
 use Rattle.virtiofs_mapaudit.specs.declared.setup.IdSetUp.{IdSetUp}
 use Rattle.virtiofs_mapaudit.specs.declared.setup.NamesSetUp.{NamesSetUp}
 use Rattle.virtiofs_mapaudit.specs.declared.setup.SetUp.{SetUp}
 
 -- what is found of what is set up; nothing of what is not
-abbrev pub FindsIf : {S T : Type 0} → (S → T → Type 0) → Option S → Option T → Type 0
-FindsIf Finds None found = found ≡ None
-FindsIf Finds (Some set) None = ⊥
-FindsIf Finds (Some set) (Some found) = Finds set found
+abbrev pub FindsIf : {S F : Type 0} → (S → List F → Type 0) → Option S → List F → Type 0
+FindsIf Finds None found = found ≡ []
+FindsIf Finds (Some set) found = Finds set found
+
+-- what is wrong with ids of one kind, in order
+abbrev pub ids_found : {A : Type 0} → IdKind → Bool → IdFindings → List (Finding A)
+ids_found kind in_namespace ids =
+    listed (Id kind in_namespace NotBack) ids.astray ++ listed (Id kind in_namespace Shared) ids.shared
+    ++ listed (Id kind in_namespace Root) ids.root ++ listed (Id kind in_namespace Lacking) ids.lacking
 
 -- what is found of ids of one kind
-pub record FindsKind {A : Type 0} (set : IdSetUp A) (found : KindFindings) : Type 0 where
-  pub namespace : IsTrue found.in_namespace ↔ (set.ranges.items ≢ [])
-  pub range : FindsFault set.ranges.items found.range
-  pub ids : FindsIds set.map set.ranges.items found.ids
+pub record FindsKind {A : Type 0} (kind : IdKind) (set : IdSetUp A) (found : List (Finding A)) : Type 0 where
+  pub range : Option RangeFound
+  pub ids : IdFindings
+  pub in_namespace : Bool
+  pub finds_range : FindsFault set.ranges.items range
+  pub finds_ids : FindsIds set.map set.ranges.items ids
+  pub namespace : IsTrue in_namespace ↔ (set.ranges.items ≢ [])
+  pub whole : found ≡ listed (Range kind) range ++ ids_found kind in_namespace ids
 
 -- what is found of names
-abbrev pub FindsNamesOf : {A : Type 0} → NamesSetUp A → NameFindings A → Type 0
+abbrev pub FindsNamesOf : {A : Type 0} → NamesSetUp A → List (Finding A) → Type 0
 FindsNamesOf set = FindsNames set.map set.written
 
--- what is found of a guest by itself
-pub record FindsGuest {A : Type 0} (set : SetUp A) (found : GuestFindings A) : Type 0 where
-  pub lists : found.translates_lists ≡ set.translates_lists
-  pub users : FindsIf FindsKind set.users found.users
-  pub groups : FindsIf FindsKind set.groups found.groups
-  pub names : FindsIf FindsNamesOf set.names found.names
+-- what is found of a guest by itself, in order
+pub record FindsGuest {A : Type 0} (set : SetUp A) (found : Vec (Finding A) A) : Type 0 where
+  pub of_users : List (Finding A)
+  pub of_groups : List (Finding A)
+  pub of_names : List (Finding A)
+  pub users : FindsIf (FindsKind Users) set.users of_users
+  pub groups : FindsIf (FindsKind Groups) set.groups of_groups
+  pub names : FindsIf FindsNamesOf set.names of_names
+  pub whole : found.items ≡ if_so set.translates_lists PosixAcl ++ of_users ++ of_groups ++ of_names
 
 -- what is found between the two guests of these numbers, counted from 1, of which the first is the lesser
 pub record IsPairOf {A : Type 0} (sets : List (SetUp A)) (pair : Pair A) : Type 0 where
@@ -51,7 +67,7 @@ pub record IsPairOf {A : Type 0} (sets : List (SetUp A)) (pair : Pair A) : Type 
   pub is_second : slice_get sets place_2 ≡ Some second
   pub number : pair.first ≡ place + 1
   pub number_2 : pair.second ≡ place_2 + 1
-  pub finds : FindsPair first second pair.found
+  pub finds : FindsPair pair.first pair.second first second pair.found.items
 
 -- the two guests at these places, counted from 0, are compared
 abbrev pub HasPair : {A : Type 0} → List (Pair A) → ℕ → ℕ → Type 0
@@ -64,14 +80,14 @@ pub record FindsReport {A : Type 0} (sets : List (SetUp A)) (report : Report A) 
   pub each_two : (place place_2 : ℕ) → place < place_2 → place_2 < length sets
       → HasPair report.pairs.items place place_2
 
--- something is told of a guest
-abbrev pub IsFoundOf : {A : Type 0} → List (GuestFindings A) → Type 0
-IsFoundOf guests = AnyHas (λ found. guest_lines found ≢ []) guests
+-- something is found of a guest
+abbrev pub IsFoundOf : {A : Type 0} → Report A → Type 0
+IsFoundOf report = AnyHas (λ found. found.items ≢ []) report.guests.items
 
--- something is told of two guests
-abbrev pub IsFoundBetween : {A : Type 0} → List (Pair A) → Type 0
-IsFoundBetween pairs = AnyHas (λ pair. pair_lines pair.first pair.second pair.found ≢ []) pairs
+-- something is found between two guests
+abbrev pub IsFoundBetween : {A : Type 0} → Report A → Type 0
+IsFoundBetween report = AnyHas (λ pair. pair.found.items ≢ []) report.pairs.items
 
--- something is told
+-- something is found
 abbrev pub IsFound : {A : Type 0} → Report A → Type 0
-IsFound report = IsFoundOf report.guests.items ⊎ IsFoundBetween report.pairs.items
+IsFound report = IsFoundOf report ⊎ IsFoundBetween report

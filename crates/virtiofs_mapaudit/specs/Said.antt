@@ -3,21 +3,22 @@ use Rattle.std.specs.Prelude.{◌≡◌, ◌≢◌, ◌↔◌, ℕ, ◌+◌, Boo
 use Rattle.std.specs.Prelude.{codes, flat_map, Option, Some, None, string_bytes}
 use Rattle.std.specs.Fmt.{decimal}
 use Rattle.std.specs.List.{AllZip}
-use Rattle.virtiofs_mapaudit.specs.GuestLines.{guest_lines}
+use Rattle.std.specs.declared.vec.Vec.{Vec}
+use Rattle.virtiofs_mapaudit.specs.FindingText.{findings_text}
 use Rattle.virtiofs_mapaudit.specs.Guests.{SetsUp}
 use Rattle.virtiofs_mapaudit.specs.IdTable.{ShowsIds}
+use Rattle.virtiofs_mapaudit.specs.Lists.{joined}
 use Rattle.virtiofs_mapaudit.specs.NameTable.{ShowsNames}
-use Rattle.virtiofs_mapaudit.specs.PairLines.{pair_lines}
 use Rattle.virtiofs_mapaudit.specs.Refusals.{IsSomeRefused, TellsGuests}
 use Rattle.virtiofs_mapaudit.specs.Report.{FindsReport, IsFound}
 use Rattle.virtiofs_mapaudit.specs.declared.audit.Pair.{Pair}
 use Rattle.virtiofs_mapaudit.specs.declared.audit.Report.{Report}
 use Rattle.virtiofs_mapaudit.specs.declared.audit.Said.{Said}
+use Rattle.virtiofs_mapaudit.specs.declared.finding.Finding.{Finding}
 use Rattle.virtiofs_options.specs.declared.front.Asked.{Asked}
 use Rattle.virtiofs_options.specs.declared.guest.Guest.{Guest}
 use Rattle.virtiofs_mapaudit.specs.declared.ids.kind.IdKind.{IdKind}
 use Rattle.virtiofs_mapaudit.specs.declared.ids.kind.IdKind.TheVariants.{Users, Groups}
-use Rattle.virtiofs_mapaudit.specs.declared.report.GuestFindings.{GuestFindings}
 use Rattle.virtiofs_mapaudit.specs.declared.setup.IdSetUp.{IdSetUp}
 use Rattle.virtiofs_mapaudit.specs.declared.setup.SetUp.{SetUp}
 
@@ -60,31 +61,25 @@ abbrev pub rules_given : {T : Type 0} → Option T → List ℕ
 rules_given (Some rules) = codes "--xattrmap\n"
 rules_given None = codes "no --xattrmap\n"
 
--- the guest of that number, and how many specifications of users and of groups there are
-abbrev pub specs_given : ℕ → ℕ → ℕ → List ℕ
-specs_given number users groups =
-    codes "guest " ++ decimal number ++ codes ": " ++ decimal users ++ codes " --translate-uid, " ++ decimal groups
-    ++ codes " --translate-gid, "
-
--- how many ranges of users and of groups there are
-abbrev pub ranges_given : ℕ → ℕ → List ℕ
-ranges_given users groups = decimal users ++ codes " --uid-map, " ++ decimal groups ++ codes " --gid-map, "
-
 -- the guest of that number, and how many options of each kind its daemon has
+abbrev pub options_text : ℕ → ℕ → ℕ → ℕ → ℕ → List ℕ → List ℕ
+options_text number users groups inside inside_groups rules =
+    joined (codes "guest " ∷ decimal number ∷ codes ": " ∷ decimal users ∷ codes " --translate-uid, " ∷ decimal groups ∷ codes " --translate-gid, " ∷ decimal inside ∷ codes " --uid-map, " ∷ decimal inside_groups ∷ codes " --gid-map, " ∷ rules ∷ [])
+
 abbrev pub set_up_line : {A : Type 0} → ℕ → Guest A → List ℕ
 set_up_line number guest =
-    specs_given number (length guest.translate_uid.items) (length guest.translate_gid.items)
-    ++ ranges_given (length guest.uid_map.items) (length guest.gid_map.items) ++ rules_given guest.xattrmap
+    options_text number (length guest.translate_uid.items) (length guest.translate_gid.items) (length guest.uid_map.items)
+    (length guest.gid_map.items) (rules_given guest.xattrmap)
 
 -- for each guest, from that number on: what its options are, the tables that were asked for, and what was found
-abbrev pub guests_text : {A : Type 0} → ℕ → List (Guest A) → List (List ℕ) → List (GuestFindings A) → List ℕ
+abbrev pub guests_text : {A : Type 0} → ℕ → List (Guest A) → List (List ℕ) → List (Vec (Finding A) A) → List ℕ
 guests_text number (guest ∷ guests) (table ∷ tables) (found ∷ others) =
-    (set_up_line number guest ++ table ++ guest_lines found) ++ guests_text (number + 1) guests tables others
+    (set_up_line number guest ++ table ++ findings_text found.items) ++ guests_text (number + 1) guests tables others
 guests_text number guests tables found = []
 
 -- what was found between each two guests
 abbrev pub pairs_text : {A : Type 0} → List (Pair A) → List ℕ
-pairs_text pairs = flat_map (λ pair. pair_lines pair.first pair.second pair.found) pairs
+pairs_text pairs = flat_map (λ pair. findings_text pair.found.items) pairs
 
 -- what is said where nothing was found: it is another sentence where something was refused
 abbrev pub closing : Bool → List ℕ → List ℕ
@@ -97,17 +92,22 @@ abbrev pub report_text : {A : Type 0} → List (Guest A) → List (List ℕ) →
 report_text guests tables report is_found refusals =
     guests_text 1 guests tables report.guests.items ++ pairs_text report.pairs.items ++ closing is_found refusals
 
+-- the text is the whole one, with the tables that were asked for
+pub record IsPlain {A : Type 0} (asked : Asked) (guests : List (Guest A)) (sets : List (SetUp A)) (report : Report A)
+    (is_found : Bool) (refusals text : List ℕ) : Type 0 where
+  pub tables : List (List ℕ)
+  pub are_tables : AllZip (AreTables asked) sets tables
+  pub whole : text ≡ report_text guests tables report is_found refusals
+
 -- what is written of the guests. With `quiet` the text is empty. Of the text of `json` nothing is said here
 pub record Says {A : Type 0} (asked : Asked) (guests : List (Guest A)) (said : Said) : Type 0 where
   pub sets : List (SetUp A)
   pub report : Report A
-  pub tables : List (List ℕ)
   pub sets_up : AllZip SetsUp guests sets
   pub finds : FindsReport sets report
-  pub are_tables : AllZip (AreTables asked) sets tables
   pub found : IsTrue said.is_found ↔ IsFound report
   pub refused : (string_bytes said.refusals ≢ []) ↔ IsSomeRefused guests sets
   pub refusals : TellsGuests 1 guests (string_bytes said.refusals)
   pub quiet : IsTrue asked.quiet → string_bytes said.text ≡ []
   pub plain : IsFalse asked.quiet → IsFalse asked.json
-      → string_bytes said.text ≡ report_text guests tables report said.is_found (string_bytes said.refusals)
+      → IsPlain asked guests sets report said.is_found (string_bytes said.refusals) (string_bytes said.text)

@@ -1,17 +1,18 @@
 //! What was found, as JSON. docs/virtiofs_mapaudit.1 has its schema.
 
+mod findings;
 mod ids;
 mod members;
 mod names;
 mod writer;
 
-use crate::audit::{Pair, Report};
-use crate::ids::kind::IdKind;
-use crate::report::{GuestFindings, KindFindings};
+use crate::audit::Report;
+use crate::finding::Finding;
 use crate::setup::{IdSetUp, NamesSetUp, SetUp};
-use ids::{write_id_table, write_ids, write_meeting, write_range};
-use members::{Whose, begin_found, write_count};
-use names::{write_between, write_name_table, write_names};
+use findings::write_finding;
+use ids::write_id_table;
+use members::write_count;
+use names::write_name_table;
 use std::alloc::{AllocError, Global};
 use virtiofs_options::front::Asked;
 use writer::Writer;
@@ -19,37 +20,10 @@ use writer::Writer;
 /// The version of the schema, which is the first digit of the program's.
 const SCHEMA: usize = 2;
 
-/// Writes what is found of ids of one kind.
-fn write_kind(json: &mut Writer, guest: usize, kind: IdKind, found: &Option<KindFindings>) {
-    let Some(found) = found else {
-        return;
-    };
-    if let Some(range) = found.range {
-        write_range(json, guest, kind, range);
-    }
-    write_ids(json, guest, kind, &found.ids);
-}
-
-/// Writes what is found of a guest.
-fn write_guest(alloc: Global, json: &mut Writer, guest: usize, found: &GuestFindings<Global>) {
-    if found.translates_lists {
-        begin_found(json, Whose::Guest(guest), "posix_acl");
-        json.end_object();
-    }
-    write_kind(json, guest, IdKind::Users, &found.users);
-    write_kind(json, guest, IdKind::Groups, &found.groups);
-    if let Some(names) = &found.names {
-        write_names(alloc, json, guest, names);
-    }
-}
-
-/// Writes what is found between two guests.
-fn write_pair(alloc: Global, json: &mut Writer, pair: &Pair<Global>) {
-    let guests = (pair.first, pair.second);
-    write_meeting(json, guests, IdKind::Users, pair.found.users);
-    write_meeting(json, guests, IdKind::Groups, pair.found.groups);
-    if let Some(names) = &pair.found.names {
-        write_between(alloc, json, guests, names);
+/// Writes what was found of one guest.
+fn write_found(alloc: Global, json: &mut Writer, guest: usize, found: &[Finding<Global>]) {
+    for finding in found {
+        write_finding(alloc, json, guest, finding);
     }
 }
 
@@ -100,10 +74,10 @@ fn write_all_shown(alloc: Global, json: &mut Writer, asked: Asked, sets: &[SetUp
 fn write_findings(alloc: Global, json: &mut Writer, report: &Report<Global>) {
     json.begin_array();
     for (place, found) in report.guests.iter().enumerate() {
-        write_guest(alloc, json, place + 1, found);
+        write_found(alloc, json, place + 1, found.as_slice());
     }
     for pair in report.pairs.as_slice() {
-        write_pair(alloc, json, pair);
+        write_found(alloc, json, pair.first, pair.found.as_slice());
     }
     json.end_array();
 }

@@ -1,19 +1,21 @@
 //! The audit of all guests: what their options set up, what is found, and its text.
-ghost use Rattle.std.specs.Prelude.{◌≡◌, ◌<◌, ◌⊎◌, ◌↔◌, ◌++◌, ℕ, List, [], length, IfOk, IsTrue, IsFalse, OnOk, string_bytes};
+ghost use Rattle.std.specs.Prelude.{◌≡◌, ◌≢◌, ◌<◌, ◌⊎◌, ◌↔◌, ◌++◌, ℕ, List, [], length, IfOk, IsTrue, IsFalse, OnOk, string_bytes};
 ghost use Rattle.std.specs.List.{AllZip};
+ghost use Rattle.virtiofs_mapaudit.specs.FindingText.{findings_text};
 ghost use Rattle.virtiofs_mapaudit.specs.Guests.{SetsUp};
-ghost use Rattle.virtiofs_mapaudit.specs.Refusals.{TellsWhere, IsSomeRefused, Adds, TellsGuests};
+ghost use Rattle.virtiofs_mapaudit.specs.Lists.{Adds};
+ghost use Rattle.virtiofs_mapaudit.specs.Refusals.{TellsWhere, IsSomeRefused, TellsGuests};
 ghost use Rattle.virtiofs_mapaudit.specs.Report.{FindsReport, IsFound, IsFoundOf, IsFoundBetween};
 ghost use Rattle.virtiofs_mapaudit.specs.ReportParts.{AddsPairs};
-ghost use Rattle.virtiofs_mapaudit.specs.Said.{Says, ShownIf, ShowsSet, ShowsKind, ShowsBothKinds, ShowsSomeNames, AreTables, specs_given, ranges_given, rules_given, set_up_line, guests_text, pairs_text, closing, report_text};
+ghost use Rattle.virtiofs_mapaudit.specs.Said.{Says, ShownIf, ShowsSet, ShowsKind, ShowsBothKinds, ShowsSomeNames, AreTables, rules_given, set_up_line, guests_text, pairs_text, closing, IsPlain};
 
 use crate::as_json::report_as_json;
+use crate::finding::Finding;
 use crate::ids::kind::IdKind;
 use crate::ids::table::push_table as push_ids_table;
-use crate::lines::{push_guest, push_pair};
 use crate::names::table::push_table as push_names_table;
-use crate::pairs::{PairFindings, audit_pair};
-use crate::report::{GuestFindings, audit_guest};
+use crate::pairs::{Numbers, audit_pair};
+use crate::report::audit_guest;
 use crate::setup::{IdSetUp, Refusals, SetUp, set_up};
 use std::alloc::{AllocError, Allocator, Global};
 use virtiofs_options::front::Asked;
@@ -27,14 +29,14 @@ pub(crate) struct Pair<A: Allocator> {
     /// The number of the second, which is the greater.
     pub(crate) second: usize,
     /// What is found.
-    pub(crate) found: PairFindings<A>,
+    pub(crate) found: Vec<Finding<A>, A>,
 }
 
 /// What is found of all guests.
 #[derive(Drop)]
 pub(crate) struct Report<A: Allocator> {
     /// What is found of each by itself, in order.
-    pub(crate) guests: Vec<GuestFindings<A>, A>,
+    pub(crate) guests: Vec<Vec<Finding<A>, A>, A>,
     /// What is found between each two.
     pub(crate) pairs: Vec<Pair<A>, A>,
 }
@@ -61,10 +63,14 @@ fn audit_pairs<A: Allocator + Copy>(
     ensures { OnOk result (AddsPairs sets.now place place pairs.old.items pairs.new.items) }
 {
     for earlier in 0..place {
-        let found = audit_pair(alloc, &sets[earlier], &sets[place])?;
-        pairs.push(Pair {
+        let numbers = Numbers {
             first: earlier + 1,
             second: place + 1,
+        };
+        let found = audit_pair(alloc, numbers, &sets[earlier], &sets[place])?;
+        pairs.push(Pair {
+            first: numbers.first,
+            second: numbers.second,
             found,
         })?;
     }
@@ -148,42 +154,13 @@ fn push_tables<A: Allocator + Copy>(
     push_some_names(alloc, text, asked.names, set)
 }
 
-/// Writes the number of a guest, and how many specifications its daemon has, at the end of a text.
-fn push_specs<A: Allocator>(
-    text: &mut String<A>,
-    number: usize,
-    users: usize,
-    groups: usize,
-) -> Result<(), AllocError>
-    ensures { OnOk result
-        (string_bytes text.new ≡ string_bytes text.old ++ specs_given number users groups) }
-{
-    write!(
-        text,
-        "guest {number}: {users} --translate-uid, {groups} --translate-gid, "
-    )
-}
-
-/// Writes how many ranges a daemon has at the end of a text.
-fn push_ranges<A: Allocator>(
-    text: &mut String<A>,
-    users: usize,
-    groups: usize,
-) -> Result<(), AllocError>
-    ensures { OnOk result
-        (string_bytes text.new ≡ string_bytes text.old ++ ranges_given users groups) }
-{
-    write!(text, "{users} --uid-map, {groups} --gid-map, ")
-}
-
-/// Writes at the end of a text whether a daemon has rules.
-fn push_rules<A: Allocator>(text: &mut String<A>, rules: Option<&str>) -> Result<(), AllocError>
-    ensures { OnOk result
-        (string_bytes text.new ≡ string_bytes text.old ++ rules_given rules.entry) }
+/// Whether there are rules.
+fn rules_given(rules: Option<&str>) -> &'static str
+    ensures { result.now ≡ rules_given rules.entry }
 {
     match rules {
-        Some(_) => text.push_str("--xattrmap\n"),
-        None => text.push_str("no --xattrmap\n"),
+        Some(_) => "--xattrmap\n",
+        None => "no --xattrmap\n",
     }
 }
 
@@ -198,120 +175,132 @@ fn push_set_up<A: Allocator>(
 {
     let users = guest.translate_uid.as_slice().len();
     let groups = guest.translate_gid.as_slice().len();
-    push_specs(text, number, users, groups)?;
-    let users = guest.uid_map.as_slice().len();
-    let groups = guest.gid_map.as_slice().len();
-    push_ranges(text, users, groups)?;
-    push_rules(text, guest.xattrmap)
+    let inside = guest.uid_map.as_slice().len();
+    let inside_groups = guest.gid_map.as_slice().len();
+    let rules = rules_given(guest.xattrmap);
+    write!(
+        text,
+        "guest {number}: {users} --translate-uid, {groups} --translate-gid, {inside} --uid-map, {inside_groups} --gid-map, {rules}"
+    )
 }
 
-/// Whether `is_found`, or the text is longer than `before`.
-fn has_grown<A: Allocator>(is_found: bool, text: &String<A>, before: usize) -> bool
-    ensures { IsTrue result ↔ (IsTrue is_found ⊎ (before < length (string_bytes text.now))) }
+/// Writes findings at the end of a text.
+fn push_findings<A: Allocator>(text: &mut String<A>, found: &[Finding<A>]) -> Result<(), AllocError>
+    ensures { OnOk result
+        (string_bytes text.new ≡ string_bytes text.old ++ findings_text found.now) }
 {
-    if is_found {
-        return true;
+    for finding in found {
+        write!(text, "{finding}")?;
     }
-    before < text.as_bytes().len()
+    Ok(())
 }
 
-/// Writes at the end of a text, for each guest, its first line, its tables and what was found. Tells
-/// whether anything was found.
+/// Writes at the end of a text, for each guest, its first line, its tables and what was found.
 fn push_guests<A: Allocator + Copy>(
     alloc: A,
     text: &mut String<A>,
     asked: Asked,
     guests: &[Guest<'_, A>],
     sets: &[SetUp<A>],
-    found: &[GuestFindings<A>],
-) -> Result<bool, AllocError>
+    found: &[Vec<Finding<A>, A>],
+) -> Result<(), AllocError>
     requires same { length sets.now ≡ length guests.now }
     requires same_2 { length found.now ≡ length guests.now }
-    ensures text { IfOk result (λ _. (tables : List (List ℕ))
+    ensures { OnOk result ((tables : List (List ℕ))
         × AllZip (AreTables asked) sets.now tables
         × (string_bytes text.new ≡ string_bytes text.old
         ++ guests_text 1 guests.now tables found.now)) }
-    ensures found { IfOk result (λ is_found. IsTrue is_found ↔ IsFoundOf found.now) }
 {
-    let mut is_found = false;
     for place in 0..guests.len() {
         push_set_up(text, place + 1, &guests[place])?;
         push_tables(alloc, text, asked, &sets[place])?;
-        let before = text.as_bytes().len();
-        push_guest(text, &found[place])?;
-        is_found = has_grown(is_found, text, before);
+        push_findings(text, found[place].as_slice())?;
     }
-    Ok(is_found)
+    Ok(())
 }
 
-/// Writes what was found between guests at the end of a text, and tells whether anything was.
-fn push_pairs<A: Allocator + Copy>(
-    alloc: A,
-    text: &mut String<A>,
-    pairs: &[Pair<A>],
-) -> Result<bool, AllocError>
-    ensures text { OnOk result
-        (string_bytes text.new ≡ string_bytes text.old ++ pairs_text pairs.now) }
-    ensures found { IfOk result (λ is_found. IsTrue is_found ↔ IsFoundBetween pairs.now) }
-{
-    let mut is_any = false;
-    for pair in pairs {
-        let before = text.as_bytes().len();
-        push_pair(alloc, text, pair.first, pair.second, &pair.found)?;
-        is_any = has_grown(is_any, text, before);
-    }
-    Ok(is_any)
-}
-
-/// Whether one of the two holds.
-fn is_either(first: bool, second: bool) -> bool
-    ensures { IsTrue result ↔ (IsTrue first ⊎ IsTrue second) }
-{
-    first || second
-}
-
-/// Writes at the end of a text that nothing was found, if so. `refusals` is what was told of texts
-/// that are refused.
-fn push_closing<A: Allocator>(
-    text: &mut String<A>,
-    is_found: bool,
-    refusals: &str,
-) -> Result<(), AllocError>
+/// Writes what was found between guests at the end of a text.
+fn push_pairs<A: Allocator>(text: &mut String<A>, pairs: &[Pair<A>]) -> Result<(), AllocError>
     ensures { OnOk result
-        (string_bytes text.new ≡ string_bytes text.old ++ closing is_found refusals.now) }
+        (string_bytes text.new ≡ string_bytes text.old ++ pairs_text pairs.now) }
+{
+    for pair in pairs {
+        push_findings(text, pair.found.as_slice())?;
+    }
+    Ok(())
+}
+
+/// What is said where nothing was found. `refusals` is what was told of texts that are refused.
+fn closing(is_found: bool, refusals: &str) -> &'static str
+    ensures { result.now ≡ closing is_found refusals.now }
 {
     if is_found {
-        return Ok(());
+        return "";
     }
     if refusals.is_empty() {
-        return text.push_str("nothing found\n");
+        return "nothing found\n";
     }
-    text.push_str("nothing found in what was not refused\n")
+    "nothing found in what was not refused\n"
 }
 
-/// Writes what was found at the end of a text, and tells whether anything was.
-fn push_report<A: Allocator + Copy>(
+/// Whether something is found of a guest.
+fn has_found_of<A: Allocator>(report: &Report<A>) -> bool
+    ensures { IsTrue result ↔ IsFoundOf report.now }
+{
+    for found in report.guests.as_slice() {
+        if !found.as_slice().is_empty() {
+            return true;
+        }
+    }
+    false
+}
+
+/// Whether something is found between two guests.
+fn has_found_between<A: Allocator>(report: &Report<A>) -> bool
+    ensures { IsTrue result ↔ IsFoundBetween report.now }
+{
+    for pair in report.pairs.as_slice() {
+        if !pair.found.as_slice().is_empty() {
+            return true;
+        }
+    }
+    false
+}
+
+/// Whether something is found.
+fn has_found<A: Allocator>(report: &Report<A>) -> bool
+    ensures { IsTrue result ↔ IsFound report.now }
+{
+    has_found_of(report) || has_found_between(report)
+}
+
+/// What is said of the guests. `refusals` is what was told of texts that are refused.
+fn plain<A: Allocator + Copy>(
     alloc: A,
-    text: &mut String<A>,
     asked: Asked,
     guests: &[Guest<'_, A>],
     sets: &[SetUp<A>],
     report: &Report<A>,
+    is_found: bool,
     refusals: &str,
-) -> Result<bool, AllocError>
+) -> Result<String<A>, AllocError>
     requires same { length sets.now ≡ length guests.now }
     requires same_2 { length report.now.guests.items ≡ length guests.now }
-    ensures text { IfOk result (λ is_found. (tables : List (List ℕ))
-        × AllZip (AreTables asked) sets.now tables
-        × (string_bytes text.new ≡ string_bytes text.old
-        ++ report_text guests.now tables report.now is_found refusals.now)) }
-    ensures found { IfOk result (λ is_found. IsTrue is_found ↔ IsFound report.now) }
+    ensures { IfOk result (λ text.
+        IsPlain asked guests.now sets.now report.now is_found refusals.now (string_bytes text)) }
 {
-    let of_guests = push_guests(alloc, text, asked, guests, sets, report.guests.as_slice())?;
-    let between = push_pairs(alloc, text, report.pairs.as_slice())?;
-    let is_found = is_either(of_guests, between);
-    push_closing(text, is_found, refusals)?;
-    Ok(is_found)
+    let mut text = String::new(alloc);
+    push_guests(
+        alloc,
+        &mut text,
+        asked,
+        guests,
+        sets,
+        report.guests.as_slice(),
+    )?;
+    push_pairs(&mut text, report.pairs.as_slice())?;
+    text.push_str(closing(is_found, refusals))?;
+    Ok(text)
 }
 
 /// What the options of each guest set up. Guest by guest, a line for the first fault of each option
@@ -338,14 +327,17 @@ fn set_up_all<A: Allocator + Copy>(
 fn in_form(
     alloc: Global,
     asked: Asked,
+    guests: &[Guest<'_, Global>],
     sets: &[SetUp<Global>],
     report: &Report<Global>,
+    is_found: bool,
     refusals: &str,
-    plain: String,
 ) -> Result<String, AllocError>
+    requires same { length sets.now ≡ length guests.now }
+    requires same_2 { length report.now.guests.items ≡ length guests.now }
     ensures quiet { IsTrue asked.quiet → IfOk result (λ text. string_bytes text ≡ []) }
-    ensures plain { IsFalse asked.quiet → IsFalse asked.json
-        → IfOk result (λ text. string_bytes text ≡ string_bytes plain) }
+    ensures plain { IsFalse asked.quiet → IsFalse asked.json → IfOk result (λ text.
+        IsPlain asked guests.now sets.now report.now is_found refusals.now (string_bytes text)) }
 {
     if asked.quiet {
         return Ok(String::new(alloc));
@@ -353,7 +345,7 @@ fn in_form(
     if asked.json {
         return report_as_json(alloc, asked, sets, report, refusals);
     }
-    Ok(plain)
+    plain(alloc, asked, guests, sets, report, is_found, refusals)
 }
 
 /// What is to be written of the guests.
@@ -369,18 +361,17 @@ pub(crate) fn say(
     };
     let sets = set_up_all(alloc, &mut refusals, guests)?;
     let report = audit(alloc, sets.as_slice())?;
-    let mut text = String::new(alloc);
+    let is_found = has_found(&report);
     let told = refusals.text.as_str();
-    let is_found = push_report(
+    let text = in_form(
         alloc,
-        &mut text,
         asked,
         guests,
         sets.as_slice(),
         &report,
+        is_found,
         told,
     )?;
-    let text = in_form(alloc, asked, sets.as_slice(), &report, told, text)?;
     Ok(Said {
         text,
         refusals: refusals.text,

@@ -3,7 +3,6 @@
 pub(crate) mod audits;
 pub(crate) mod found;
 pub(crate) mod kind;
-pub(crate) mod lines;
 pub(crate) mod meeting;
 pub(crate) mod namespace;
 pub(crate) mod outside;

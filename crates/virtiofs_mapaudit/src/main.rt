@@ -5,8 +5,8 @@ ghost use Rattle.std.specs.Prelude.{◌≡◌, ◌≢◌, ◌↔◌, [], IsTrue,
 
 mod as_json;
 mod audit;
+mod finding;
 mod ids;
-mod lines;
 mod names;
 mod ordinal;
 mod pairs;

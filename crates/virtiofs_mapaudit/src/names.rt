@@ -2,5 +2,4 @@
 
 pub(crate) mod audits;
 pub(crate) mod found;
-pub(crate) mod lines;
 pub(crate) mod table;

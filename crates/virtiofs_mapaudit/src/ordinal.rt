@@ -1,8 +1,8 @@
 //! Places in words, as `second`.
-ghost use Rattle.std.specs.Prelude.{◌≡◌, ◌++◌, OnOk, string_bytes};
+ghost use Rattle.std.specs.Prelude.{◌≡◌, Some};
 ghost use Rattle.virtiofs_mapaudit.specs.Ordinal.{suffix, ordinal};
 
-use std::alloc::{AllocError, Allocator};
+use std::fmt;
 
 /// What follows the digits of a place.
 fn suffix(number: u128) -> &'static str
@@ -19,20 +19,23 @@ fn suffix(number: u128) -> &'static str
     }
 }
 
-/// Writes the place of that number, counted from 1, at the end of a text.
-pub(crate) fn push_ordinal<A: Allocator>(
-    text: &mut String<A>,
-    number: u128,
-) -> Result<(), AllocError>
-    ensures { OnOk result (string_bytes text.new ≡ string_bytes text.old ++ ordinal number) }
-{
-    match number {
-        1 => text.push_str("first"),
-        2 => text.push_str("second"),
-        3 => text.push_str("third"),
-        _ => {
-            let end = suffix(number);
-            write!(text, "{number}{end}")
+/// A place by its number, counted from 1. It is printed in words.
+#[derive(Clone, Copy)]
+pub(crate) struct Ordinal(pub(crate) u128);
+
+impl fmt::Display for Ordinal {
+    ghost output = { λ it. Some (ordinal it.0) };
+
+    fn fmt<W: fmt::Write>(&self, f: &mut fmt::Formatter<W>) -> fmt::Result {
+        let number = self.0;
+        match number {
+            1 => f.write_str("first"),
+            2 => f.write_str("second"),
+            3 => f.write_str("third"),
+            _ => {
+                let end = suffix(number);
+                write!(f, "{number}{end}")
+            }
         }
     }
 }

@@ -1,105 +1,147 @@
 //! What is found between two guests of one directory.
-ghost use Rattle.std.specs.Prelude.{IfOk};
-ghost use Rattle.virtiofs_mapaudit.specs.PairFindings.{FindsPair, FindsBoth, FindsMeetingOf, FindsNamesBetween, FindsNamesBetweenSets};
+ghost use Rattle.std.specs.Prelude.{IfOk, OnOk};
+ghost use Rattle.virtiofs_map.specs.Audit.{IsSeen, IsShared};
+ghost use Rattle.virtiofs_mapaudit.specs.Lists.{Adds};
+ghost use Rattle.virtiofs_mapaudit.specs.NameFindings.{FindsLeast};
+ghost use Rattle.virtiofs_mapaudit.specs.PairFindings.{FindsPair, FindsBoth, FindsIdOfBoth, FindsNamesBetween};
 
-use crate::ids::found::IdFound;
+use crate::finding::Finding;
+use crate::ids::kind::IdKind;
 use crate::ids::meeting::meeting_of;
 use crate::names::audits::least_name;
-use crate::names::found::{LeastName, NameFault};
+use crate::names::found::NameFault;
 use crate::setup::{IdSetUp, NamesSetUp, SetUp};
 use std::alloc::{AllocError, Allocator};
 use virtiofs_map::xattrmap::XattrMap;
 
-/// What is found of the names of two guests.
-#[derive(Drop)]
-pub(crate) struct NamesBetween<A: Allocator> {
-    /// A name that the first guest sets, and that lists of the second show.
-    pub(crate) seen: LeastName<A>,
-    /// A name that the second guest sets, and that lists of the first show.
-    pub(crate) seen_back: LeastName<A>,
-    /// A name of the first guest that leads where some name of the second leads.
-    pub(crate) shared: LeastName<A>,
+/// The numbers of two guests, counted from 1.
+#[derive(Clone, Copy)]
+pub(crate) struct Numbers {
+    /// The number of the first.
+    pub(crate) first: usize,
+    /// The number of the second.
+    pub(crate) second: usize,
 }
 
-/// What is found between two guests of one directory.
-#[derive(Drop)]
-pub(crate) struct PairFindings<A: Allocator> {
-    /// A user of the host that both reach.
-    pub(crate) users: Option<IdFound>,
-    /// A group of the host that both reach.
-    pub(crate) groups: Option<IdFound>,
-    /// What is found of names, where both guests have rules.
-    pub(crate) names: Option<NamesBetween<A>>,
-}
-
-/// The least id of the first guest that is an id of the host which the second reaches too. Guests of
-/// which a text is refused are not compared.
-fn meeting_between<A: Allocator + Copy>(
+/// Adds the least id of the first guest that is an id of the host which the second reaches too.
+/// Guests of which a text is refused are not compared.
+fn push_meeting<A: Allocator + Copy>(
     alloc: A,
-    first: &Option<IdSetUp<A>>,
-    second: &Option<IdSetUp<A>>,
-) -> Result<Option<IdFound>, AllocError>
-    ensures { IfOk result (FindsMeetingOf first.now second.now) }
+    found: &mut Vec<Finding<A>, A>,
+    numbers: Numbers,
+    kind: IdKind,
+    one: &Option<IdSetUp<A>>,
+    other: &Option<IdSetUp<A>>,
+) -> Result<(), AllocError>
+    ensures { OnOk result (Adds (FindsBoth (FindsIdOfBoth numbers.first numbers.second kind) one.now other.now)
+        found.old.items found.new.items) }
 {
-    let Some(one) = first else {
-        return Ok(None);
+    let (Some(one), Some(other)) = (one, other) else {
+        return Ok(());
     };
-    let Some(other) = second else {
-        return Ok(None);
-    };
-    meeting_of(alloc, one, other)
+    if let Some(id) = meeting_of(alloc, one, other)? {
+        found.push(Finding::IdOfBoth {
+            first: numbers.first,
+            second: numbers.second,
+            kind,
+            id,
+        })?;
+    }
+    Ok(())
 }
 
-/// What is found of the names of two guests under their rules.
-fn names_between<A: Allocator + Copy>(
+/// Adds the least name that one guest sets and that lists of the other show, if there is one.
+fn push_seen<A: Allocator + Copy>(
     alloc: A,
-    first: &XattrMap<A>,
-    second: &XattrMap<A>,
-) -> Result<NamesBetween<A>, AllocError>
-    ensures { IfOk result (FindsNamesBetween first.now second.now) }
+    found: &mut Vec<Finding<A>, A>,
+    setter: usize,
+    lister: usize,
+    rules: &XattrMap<A>,
+    others: &XattrMap<A>,
+) -> Result<(), AllocError>
+    ensures { OnOk result (Adds
+        (FindsLeast (Finding.ShownToOther setter lister) (IsSeen rules.now others.now))
+        found.old.items found.new.items) }
 {
-    let seen = least_name(alloc, NameFault::Seen, first, second)?;
-    let seen_back = least_name(alloc, NameFault::Seen, second, first)?;
-    let shared = least_name(alloc, NameFault::Shared, first, second)?;
-    Ok(NamesBetween {
-        seen,
-        seen_back,
-        shared,
-    })
+    if let Some(least) = least_name(alloc, NameFault::Seen, rules, others)? {
+        found.push(Finding::ShownToOther {
+            setter,
+            lister,
+            least,
+        })?;
+    }
+    Ok(())
 }
 
-/// What is found of the names of two guests, where both have rules.
-fn names_if_both<A: Allocator + Copy>(
+/// Adds the least name of one guest that leads where some name of the other leads, if there is one.
+fn push_shared<A: Allocator + Copy>(
     alloc: A,
-    first: &Option<NamesSetUp<A>>,
-    second: &Option<NamesSetUp<A>>,
-) -> Result<Option<NamesBetween<A>>, AllocError>
-    ensures { IfOk result (FindsBoth FindsNamesBetweenSets first.now second.now) }
+    found: &mut Vec<Finding<A>, A>,
+    numbers: Numbers,
+    rules: &XattrMap<A>,
+    others: &XattrMap<A>,
+) -> Result<(), AllocError>
+    ensures { OnOk result (Adds
+        (FindsLeast (Finding.NameOfBoth numbers.first numbers.second) (IsShared rules.now others.now))
+        found.old.items found.new.items) }
 {
-    let Some(one) = first else {
-        return Ok(None);
-    };
-    let Some(other) = second else {
-        return Ok(None);
-    };
-    let found = names_between(alloc, &one.map, &other.map)?;
-    Ok(Some(found))
+    if let Some(least) = least_name(alloc, NameFault::Shared, rules, others)? {
+        found.push(Finding::NameOfBoth {
+            first: numbers.first,
+            second: numbers.second,
+            least,
+        })?;
+    }
+    Ok(())
 }
 
-/// What is found between two guests.
+/// Adds what is found of the names of two guests, where both have rules.
+fn push_names<A: Allocator + Copy>(
+    alloc: A,
+    found: &mut Vec<Finding<A>, A>,
+    numbers: Numbers,
+    one: &Option<NamesSetUp<A>>,
+    other: &Option<NamesSetUp<A>>,
+) -> Result<(), AllocError>
+    ensures { OnOk result (Adds (FindsBoth (FindsNamesBetween numbers.first numbers.second) one.now other.now)
+        found.old.items found.new.items) }
+{
+    let (Some(one), Some(other)) = (one, other) else {
+        return Ok(());
+    };
+    let Numbers { first, second } = numbers;
+    push_seen(alloc, found, first, second, &one.map, &other.map)?;
+    push_seen(alloc, found, second, first, &other.map, &one.map)?;
+    push_shared(alloc, found, numbers, &one.map, &other.map)
+}
+
+/// What is found between two guests, in order.
 pub(crate) fn audit_pair<A: Allocator + Copy>(
     alloc: A,
-    first: &SetUp<A>,
-    second: &SetUp<A>,
-) -> Result<PairFindings<A>, AllocError>
-    ensures { IfOk result (FindsPair first.now second.now) }
+    numbers: Numbers,
+    one: &SetUp<A>,
+    other: &SetUp<A>,
+) -> Result<Vec<Finding<A>, A>, AllocError>
+    ensures { IfOk result (λ found.
+        FindsPair numbers.first numbers.second one.now other.now found.items) }
 {
-    let users = meeting_between(alloc, &first.users, &second.users)?;
-    let groups = meeting_between(alloc, &first.groups, &second.groups)?;
-    let names = names_if_both(alloc, &first.names, &second.names)?;
-    Ok(PairFindings {
-        users,
-        groups,
-        names,
-    })
+    let mut found = Vec::new(alloc);
+    push_meeting(
+        alloc,
+        &mut found,
+        numbers,
+        IdKind::Users,
+        &one.users,
+        &other.users,
+    )?;
+    push_meeting(
+        alloc,
+        &mut found,
+        numbers,
+        IdKind::Groups,
+        &one.groups,
+        &other.groups,
+    )?;
+    push_names(alloc, &mut found, numbers, &one.names, &other.names)?;
+    Ok(found)
 }

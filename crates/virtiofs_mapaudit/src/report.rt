@@ -1,38 +1,85 @@
 //! What is found of one guest by itself.
-ghost use Rattle.std.specs.Prelude.{◌≢◌, ◌↔◌, [], IfOk, IsTrue};
-ghost use Rattle.virtiofs_mapaudit.specs.Report.{FindsGuest, FindsIf, FindsKind, FindsNamesOf};
+ghost use Rattle.std.specs.Prelude.{◌≡◌, ◌↔◌, ◌≢◌, ◌++◌, [], IsTrue, OnOk, IfOk};
+ghost use Rattle.virtiofs_mapaudit.specs.Lists.{listed, if_so, Adds};
+ghost use Rattle.virtiofs_mapaudit.specs.Report.{ids_found, FindsKind, FindsNamesOf, FindsIf, FindsGuest};
 
+use crate::finding::Finding;
 use crate::ids::audits::audit_ids;
-use crate::ids::found::IdFindings;
+use crate::ids::found::{IdFault, IdFindings, IdFound};
+use crate::ids::kind::IdKind;
 use crate::ids::ranges::{RangeFound, first_fault};
-use crate::names::audits::audit_names;
-use crate::names::found::NameFindings;
+use crate::names::audits::push_names;
 use crate::setup::{IdSetUp, NamesSetUp, SetUp};
 use std::alloc::{AllocError, Allocator};
 use virtiofs_map::idmap::UidMap;
 
-/// What is found of ids of one kind.
-#[derive(Clone, Copy)]
-pub(crate) struct KindFindings {
-    /// Whether the daemon runs in a namespace of ranges. What ids become is then inside it.
-    pub(crate) in_namespace: bool,
-    /// The first range of the namespace that is at fault.
-    pub(crate) range: Option<RangeFound>,
-    /// What is wrong with the ids.
-    pub(crate) ids: IdFindings,
+/// Adds what is wrong with an id, if something is.
+fn push_id<A: Allocator>(
+    found: &mut Vec<Finding<A>, A>,
+    kind: IdKind,
+    in_namespace: bool,
+    fault: IdFault,
+    id: Option<IdFound>,
+) -> Result<(), AllocError>
+    ensures { OnOk result (found.new.items
+        ≡ found.old.items ++ listed (Finding.Id kind in_namespace fault) id) }
+{
+    let Some(id) = id else {
+        return Ok(());
+    };
+    found.push(Finding::Id {
+        kind,
+        in_namespace,
+        fault,
+        id,
+    })?;
+    Ok(())
 }
 
-/// What is found of a guest by itself. Where a text is refused, nothing is found of what it is for.
-#[derive(Drop)]
-pub(crate) struct GuestFindings<A: Allocator> {
-    /// Whether access control lists are on while ids are translated.
-    pub(crate) translates_lists: bool,
-    /// What is found of users.
-    pub(crate) users: Option<KindFindings>,
-    /// What is found of groups.
-    pub(crate) groups: Option<KindFindings>,
-    /// What is found of names.
-    pub(crate) names: Option<NameFindings<A>>,
+/// Adds what is wrong with ids of one kind.
+fn push_ids<A: Allocator>(
+    found: &mut Vec<Finding<A>, A>,
+    kind: IdKind,
+    in_namespace: bool,
+    ids: &IdFindings,
+) -> Result<(), AllocError>
+    ensures { OnOk result (found.new.items
+        ≡ found.old.items ++ ids_found kind in_namespace ids.now) }
+{
+    push_id(found, kind, in_namespace, IdFault::NotBack, ids.astray)?;
+    push_id(found, kind, in_namespace, IdFault::Shared, ids.shared)?;
+    push_id(found, kind, in_namespace, IdFault::Root, ids.root)?;
+    push_id(found, kind, in_namespace, IdFault::Lacking, ids.lacking)
+}
+
+/// Adds the first range of the namespace that is at fault, if one is.
+fn push_range<A: Allocator>(
+    found: &mut Vec<Finding<A>, A>,
+    kind: IdKind,
+    range: Option<RangeFound>,
+) -> Result<(), AllocError>
+    ensures { OnOk result (found.new.items ≡ found.old.items ++ listed (Finding.Range kind) range) }
+{
+    let Some(range) = range else {
+        return Ok(());
+    };
+    found.push(Finding::Range { kind, range })?;
+    Ok(())
+}
+
+/// Adds what is found of ids of one kind.
+fn push_kind<A: Allocator + Copy>(
+    alloc: A,
+    found: &mut Vec<Finding<A>, A>,
+    kind: IdKind,
+    set: &IdSetUp<A>,
+) -> Result<(), AllocError>
+    ensures { OnOk result (Adds (FindsKind kind set.now) found.old.items found.new.items) }
+{
+    let ranges = set.ranges.as_slice();
+    let ids = audit_ids(alloc, &set.map, ranges)?;
+    push_range(found, kind, first_fault(ranges))?;
+    push_ids(found, kind, has_some(ranges), &ids)
 }
 
 /// Whether there are ranges.
@@ -42,66 +89,58 @@ fn has_some(ranges: &[UidMap]) -> bool
     !ranges.is_empty()
 }
 
-/// What is found of ids of one kind.
-fn audit_kind<A: Allocator + Copy>(alloc: A, set: &IdSetUp<A>) -> Result<KindFindings, AllocError>
-    ensures { IfOk result (FindsKind set.now) }
-{
-    let ranges = set.ranges.as_slice();
-    let ids = audit_ids(alloc, &set.map, ranges)?;
-    let range = first_fault(ranges);
-    Ok(KindFindings {
-        in_namespace: has_some(ranges),
-        range,
-        ids,
-    })
-}
-
-/// What is found of ids of one kind, where no text for them is refused.
-fn audit_some_kind<A: Allocator + Copy>(
+/// Adds what is found of ids of one kind, where no text for them is refused.
+fn push_some_kind<A: Allocator + Copy>(
     alloc: A,
+    found: &mut Vec<Finding<A>, A>,
+    kind: IdKind,
     set: &Option<IdSetUp<A>>,
-) -> Result<Option<KindFindings>, AllocError>
-    ensures { IfOk result (FindsIf FindsKind set.now) }
+) -> Result<(), AllocError>
+    ensures { OnOk result
+        (Adds (FindsIf (FindsKind kind) set.now) found.old.items found.new.items) }
 {
     match set {
-        Some(set) => {
-            let found = audit_kind(alloc, set)?;
-            Ok(Some(found))
-        }
-        None => Ok(None),
+        Some(set) => push_kind(alloc, found, kind, set),
+        None => Ok(()),
     }
 }
 
-/// What is found of names, where there are rules and they are not refused.
-fn audit_some_names<A: Allocator + Copy>(
+/// Adds what is found of names, where there are rules and they are not refused.
+fn push_some_names<A: Allocator + Copy>(
     alloc: A,
+    found: &mut Vec<Finding<A>, A>,
     set: &Option<NamesSetUp<A>>,
-) -> Result<Option<NameFindings<A>>, AllocError>
-    ensures { IfOk result (FindsIf FindsNamesOf set.now) }
+) -> Result<(), AllocError>
+    ensures { OnOk result
+        (Adds (FindsIf FindsNamesOf set.now) found.old.items found.new.items) }
 {
     match set {
-        Some(set) => {
-            let found = audit_names(alloc, &set.map, set.written)?;
-            Ok(Some(found))
-        }
-        None => Ok(None),
+        Some(set) => push_names(alloc, found, &set.map, set.written),
+        None => Ok(()),
     }
 }
 
-/// What is found of a guest.
+/// Adds that access control lists are on while ids are translated, if so.
+fn push_lists<A: Allocator>(found: &mut Vec<Finding<A>, A>, are_on: bool) -> Result<(), AllocError>
+    ensures { OnOk result (found.new.items ≡ found.old.items ++ if_so are_on Finding.PosixAcl) }
+{
+    if are_on {
+        found.push(Finding::PosixAcl)?;
+    }
+    Ok(())
+}
+
+/// What is found of a guest, in order.
 pub(crate) fn audit_guest<A: Allocator + Copy>(
     alloc: A,
     set: &SetUp<A>,
-) -> Result<GuestFindings<A>, AllocError>
+) -> Result<Vec<Finding<A>, A>, AllocError>
     ensures { IfOk result (FindsGuest set.now) }
 {
-    let users = audit_some_kind(alloc, &set.users)?;
-    let groups = audit_some_kind(alloc, &set.groups)?;
-    let names = audit_some_names(alloc, &set.names)?;
-    Ok(GuestFindings {
-        translates_lists: set.translates_lists,
-        users,
-        groups,
-        names,
-    })
+    let mut found = Vec::new(alloc);
+    push_lists(&mut found, set.translates_lists)?;
+    push_some_kind(alloc, &mut found, IdKind::Users, &set.users)?;
+    push_some_kind(alloc, &mut found, IdKind::Groups, &set.groups)?;
+    push_some_names(alloc, &mut found, &set.names)?;
+    Ok(found)
 }

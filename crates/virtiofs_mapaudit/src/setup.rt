@@ -8,19 +8,20 @@ ghost use Rattle.virtiofs_map.specs.SpecificationText.{SpecificationFault, speci
 ghost use Rattle.std.specs.Option.{option_map};
 ghost use Rattle.virtiofs_mapaudit.specs.Guests.{ReadsSpecs, ReadsRanges, ReadsIds, ReadsText, ReadsNames, SetsUp, IsRefused, Translates};
 ghost use Rattle.virtiofs_map.specs.Printed.{build_error_text, rules_error_text};
-ghost use Rattle.virtiofs_mapaudit.specs.Refusals.{TellsWhere, Adds, TellsPlace, TellsBuildFault, TellsSpecsFault, TellsSpecs, TellsRanges, TellsIds, TellsNames, TellsGuest, guest_number, refused_for, refusal_line, rules_refusal_line};
+ghost use Rattle.virtiofs_mapaudit.specs.Lists.{Adds};
+ghost use Rattle.virtiofs_mapaudit.specs.Refusals.{TellsWhere, TellsPlace, TellsBuildFault, TellsSpecsFault, TellsSpecs, TellsRanges, TellsIds, TellsNames, TellsGuest, refusal_line, rules_refusal_line};
 ghost use Rattle.virtiofs_map.specs.Specifications.{SpecsFault, specs_fault_of, texts_of};
 
 use crate::ids::audits::Ids;
 use crate::ids::kind::{IdKind, ranging, translating};
-use crate::ids::ranges::push_place;
+use crate::ids::ranges::Place;
 use std::alloc::{AllocError, Allocator};
 use virtiofs_map::cmdline;
 use virtiofs_map::idmap::UidMap;
 use virtiofs_map::soft_idmap::{IdMap, IdMapBuildError, SpecsError};
 use virtiofs_map::xattrmap::{Error, ErrorKind, XattrMap};
 use virtiofs_options::guest::Guest;
-use virtiofs_output::written::push_written;
+use virtiofs_output::written::Written;
 
 /// What the options of a daemon set up for ids of one kind.
 #[derive(Drop)]
@@ -60,27 +61,9 @@ pub(crate) struct Refusals<A: Allocator> {
     pub(crate) text: String<A>,
 }
 
-/// Writes the number of a guest at the end of a text.
-fn push_number<A: Allocator>(text: &mut String<A>, number: usize) -> Result<(), AllocError>
-    ensures { OnOk result
-        (string_bytes text.new ≡ string_bytes text.old ++ guest_number number) }
-{
-    write!(text, "guest {number}: ")
-}
-
-/// Writes at the end of a text that something is refused, and why. The reason is escaped, so that a
-/// line feed in it begins no line of its own.
-fn push_why<A: Allocator>(text: &mut String<A>, why: &str) -> Result<(), AllocError>
-    ensures { OnOk result
-        (string_bytes text.new ≡ string_bytes text.old ++ refused_for why.now) }
-{
-    text.push_str(" is refused: ")?;
-    push_written(text, why.as_bytes())?;
-    text.push_str("\n")
-}
-
 /// Writes at the end of what is told that a text of an option of a guest is refused, and why. Its
-/// place among the texts of the option is counted from 0; the line says `first`, `second`.
+/// place among the texts of the option is counted from 0; the line says `first`, `second`. The reason
+/// is escaped, so that a line feed in it begins no line of its own.
 fn tell<A: Allocator>(
     refusals: &mut Refusals<A>,
     number: usize,
@@ -91,9 +74,9 @@ fn tell<A: Allocator>(
     ensures { OnOk result (string_bytes refusals.new.text
         ≡ string_bytes refusals.old.text ++ refusal_line number place option.now why.now) }
 {
-    push_number(&mut refusals.text, number)?;
-    push_place(&mut refusals.text, place, option)?;
-    push_why(&mut refusals.text, why)
+    let at = Place { place, option };
+    let why = Written(why.as_bytes());
+    writeln!(refusals.text, "guest {number}: {at} is refused: {why}")
 }
 
 /// Tells what is wrong with the text of a specification of a guest.
@@ -299,9 +282,11 @@ fn tell_rules<A: Allocator>(
     ensures { OnOk result (string_bytes refusals.new.text
         ≡ string_bytes refusals.old.text ++ rules_refusal_line number why.now) }
 {
-    push_number(&mut refusals.text, number)?;
-    refusals.text.push_str("--xattrmap")?;
-    push_why(&mut refusals.text, why)
+    let why = Written(why.as_bytes());
+    writeln!(
+        refusals.text,
+        "guest {number}: --xattrmap is refused: {why}"
+    )
 }
 
 /// What the rules of a guest set up, or nothing where there are no rules or they are refused.

@@ -1,1 +1,2 @@
 pub mod ForCallers
+mod WrittenLemmas

@@ -1,9 +1,11 @@
 //! How the programs write bytes: in printable ASCII, so that no name or text breaks its line.
-ghost use Rattle.std.specs.Prelude.{◌≡◌, ◌<◌, ◌++◌, OnOk, string_bytes};
+ghost use Rattle.std.specs.Prelude.{◌≡◌, ◌<◌, ◌++◌, OnOk, Some, string_bytes};
 ghost use Rattle.std.specs.Char.{digit_char};
+ghost use Rattle.std.specs.Fmt.{DisplaysOnOk};
 ghost use Rattle.virtiofs_output.specs.Written.{written, written_byte, quoted};
 
 use std::alloc::{AllocError, Allocator};
+use std::fmt;
 
 /// The lower case hexadecimal digit of a value.
 fn hex_digit(value: u8) -> char
@@ -17,23 +19,37 @@ fn hex_digit(value: u8) -> char
     }
 }
 
-/// Writes a byte at the end of a text, as `push_written` does.
-fn push_byte<A: Allocator>(text: &mut String<A>, byte: u8) -> Result<(), AllocError>
-    ensures { OnOk result (string_bytes text.new ≡ string_bytes text.old ++ written_byte byte) }
+/// Bytes that are printed with escapes: a backslash twice, any other printing byte of ASCII as
+/// itself, and the rest as `\x` and two lower case hexadecimal digits.
+#[derive(Clone, Copy)]
+pub struct Written<'a>(pub &'a [u8]);
+
+/// Writes a byte, as [`Written`] prints it.
+fn write_byte<W: fmt::Write>(f: &mut fmt::Formatter<W>, byte: u8) -> fmt::Result
+    ensures { DisplaysOnOk W.write_str_gives f.old result (Some (written_byte byte)) f.new }
 {
     if byte == b'\\' {
-        return text.push_str("\\\\");
+        return f.write_str("\\\\");
     }
     if (32..=126).contains(&byte) {
-        return text.push(char::from(byte));
+        return f.write_char(char::from(byte));
     }
-    text.push_str("\\x")?;
-    text.push(hex_digit(byte / 16))?;
-    text.push(hex_digit(byte % 16))
+    let (high, low) = (hex_digit(byte / 16), hex_digit(byte % 16));
+    write!(f, "\\x{high}{low}")
 }
 
-/// Writes bytes at the end of a text: a backslash twice, any other printing byte of ASCII as
-/// itself, and the rest as `\x` and two lower case hexadecimal digits.
+impl fmt::Display for Written<'_> {
+    ghost output = { λ it. Some (written it.0.now) };
+
+    fn fmt<W: fmt::Write>(&self, f: &mut fmt::Formatter<W>) -> fmt::Result {
+        for byte in self.0 {
+            write_byte(f, *byte)?;
+        }
+        Ok(())
+    }
+}
+
+/// Writes bytes at the end of a text, as [`Written`] prints them.
 ///
 /// # Errors
 ///
@@ -41,14 +57,12 @@ fn push_byte<A: Allocator>(text: &mut String<A>, byte: u8) -> Result<(), AllocEr
 pub fn push_written<A: Allocator>(text: &mut String<A>, bytes: &[u8]) -> Result<(), AllocError>
     ensures { OnOk result (string_bytes text.new ≡ string_bytes text.old ++ written bytes.now) }
 {
-    for byte in bytes {
-        push_byte(text, *byte)?;
-    }
-    Ok(())
+    let it = Written(bytes);
+    write!(text, "{it}")
 }
 
-/// Writes bytes at the end of a text, as `push_written` does, between single quotes. A quote among
-/// the bytes stands for itself.
+/// Writes bytes at the end of a text, as [`Written`] prints them, between single quotes. A quote
+/// among the bytes stands for itself.
 ///
 /// # Errors
 ///
@@ -56,9 +70,8 @@ pub fn push_written<A: Allocator>(text: &mut String<A>, bytes: &[u8]) -> Result<
 pub fn push_quoted<A: Allocator>(text: &mut String<A>, bytes: &[u8]) -> Result<(), AllocError>
     ensures { OnOk result (string_bytes text.new ≡ string_bytes text.old ++ quoted bytes.now) }
 {
-    text.push_str("'")?;
-    push_written(text, bytes)?;
-    text.push_str("'")
+    let it = Written(bytes);
+    write!(text, "'{it}'")
 }
 
 #[cfg(test)]

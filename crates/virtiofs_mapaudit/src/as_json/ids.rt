@@ -1,87 +1,11 @@
 //! Ids in JSON.
 
-use super::members::{Whose, begin_found, write_count, write_maybe, write_number, write_text};
+use super::members::{write_maybe, write_number, write_text};
 use super::writer::Writer;
 use crate::ids::audits::Ids;
-use crate::ids::found::{IdFindings, IdFound};
-use crate::ids::kind::IdKind;
-use crate::ids::ranges::{RangeFault, RangeFound};
 use std::alloc::Global;
 use virtiofs_map::idmap::UidMap;
 use virtiofs_map::soft_idmap::{Direction, Outcome, Piece};
-
-/// The word for a kind of ids.
-fn word(kind: IdKind) -> &'static str {
-    match kind {
-        IdKind::Users => "users",
-        IdKind::Groups => "groups",
-    }
-}
-
-/// Writes an id that is found, if there is one, and its second id under the name that it has there.
-fn write_found(
-    json: &mut Writer,
-    guest: usize,
-    kind: &str,
-    ids: &str,
-    found: Option<IdFound>,
-    second: Option<&str>,
-) {
-    let Some(it) = found else {
-        return;
-    };
-    begin_found(json, Whose::Guest(guest), kind);
-    write_text(json, "ids", ids);
-    write_number(json, "id", it.guest);
-    write_number(json, "host", it.host);
-    if let Some(name) = second {
-        write_number(json, name, it.other);
-    }
-    json.end_object();
-}
-
-/// Writes what is found of ids of a guest.
-pub(super) fn write_ids(json: &mut Writer, guest: usize, kind: IdKind, found: &IdFindings) {
-    let ids = word(kind);
-    write_found(json, guest, "not_back", ids, found.astray, Some("back"));
-    write_found(json, guest, "one_on_host", ids, found.shared, Some("other"));
-    write_found(json, guest, "root", ids, found.root, None);
-    write_found(json, guest, "lacking", ids, found.lacking, None);
-}
-
-/// Writes a range that is at fault. Places are counted from 1.
-pub(super) fn write_range(json: &mut Writer, guest: usize, kind: IdKind, found: RangeFound) {
-    let (fault, other) = match found.fault {
-        RangeFault::Empty => ("empty", None),
-        RangeFault::Beyond => ("beyond", None),
-        RangeFault::MeetsInside(other) => ("overlaps_inside", Some(other.saturating_add(1))),
-        RangeFault::MeetsOutside(other) => ("overlaps_outside", Some(other.saturating_add(1))),
-    };
-    begin_found(json, Whose::Guest(guest), "range");
-    write_text(json, "ids", word(kind));
-    write_count(json, "range", found.place.saturating_add(1));
-    write_text(json, "fault", fault);
-    write_maybe(json, "other", other);
-    json.end_object();
-}
-
-/// Writes an id of the host that two guests reach, if there is one.
-pub(super) fn write_meeting(
-    json: &mut Writer,
-    (first, second): (usize, usize),
-    kind: IdKind,
-    found: Option<IdFound>,
-) {
-    let Some(it) = found else {
-        return;
-    };
-    begin_found(json, Whose::Guests(first, second), "id_of_both");
-    write_text(json, "ids", word(kind));
-    write_number(json, "id", it.guest);
-    write_number(json, "other", it.other);
-    write_number(json, "host", it.host);
-    json.end_object();
-}
 
 /// Writes a piece: its first and last id, and what becomes of them.
 fn write_piece(json: &mut Writer, piece: Piece) {

@@ -1,14 +1,13 @@
 //! Names in JSON.
 
-use super::members::{Whose, begin_found, write_count, write_text};
+use super::members::{write_count, write_text};
 use super::writer::Writer;
-use crate::names::found::{LeastName, NameFindings};
+use crate::names::found::LeastName;
 use crate::names::table::SHOWN;
-use crate::pairs::NamesBetween;
 use std::alloc::Global;
 use virtiofs_map::audit::Audit;
 use virtiofs_map::xattrmap::{AppliedRule, ErrorKind, XattrMap, XattrName};
-use virtiofs_output::written::push_written;
+use virtiofs_output::written::Written;
 
 /// Writes a name: its text, and whether that is escaped as in the lines since the bytes are no
 /// UTF-8.
@@ -21,10 +20,11 @@ fn write_name(alloc: Global, json: &mut Writer, bytes: &[u8]) {
             json.boolean(false);
         }
         Err(_) => {
-            let mut text = String::new(alloc);
-            let done = push_written(&mut text, bytes);
-            json.note(done);
-            write_text(json, "text", text.as_str());
+            let name = Written(bytes);
+            match format!(in alloc; "{name}") {
+                Ok(text) => write_text(json, "text", text.as_str()),
+                Err(_) => json.fail(),
+            }
             json.key("written");
             json.boolean(true);
         }
@@ -42,64 +42,16 @@ fn write_answer(alloc: Global, json: &mut Writer, member: &str, answer: &Audit<G
 }
 
 /// Writes the least names: of all, and of each usual beginning.
-fn write_least(alloc: Global, json: &mut Writer, found: &LeastName<Global>) {
+pub(super) fn write_least(alloc: Global, json: &mut Writer, found: &LeastName<Global>) {
     json.key("least");
     json.begin_object();
-    write_answer(alloc, json, "all", &found.all);
+    json.key("all");
+    write_name(alloc, json, found.name.as_name().as_bytes());
     write_answer(alloc, json, "user", &found.user);
     write_answer(alloc, json, "trusted", &found.trusted);
     write_answer(alloc, json, "security", &found.security);
     write_answer(alloc, json, "system", &found.system);
     json.end_object();
-}
-
-/// Writes names that are reported, if there are any. Of two guests, they are those of the first.
-fn write_reported(
-    alloc: Global,
-    json: &mut Writer,
-    whose: Whose,
-    kind: &str,
-    found: &LeastName<Global>,
-) {
-    if matches!(found.all, Audit::No(_)) {
-        begin_found(json, whose, kind);
-        write_least(alloc, json, found);
-        json.end_object();
-    }
-}
-
-/// Writes what is found of the names of a guest. Rules are counted from 1.
-pub(super) fn write_names(
-    alloc: Global,
-    json: &mut Writer,
-    guest: usize,
-    found: &NameFindings<Global>,
-) {
-    let whose = Whose::Guest(guest);
-    if !found.is_terminated {
-        begin_found(json, whose, "no_rule");
-        json.end_object();
-    }
-    write_reported(alloc, json, whose, "not_listed", &found.lost);
-    write_reported(alloc, json, whose, "listed_elsewhere", &found.stray);
-    for place in found.idle.as_slice() {
-        begin_found(json, whose, "idle_rule");
-        write_count(json, "rule", place.saturating_add(1));
-        json.end_object();
-    }
-}
-
-/// Writes what is found of the names of two guests.
-pub(super) fn write_between(
-    alloc: Global,
-    json: &mut Writer,
-    (first, second): (usize, usize),
-    found: &NamesBetween<Global>,
-) {
-    let (whose, back) = (Whose::Guests(first, second), Whose::Guests(second, first));
-    write_reported(alloc, json, whose, "shown_to_other", &found.seen);
-    write_reported(alloc, json, back, "shown_to_other", &found.seen_back);
-    write_reported(alloc, json, whose, "name_of_both", &found.shared);
 }
 
 /// Writes what becomes of a name from the guest.

@@ -1,5 +1,18 @@
 //! What is told of ids that are reported.
 
+/// What may be wrong with an id of a guest.
+#[derive(Clone, Copy)]
+pub(crate) enum IdFault {
+    /// It becomes an id of the host that leads back to another id of the guest.
+    NotBack,
+    /// It becomes an id of the host that another id of the guest becomes too.
+    Shared,
+    /// It acts as root of the host.
+    Root,
+    /// It becomes an id that the namespace of the daemon lacks.
+    Lacking,
+}
+
 /// An id of a guest that is reported, and what is told of it.
 #[derive(Clone, Copy)]
 pub(crate) struct IdFound {

@@ -1,6 +1,6 @@
 //! Users and groups.
 ghost use Rattle.std.specs.Prelude.{◌≡◌};
-ghost use Rattle.virtiofs_mapaudit.specs.IdLines.{one_of, translating, ranging};
+ghost use Rattle.virtiofs_mapaudit.specs.KindWords.{one_of, translating, ranging};
 
 /// Whether ids are those of users or of groups.
 #[derive(Clone, Copy)]

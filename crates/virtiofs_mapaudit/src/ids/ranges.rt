@@ -1,12 +1,13 @@
 //! What is wrong with the ranges of a daemon's namespace.
-ghost use Rattle.std.specs.Prelude.{◌≡◌, ◌++◌, ◌↔◌, IsTrue, MatchOption, OnOk, string_bytes};
-ghost use Rattle.virtiofs_mapaudit.specs.RangeLines.{place_text, fault_lines, range_lines};
+ghost use Rattle.std.specs.Prelude.{◌↔◌, IsTrue, MatchOption, Some};
+ghost use Rattle.std.specs.Fmt.{DisplaysOnOk};
+ghost use Rattle.virtiofs_mapaudit.specs.RangeText.{place_text, range_text};
 ghost use Rattle.virtiofs_mapaudit.specs.RangeParts.{MeetsNone};
 ghost use Rattle.virtiofs_mapaudit.specs.Ranges.{MeetAt, IsBeyond, IsAtFault, FindsFault};
 
 use super::kind::{IdKind, ranging};
-use crate::ordinal::push_ordinal;
-use std::alloc::{AllocError, Allocator};
+use crate::ordinal::Ordinal;
+use std::fmt;
 use virtiofs_map::idmap::UidMap;
 
 /// What is wrong with a range. Linux takes no namespace with such a range.
@@ -93,59 +94,58 @@ pub(crate) fn first_fault(ranges: &[UidMap]) -> Option<RangeFound>
     None
 }
 
-/// Writes the place of an option at the end of a text, as `the second --uid-map`. Places are counted
-/// from 0.
-pub(crate) fn push_place<A: Allocator>(
-    text: &mut String<A>,
-    place: usize,
-    option: &str,
-) -> Result<(), AllocError>
-    ensures { OnOk result
-        (string_bytes text.new ≡ string_bytes text.old ++ place_text place option.now) }
-{
-    text.push_str("the ")?;
-    push_ordinal(text, place as u64 as u128 + 1)?;
-    text.push_str(" ")?;
-    text.push_str(option)
+/// An option of a guest by its place among those of its name, counted from 0. It is printed as `the
+/// second --uid-map`.
+#[derive(Clone, Copy)]
+pub(crate) struct Place<'a> {
+    /// The place, counted from 0.
+    pub(crate) place: usize,
+    /// The option's name.
+    pub(crate) option: &'a str,
 }
 
-/// Writes what is wrong with a range that the option gives at the end of a text.
-fn push_fault<A: Allocator>(
-    text: &mut String<A>,
-    option: &str,
-    fault: RangeFault,
-) -> Result<(), AllocError>
-    ensures { OnOk result
-        (string_bytes text.new ≡ string_bytes text.old ++ fault_lines option.now fault) }
-{
-    match fault {
-        RangeFault::Empty => text.push_str(" has no id\n  fix: leave it out\n"),
-        RangeFault::Beyond => {
-            text.push_str(" reaches past the greatest id, 4294967294\n  fix: make it shorter\n")
-        }
-        RangeFault::MeetsInside(other) => {
-            text.push_str(" overlaps ")?;
-            push_place(text, other, option)?;
-            text.push_str(" inside the namespace\n  fix: make one of them shorter\n")
-        }
-        RangeFault::MeetsOutside(other) => {
-            text.push_str(" overlaps ")?;
-            push_place(text, other, option)?;
-            text.push_str(" outside the namespace\n  fix: make one of them shorter\n")
-        }
+impl fmt::Display for Place<'_> {
+    ghost output = { λ it. Some (place_text it.place it.option.now) };
+
+    fn fmt<W: fmt::Write>(&self, f: &mut fmt::Formatter<W>) -> fmt::Result {
+        let number = Ordinal(self.place as u64 as u128 + 1);
+        let option = self.option;
+        write!(f, "the {number} {option}")
     }
 }
 
-/// Writes a range that is at fault at the end of a text.
-pub(crate) fn push_range<A: Allocator>(
-    text: &mut String<A>,
+/// Writes that a range is at fault, and what mends it.
+pub(crate) fn write_range<W: fmt::Write>(
+    f: &mut fmt::Formatter<W>,
     kind: IdKind,
     found: RangeFound,
-) -> Result<(), AllocError>
-    ensures { OnOk result
-        (string_bytes text.new ≡ string_bytes text.old ++ range_lines kind found) }
+) -> fmt::Result
+    ensures { DisplaysOnOk W.write_str_gives f.old result (Some (range_text kind found)) f.new }
 {
     let option = ranging(kind);
-    push_place(text, found.place, option)?;
-    push_fault(text, option, found.fault)
+    let range = Place {
+        place: found.place,
+        option,
+    };
+    match found.fault {
+        RangeFault::Empty => write!(f, "{range} has no id\n  fix: leave it out\n"),
+        RangeFault::Beyond => write!(
+            f,
+            "{range} reaches past the greatest id, 4294967294\n  fix: make it shorter\n"
+        ),
+        RangeFault::MeetsInside(place) => {
+            let other = Place { place, option };
+            write!(
+                f,
+                "{range} overlaps {other} inside the namespace\n  fix: make one of them shorter\n"
+            )
+        }
+        RangeFault::MeetsOutside(place) => {
+            let other = Place { place, option };
+            write!(
+                f,
+                "{range} overlaps {other} outside the namespace\n  fix: make one of them shorter\n"
+            )
+        }
+    }
 }

@@ -1,35 +1,18 @@
 //! What is decided of all names of a guest.
-ghost use Rattle.std.specs.Prelude.{◌≡◌, ◌<◌, ◌↔◌, codes, IfOk, IsTrue};
-ghost use Rattle.virtiofs_map.specs.Audit.{AnswersLeast, Within};
-ghost use Rattle.virtiofs_mapaudit.specs.NameFindings.{FindsName, DecidesWritten, AreIdle, FindsNames};
+ghost use Rattle.std.specs.Prelude.{◌≡◌, ◌<◌, ◌↔◌, codes, IfOk, OnOk, IsTrue};
+ghost use Rattle.virtiofs_map.specs.Audit.{AnswersLeast, Within, IsLost, IsStray};
+ghost use Rattle.virtiofs_mapaudit.specs.Lists.{Adds};
+ghost use Rattle.virtiofs_mapaudit.specs.NameFindings.{FindsName, FindsLeast, DecidesWritten, FindsIdle, FindsUnruled, FindsNames};
 ghost use Rattle.virtiofs_mapaudit.specs.NameParts.{DecidesFrom, HasFault};
 
-use super::found::{LeastName, NameFault, NameFindings};
+use super::found::{LeastName, NameFault};
+use crate::finding::Finding;
 use std::alloc::{AllocError, Allocator};
 use virtiofs_map::audit::{
     Audit, audit, audit_listed, audit_listed_within, audit_within, keeps_apart, keeps_apart_within,
     shares_no_name, shares_no_name_within,
 };
 use virtiofs_map::xattrmap::{XattrMap, XattrName};
-
-/// No name is reported.
-fn none<A: Allocator>() -> LeastName<A>
-    ensures { result ≡ record {
-      all = Audit.Yes;
-      user = Audit.Yes;
-      trusted = Audit.Yes;
-      security = Audit.Yes;
-      system = Audit.Yes;
-    } }
-{
-    LeastName {
-        all: Audit::Yes,
-        user: Audit::Yes,
-        trusted: Audit::Yes,
-        security: Audit::Yes,
-        system: Audit::Yes,
-    }
-}
 
 /// The beginning of names that users set.
 fn user() -> XattrName<'static>
@@ -97,31 +80,30 @@ fn least_within<A: Allocator + Copy>(
     }
 }
 
-/// The least names with a fault. The second map is that of the other guest; for faults of one guest
-/// it makes no difference.
+/// The least names with a fault, if there is any. The second map is that of the other guest; for
+/// faults of one guest it makes no difference.
 pub(crate) fn least_name<A: Allocator + Copy>(
     alloc: A,
     fault: NameFault,
     map: &XattrMap<A>,
     other: &XattrMap<A>,
-) -> Result<LeastName<A>, AllocError>
+) -> Result<Option<LeastName<A>>, AllocError>
     ensures { IfOk result (FindsName (HasFault fault map.now other.now)) }
 {
-    let all = least(alloc, fault, map, other)?;
-    if let Audit::Yes = all {
-        return Ok(none());
-    }
+    let Audit::No(name) = least(alloc, fault, map, other)? else {
+        return Ok(None);
+    };
     let user = least_within(alloc, fault, map, other, user())?;
     let trusted = least_within(alloc, fault, map, other, trusted())?;
     let security = least_within(alloc, fault, map, other, security())?;
     let system = least_within(alloc, fault, map, other, system())?;
-    Ok(LeastName {
-        all,
+    Ok(Some(LeastName {
+        name,
         user,
         trusted,
         security,
         system,
-    })
+    }))
 }
 
 /// Whether some rule from that place on decides a name.
@@ -148,39 +130,78 @@ fn decides_written<A: Allocator>(map: &XattrMap<A>, written: usize, place: usize
     map.decides(place)
 }
 
-/// The places of the written rules that decide no name.
-fn idle_of<A: Allocator + Copy>(
-    alloc: A,
+/// Adds the written rules that decide no name.
+fn push_idle<A: Allocator>(
+    found: &mut Vec<Finding<A>, A>,
     map: &XattrMap<A>,
     written: usize,
-) -> Result<Vec<usize, A>, AllocError>
-    ensures { IfOk result (λ idle. AreIdle map.now written idle.items) }
+) -> Result<(), AllocError>
+    ensures { OnOk result (Adds (FindsIdle map.now written) found.old.items found.new.items) }
 {
-    let mut idle = Vec::new(alloc);
     for place in 0..written {
         if decides_written(map, written, place) {
             continue;
         }
-        idle.push(place)?;
+        found.push(Finding::IdleRule(place))?;
     }
-    Ok(idle)
+    Ok(())
 }
 
-/// What is wrong with the names of a guest under these rules, of which that many are written.
-pub(crate) fn audit_names<A: Allocator + Copy>(
+/// Adds that some names have no rule, unless each has one.
+fn push_unruled<A: Allocator>(
+    found: &mut Vec<Finding<A>, A>,
+    map: &XattrMap<A>,
+) -> Result<(), AllocError>
+    ensures { OnOk result (Adds (FindsUnruled map.now) found.old.items found.new.items) }
+{
+    if map.is_terminated() {
+        return Ok(());
+    }
+    found.push(Finding::NoRule)?;
+    Ok(())
+}
+
+/// Adds the least name that the guest sets and that is not listed back, if there is one.
+fn push_lost<A: Allocator + Copy>(
     alloc: A,
+    found: &mut Vec<Finding<A>, A>,
+    map: &XattrMap<A>,
+) -> Result<(), AllocError>
+    ensures { OnOk result
+        (Adds (FindsLeast Finding.NotListed (IsLost map.now)) found.old.items found.new.items) }
+{
+    if let Some(least) = least_name(alloc, NameFault::Lost, map, map)? {
+        found.push(Finding::NotListed(least))?;
+    }
+    Ok(())
+}
+
+/// Adds the least name of the host that is listed under a name which leads elsewhere, if there is one.
+fn push_stray<A: Allocator + Copy>(
+    alloc: A,
+    found: &mut Vec<Finding<A>, A>,
+    map: &XattrMap<A>,
+) -> Result<(), AllocError>
+    ensures { OnOk result
+        (Adds (FindsLeast Finding.ListedElsewhere (IsStray map.now)) found.old.items found.new.items) }
+{
+    if let Some(least) = least_name(alloc, NameFault::Stray, map, map)? {
+        found.push(Finding::ListedElsewhere(least))?;
+    }
+    Ok(())
+}
+
+/// Adds what is wrong with the names of a guest under these rules, of which that many are written.
+pub(crate) fn push_names<A: Allocator + Copy>(
+    alloc: A,
+    found: &mut Vec<Finding<A>, A>,
     map: &XattrMap<A>,
     written: usize,
-) -> Result<NameFindings<A>, AllocError>
-    ensures { IfOk result (FindsNames map.now written) }
+) -> Result<(), AllocError>
+    ensures { OnOk result (Adds (FindsNames map.now written) found.old.items found.new.items) }
 {
-    let lost = least_name(alloc, NameFault::Lost, map, map)?;
-    let stray = least_name(alloc, NameFault::Stray, map, map)?;
-    let idle = idle_of(alloc, map, written)?;
-    Ok(NameFindings {
-        is_terminated: map.is_terminated(),
-        lost,
-        stray,
-        idle,
-    })
+    push_unruled(found, map)?;
+    push_lost(alloc, found, map)?;
+    push_stray(alloc, found, map)?;
+    push_idle(found, map, written)
 }

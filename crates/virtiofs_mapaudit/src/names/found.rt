@@ -2,6 +2,7 @@
 
 use std::alloc::Allocator;
 use virtiofs_map::audit::Audit;
+use virtiofs_map::xattrmap::XattrNameBuf;
 
 /// What is wrong with a name.
 #[derive(Clone, Copy)]
@@ -17,11 +18,11 @@ pub(crate) enum NameFault {
 }
 
 /// The least name that is reported, of all names, and of those that begin as names of attributes
-/// do. `Yes` stands where there is none.
+/// do. `Yes` stands where no such name is reported.
 #[derive(Drop)]
 pub(crate) struct LeastName<A: Allocator> {
     /// Of all names.
-    pub(crate) all: Audit<A>,
+    pub(crate) name: XattrNameBuf<A>,
     /// Of those that begin with `user.`.
     pub(crate) user: Audit<A>,
     /// Of those that begin with `trusted.`.
@@ -30,18 +31,4 @@ pub(crate) struct LeastName<A: Allocator> {
     pub(crate) security: Audit<A>,
     /// Of those that begin with `system.`.
     pub(crate) system: Audit<A>,
-}
-
-/// What is wrong with the names of a guest.
-#[derive(Drop)]
-pub(crate) struct NameFindings<A: Allocator> {
-    /// Whether each name, of the guest and of the host, is decided by a rule.
-    pub(crate) is_terminated: bool,
-    /// A name that the guest sets, and that is not listed back.
-    pub(crate) lost: LeastName<A>,
-    /// A name of the host that is listed under a name which leads elsewhere.
-    pub(crate) stray: LeastName<A>,
-    /// The places of the written rules that decide no name, counted from 0. A `map` rule is one of
-    /// them.
-    pub(crate) idle: Vec<usize, A>,
 }

@@ -8,7 +8,7 @@ ghost use Rattle.virtiofs_mapaudit.specs.NameTableParts.{is_shown, names_of};
 
 use std::alloc::{AllocError, Allocator};
 use virtiofs_map::xattrmap::{AppliedRule, Error, ErrorKind, XattrMap, XattrName};
-use virtiofs_output::written::push_written;
+use virtiofs_output::written::Written;
 
 /// The names that are shown: those that programs use, and one for each beginning.
 pub(crate) const SHOWN: [&str; 9] = [
@@ -33,8 +33,8 @@ fn push_applied<A: Allocator>(
 {
     match applied {
         AppliedRule::Pass(passed) => {
-            text.push_str("host ")?;
-            push_written(text, passed.as_bytes())
+            let name = Written(passed.as_bytes());
+            write!(text, "host {name}")
         }
         AppliedRule::Deny => text.push_str("denied"),
         AppliedRule::Unsupported => text.push_str("unsupported"),
@@ -85,9 +85,8 @@ fn push_guest_line<A: Allocator + Copy>(
     ensures { OnOk result (string_bytes text.new
         ≡ string_bytes text.old ++ guest_line map.now name.now) }
 {
-    text.push_str("  guest ")?;
-    push_written(text, name)?;
-    text.push_str(" -> ")?;
+    let it = Written(name);
+    write!(text, "  guest {it} -> ")?;
     push_becomes(alloc, text, map, name)?;
     text.push('\n')
 }
@@ -121,8 +120,8 @@ fn push_stands<A: Allocator>(
 {
     match map.listed_names(name).next() {
         Some(Ok(listed)) => {
-            text.push_str("listed as ")?;
-            push_written(text, listed)
+            let name = Written(listed);
+            write!(text, "listed as {name}")
         }
         Some(Err(_)) => text.push_str("no rule"),
         None => text.push_str("hidden"),
@@ -139,9 +138,8 @@ fn push_host_line<A: Allocator>(
     ensures { OnOk result (string_bytes text.new
         ≡ string_bytes text.old ++ host_line map.now name.now) }
 {
-    text.push_str("  host ")?;
-    push_written(text, name)?;
-    text.push_str(" -> ")?;
+    let it = Written(name);
+    write!(text, "  host {it} -> ")?;
     push_stands(text, map, name)?;
     text.push('\n')
 }

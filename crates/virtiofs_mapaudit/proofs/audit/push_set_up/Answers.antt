@@ -1,10 +1,9 @@
-use Rattle.std.proofs.Common.{refl}
-use Rattle.virtiofs_mapaudit.proofs.ReportLemmas.{set_up_parts}
+use Rattle.std.proofs.Common.{ap, length}
+use Rattle.virtiofs_mapaudit.proofs.ReportLemmas.{set_up_written}
 use Rattle.virtiofs_mapaudit.proofs.audit.push_set_up.Goals as goal
 
 pub returns : goal.returns
 returns g c =
-    set_up_parts _ c.args.number c.args.guest.now _ _ _ _ _ _ _ _ _ c.as_slice-users.ensures.value
-    c.as_slice-groups.ensures.value
-    c.as_slice-users-2.ensures.value c.as_slice-groups-2.ensures.value refl c.in_ok-push_specs.ensures
-    c.in_ok-push_ranges.ensures c.push_rules.ensures
+    set_up_written c.write.result _ _ c.args.number _ _ _ _ _ c.args.guest.now (ap length c.as_slice.ensures.value)
+    (ap length c.as_slice-2.ensures.value) (ap length c.as_slice-3.ensures.value) (ap length c.as_slice-4.ensures.value)
+    c.rules_given-rules.ensures c.write.ensures.bytes

@@ -11,7 +11,7 @@ loop-place-init g c =
     rw c.new-sets.ensures.items (
       tt,
       tells_nothing _ _ _ refl (λ some. some),
-      record { told = []; is = refl; added = sym (append-nil _) },
+      record { more = []; is = refl; added = sym (append-nil _) },
     )
 
 pub loop-place-preserved : goal.loop-place-preserved

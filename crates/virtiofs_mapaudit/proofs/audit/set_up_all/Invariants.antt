@@ -2,7 +2,8 @@
 use Rattle.std.proofs.Common.{take, string_bytes}
 use Rattle.std.specs.List.{AllZip}
 use Rattle.virtiofs_mapaudit.specs.Guests.{SetsUp}
-use Rattle.virtiofs_mapaudit.specs.Refusals.{TellsWhere, IsSomeRefused, Adds, TellsGuests}
+use Rattle.virtiofs_mapaudit.specs.Lists.{Adds}
+use Rattle.virtiofs_mapaudit.specs.Refusals.{TellsWhere, IsSomeRefused, TellsGuests}
 use Rattle.virtiofs_mapaudit.proofs.audit.set_up_all.Given as goal
 
 abbrev pub invariant-loop-place : goal.invariant-loop-place

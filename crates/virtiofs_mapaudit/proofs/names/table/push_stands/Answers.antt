@@ -9,14 +9,14 @@ returns-in-Some-Ok g c =
     let is =
     told_listed c.args.map.now c.args.name.now c.requires c.listed_names.result c.listed_names.ensures.items _
     c.in-Some-Ok.listed _ c.in-Some-Ok.ensures.steps c.in-Some-Ok.field-0-is in
-    stands_pushed _ _ _ _ c.in-Some-Ok.listed.now _ is c.in_ok-push_str-in-Some-Ok.ensures.bytes c.push_written.ensures
+    stands_pushed _ _ _ c.in-Some-Ok.listed.now _ is c.write.ensures.bytes
 
 pub returns-in-Some-Err : goal.returns-in-Some-Err
 returns-in-Some-Err g c =
     let is =
     told_undecided c.args.map.now c.args.name.now c.requires c.listed_names.result c.listed_names.ensures.items _
     c.in-Some-Err.field-0-0 _ c.in-Some-Err.ensures.steps c.in-Some-Err.field-0-is in
-    word_pushed _ _ _ (codes "no rule") _ IsUndecided is refl c.push_str-in-Some-Err.ensures.bytes
+    word_pushed _ _ _ (codes "no rule") _ IsUndecided is refl c.push_str.ensures.bytes
 
 pub returns : goal.returns
 returns g c =

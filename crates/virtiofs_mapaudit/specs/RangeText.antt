@@ -1,0 +1,24 @@
+-- What is printed of a range that is at fault.
+use Rattle.std.specs.Prelude.{ℕ, ◌+◌, List, [], ◌∷◌, ◌++◌, codes}
+use Rattle.virtiofs_mapaudit.specs.KindWords.{ranging}
+use Rattle.virtiofs_mapaudit.specs.Lists.{joined}
+use Rattle.virtiofs_mapaudit.specs.Ordinal.{ordinal}
+use Rattle.virtiofs_mapaudit.specs.declared.ids.kind.IdKind.{IdKind}
+use Rattle.virtiofs_mapaudit.specs.declared.ids.ranges.RangeFault.{RangeFault}
+use Rattle.virtiofs_mapaudit.specs.declared.ids.ranges.RangeFault.TheVariants.{Empty, Beyond, MeetsInside, MeetsOutside}
+use Rattle.virtiofs_mapaudit.specs.declared.ids.ranges.RangeFound.{RangeFound}
+
+-- the option at that place, counted from 0, as `the second --uid-map`
+abbrev pub place_text : ℕ → List ℕ → List ℕ
+place_text place option = joined (codes "the " ∷ ordinal (place + 1) ∷ codes " " ∷ option ∷ [])
+
+-- what is wrong with a range that the option gives, and what mends it
+abbrev pub fault_text : List ℕ → RangeFault → List ℕ
+fault_text option Empty = codes " has no id\n  fix: leave it out\n"
+fault_text option Beyond = codes " reaches past the greatest id, 4294967294\n  fix: make it shorter\n"
+fault_text option (MeetsInside place) = joined (codes " overlaps " ∷ place_text place option ∷ codes " inside the namespace\n  fix: make one of them shorter\n" ∷ [])
+fault_text option (MeetsOutside place) = joined (codes " overlaps " ∷ place_text place option ∷ codes " outside the namespace\n  fix: make one of them shorter\n" ∷ [])
+
+-- a range that is at fault
+abbrev pub range_text : IdKind → RangeFound → List ℕ
+range_text kind found = place_text found.place (ranging kind) ++ fault_text (ranging kind) found.fault
