@@ -43,7 +43,7 @@ one_covers specs direction n x y accepted (i, below, here) (j, under, there) fir
     ]
 
 -- what a specification maps it covers
-Covers-maps : (spec : IdMap) (direction : Direction) (n : ℕ) (value : Option ℕ) → Maps spec direction n value
+pub Covers-maps : (spec : IdMap) (direction : Direction) (n : ℕ) (value : Option ℕ) → Maps spec direction n value
     → Covers spec direction n
 Covers-maps spec direction n value maps = covered (entry_of spec direction) maps where
   covered : (o : Option Entry) → IsSomeAnd o (λ entry. EntryCovers entry n × (target_of entry n ≡ value))

@@ -1,3 +1,6 @@
+mod HeldLemmas
 mod IdAuditLemmas
 mod ImageLemmas
 mod PieceLemmas
+mod RoundTripLemmas
+mod SpanLemmas

@@ -26,6 +26,8 @@ pub mod LookupSteps
 pub mod MapRule
 pub mod Mapping
 pub mod MappingLaws
+pub mod Mending
+pub mod MendingParts
 pub mod Names
 pub mod NamesImage
 pub mod NamesImageParts

@@ -14,6 +14,8 @@
 //! - [`ids_apart`]: no id of the host is reached by two maps.
 //! - [`reached`]: the ids of the host that the guest reaches, as spans.
 //! - [`reaches_any`]: the least id that becomes an id of the host which one of some spans has.
+//! - [`mended`]: the specifications, with the ids forbidden that do not come back, and those that
+//!   become an id of the host which one of some spans has.
 //!
 //! The ids are those of the guest from 0 to 4294967294 that no specification forbids. 4294967295 is
 //! left out: it stays itself whatever is specified, and is no id to Linux.
@@ -28,13 +30,15 @@ ghost use Rattle.virtiofs_map.specs.declared.id_audit.answer.IdAudit.TheVariants
 
 mod answer;
 mod images;
+mod mending;
 mod round_trips;
 mod spans;
 
 use crate::id_types::{GuestId, HostId};
 use crate::soft_idmap::{IdMap, id_of, number_of};
 pub use answer::{Astray, IdAudit, Shared};
-use images::{images_of, in_order, reached_again};
+use images::{images_of, merged, reached_again};
+pub use mending::mended;
 use round_trips::first_astray;
 pub use spans::Span;
 use spans::least_into;
@@ -191,8 +195,7 @@ pub fn reaches_any<
     ensures { IfOk result (λ least. IsLeastIfAny (GoesInto map.now (Hold spans.now))
         (option_map (λ guest. Guest.number guest) least)) }
 {
-    let sorted = in_order(alloc, spans)?;
-    let merged = reached_again(alloc, &sorted, u64::from(u32::MAX) + 1)?;
+    let merged = merged(alloc, spans)?;
     let Some(n) = least_into(map, 0, &merged) else {
         return Ok(None);
     };

@@ -41,6 +41,7 @@ mod words;
 mod write;
 
 pub use entry::Direction;
+pub(crate) use entry::entry_of;
 pub use errors::{FaultKind, IdMapBuildError, MapError, RangeEnd, SpecsError};
 pub(crate) use lookup::look_up;
 pub use piece::{Outcome, Piece};
@@ -251,6 +252,14 @@ impl<Guest: GuestId<HostType = Host>, Host: HostId<GuestType = Guest>, A: Alloca
             steps.old steps.new }
     {
         self.look_up(Direction::HostToGuest, id, steps)
+    }
+
+    /// The specifications that the map was made from, in their order.
+    pub(crate) fn specs(&self) -> &[cmdline::IdMap]
+        ensures accepted { Accepted self.now }
+        ensures specs { result.now ≡ self.now }
+    {
+        &self.specs
     }
 
     /// The ranges of a direction.

@@ -5,7 +5,8 @@ use Asked::{ApartFrom, Back, IsReached, Own, Reaches, ReachesAny};
 use std::alloc::Global;
 use std::test::Fail;
 use virtiofs_map::id_audit::{
-    Astray, IdAudit, Shared, Span, comes_back, ids_apart, is_alone, reached, reaches, reaches_any,
+    Astray, IdAudit, Shared, Span, comes_back, ids_apart, is_alone, mended, reached, reaches,
+    reaches_any,
 };
 use virtiofs_map::id_types::{GuestUid, HostUid, Id};
 
@@ -46,6 +47,75 @@ fn finds_the_least_id(rt: HostRuntime) -> Result<(), Fail> {
         assert_eq!(rt; told.as_slice(), wanted, "{asked:?} of {texts:?}");
     }
     Ok(())
+}
+
+/// Specifications, the first and last ids of spans of the host that are bad, and the specifications
+/// that are mended, with a bar between each two.
+static MENDED: [(&str, &[(u32, u32)], &str); 10] = [
+    ("", &[], ""),
+    (OWN, &[], OWN),
+    (OPEN, &[], "map:0:100000:65536|forbid-guest:100000:65536"),
+    // Where nobody is to act as an id of the host outside of the range.
+    (
+        OPEN,
+        &[(165_536, 4294967295), (0, 99_999)],
+        "map:0:100000:65536|forbid-guest:65536:4294901759",
+    ),
+    // All users of the guest are user 1001 of the host, whose files belong to user 1000.
+    (
+        "squash-guest:0:1001:4294967295|host:1001:1000:1",
+        &[],
+        "squash-guest:1000:1001:1|host:1001:1000:1|forbid-guest:0:1000|forbid-guest:1001:4294966294",
+    ),
+    // Of two users of the guest with one user of the host, the one that comes back stays.
+    (
+        "guest:5:70:1|map:9:70:1|forbid-guest:70:1",
+        &[],
+        "map:9:70:1|forbid-guest:70:1|forbid-guest:5:1",
+    ),
+    // Spans in no order, one in another.
+    (
+        "map:0:100:20|forbid-guest:100:20",
+        &[(110, 112), (200, 300), (104, 118), (7, 5)],
+        "guest:0:100:4|guest:19:119:1|host:100:0:20|forbid-guest:100:20|forbid-guest:4:15|forbid-guest:200:101",
+    ),
+    // A range of the host in another place, and one of no number.
+    (
+        "guest:10:50:10|host:55:15:3|map:7:3:0|squash-host:58:2:1",
+        &[],
+        "guest:15:55:3|host:55:15:3|map:7:3:0|squash-host:58:2:1|forbid-guest:10:5|forbid-guest:18:2|forbid-guest:55:4",
+    ),
+    // No user of the guest can be one of the host.
+    ("", &[(0, 4294967295)], "forbid-guest:0:4294967295"),
+    // 4294967295 becomes itself, and no specification can forbid it.
+    (
+        "map:0:1:4294967294",
+        &[],
+        "map:0:1:4294967294|forbid-guest:4294967294:1",
+    ),
+];
+
+#[test]
+fn mends_specifications(rt: HostRuntime) -> Result<(), Fail> {
+    for &(texts, bad, wanted) in &MENDED {
+        let found = mended_texts(rt.alloc(), texts, bad)?;
+        assert_eq!(rt; found.as_str(), wanted, "{texts:?}, {bad:?}");
+    }
+    Ok(())
+}
+
+fn mended_texts(alloc: Global, texts: &str, bad: &[(u32, u32)]) -> Result<String, Fail> {
+    let map = users_of(alloc, texts).ok_or("no map")?;
+    let mut spans = Vec::new(alloc);
+    for &(first, last) in bad {
+        spans.push(Span { first, last })?;
+    }
+    let mut found = String::new(alloc);
+    for (index, spec) in mended(alloc, &map, &spans)?.iter().enumerate() {
+        let bar = if index == 0 { "" } else { "|" };
+        write!(found, "{bar}{spec}")?;
+    }
+    Ok(found)
 }
 
 /// What is asked of a map.

@@ -1,6 +1,6 @@
 -- The answers of the audits of ids.
 use Rattle.std.proofs.Common.{◌≡◌, ◌≢◌, ◌↔◌, inl, inr, ℕ, ◌+◌, ◌<◌, ◌≤◌, List, [], ◌∷◌, Option, Some, None, refl, sym}
-use Rattle.std.proofs.Common.{arith, All, Vec, Result, Ok, Err, IfOk}
+use Rattle.std.proofs.Common.{arith, Vec, Result, Ok, Err, IfOk}
 use Rattle.std.proofs.lemmas.Bool.{cases_eq, cases_order}
 use Rattle.std.proofs.lemmas.Bool.Decides.{nat_tests}
 use Rattle.std.proofs.lemmas.List.Elements.{All-contains, All-cons, All-nil}
@@ -8,13 +8,13 @@ use Rattle.std.proofs.lemmas.List.Sorted.{IsNonDecreasingBy-short}
 use Rattle.virtiofs_map.specs.Build.{Accepted}
 use Rattle.virtiofs_map.specs.IdAudit.{IsLeastId, IsLeastIfAny, AnswersLeastId, GoesTo, ComesBack, IsAstray, IsAlone}
 use Rattle.virtiofs_map.specs.IdAudit.{IsShared, SharedAs, GoesInto, Between, ReachedBy, AreIdsApart}
-use Rattle.virtiofs_map.specs.IdAuditParts.{IsSpan, Hold, AreInOrder, AreImages, times, once_below}
+use Rattle.virtiofs_map.specs.IdAuditParts.{Hold, AreInOrder, AreImages, times, once_below}
 use Rattle.virtiofs_map.specs.declared.cmdline.IdMap.{IdMap}
 use Rattle.virtiofs_map.specs.declared.id_audit.answer.IdAudit.{IdAudit}
 use Rattle.virtiofs_map.specs.declared.id_audit.answer.IdAudit.TheVariants.{Yes, No}
 use Rattle.virtiofs_map.specs.declared.id_audit.spans.Span.{Span}
 use Rattle.virtiofs_map.specs.declared.soft_idmap.entry.Direction.TheVariants.{GuestToHost}
-use Rattle.virtiofs_map.proofs.id_audit.ImageLemmas.{times-bounded, times_hold}
+use Rattle.virtiofs_map.proofs.id_audit.ImageLemmas.{times-bounded}
 use Rattle.virtiofs_map.proofs.MappingLawLemmas.{Becomes-one}
 
 -- ---- Yes and No
@@ -294,24 +294,13 @@ reached_all (Ok again) specs images are all =
     λ host. (Hold-reached specs images again.items are all host, reached-Hold specs images again.items are all host)
 reached_all (Err e) specs images are all = tt
 
--- spans that were put in order and joined have the same ids
-module _ (spans sorted merged : List Span) (some : All IsSpan sorted) (same : (id : ℕ) → Hold sorted id ↔ Hold spans id)
-    (all : (id : ℕ) → Hold merged id ↔ (2 ≤ times sorted id + once_below 4294967296 id)) where
-  merged_spans : (id : ℕ) → Hold merged id → Hold spans id
-  merged_spans id held =
-      (same id).0 ((times_hold sorted id).0 (let twice = (all id).0 held in grind (arith, nat_tests)))
-
-  spans_merged : (id : ℕ) → Hold spans id → Hold merged id
-  spans_merged id held =
-      let once : 1 ≤ times sorted id = (times_hold sorted id).1 ((same id).1 held) in
-      let bounded : id ≤ 4294967295 = times-bounded sorted id some once in
-      (all id).1 (grind (arith, nat_tests))
-
-  pub IsLeastIfAny-merged : (specs : List IdMap) (least : Option ℕ)
-      → IsLeastIfAny (λ n. (0 ≤ n) × GoesInto specs (Hold merged) n) least
-      → IsLeastIfAny (GoesInto specs (Hold spans)) least
-  IsLeastIfAny-merged specs least found =
-      IsLeastIfAny-same (λ n. (0 ≤ n) × GoesInto specs (Hold merged) n) (GoesInto specs (Hold spans)) least
-      (λ n (low, goes). GoesInto-same specs (Hold merged) (Hold spans) n merged_spans goes)
-      (λ n goes. (omega arith, GoesInto-same specs (Hold spans) (Hold merged) n spans_merged goes))
-      found
+-- the least id that becomes an id of some spans, by other spans that have the same ids
+pub IsLeastIfAny-spans : (specs : List IdMap) (spans others : List Span) (least : Option ℕ)
+    → ((id : ℕ) → Hold others id ↔ Hold spans id)
+    → IsLeastIfAny (λ n. (0 ≤ n) × GoesInto specs (Hold others) n) least
+    → IsLeastIfAny (GoesInto specs (Hold spans)) least
+IsLeastIfAny-spans specs spans others least same found =
+    IsLeastIfAny-same (λ n. (0 ≤ n) × GoesInto specs (Hold others) n) (GoesInto specs (Hold spans)) least
+    (λ n (low, goes). GoesInto-same specs (Hold others) (Hold spans) n (λ id. (same id).0) goes)
+    (λ n goes. (omega arith, GoesInto-same specs (Hold spans) (Hold others) n (λ id. (same id).1) goes))
+    found

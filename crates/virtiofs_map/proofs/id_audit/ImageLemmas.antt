@@ -6,8 +6,7 @@ use Rattle.std.specs.List.{All, AllByRecursion}
 use Rattle.std.specs.List.Sorted.{IsPermutation, IsNonDecreasingBy}
 use Rattle.std.proofs.lemmas.Bool.{cases_order}
 use Rattle.std.proofs.lemmas.Bool.Decides.{nat_tests}
-use Rattle.std.proofs.lemmas.List.Elements.{recursion_from_All, All-contains, All-cons, All-nil, Contains-append_cases}
-use Rattle.std.proofs.lemmas.List.Elements.{Contains-append_right}
+use Rattle.std.proofs.lemmas.List.Elements.{recursion_from_All}
 use Rattle.std.proofs.lemmas.List.Sorted.{All-permutation, sum_by-IsPermutation}
 use Rattle.std.proofs.lemmas.List.Sums.{sum_by-cons, sum_by_push}
 use Rattle.std.proofs.lemmas.Option.{same_Some}
@@ -21,6 +20,7 @@ use Rattle.virtiofs_map.specs.declared.id_audit.spans.Span.{Span}
 use Rattle.virtiofs_map.specs.declared.soft_idmap.entry.Direction.TheVariants.{GuestToHost}
 use Rattle.virtiofs_map.specs.declared.soft_idmap.piece.Piece.{Piece}
 use Rattle.virtiofs_map.proofs.MappingLawLemmas.{HasOneValue-accepted}
+use Rattle.virtiofs_map.proofs.id_audit.HeldLemmas.{hold_front, hold_none}
 use Rattle.virtiofs_map.proofs.id_audit.PieceLemmas.{value-each, value-not_each, value-forbidden}
 
 -- ---- a span has an id or not
@@ -387,25 +387,6 @@ pub times-bounded : (spans : List Span) (id : ℕ) → All IsSpan spans → 1 �
 times-bounded spans id all some = has_bounded spans id (recursion_from_All IsSpan spans all) some
 
 -- ---- spans that have an id are counted
-
--- one more span in front
-hold_front : (span : Span) (spans : List Span) (id : ℕ) → Hold (span ∷ spans) id ↔ (Has span id ⊎ Hold spans id)
-hold_front span spans id = (
-  (λ (other, listed, has). elim (Contains-append_cases (span ∷ []) spans other listed) [
-    | inl front ↦
-        inl (rw (All-contains (λ s. s ≡ span) (span ∷ []) other
-        (All-cons (λ s. s ≡ span) span [] refl (All-nil (λ s. s ≡ span))) front) at has)
-    | inr later ↦ inr (other, later, has)
-  ]),
-  (λ held. elim held [
-    | inl has ↦ (span, (0, omega arith, refl), has)
-    | inr (other, listed, has) ↦ (other, Contains-append_right (span ∷ []) spans other listed, has)
-  ]),
-)
-
--- no span has an id of none
-hold_none : (id : ℕ) → ¬ Hold [] id
-hold_none id (span, listed, has) = absurd (omega (arith, listed.1))
 
 -- spans have an id where one of them counts it
 pub times_hold : (spans : List Span) (id : ℕ) → (1 ≤ times spans id) ↔ Hold spans id

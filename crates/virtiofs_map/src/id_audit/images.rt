@@ -67,7 +67,7 @@ pub(crate) fn images_of<
 }
 
 /// Those of the spans that have an id, in the order of their first ids.
-pub(crate) fn in_order<A: Allocator>(alloc: A, spans: &[Span]) -> Result<Vec<Span, A>, AllocError>
+fn in_order<A: Allocator>(alloc: A, spans: &[Span]) -> Result<Vec<Span, A>, AllocError>
     ensures spans { IfOk result (λ sorted. All IsSpan sorted.items) }
     ensures firsts { IfOk result (λ sorted.
         IsNonDecreasingBy (λ span. span.first) sorted.items) }
@@ -112,4 +112,16 @@ pub(crate) fn reached_again<A: Allocator>(
         reached = reached.max(u64::from(image.last) + 1);
     }
     Ok(again)
+}
+
+/// The ids of the spans, as spans in order.
+pub(crate) fn merged<A: Allocator + Copy>(
+    alloc: A,
+    spans: &[Span],
+) -> Result<Vec<Span, A>, AllocError>
+    ensures order { IfOk result (λ merged. AreInOrder merged.items) }
+    ensures hold { IfOk result (λ merged. (id : ℕ) → Hold merged.items id ↔ Hold spans.now id) }
+{
+    let sorted = in_order(alloc, spans)?;
+    reached_again(alloc, &sorted, u64::from(u32::MAX) + 1)
 }

@@ -11,10 +11,11 @@ use std::alloc::Allocator;
 
 /// The numbers from `n` on with what they come back as, as far as one piece says it: what each
 /// becomes on the host becomes that in the guest.
-fn round_trip<Guest: GuestId<HostType = Host>, Host: HostId<GuestType = Guest>, A: Allocator>(
-    map: &IdMap<Guest, Host, A>,
-    n: u32,
-) -> Piece
+pub(crate) fn round_trip<
+    Guest: GuestId<HostType = Host>,
+    Host: HostId<GuestType = Guest>,
+    A: Allocator,
+>(map: &IdMap<Guest, Host, A>, n: u32) -> Piece
     ensures accepted { Accepted map.now }
     ensures first { result.first ≡ n }
     ensures order { n ≤ result.last }

@@ -4,7 +4,7 @@ use crate::common::{specs_of, users_of};
 use rationed::{Call, Ended, Rationed};
 use std::alloc::{AllocError, Global};
 use std::fmt::Debug;
-use virtiofs_map::id_audit::{Span, ids_apart, is_alone, reached, reaches_any};
+use virtiofs_map::id_audit::{Span, ids_apart, is_alone, mended, reached, reaches_any};
 use virtiofs_map::id_types::{GuestUid, HostUid};
 use virtiofs_map::soft_idmap::image::write_image;
 use virtiofs_map::soft_idmap::{IdMap, IdMapBuildError, SpecsError};
@@ -29,6 +29,7 @@ pub(super) enum Asked {
     IdsApart(&'static str, &'static str),
     Reached(&'static str),
     ReachesAny(&'static str),
+    Mended(&'static str),
     /// `XattrMap::try_from`.
     Rules(&'static str),
     WrittenRules(&'static str),
@@ -99,6 +100,11 @@ impl Asked {
                 let spans = [(1003, 1009), (9, 7), (30, 1005)];
                 let spans = spans.map(|(first, last)| Span { first, last });
                 audited(ample, &reaches_any(alloc, &users_of(ample, texts)?, &spans))
+            }
+            Asked::Mended(texts) => {
+                let spans = [(1003, 1009), (9, 7), (30, 1005)];
+                let spans = spans.map(|(first, last)| Span { first, last });
+                audited(ample, &mended(alloc, &users_of(ample, texts)?, &spans))
             }
             Asked::Rules(text) => named(ample, &XattrMap::try_from(alloc, text)),
             Asked::WrittenRules(text) => named(ample, &XattrMap::written_rules(alloc, text)),

@@ -1,5 +1,5 @@
 use Rattle.std.proofs.Common.{arith}
-use Rattle.virtiofs_map.proofs.id_audit.round_trips.RoundTripLemmas.{ComeBackBelow-more, IsAstray-least, ComesBack-all}
+use Rattle.virtiofs_map.proofs.id_audit.RoundTripLemmas.{ComeBackBelow-more, IsAstray-least, ComesBack-all}
 use Rattle.virtiofs_map.proofs.id_audit.round_trips.first_astray.Goals as goal
 
 pub returns-in-Some : goal.returns-in-Some

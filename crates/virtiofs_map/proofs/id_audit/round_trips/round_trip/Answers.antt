@@ -1,5 +1,5 @@
 use Rattle.std.proofs.Common.{ℕ, ◌+◌, ◌-◌, Some, sym, ◌∙◌, arith}
-use Rattle.virtiofs_map.proofs.id_audit.round_trips.RoundTripLemmas.{
+use Rattle.virtiofs_map.proofs.id_audit.RoundTripLemmas.{
   ReturnsBy-forbidden,
   ReturnsBy-all,
   ReturnsBy-each,

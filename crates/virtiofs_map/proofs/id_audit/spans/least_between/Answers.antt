@@ -2,7 +2,7 @@ use Rattle.std.proofs.Common.{◌≤◌, ◌<◌, length, ltb, sym, rules, arith
 use Rattle.std.proofs.lemmas.Bool.Decides.{nat_tests}
 use Rattle.std.proofs.lemmas.List.Sorted.{IsPartitionPoint-from_clause, IsPartitionedBy-ltb}
 use Rattle.virtiofs_map.specs.declared.id_audit.spans.Span.{Span}
-use Rattle.virtiofs_map.proofs.id_audit.spans.SpanLemmas.{SplitsAt, greater_is, least-none, least-there, least-beyond}
+use Rattle.virtiofs_map.proofs.id_audit.SpanLemmas.{SplitsAt, greater_is, least-none, least-there, least-beyond}
 use Rattle.virtiofs_map.proofs.id_audit.spans.least_between.Goals as goal
 
 pub returns-in_default : goal.returns-in_default

@@ -1,5 +1,5 @@
 use Rattle.std.proofs.Common.{arith}
-use Rattle.virtiofs_map.proofs.id_audit.spans.SpanLemmas.{NoneSoFar-more, NoneSoFar-found, NoneSoFar-end}
+use Rattle.virtiofs_map.proofs.id_audit.SpanLemmas.{NoneSoFar-more, NoneSoFar-found, NoneSoFar-end}
 use Rattle.virtiofs_map.proofs.id_audit.spans.least_into.Goals as goal
 
 pub returns-in-Some-least_of-clause-least : goal.returns-in-Some-least_of-clause-least

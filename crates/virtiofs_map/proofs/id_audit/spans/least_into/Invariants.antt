@@ -1,5 +1,5 @@
 use Rattle.virtiofs_map.specs.IdAuditParts.{Hold}
-use Rattle.virtiofs_map.proofs.id_audit.spans.SpanLemmas.{NoneSoFar}
+use Rattle.virtiofs_map.proofs.id_audit.SpanLemmas.{NoneSoFar}
 use Rattle.virtiofs_map.proofs.id_audit.spans.least_into.Given as goal
 
 -- no id so far becomes one of the spans

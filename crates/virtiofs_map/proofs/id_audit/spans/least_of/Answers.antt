@@ -1,4 +1,4 @@
-use Rattle.virtiofs_map.proofs.id_audit.spans.SpanLemmas.{ComesInto-none, ComesInto-least, ComesInto-greatest}
+use Rattle.virtiofs_map.proofs.id_audit.SpanLemmas.{ComesInto-none, ComesInto-least, ComesInto-greatest}
 use Rattle.virtiofs_map.proofs.id_audit.spans.least_of.Goals as goal
 
 pub returns-in_default-least_between : goal.returns-in_default-least_between

@@ -27,7 +27,7 @@ SplitsAt spans first at =
     spans at
 
 -- a span that has an id from first on stands at that place or after it, so the span there begins no later
-held_after : (spans : List Span) (first at id : ℕ) (d : Span) → AreInOrder spans → SplitsAt spans first at → first ≤ id
+pub held_after : (spans : List Span) (first at id : ℕ) (d : Span) → AreInOrder spans → SplitsAt spans first at → first ≤ id
     → Hold spans id → (at < length spans) × ((get_or spans at d).first ≤ id)
 held_after spans first at id d order splits from (span, (k, inside, here), has) =
     elim (cases_order k at) [
@@ -58,7 +58,7 @@ least-none spans first last at order splits out id ((from, to), (span, listed, h
     omega (arith, after.0)
 
 -- the span there has an id from first on, unless it begins above last
-held_at : (spans : List Span) (first at : ℕ) (d : Span) → AreInOrder spans → SplitsAt spans first at → at < length spans
+pub held_at : (spans : List Span) (first at : ℕ) (d : Span) → AreInOrder spans → SplitsAt spans first at → at < length spans
     → ((get_or spans at d).first ≤ (get_or spans at d).last) × (first ≤ (get_or spans at d).last)
 held_at spans first at d order splits inside =
     let ends : ltb (get_or spans at d).last first ≡ false = splits.1 at d (omega arith) inside in

@@ -185,9 +185,9 @@ pub ComeBackBelow-start : (specs : List IdMap) → ComeBackBelow specs 0
 ComeBackBelow-start specs n host below goes = absurd (omega arith)
 
 -- where no number of a round trip moves, its ids come back
-back : (specs : List IdMap) (trip : Piece) (n host : ℕ) → Accepted specs → ReturnsBy specs trip → trip.first ≤ n
+pub leads_back : (specs : List IdMap) (trip : Piece) (n host : ℕ) → Accepted specs → ReturnsBy specs trip → trip.first ≤ n
     → n ≤ trip.last → ¬ IsMoved trip n → GoesTo specs n host → LeadsBack specs GuestToHost n host
-back specs trip n host accepted returns from to not goes = back_by (value_in trip n) refl (returns n from to) where
+leads_back specs trip n host accepted returns from to not goes = back_by (value_in trip n) refl (returns n from to) where
   back_by : (value : Option ℕ) → value_in trip n ≡ value → ComesBackAs specs n (value_in trip n)
       → LeadsBack specs GuestToHost n host
   back_by value is (inl (forbidden, none)) =
@@ -207,9 +207,9 @@ pub ComeBackBelow-more : (specs : List IdMap) (trip : Piece) (next more : ℕ) �
     → ComeBackBelow specs more
 ComeBackBelow-more specs trip next more accepted so_far returns first end none n host below goes =
     elim (cases_order n next) [
-      | inl same ↦ back specs trip n host accepted returns (omega arith) (omega arith) (none n) goes
+      | inl same ↦ leads_back specs trip n host accepted returns (omega arith) (omega arith) (none n) goes
       | inr (inl before) ↦ so_far n host before goes
-      | inr (inr after) ↦ back specs trip n host accepted returns (omega arith) (omega arith) (none n) goes
+      | inr (inr after) ↦ leads_back specs trip n host accepted returns (omega arith) (omega arith) (none n) goes
     ]
 
 -- the greatest number does not move

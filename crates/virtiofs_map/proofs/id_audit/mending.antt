@@ -1,0 +1,3 @@
+mod ApartLemmas
+mod ListedLemmas
+mod MendsLemmas

@@ -1,0 +1,2 @@
+mod MeetingLemmas
+mod WithoutLemmas
