@@ -9,3 +9,4 @@ mod OutsideLemmas
 mod MeetingLemmas
 mod IdTableLemmas
 mod SetUpLemmas
+mod RefusalLemmas

@@ -8,6 +8,7 @@ use Rattle.std.proofs.lemmas.List.{take_all, length-take-le}
 use Rattle.std.proofs.lemmas.List.Elements.{All-append}
 use Rattle.std.proofs.lemmas.Option.{slice_get_read}
 use Rattle.std.proofs.lemmas.Slice.Zip.{AllZip-long}
+use Rattle.std.specs.Global.{Global}
 use Rattle.std.specs.List.{AllZip}
 use Rattle.std.specs.declared.vec.Vec.{Vec}
 use Rattle.virtiofs_map.proofs.ForCallers.{AllZip-push}
@@ -22,7 +23,8 @@ use Rattle.virtiofs_mapaudit.specs.ReportParts.{AddsPairs, AreCompared}
 use Rattle.virtiofs_mapaudit.specs.Said.{Says, AreTables, rules_given, options_text, set_up_line}
 use Rattle.virtiofs_mapaudit.specs.Said.{guests_text, pairs_text, IsPlain}
 use Rattle.virtiofs_mapaudit.specs.Guests.{SetsUp}
-use Rattle.virtiofs_mapaudit.specs.Refusals.{TellsWhere, IsSomeRefused, TellsGuests}
+use Rattle.virtiofs_mapaudit.proofs.RefusalLemmas.{told_where_refused}
+use Rattle.virtiofs_mapaudit.specs.Refusals.{TellsGuests}
 use Rattle.virtiofs_mapaudit.specs.declared.audit.Said.{Said}
 use Rattle.virtiofs_mapaudit.specs.declared.audit.Pair.{Pair}
 use Rattle.virtiofs_mapaudit.specs.declared.audit.Report.{Report}
@@ -293,25 +295,24 @@ set_up_written r old new number users groups inside inside_groups rules guest u 
     rw (u, g, i, j, are) at written
 
 -- what is said is all of this
-pub says_all : {A : Type 0} (asked : Asked) (guests : List (Guest A)) (said : Said) (sets : List (SetUp A))
-    (report : Report A) → AllZip SetsUp guests sets → FindsReport sets report
-    → (IsTrue said.is_found ↔ IsFound report) → TellsWhere (IsSomeRefused guests sets) [] (string_bytes said.refusals)
-    → Adds (TellsGuests 1 guests) [] (string_bytes said.refusals)
+pub says_all : (asked : Asked) (guests : List (Guest Global)) (said : Said) (sets : List (SetUp Global))
+    (report : Report Global) → AllZip SetsUp guests sets → FindsReport sets report
+    → (IsTrue said.is_found ↔ IsFound report)
+    → Adds (TellsGuests 1 guests) [] said.refusals.items
     → (IsTrue asked.quiet → string_bytes said.text ≡ [])
     → (IsFalse asked.quiet → IsFalse asked.json
-    → IsPlain asked guests sets report said.is_found (string_bytes said.refusals) (string_bytes said.text))
+    → IsPlain asked guests sets report said.is_found said.refusals.items (string_bytes said.text))
     → Says asked guests said
-says_all asked guests said sets report sets_up finds found tells says quiet plain = record {
-  sets = sets;
-  report = report;
-  sets_up = sets_up;
-  finds = finds;
-  found = found;
-  refused = (
-    (λ some. tells.where_refused.0 (λ none. some (tells.added ∙ none))),
-    (λ refused none. tells.where_refused.1 refused (sym tells.added ∙ none)),
-  );
-  refusals = subst (TellsGuests 1 guests) (sym says.added) says.is;
-  quiet = quiet;
-  plain = plain;
-}
+says_all asked guests said sets report sets_up finds found says quiet plain =
+    let told = subst (TellsGuests 1 guests) (sym says.added) says.is in
+    record {
+      sets = sets;
+      report = report;
+      sets_up = sets_up;
+      finds = finds;
+      found = found;
+      refused = told_where_refused 1 guests sets said.refusals.items sets_up told;
+      refusals = told;
+      quiet = quiet;
+      plain = plain;
+    }

@@ -16,6 +16,7 @@ pub mod PairFindings
 pub mod RangeParts
 pub mod RangeText
 pub mod Ranges
+pub mod RefusalText
 pub mod Refusals
 pub mod Report
 pub mod ReportParts

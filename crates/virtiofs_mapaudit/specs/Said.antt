@@ -2,6 +2,7 @@
 use Rattle.std.specs.Prelude.{◌≡◌, ◌≢◌, ◌↔◌, ℕ, ◌+◌, Bool, true, false, IsTrue, IsFalse, List, [], ◌∷◌, ◌++◌, length}
 use Rattle.std.specs.Prelude.{codes, flat_map, Option, Some, None, string_bytes}
 use Rattle.std.specs.Fmt.{decimal}
+use Rattle.std.specs.Global.{Global}
 use Rattle.std.specs.List.{AllZip}
 use Rattle.std.specs.declared.vec.Vec.{Vec}
 use Rattle.virtiofs_mapaudit.specs.FindingText.{findings_text}
@@ -19,6 +20,7 @@ use Rattle.virtiofs_options.specs.declared.front.Asked.{Asked}
 use Rattle.virtiofs_options.specs.declared.guest.Guest.{Guest}
 use Rattle.virtiofs_mapaudit.specs.declared.ids.kind.IdKind.{IdKind}
 use Rattle.virtiofs_mapaudit.specs.declared.ids.kind.IdKind.TheVariants.{Users, Groups}
+use Rattle.virtiofs_mapaudit.specs.declared.refusal.Refusal.{Refusal}
 use Rattle.virtiofs_mapaudit.specs.declared.setup.IdSetUp.{IdSetUp}
 use Rattle.virtiofs_mapaudit.specs.declared.setup.SetUp.{SetUp}
 
@@ -82,32 +84,32 @@ abbrev pub pairs_text : {A : Type 0} → List (Pair A) → List ℕ
 pairs_text pairs = flat_map (λ pair. findings_text pair.found.items) pairs
 
 -- what is said where nothing was found: it is another sentence where something was refused
-abbrev pub closing : Bool → List ℕ → List ℕ
+abbrev pub closing : {R : Type 0} → Bool → List R → List ℕ
 closing true refusals = []
 closing false [] = codes "nothing found\n"
-closing false (c ∷ refusals) = codes "nothing found in what was not refused\n"
+closing false (refusal ∷ refusals) = codes "nothing found in what was not refused\n"
 
 -- the whole text
-abbrev pub report_text : {A : Type 0} → List (Guest A) → List (List ℕ) → Report A → Bool → List ℕ → List ℕ
+abbrev pub report_text : {A : Type 0} → List (Guest A) → List (List ℕ) → Report A → Bool → List (Refusal A) → List ℕ
 report_text guests tables report is_found refusals =
     guests_text 1 guests tables report.guests.items ++ pairs_text report.pairs.items ++ closing is_found refusals
 
 -- the text is the whole one, with the tables that were asked for
 pub record IsPlain {A : Type 0} (asked : Asked) (guests : List (Guest A)) (sets : List (SetUp A)) (report : Report A)
-    (is_found : Bool) (refusals text : List ℕ) : Type 0 where
+    (is_found : Bool) (refusals : List (Refusal A)) (text : List ℕ) : Type 0 where
   pub tables : List (List ℕ)
   pub are_tables : AllZip (AreTables asked) sets tables
   pub whole : text ≡ report_text guests tables report is_found refusals
 
 -- what is written of the guests. With `quiet` the text is empty. Of the text of `json` nothing is said here
-pub record Says {A : Type 0} (asked : Asked) (guests : List (Guest A)) (said : Said) : Type 0 where
-  pub sets : List (SetUp A)
-  pub report : Report A
+pub record Says (asked : Asked) (guests : List (Guest Global)) (said : Said) : Type 0 where
+  pub sets : List (SetUp Global)
+  pub report : Report Global
   pub sets_up : AllZip SetsUp guests sets
   pub finds : FindsReport sets report
   pub found : IsTrue said.is_found ↔ IsFound report
-  pub refused : (string_bytes said.refusals ≢ []) ↔ IsSomeRefused guests sets
-  pub refusals : TellsGuests 1 guests (string_bytes said.refusals)
+  pub refused : (said.refusals.items ≢ []) ↔ IsSomeRefused guests sets
+  pub refusals : TellsGuests 1 guests said.refusals.items
   pub quiet : IsTrue asked.quiet → string_bytes said.text ≡ []
   pub plain : IsFalse asked.quiet → IsFalse asked.json
-      → IsPlain asked guests sets report said.is_found (string_bytes said.refusals) (string_bytes said.text)
+      → IsPlain asked guests sets report said.is_found said.refusals.items (string_bytes said.text)

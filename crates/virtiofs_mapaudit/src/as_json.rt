@@ -8,6 +8,7 @@ mod writer;
 
 use crate::audit::Report;
 use crate::finding::Finding;
+use crate::refusal::Refusal;
 use crate::setup::{IdSetUp, NamesSetUp, SetUp};
 use findings::write_finding;
 use ids::write_id_table;
@@ -82,11 +83,14 @@ fn write_findings(alloc: Global, json: &mut Writer, report: &Report<Global>) {
     json.end_array();
 }
 
-/// Writes the lines of a text.
-fn write_lines(json: &mut Writer, text: &str) {
+/// Writes what is told of texts that are refused.
+fn write_refused(alloc: Global, json: &mut Writer, refusals: &[Refusal<Global>]) {
     json.begin_array();
-    for line in text.lines() {
-        json.string(line);
+    for refusal in refusals {
+        match format!(in alloc; "{refusal}") {
+            Ok(line) => json.string(line.as_str()),
+            Err(_) => json.fail(),
+        }
     }
     json.end_array();
 }
@@ -98,7 +102,7 @@ fn write_report(
     asked: Asked,
     sets: &[SetUp<Global>],
     report: &Report<Global>,
-    refusals: &str,
+    refusals: &[Refusal<Global>],
 ) {
     json.begin_object();
     write_count(json, "schema", SCHEMA);
@@ -107,7 +111,7 @@ fn write_report(
     json.key("findings");
     write_findings(alloc, json, report);
     json.key("refused");
-    write_lines(json, refusals);
+    write_refused(alloc, json, refusals);
     json.end_object();
 }
 
@@ -117,7 +121,7 @@ pub(crate) fn report_as_json(
     asked: Asked,
     sets: &[SetUp<Global>],
     report: &Report<Global>,
-    refusals: &str,
+    refusals: &[Refusal<Global>],
 ) -> Result<String, AllocError> {
     let mut json = Writer::new(alloc);
     write_report(alloc, &mut json, asked, sets, report, refusals);

@@ -4,7 +4,7 @@ ghost use Rattle.std.specs.List.{AllZip};
 ghost use Rattle.virtiofs_mapaudit.specs.FindingText.{findings_text};
 ghost use Rattle.virtiofs_mapaudit.specs.Guests.{SetsUp};
 ghost use Rattle.virtiofs_mapaudit.specs.Lists.{Adds};
-ghost use Rattle.virtiofs_mapaudit.specs.Refusals.{TellsWhere, IsSomeRefused, TellsGuests};
+ghost use Rattle.virtiofs_mapaudit.specs.Refusals.{TellsGuests};
 ghost use Rattle.virtiofs_mapaudit.specs.Report.{FindsReport, IsFound, IsFoundOf, IsFoundBetween};
 ghost use Rattle.virtiofs_mapaudit.specs.ReportParts.{AddsPairs};
 ghost use Rattle.virtiofs_mapaudit.specs.Said.{Says, ShownIf, ShowsSet, ShowsKind, ShowsBothKinds, ShowsSomeNames, AreTables, rules_given, set_up_line, guests_text, pairs_text, closing, IsPlain};
@@ -15,8 +15,9 @@ use crate::ids::kind::IdKind;
 use crate::ids::table::push_table as push_ids_table;
 use crate::names::table::push_table as push_names_table;
 use crate::pairs::{Numbers, audit_pair};
+use crate::refusal::Refusal;
 use crate::report::audit_guest;
-use crate::setup::{IdSetUp, Refusals, SetUp, set_up};
+use crate::setup::{IdSetUp, SetUp, set_up};
 use std::alloc::{AllocError, Allocator, Global};
 use virtiofs_options::front::Asked;
 use virtiofs_options::guest::Guest;
@@ -46,8 +47,8 @@ pub(crate) struct Report<A: Allocator> {
 pub(crate) struct Said {
     /// On standard output.
     pub(crate) text: String,
-    /// On standard error: guest by guest, a line for the first fault of each option that is refused.
-    pub(crate) refusals: String,
+    /// On standard error: guest by guest, the first fault of each option that is refused.
+    pub(crate) refusals: Vec<Refusal<Global>>,
     /// Whether anything was found.
     pub(crate) is_found: bool,
 }
@@ -230,8 +231,8 @@ fn push_pairs<A: Allocator>(text: &mut String<A>, pairs: &[Pair<A>]) -> Result<(
     Ok(())
 }
 
-/// What is said where nothing was found. `refusals` is what was told of texts that are refused.
-fn closing(is_found: bool, refusals: &str) -> &'static str
+/// What is said where nothing was found.
+fn closing<A: Allocator>(is_found: bool, refusals: &[Refusal<A>]) -> &'static str
     ensures { result.now ≡ closing is_found refusals.now }
 {
     if is_found {
@@ -274,7 +275,7 @@ fn has_found<A: Allocator>(report: &Report<A>) -> bool
     has_found_of(report) || has_found_between(report)
 }
 
-/// What is said of the guests. `refusals` is what was told of texts that are refused.
+/// What is said of the guests.
 fn plain<A: Allocator + Copy>(
     alloc: A,
     asked: Asked,
@@ -282,7 +283,7 @@ fn plain<A: Allocator + Copy>(
     sets: &[SetUp<A>],
     report: &Report<A>,
     is_found: bool,
-    refusals: &str,
+    refusals: &[Refusal<A>],
 ) -> Result<String<A>, AllocError>
     requires same { length sets.now ≡ length guests.now }
     requires same_2 { length report.now.guests.items ≡ length guests.now }
@@ -303,18 +304,15 @@ fn plain<A: Allocator + Copy>(
     Ok(text)
 }
 
-/// What the options of each guest set up. Guest by guest, a line for the first fault of each option
-/// that is refused goes to `refusals`.
+/// What the options of each guest set up. Guest by guest, the first fault of each option that is
+/// refused goes to `refusals`.
 fn set_up_all<A: Allocator + Copy>(
     alloc: A,
-    refusals: &mut Refusals<A>,
+    refusals: &mut Vec<Refusal<A>, A>,
     guests: &[Guest<'_, A>],
 ) -> Result<Vec<SetUp<A>, A>, AllocError>
     ensures sets_up { IfOk result (λ sets. AllZip SetsUp guests.now sets.items) }
-    ensures told { IfOk result (λ sets. TellsWhere (IsSomeRefused guests.now sets.items)
-        (string_bytes refusals.old.text) (string_bytes refusals.new.text)) }
-    ensures says { OnOk result (Adds (TellsGuests 1 guests.now)
-        (string_bytes refusals.old.text) (string_bytes refusals.new.text)) }
+    ensures says { OnOk result (Adds (TellsGuests 1 guests.now) refusals.old.items refusals.new.items) }
 {
     let mut sets = Vec::new(alloc);
     for place in 0..guests.len() {
@@ -331,7 +329,7 @@ fn in_form(
     sets: &[SetUp<Global>],
     report: &Report<Global>,
     is_found: bool,
-    refusals: &str,
+    refusals: &[Refusal<Global>],
 ) -> Result<String, AllocError>
     requires same { length sets.now ≡ length guests.now }
     requires same_2 { length report.now.guests.items ≡ length guests.now }
@@ -356,13 +354,11 @@ pub(crate) fn say(
 ) -> Result<Said, AllocError>
     ensures { IfOk result (Says asked guests.now) }
 {
-    let mut refusals = Refusals {
-        text: String::new(alloc),
-    };
+    let mut refusals = Vec::new(alloc);
     let sets = set_up_all(alloc, &mut refusals, guests)?;
     let report = audit(alloc, sets.as_slice())?;
     let is_found = has_found(&report);
-    let told = refusals.text.as_str();
+    let told = refusals.as_slice();
     let text = in_form(
         alloc,
         asked,
@@ -374,7 +370,7 @@ pub(crate) fn say(
     )?;
     Ok(Said {
         text,
-        refusals: refusals.text,
+        refusals,
         is_found,
     })
 }

@@ -1,7 +1,7 @@
 //! Says what the options of a virtiofsd do to ids and names, and what is wrong with them.
 #![tactic(auto)]
 
-ghost use Rattle.std.specs.Prelude.{◌≡◌, ◌≢◌, ◌↔◌, [], IsTrue, IsFalse, string_bytes};
+ghost use Rattle.std.specs.Prelude.{◌≡◌, ◌≢◌, ◌↔◌, [], IsTrue, IsFalse};
 
 mod as_json;
 mod audit;
@@ -10,6 +10,7 @@ mod ids;
 mod names;
 mod ordinal;
 mod pairs;
+mod refusal;
 mod report;
 mod setup;
 
@@ -78,8 +79,9 @@ fn answer(
     let said = say(rt.alloc(), asked, guests)?;
     write_whole(rt, said.text.as_str())?;
     if !asked.quiet {
-        let refusals = said.refusals.as_str();
-        let _ = eprint!(rt; "{refusals}");
+        for refusal in said.refusals.as_slice() {
+            let _ = eprintln!(rt; "{refusal}");
+        }
     }
     Ok(ended(&said))
 }
@@ -94,12 +96,12 @@ fn write_whole(rt: &HostRuntime, text: &str) -> Result<(), WriteFailed> {
 /// How the program ends where everything was written.
 fn ended(said: &Said) -> Answered
     ensures given { (result ≡ Answered.Given)
-        ↔ (string_bytes said.now.refusals ≡ []) × IsFalse said.now.is_found }
-    ensures refused { (result ≡ Answered.Refused) ↔ (string_bytes said.now.refusals ≢ []) }
+        ↔ (said.now.refusals.items ≡ []) × IsFalse said.now.is_found }
+    ensures refused { (result ≡ Answered.Refused) ↔ (said.now.refusals.items ≢ []) }
     ensures found { (result ≡ Answered.Found)
-        ↔ (string_bytes said.now.refusals ≡ []) × IsTrue said.now.is_found }
+        ↔ (said.now.refusals.items ≡ []) × IsTrue said.now.is_found }
 {
-    if !said.refusals.is_empty() {
+    if !said.refusals.as_slice().is_empty() {
         return Answered::Refused;
     }
     if said.is_found {

@@ -1,27 +1,27 @@
 //! What the texts of a guest set up, and which of them are refused.
-ghost use Rattle.std.specs.Prelude.{◌≡◌, ◌≢◌, ◌++◌, ◌↔◌, IfOk, IfErr, IsTrue, OnOk, Some, None, string_bytes};
+ghost use Rattle.std.specs.Prelude.{◌≡◌, ◌≢◌, ◌++◌, ◌∷◌, ◌↔◌, [], IfOk, IfErr, IsTrue, OnOk, Some, None, string_bytes};
 ghost use Rattle.std.specs.Str.{chars};
 ghost use Rattle.virtiofs_map.specs.Refusal.{OutOfMemoryOr};
 ghost use Rattle.virtiofs_map.specs.Build.{BuildFault, build_fault_of};
 ghost use Rattle.virtiofs_map.specs.RulesFault.{RulesFault, HasRulesFault, rules_fault_of};
 ghost use Rattle.virtiofs_map.specs.SpecificationText.{SpecificationFault, specification_fault_of};
 ghost use Rattle.std.specs.Option.{option_map};
-ghost use Rattle.virtiofs_mapaudit.specs.Guests.{ReadsSpecs, ReadsRanges, ReadsIds, ReadsText, ReadsNames, SetsUp, IsRefused, Translates};
+ghost use Rattle.virtiofs_mapaudit.specs.Guests.{ReadsSpecs, ReadsRanges, ReadsIds, ReadsText, ReadsNames, SetsUp, Translates};
 ghost use Rattle.virtiofs_map.specs.Printed.{build_error_text, rules_error_text};
 ghost use Rattle.virtiofs_mapaudit.specs.Lists.{Adds};
-ghost use Rattle.virtiofs_mapaudit.specs.Refusals.{TellsWhere, TellsPlace, TellsBuildFault, TellsSpecsFault, TellsSpecs, TellsRanges, TellsIds, TellsNames, TellsGuest, refusal_line, rules_refusal_line};
+ghost use Rattle.virtiofs_mapaudit.specs.Refusals.{IsAt, TellsPlace, TellsBuildFault, TellsSpecsFault, TellsSpecs, TellsRanges, TellsIds, TellsNames, TellsGuest};
 ghost use Rattle.virtiofs_map.specs.Specifications.{SpecsFault, specs_fault_of, texts_of};
 
 use crate::ids::audits::Ids;
 use crate::ids::kind::{IdKind, ranging, translating};
 use crate::ids::ranges::Place;
+use crate::refusal::Refusal;
 use std::alloc::{AllocError, Allocator};
 use virtiofs_map::cmdline;
 use virtiofs_map::idmap::UidMap;
 use virtiofs_map::soft_idmap::{IdMap, IdMapBuildError, SpecsError};
 use virtiofs_map::xattrmap::{Error, ErrorKind, XattrMap};
 use virtiofs_options::guest::Guest;
-use virtiofs_output::written::Written;
 
 /// What the options of a daemon set up for ids of one kind.
 #[derive(Drop)]
@@ -54,56 +54,46 @@ pub(crate) struct SetUp<A: Allocator> {
     pub(crate) translates_lists: bool,
 }
 
-/// Where refusals are told.
-#[derive(Drop)]
-pub(crate) struct Refusals<A: Allocator> {
-    /// Guest by guest, a line for the first fault of each option that is refused.
-    pub(crate) text: String<A>,
-}
-
-/// Writes at the end of what is told that a text of an option of a guest is refused, and why. Its
-/// place among the texts of the option is counted from 0; the line says `first`, `second`. The reason
-/// is escaped, so that a line feed in it begins no line of its own.
+/// Tells that a text of an option of a guest is refused, and why. Its place among the texts of the
+/// option is counted from 0.
 fn tell<A: Allocator>(
-    refusals: &mut Refusals<A>,
-    number: usize,
+    refusals: &mut Vec<Refusal<A>, A>,
+    guest: usize,
     place: usize,
-    option: &str,
-    why: &str,
+    option: &'static str,
+    why: String<A>,
 ) -> Result<(), AllocError>
-    ensures { OnOk result (string_bytes refusals.new.text
-        ≡ string_bytes refusals.old.text ++ refusal_line number place option.now why.now) }
+    ensures { OnOk result ((refusal : Refusal A) × IsAt guest option.now place refusal
+        × (string_bytes refusal.why ≡ string_bytes why)
+        × (refusals.new.items ≡ refusals.old.items ++ refusal ∷ [])) }
 {
-    let at = Place { place, option };
-    let why = Written(why.as_bytes());
-    writeln!(refusals.text, "guest {number}: {at} is refused: {why}")
+    refusals.push(Refusal {
+        guest,
+        at: Some(Place { place, option }),
+        why,
+    })?;
+    Ok(())
 }
 
 /// Tells what is wrong with the text of a specification of a guest.
 fn refuse_text<A: Allocator + Copy>(
     alloc: A,
-    refusals: &mut Refusals<A>,
+    refusals: &mut Vec<Refusal<A>, A>,
     number: usize,
     place: usize,
-    option: &str,
+    option: &'static str,
     cause: &cmdline::IdMapError<A>,
 ) -> Result<(), AllocError>
     ensures told { OnOk result (Adds (TellsPlace number option.now place)
-        (string_bytes refusals.old.text) (string_bytes refusals.new.text)) }
+        refusals.old.items refusals.new.items) }
     ensures faulty { OnOk result ((fault : SpecificationFault)
         × (specification_fault_of cause.now ≡ Some fault)) }
 {
     let why = format!(in alloc; "{cause}")?;
     match cause {
-        cmdline::IdMapError::InvalidPrefix(_) => {
-            tell(refusals, number, place, option, why.as_str())
-        }
-        cmdline::IdMapError::InvalidLength { .. } => {
-            tell(refusals, number, place, option, why.as_str())
-        }
-        cmdline::IdMapError::InvalidValue { .. } => {
-            tell(refusals, number, place, option, why.as_str())
-        }
+        cmdline::IdMapError::InvalidPrefix(_) => tell(refusals, number, place, option, why),
+        cmdline::IdMapError::InvalidLength { .. } => tell(refusals, number, place, option, why),
+        cmdline::IdMapError::InvalidValue { .. } => tell(refusals, number, place, option, why),
         cmdline::IdMapError::OutOfMemory => Err(AllocError),
     }
 }
@@ -123,23 +113,19 @@ fn build_sentence<A: Allocator + Copy>(
 /// Tells why no map is made of the specifications of a guest.
 fn refuse_build<A: Allocator + Copy>(
     alloc: A,
-    refusals: &mut Refusals<A>,
+    refusals: &mut Vec<Refusal<A>, A>,
     number: usize,
-    option: &str,
+    option: &'static str,
     error: &IdMapBuildError,
 ) -> Result<(), AllocError>
     ensures { OnOk result ((fault : BuildFault) × (build_fault_of error.now ≡ Some fault)
         × Adds (TellsBuildFault number option.now fault)
-        (string_bytes refusals.old.text) (string_bytes refusals.new.text)) }
+        refusals.old.items refusals.new.items) }
 {
     let why = build_sentence(alloc, error)?;
     match error {
-        IdMapBuildError::RangeOverflow { index, .. } => {
-            tell(refusals, number, *index, option, why.as_str())
-        }
-        IdMapBuildError::Intersects { index, .. } => {
-            tell(refusals, number, *index, option, why.as_str())
-        }
+        IdMapBuildError::RangeOverflow { index, .. } => tell(refusals, number, *index, option, why),
+        IdMapBuildError::Intersects { index, .. } => tell(refusals, number, *index, option, why),
         IdMapBuildError::OutOfMemory => Err(AllocError),
     }
 }
@@ -147,14 +133,14 @@ fn refuse_build<A: Allocator + Copy>(
 /// Tells why no map is made of the texts of specifications of a guest.
 fn refuse_specs<A: Allocator + Copy>(
     alloc: A,
-    refusals: &mut Refusals<A>,
+    refusals: &mut Vec<Refusal<A>, A>,
     number: usize,
-    option: &str,
+    option: &'static str,
     error: &SpecsError<A>,
 ) -> Result<(), AllocError>
     ensures { OnOk result ((fault : SpecsFault) × (specs_fault_of error.now ≡ Some fault)
         × Adds (TellsSpecsFault number option.now fault)
-        (string_bytes refusals.old.text) (string_bytes refusals.new.text)) }
+        refusals.old.items refusals.new.items) }
 {
     match error {
         SpecsError::Spec { index, cause } => {
@@ -167,16 +153,14 @@ fn refuse_specs<A: Allocator + Copy>(
 /// The map of the specifications of a guest, or none where a text is refused.
 fn read_specs<A: Allocator + Copy>(
     alloc: A,
-    refusals: &mut Refusals<A>,
+    refusals: &mut Vec<Refusal<A>, A>,
     number: usize,
-    option: &str,
+    option: &'static str,
     texts: &[&str],
 ) -> Result<Option<Ids<A>>, AllocError>
     ensures read { IfOk result (ReadsSpecs (texts_of texts.now)) }
-    ensures told { IfOk result (λ map. TellsWhere (map ≡ None)
-        (string_bytes refusals.old.text) (string_bytes refusals.new.text)) }
     ensures says { OnOk result (Adds (TellsSpecs number option.now (texts_of texts.now))
-        (string_bytes refusals.old.text) (string_bytes refusals.new.text)) }
+        refusals.old.items refusals.new.items) }
 {
     match IdMap::from_specs(alloc, texts) {
         Ok(map) => Ok(Some(map)),
@@ -190,17 +174,15 @@ fn read_specs<A: Allocator + Copy>(
 /// The ranges of a guest, or none where a text is refused.
 fn read_ranges<A: Allocator + Copy>(
     alloc: A,
-    refusals: &mut Refusals<A>,
+    refusals: &mut Vec<Refusal<A>, A>,
     number: usize,
-    option: &str,
+    option: &'static str,
     texts: &[&str],
 ) -> Result<Option<Vec<UidMap, A>>, AllocError>
     ensures read { IfOk result (λ ranges. ReadsRanges (texts_of texts.now)
         (option_map (λ all. all.items) ranges)) }
-    ensures told { IfOk result (λ ranges. TellsWhere (ranges ≡ None)
-        (string_bytes refusals.old.text) (string_bytes refusals.new.text)) }
     ensures says { OnOk result (Adds (TellsRanges number option.now (texts_of texts.now))
-        (string_bytes refusals.old.text) (string_bytes refusals.new.text)) }
+        refusals.old.items refusals.new.items) }
 {
     let mut ranges = Vec::new(alloc);
     for place in 0..texts.len() {
@@ -208,7 +190,7 @@ fn read_ranges<A: Allocator + Copy>(
             Ok(range) => ranges.push(range)?,
             Err(error) => {
                 let why = format!(in alloc; "{error}")?;
-                tell(refusals, number, place, option, why.as_str())?;
+                tell(refusals, number, place, option, why)?;
                 return Ok(None);
             }
         }
@@ -219,18 +201,16 @@ fn read_ranges<A: Allocator + Copy>(
 /// What texts set up for ids of a kind, or nothing where one is refused.
 fn read_ids<A: Allocator + Copy>(
     alloc: A,
-    refusals: &mut Refusals<A>,
+    refusals: &mut Vec<Refusal<A>, A>,
     number: usize,
     kind: IdKind,
     specs: &[&str],
     ranges: &[&str],
 ) -> Result<Option<IdSetUp<A>>, AllocError>
     ensures read { IfOk result (ReadsIds (texts_of specs.now) (texts_of ranges.now)) }
-    ensures told { IfOk result (λ set. TellsWhere (set ≡ None)
-        (string_bytes refusals.old.text) (string_bytes refusals.new.text)) }
     ensures says { OnOk result (Adds
         (TellsIds number kind (texts_of specs.now) (texts_of ranges.now))
-        (string_bytes refusals.old.text) (string_bytes refusals.new.text)) }
+        refusals.old.items refusals.new.items) }
 {
     let map = read_specs(alloc, refusals, number, translating(kind), specs)?;
     let ranges = read_ranges(alloc, refusals, number, ranging(kind), ranges)?;
@@ -273,34 +253,16 @@ fn rules_sentence<A: Allocator + Copy>(alloc: A, error: &Error<A>) -> Result<Str
     Ok(why)
 }
 
-/// Tells that the rules of a guest are refused, and why.
-fn tell_rules<A: Allocator>(
-    refusals: &mut Refusals<A>,
-    number: usize,
-    why: &str,
-) -> Result<(), AllocError>
-    ensures { OnOk result (string_bytes refusals.new.text
-        ≡ string_bytes refusals.old.text ++ rules_refusal_line number why.now) }
-{
-    let why = Written(why.as_bytes());
-    writeln!(
-        refusals.text,
-        "guest {number}: --xattrmap is refused: {why}"
-    )
-}
-
 /// What the rules of a guest set up, or nothing where there are no rules or they are refused.
 fn read_names<A: Allocator + Copy>(
     alloc: A,
-    refusals: &mut Refusals<A>,
+    refusals: &mut Vec<Refusal<A>, A>,
     number: usize,
     rules: Option<&str>,
 ) -> Result<Option<NamesSetUp<A>>, AllocError>
     ensures read { IfOk result (ReadsNames rules.entry) }
-    ensures told { IfOk result (λ map. TellsWhere ((rules.entry ≢ None) × (map ≡ None))
-        (string_bytes refusals.old.text) (string_bytes refusals.new.text)) }
-    ensures says { OnOk result (Adds (TellsNames A number rules.entry)
-        (string_bytes refusals.old.text) (string_bytes refusals.new.text)) }
+    ensures says { OnOk result (Adds (TellsNames number rules.entry)
+        refusals.old.items refusals.new.items) }
 {
     let Some(text) = rules else {
         return Ok(None);
@@ -311,8 +273,11 @@ fn read_names<A: Allocator + Copy>(
             if !tells_fault(&error) {
                 return Err(AllocError);
             }
-            let why = rules_sentence(alloc, &error)?;
-            tell_rules(refusals, number, why.as_str())?;
+            refusals.push(Refusal {
+                guest: number,
+                at: None,
+                why: rules_sentence(alloc, &error)?,
+            })?;
             Ok(None)
         }
     }
@@ -338,15 +303,13 @@ fn translates_lists<A: Allocator>(guest: &Guest<'_, A>) -> bool
 /// What the texts of the guest of that number set up.
 pub(crate) fn set_up<A: Allocator + Copy>(
     alloc: A,
-    refusals: &mut Refusals<A>,
+    refusals: &mut Vec<Refusal<A>, A>,
     number: usize,
     guest: &Guest<'_, A>,
 ) -> Result<SetUp<A>, AllocError>
     ensures sets_up { IfOk result (SetsUp guest.now) }
-    ensures told { IfOk result (λ set. TellsWhere (IsRefused guest.now set)
-        (string_bytes refusals.old.text) (string_bytes refusals.new.text)) }
     ensures says { OnOk result (Adds (TellsGuest number guest.now)
-        (string_bytes refusals.old.text) (string_bytes refusals.new.text)) }
+        refusals.old.items refusals.new.items) }
 {
     let users = read_ids(
         alloc,

@@ -21,6 +21,5 @@ returns c =
     says_all c.args.asked c.args.guests.now _ c.in_ok-sets.sets.items c.in_ok-report.report
     c.in_ok-sets.ensures.sets_up (rw c.as_slice.ensures.value at c.in_ok-report.ensures)
     c.has_found-is_found.ensures
-    (rw c.new.ensures.bytes at c.in_ok-sets.ensures.told)
-    (rw c.new.ensures.bytes at c.in_ok-sets.ensures.says) c.in_ok-text.ensures.quiet
-    (rw (c.as_slice-2.ensures.value, c.as_str-told.ensures.value) at c.in_ok-text.ensures.plain)
+    (rw c.new-refusals.ensures.items at c.in_ok-sets.ensures.says) c.in_ok-text.ensures.quiet
+    (rw (c.as_slice-2.ensures.value, c.as_slice-told.ensures.value) at c.in_ok-text.ensures.plain)

@@ -2,27 +2,20 @@ use Rattle.std.proofs.Common.{[], subst, refl, sym, append-nil}
 use Rattle.std.proofs.lemmas.List.{take_all}
 use Rattle.std.specs.List.{AllZip}
 use Rattle.virtiofs_mapaudit.specs.Guests.{SetsUp}
-use Rattle.virtiofs_mapaudit.proofs.SetUpLemmas.{sets_up_more, tells_nothing, tells_more, tells_all}
-use Rattle.virtiofs_mapaudit.proofs.SetUpLemmas.{adds_guest, adds_all}
+use Rattle.virtiofs_mapaudit.proofs.SetUpLemmas.{sets_up_more, adds_guest, adds_all}
 use Rattle.virtiofs_mapaudit.proofs.audit.set_up_all.Goals as goal
 
 pub loop-place-init : goal.loop-place-init
 loop-place-init g c =
-    rw c.new-sets.ensures.items (
-      tt,
-      tells_nothing _ _ _ refl (λ some. some),
-      record { more = []; is = refl; added = sym (append-nil _) },
-    )
+    rw c.new-sets.ensures.items (tt, record { more = []; is = refl; added = sym (append-nil _) })
 
 pub loop-place-preserved : goal.loop-place-preserved
 loop-place-preserved g c =
     rw c.in_ok-push.ensures.items (
       sets_up_more c.args.guests.now _ c.loop-place.place c.index-guests-place.result _ c.index-guests-place.is
           c.loop-place-test.true c.loop-place.invariant.0 c.in_ok-set_up.ensures.sets_up,
-      tells_more c.args.guests.now _ c.loop-place.place c.index-guests-place.result _ _ _ _ c.index-guests-place.is
-          c.loop-place-test.true c.loop-place.invariant.0 c.loop-place.invariant.1 c.in_ok-set_up.ensures.told,
       adds_guest c.args.guests.now c.loop-place.place c.index-guests-place.result _ _ _ c.index-guests-place.is
-          c.loop-place-test.true c.loop-place.invariant.2 c.in_ok-set_up.ensures.says,
+          c.loop-place-test.true c.loop-place.invariant.1 c.in_ok-set_up.ensures.says,
     )
 
 pub returns-clause-sets_up : goal.returns-clause-sets_up
@@ -30,10 +23,6 @@ returns-clause-sets_up g c =
     subst (λ guests. AllZip SetsUp guests c.loop-place.sets.items)
     (take_all c.loop-place.place c.args.guests.now c.loop-place-test.false) c.loop-place.invariant.0
 
-pub returns-clause-told : goal.returns-clause-told
-returns-clause-told g c =
-    tells_all c.args.guests.now _ c.loop-place.place _ _ c.loop-place-test.false c.loop-place.invariant.1
-
 pub returns-clause-says : goal.returns-clause-says
 returns-clause-says g c =
-    adds_all c.args.guests.now c.loop-place.place _ _ c.loop-place-test.false c.loop-place.invariant.2
+    adds_all c.args.guests.now c.loop-place.place _ _ c.loop-place-test.false c.loop-place.invariant.1

@@ -1,10 +1,9 @@
 use Rattle.virtiofs_mapaudit.proofs.SetUpLemmas.{says_more, refuses_range, adds_range, adds_no_ranges}
-use Rattle.std.proofs.Common.{◌++◌, ◌∙◌, ap, subst}
+use Rattle.std.proofs.Common.{◌++◌, ◌∷◌, [], ◌∙◌, ap, subst}
 use Rattle.std.specs.List.{AllZip}
 use Rattle.std.proofs.lemmas.List.{take_all, length-map}
 use Rattle.virtiofs_map.specs.Specifications.{texts_of}
 use Rattle.virtiofs_mapaudit.specs.Guests.{SaysRange}
-use Rattle.virtiofs_mapaudit.specs.Refusals.{refusal_line}
 use Rattle.virtiofs_mapaudit.proofs.setup.read_ranges.Goals as goal
 
 pub loop-place-preserved : goal.loop-place-preserved
@@ -20,11 +19,10 @@ returns-in-Err-clause-read g c =
 
 pub returns-in-Err-clause-says : goal.returns-in-Err-clause-says
 returns-in-Err-clause-says g c =
-    adds_range c.args.number c.args.option.now c.as_str.result.now c.args.texts.now _ c.loop-place.place _ _ _ _ c.loop-place-test.true c.loop-place.invariant.0
+    let told = c.in_ok-tell-in-Err.ensures in
+    adds_range c.args.number c.args.option.now _ c.args.texts.now _ c.loop-place.place _ _ _ _ c.loop-place-test.true c.loop-place.invariant.0
     c.in-Err.ensures.refused
-    (c.in_ok-tell-in-Err.ensures
-    ∙ ap (λ t. t ++ refusal_line c.args.number c.loop-place.place c.args.option.now c.as_str.result.now)
-    c.loop-place.invariant.1)
+    (told.0, told.1, told.2, told.3 ∙ ap (λ t. t ++ told.0 ∷ []) c.loop-place.invariant.1)
 
 pub returns-clause-says : goal.returns-clause-says
 returns-clause-says g c =

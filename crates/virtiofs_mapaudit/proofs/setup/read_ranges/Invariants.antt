@@ -1,5 +1,5 @@
 -- the texts so far say these ranges, and nothing was told
-use Rattle.std.proofs.Common.{◌≡◌, take, string_bytes}
+use Rattle.std.proofs.Common.{◌≡◌, take}
 use Rattle.std.specs.List.{AllZip}
 use Rattle.virtiofs_map.specs.Specifications.{texts_of}
 use Rattle.virtiofs_mapaudit.specs.Guests.{SaysRange}
@@ -8,4 +8,4 @@ use Rattle.virtiofs_mapaudit.proofs.setup.read_ranges.Given as goal
 abbrev pub invariant-loop-place : goal.invariant-loop-place
 invariant-loop-place g l =
     AllZip SaysRange (take l.place (texts_of l.texts)) l.ranges.items
-    × (string_bytes l.refusals.text ≡ string_bytes l.initial.refusals.text)
+    × (l.refusals.items ≡ l.initial.refusals.items)

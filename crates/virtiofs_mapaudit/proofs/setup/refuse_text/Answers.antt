@@ -15,10 +15,12 @@ pub returns-in-InvalidValue-clause-faulty : goal.returns-in-InvalidValue-clause-
 returns-in-InvalidValue-clause-faulty g c = tells_fault _ _ _ (ap (λ e. specification_fault_of e) c.in-InvalidValue.is)
 
 pub returns-in-InvalidPrefix-clause-told : goal.returns-in-InvalidPrefix-clause-told
-returns-in-InvalidPrefix-clause-told g c =
-    adds_place _ _ _ c.args.number c.args.place c.args.option.now c.as_str.result.now c.tell.ensures
+returns-in-InvalidPrefix-clause-told g c = adds_place _ _ _ c.args.number c.args.place c.args.option.now _ c.tell.ensures
+
+pub returns-in-InvalidLength-clause-told : goal.returns-in-InvalidLength-clause-told
+returns-in-InvalidLength-clause-told g c =
+    adds_place _ _ _ c.args.number c.args.place c.args.option.now _ c.tell-in-InvalidLength.ensures
 
 pub returns-in-InvalidValue-clause-told : goal.returns-in-InvalidValue-clause-told
 returns-in-InvalidValue-clause-told g c =
-    adds_place _ _ _ c.args.number c.args.place c.args.option.now c.as_str-in-InvalidValue.result.now
-    c.tell-in-InvalidValue.ensures
+    adds_place _ _ _ c.args.number c.args.place c.args.option.now _ c.tell-in-InvalidValue.ensures

@@ -1,4 +1,4 @@
-use Rattle.virtiofs_mapaudit.proofs.SetUpLemmas.{tells_three, adds_kinds}
+use Rattle.virtiofs_mapaudit.proofs.SetUpLemmas.{adds_kinds}
 use Rattle.virtiofs_mapaudit.proofs.setup.set_up.Goals as goal
 
 pub returns-clause-sets_up : goal.returns-clause-sets_up
@@ -8,10 +8,6 @@ returns-clause-sets_up g c = record {
   names = c.in_ok-names.ensures.read;
   lists = c.translates_lists.ensures;
 }
-
-pub returns-clause-told : goal.returns-clause-told
-returns-clause-told g c =
-    tells_three _ _ _ _ _ _ _ c.in_ok-users.ensures.told c.in_ok-groups.ensures.told c.in_ok-names.ensures.told
 
 pub returns-clause-says : goal.returns-clause-says
 returns-clause-says g c =
