@@ -17,6 +17,7 @@ sys.dont_write_bytecode = True
 from tally import Tally
 
 SECONDS = 60
+OUT_OF_MEMORY = b"virtiofs_mapcheck: out of memory\n", b"virtiofs_mapaudit: out of memory\n"
 # How a shell starts a program whose standard output is not kept.
 STARTS = {"full": 'exec "$@" >/dev/full', "closed": 'exec "$@" >&-'}
 
@@ -45,11 +46,14 @@ def is_wanted_output(row, output):
 
 
 def is_wanted_error(row, errors):
-    """Whether standard error is what the row says. If it says nothing, status 2 needs some text, and others none."""
+    """Whether standard error is what the row says. If it says nothing, status 2 needs some text, status 3 the line on
+    memory, and others none."""
     if "errors_begin" in row:
         return errors.startswith(row["errors_begin"].encode())
     if "errors" in row:
         return errors == row["errors"].encode()
+    if row["status"] == 3:
+        return errors in OUT_OF_MEMORY
     return bool(errors) == (row["status"] == 2)
 
 

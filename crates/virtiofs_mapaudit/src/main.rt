@@ -34,9 +34,15 @@ virtiofs_mapaudit(1) says more: man virtiofs_mapaudit
 ///
 /// The program ends with status 0 where nothing was found, 1 where a text was refused, 2 where the
 /// words are wrong, 3 where memory ran out, 4 where a write or a flush failed, and 5 where something
-/// was found and no text was refused.
+/// was found and no text was refused. If memory ran out, nothing was written, and standard error
+/// says so.
 fn main(rt: HostRuntime) -> ExitCode {
-    ExitCode::from(status(run(&rt)))
+    let ended = run(&rt);
+    if matches!(ended, Err(AnswerFault::OutOfMemory)) {
+        // (this takes no memory: std formats on the stack)
+        let _ = eprint!(rt; "virtiofs_mapaudit: out of memory\n");
+    }
+    ExitCode::from(status(ended))
 }
 
 /// The arguments after the program's name; `None` where one is not UTF-8.

@@ -37,11 +37,15 @@ virtiofs_mapcheck(1) says what each form answers: man virtiofs_mapcheck
 ///
 /// The program ends with status 0 where the words were answered, 1 where a configuration was
 /// refused, 2 where the words have no form, 3 where memory ran out, and 4 where a write or a flush
-/// failed. Wrong words also get a usage on standard error.
+/// failed. Wrong words also get a usage on standard error, and want of memory a line.
 fn main(rt: HostRuntime) -> ExitCode {
     let ended = run(&rt);
     if matches!(ended, Ok(Answered::WrongWords)) {
         let _ = eprint!(rt; "{USAGE}");
+    }
+    if matches!(ended, Err(AnswerFault::OutOfMemory)) {
+        // (this takes no memory: std formats on the stack)
+        let _ = eprint!(rt; "virtiofs_mapcheck: out of memory\n");
     }
     ExitCode::from(status(ended))
 }
