@@ -10,3 +10,5 @@ mod MeetingLemmas
 mod IdTableLemmas
 mod SetUpLemmas
 mod RefusalLemmas
+mod NoFloatLemmas
+mod ReportJsonLemmas

@@ -19,6 +19,7 @@ use Rattle.virtiofs_mapaudit.specs.IdFindings.{FindsIds}
 use Rattle.virtiofs_mapaudit.specs.PairFindings.{FindsPair}
 use Rattle.virtiofs_mapaudit.specs.Ranges.{FindsFault}
 use Rattle.virtiofs_mapaudit.specs.Report.{FindsGuest, FindsKind, ids_found, FindsReport, IsFound, IsPairOf, HasPair}
+use Rattle.virtiofs_mapaudit.specs.ReportJson.{IsJson}
 use Rattle.virtiofs_mapaudit.specs.ReportParts.{AddsPairs, AreCompared}
 use Rattle.virtiofs_mapaudit.specs.Said.{Says, AreTables, rules_given, options_text, set_up_line}
 use Rattle.virtiofs_mapaudit.specs.Said.{guests_text, pairs_text, IsPlain}
@@ -302,8 +303,10 @@ pub says_all : (asked : Asked) (guests : List (Guest Global)) (said : Said) (set
     → (IsTrue asked.quiet → string_bytes said.text ≡ [])
     → (IsFalse asked.quiet → IsFalse asked.json
     → IsPlain asked guests sets report said.is_found said.refusals.items (string_bytes said.text))
+    → (IsFalse asked.quiet → IsTrue asked.json
+    → IsJson asked sets report said.refusals.items (string_bytes said.text))
     → Says asked guests said
-says_all asked guests said sets report sets_up finds found says quiet plain =
+says_all asked guests said sets report sets_up finds found says quiet plain json =
     let told = subst (TellsGuests 1 guests) (sym says.added) says.is in
     record {
       sets = sets;
@@ -315,4 +318,5 @@ says_all asked guests said sets report sets_up finds found says quiet plain =
       refusals = told;
       quiet = quiet;
       plain = plain;
+      json = json;
     }

@@ -1,11 +1,14 @@
+pub mod FindingJson
 pub mod FindingText
 pub mod Guests
 pub mod IdFindings
+pub mod IdJson
 pub mod IdParts
 pub mod IdTable
 pub mod KindWords
 pub mod Lists
 pub mod NameFindings
+pub mod NameJson
 pub mod NameParts
 pub mod NameTable
 pub mod NameTableParts
@@ -19,5 +22,6 @@ pub mod Ranges
 pub mod RefusalText
 pub mod Refusals
 pub mod Report
+pub mod ReportJson
 pub mod ReportParts
 pub mod Said

@@ -12,6 +12,7 @@ use Rattle.virtiofs_mapaudit.specs.Lists.{joined}
 use Rattle.virtiofs_mapaudit.specs.NameTable.{ShowsNames}
 use Rattle.virtiofs_mapaudit.specs.Refusals.{IsSomeRefused, TellsGuests}
 use Rattle.virtiofs_mapaudit.specs.Report.{FindsReport, IsFound}
+use Rattle.virtiofs_mapaudit.specs.ReportJson.{IsJson}
 use Rattle.virtiofs_mapaudit.specs.declared.audit.Pair.{Pair}
 use Rattle.virtiofs_mapaudit.specs.declared.audit.Report.{Report}
 use Rattle.virtiofs_mapaudit.specs.declared.audit.Said.{Said}
@@ -101,7 +102,7 @@ pub record IsPlain {A : Type 0} (asked : Asked) (guests : List (Guest A)) (sets 
   pub are_tables : AllZip (AreTables asked) sets tables
   pub whole : text ≡ report_text guests tables report is_found refusals
 
--- what is written of the guests. With `quiet` the text is empty. Of the text of `json` nothing is said here
+-- what is written of the guests. With `quiet` the text is empty
 pub record Says (asked : Asked) (guests : List (Guest Global)) (said : Said) : Type 0 where
   pub sets : List (SetUp Global)
   pub report : Report Global
@@ -113,3 +114,5 @@ pub record Says (asked : Asked) (guests : List (Guest Global)) (said : Said) : T
   pub quiet : IsTrue asked.quiet → string_bytes said.text ≡ []
   pub plain : IsFalse asked.quiet → IsFalse asked.json
       → IsPlain asked guests sets report said.is_found said.refusals.items (string_bytes said.text)
+  pub json : IsFalse asked.quiet → IsTrue asked.json
+      → IsJson asked sets report said.refusals.items (string_bytes said.text)

@@ -1,118 +1,137 @@
 //! What was found, as JSON. docs/virtiofs_mapaudit.1 has its schema.
+ghost use Rattle.std.specs.Prelude.{◌≡◌, ◌++◌, List, IfOk, map, string_bytes};
+ghost use Rattle.serde_json.specs.Data.{Data, string};
+ghost use Rattle.serde_json.specs.View.{view};
+ghost use Rattle.virtiofs_mapaudit.specs.ReportJson.{IsTableIf, IsNamesOf, IsGuest, AreGuests, findings_data, pairs_data, report_data, IsJson};
+ghost use Rattle.virtiofs_mapaudit.specs.IdJson.{IsIdTable};
+ghost use Rattle.virtiofs_mapaudit.specs.RefusalText.{refusal_text};
 
 mod findings;
 mod ids;
-mod members;
 mod names;
-mod writer;
 
 use crate::audit::Report;
 use crate::finding::Finding;
 use crate::refusal::Refusal;
 use crate::setup::{IdSetUp, NamesSetUp, SetUp};
-use findings::write_finding;
-use ids::write_id_table;
-use members::write_count;
-use names::write_name_table;
+use findings::push_findings;
+use ids::id_table;
+use names::name_table;
+use serde_json::{Value, json};
 use std::alloc::{AllocError, Global};
 use virtiofs_options::front::Asked;
-use writer::Writer;
 
-/// The version of the schema, which is the first digit of the program's.
-const SCHEMA: usize = 2;
-
-/// Writes what was found of one guest.
-fn write_found(alloc: Global, json: &mut Writer, guest: usize, found: &[Finding<Global>]) {
-    for finding in found {
-        write_finding(alloc, json, guest, finding);
+/// What becomes of all ids of one kind, or null.
+fn shown_ids(alloc: Global, asked: bool, set: &Option<IdSetUp<Global>>) -> Result<Value, AllocError>
+    ensures { IfOk result (λ value. IsTableIf asked IsIdTable set.now (view value)) }
+{
+    if !asked {
+        return Ok(Value::Null);
     }
-}
-
-/// Writes what becomes of all ids of one kind, or null.
-fn write_shown_ids(json: &mut Writer, asked: Asked, set: &Option<IdSetUp<Global>>) {
     match set {
-        Some(set) if asked.ids => write_id_table(json, &set.map, set.ranges.as_slice()),
-        _ => json.null(),
+        Some(set) => id_table(alloc, set),
+        None => Ok(Value::Null),
     }
 }
 
-/// Writes what becomes of some names, or null.
-fn write_shown_names(
+/// What becomes of some names, or null.
+fn shown_names(
     alloc: Global,
-    json: &mut Writer,
-    asked: Asked,
+    asked: bool,
     set: &Option<NamesSetUp<Global>>,
-) {
+) -> Result<Value, AllocError>
+    ensures { IfOk result (λ value. IsTableIf asked IsNamesOf set.now (view value)) }
+{
+    if !asked {
+        return Ok(Value::Null);
+    }
     match set {
-        Some(set) if asked.names => write_name_table(alloc, json, &set.map),
-        _ => json.null(),
+        Some(set) => name_table(alloc, &set.map),
+        None => Ok(Value::Null),
     }
 }
 
-/// Writes what was asked to be shown of a guest.
-fn write_shown(alloc: Global, json: &mut Writer, asked: Asked, guest: usize, set: &SetUp<Global>) {
-    json.begin_object();
-    write_count(json, "guest", guest);
-    json.key("users");
-    write_shown_ids(json, asked, &set.users);
-    json.key("groups");
-    write_shown_ids(json, asked, &set.groups);
-    json.key("names");
-    write_shown_names(alloc, json, asked, &set.names);
-    json.end_object();
-}
-
-/// Writes what was asked to be shown of each guest.
-fn write_all_shown(alloc: Global, json: &mut Writer, asked: Asked, sets: &[SetUp<Global>]) {
-    json.begin_array();
-    for (place, set) in sets.iter().enumerate() {
-        write_shown(alloc, json, asked, place + 1, set);
-    }
-    json.end_array();
-}
-
-/// Writes what was found.
-fn write_findings(alloc: Global, json: &mut Writer, report: &Report<Global>) {
-    json.begin_array();
-    for (place, found) in report.guests.iter().enumerate() {
-        write_found(alloc, json, place + 1, found.as_slice());
-    }
-    for pair in report.pairs.as_slice() {
-        write_found(alloc, json, pair.first, pair.found.as_slice());
-    }
-    json.end_array();
-}
-
-/// Writes what is told of texts that are refused.
-fn write_refused(alloc: Global, json: &mut Writer, refusals: &[Refusal<Global>]) {
-    json.begin_array();
-    for refusal in refusals {
-        match format!(in alloc; "{refusal}") {
-            Ok(line) => json.string(line.as_str()),
-            Err(_) => json.fail(),
-        }
-    }
-    json.end_array();
-}
-
-/// Writes a report.
-fn write_report(
+/// What was asked to be shown of the guest of a number.
+fn guest_value(
     alloc: Global,
-    json: &mut Writer,
+    asked: Asked,
+    number: usize,
+    set: &SetUp<Global>,
+) -> Result<Value, AllocError>
+    ensures { IfOk result (λ value. IsGuest asked number set.now (view value)) }
+{
+    let users = shown_ids(alloc, asked.ids, &set.users)?;
+    let groups = shown_ids(alloc, asked.ids, &set.groups)?;
+    let names = shown_names(alloc, asked.names, &set.names)?;
+    json!(in alloc; {"guest": number, "users": users, "groups": groups, "names": names})
+}
+
+/// What was asked to be shown of each guest.
+fn guests_value(
+    alloc: Global,
+    asked: Asked,
+    sets: &[SetUp<Global>],
+) -> Result<Vec<Value>, AllocError>
+    ensures { IfOk result (λ list. AreGuests asked 1 sets.now (map view list.items)) }
+{
+    let mut list = Vec::new(alloc);
+    for place in 0..sets.len() {
+        list.push(guest_value(alloc, asked, place + 1, &sets[place])?)?;
+    }
+    Ok(list)
+}
+
+/// What was found of each guest by itself.
+fn guests_found(alloc: Global, guests: &[Vec<Finding<Global>>]) -> Result<Vec<Value>, AllocError>
+    ensures { IfOk result (λ list. map view list.items ≡ findings_data 1 guests.now) }
+{
+    let mut list = Vec::new(alloc);
+    for place in 0..guests.len() {
+        push_findings(alloc, &mut list, place + 1, guests[place].as_slice())?;
+    }
+    Ok(list)
+}
+
+/// What was found.
+fn findings_value(alloc: Global, report: &Report<Global>) -> Result<Vec<Value>, AllocError>
+    ensures { IfOk result (λ list. map view list.items
+        ≡ findings_data 1 report.now.guests.items ++ pairs_data report.now.pairs.items) }
+{
+    let mut list = guests_found(alloc, report.guests.as_slice())?;
+    for pair in report.pairs.as_slice() {
+        push_findings(alloc, &mut list, pair.first, pair.found.as_slice())?;
+    }
+    Ok(list)
+}
+
+/// What is told of texts that are refused.
+fn refused_value(alloc: Global, refusals: &[Refusal<Global>]) -> Result<Vec<Value>, AllocError>
+    ensures { IfOk result (λ list.
+        map view list.items ≡ map string (map refusal_text refusals.now)) }
+{
+    let mut list = Vec::new(alloc);
+    for refusal in refusals {
+        let line = format!(in alloc; "{refusal}")?;
+        list.push(Value::String(line))?;
+    }
+    Ok(list)
+}
+
+/// All that is written.
+fn report_value(
+    alloc: Global,
     asked: Asked,
     sets: &[SetUp<Global>],
     report: &Report<Global>,
     refusals: &[Refusal<Global>],
-) {
-    json.begin_object();
-    write_count(json, "schema", SCHEMA);
-    json.key("guests");
-    write_all_shown(alloc, json, asked, sets);
-    json.key("findings");
-    write_findings(alloc, json, report);
-    json.key("refused");
-    write_refused(alloc, json, refusals);
-    json.end_object();
+) -> Result<Value, AllocError>
+    ensures { IfOk result (λ value. (guests : List Data) × AreGuests asked 1 sets.now guests
+        × (view value ≡ report_data guests report.now refusals.now)) }
+{
+    let guests = guests_value(alloc, asked, sets)?;
+    let findings = findings_value(alloc, report)?;
+    let refused = refused_value(alloc, refusals)?;
+    json!(in alloc; {"schema": 2, "guests": guests, "findings": findings, "refused": refused})
 }
 
 /// The JSON of a report, and a line feed.
@@ -122,8 +141,11 @@ pub(crate) fn report_as_json(
     sets: &[SetUp<Global>],
     report: &Report<Global>,
     refusals: &[Refusal<Global>],
-) -> Result<String, AllocError> {
-    let mut json = Writer::new(alloc);
-    write_report(alloc, &mut json, asked, sets, report, refusals);
-    json.into_text(alloc)
+) -> Result<String, AllocError>
+    ensures { IfOk result (λ text.
+        IsJson asked sets.now report.now refusals.now (string_bytes text)) }
+{
+    let mut text = report_value(alloc, asked, sets, report, refusals)?.to_string(alloc)?;
+    text.push_str("\n")?;
+    Ok(text)
 }

@@ -6,6 +6,7 @@ ghost use Rattle.virtiofs_mapaudit.specs.Guests.{SetsUp};
 ghost use Rattle.virtiofs_mapaudit.specs.Lists.{Adds};
 ghost use Rattle.virtiofs_mapaudit.specs.Refusals.{TellsGuests};
 ghost use Rattle.virtiofs_mapaudit.specs.Report.{FindsReport, IsFound, IsFoundOf, IsFoundBetween};
+ghost use Rattle.virtiofs_mapaudit.specs.ReportJson.{IsJson};
 ghost use Rattle.virtiofs_mapaudit.specs.ReportParts.{AddsPairs};
 ghost use Rattle.virtiofs_mapaudit.specs.Said.{Says, ShownIf, ShowsSet, ShowsKind, ShowsBothKinds, ShowsSomeNames, AreTables, rules_given, set_up_line, guests_text, pairs_text, closing, IsPlain};
 
@@ -336,6 +337,8 @@ fn in_form(
     ensures quiet { IsTrue asked.quiet → IfOk result (λ text. string_bytes text ≡ []) }
     ensures plain { IsFalse asked.quiet → IsFalse asked.json → IfOk result (λ text.
         IsPlain asked guests.now sets.now report.now is_found refusals.now (string_bytes text)) }
+    ensures json { IsFalse asked.quiet → IsTrue asked.json → IfOk result (λ text.
+        IsJson asked sets.now report.now refusals.now (string_bytes text)) }
 {
     if asked.quiet {
         return Ok(String::new(alloc));

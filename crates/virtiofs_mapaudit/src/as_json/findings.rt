@@ -1,138 +1,243 @@
-//! Findings in JSON.
+//! Findings as JSON.
+ghost use Rattle.std.specs.Prelude.{◌≡◌, ◌+◌, ◌++◌, IfOk, OnOk, map};
+ghost use Rattle.serde_json.specs.View.{view};
+ghost use Rattle.virtiofs_mapaudit.specs.NameJson.{least_data};
+ghost use Rattle.virtiofs_mapaudit.specs.FindingJson.{ids_word, not_back_data, shared_data, alone_data, id_data, range_data, fault_data, idle_data, plain_data, names_data, between_data, met_data, finding_data};
 
-use super::members::{Whose, begin_found, write_count, write_maybe, write_number, write_text};
-use super::names::write_least;
-use super::writer::Writer;
+use super::names::least_value;
 use crate::finding::Finding;
 use crate::ids::found::{IdFault, IdFound};
 use crate::ids::kind::IdKind;
 use crate::ids::ranges::{RangeFault, RangeFound};
 use crate::names::found::LeastName;
-use std::alloc::Global;
+use serde_json::{Value, json};
+use std::alloc::{AllocError, Global};
 
 /// The word for a kind of ids.
-fn word(kind: IdKind) -> &'static str {
+fn word(kind: IdKind) -> &'static str
+    ensures { result.now ≡ ids_word kind }
+{
     match kind {
         IdKind::Users => "users",
         IdKind::Groups => "groups",
     }
 }
 
-/// Writes an id, and its second id under the name that it has there.
-fn write_id(json: &mut Writer, guest: usize, ids: IdKind, fault: IdFault, it: IdFound) {
-    let (kind, second) = match fault {
-        IdFault::NotBack => ("not_back", Some("back")),
-        IdFault::Shared => ("one_on_host", Some("other")),
-        IdFault::Root => ("root", None),
-        IdFault::Lacking => ("lacking", None),
-    };
-    begin_found(json, Whose::Guest(guest), kind);
-    write_text(json, "ids", word(ids));
-    write_number(json, "id", it.guest);
-    write_number(json, "host", it.host);
-    if let Some(name) = second {
-        write_number(json, name, it.other);
+/// The number of a range or a rule, counted from 1. Its place is counted from 0. There is no list so
+/// long that a number does not fit; it would be answered as out of memory.
+fn number_at(place: usize) -> Result<usize, AllocError>
+    ensures { IfOk result (λ number. number ≡ place + 1) }
+{
+    place.checked_add(1).ok_or(AllocError)
+}
+
+/// An id that does not come back.
+fn not_back(alloc: Global, guest: usize, ids: &str, it: IdFound) -> Result<Value, AllocError>
+    ensures { IfOk result (λ value. view value ≡ not_back_data guest ids.now it) }
+{
+    json!(in alloc; {
+        "guest": guest, "kind": "not_back", "ids": ids, "id": it.guest, "host": it.host,
+        "back": it.other
+    })
+}
+
+/// An id that shares its id of the host with another one.
+fn shared(alloc: Global, guest: usize, ids: &str, it: IdFound) -> Result<Value, AllocError>
+    ensures { IfOk result (λ value. view value ≡ shared_data guest ids.now it) }
+{
+    json!(in alloc; {
+        "guest": guest, "kind": "one_on_host", "ids": ids, "id": it.guest, "host": it.host,
+        "other": it.other
+    })
+}
+
+/// An id with which another thing is wrong, of which no second id is told.
+fn alone(
+    alloc: Global,
+    guest: usize,
+    what: &str,
+    ids: &str,
+    it: IdFound,
+) -> Result<Value, AllocError>
+    ensures { IfOk result (λ value. view value ≡ alone_data guest what.now ids.now it) }
+{
+    json!(in alloc; {
+        "guest": guest, "kind": what, "ids": ids, "id": it.guest, "host": it.host
+    })
+}
+
+/// What is wrong with an id.
+fn id_value(
+    alloc: Global,
+    guest: usize,
+    kind: IdKind,
+    fault: IdFault,
+    it: IdFound,
+) -> Result<Value, AllocError>
+    ensures { IfOk result (λ value. view value ≡ id_data guest kind fault it) }
+{
+    let ids = word(kind);
+    match fault {
+        IdFault::NotBack => not_back(alloc, guest, ids, it),
+        IdFault::Shared => shared(alloc, guest, ids, it),
+        IdFault::Root => alone(alloc, guest, "root", ids, it),
+        IdFault::Lacking => alone(alloc, guest, "lacking", ids, it),
     }
-    json.end_object();
 }
 
-/// Writes a range that is at fault. Places are counted from 1.
-fn write_range(json: &mut Writer, guest: usize, kind: IdKind, found: RangeFound) {
-    let (fault, other) = match found.fault {
-        RangeFault::Empty => ("empty", None),
-        RangeFault::Beyond => ("beyond", None),
-        RangeFault::MeetsInside(other) => ("overlaps_inside", Some(other.saturating_add(1))),
-        RangeFault::MeetsOutside(other) => ("overlaps_outside", Some(other.saturating_add(1))),
-    };
-    begin_found(json, Whose::Guest(guest), "range");
-    write_text(json, "ids", word(kind));
-    write_count(json, "range", found.place.saturating_add(1));
-    write_text(json, "fault", fault);
-    write_maybe(json, "other", other);
-    json.end_object();
-}
-
-/// Writes an id of the host that two guests reach.
-fn write_meeting(json: &mut Writer, whose: Whose, kind: IdKind, it: IdFound) {
-    begin_found(json, whose, "id_of_both");
-    write_text(json, "ids", word(kind));
-    write_number(json, "id", it.guest);
-    write_number(json, "other", it.other);
-    write_number(json, "host", it.host);
-    json.end_object();
-}
-
-/// Writes names that are reported. Of two guests, they are those of the first.
-fn write_names(
+/// A range that is at fault, and the number of the earlier one that it overlaps.
+fn range_value(
     alloc: Global,
-    json: &mut Writer,
-    whose: Whose,
-    kind: &str,
+    guest: usize,
+    ids: &str,
+    number: usize,
+    fault: &str,
+    other: Option<usize>,
+) -> Result<Value, AllocError>
+    ensures { IfOk result (λ value. view value ≡ range_data guest ids.now number fault.now other) }
+{
+    json!(in alloc; {
+        "guest": guest, "kind": "range", "ids": ids, "range": number, "fault": fault,
+        "other": other
+    })
+}
+
+/// What is wrong with a range.
+fn fault_value(
+    alloc: Global,
+    guest: usize,
+    kind: IdKind,
+    found: RangeFound,
+) -> Result<Value, AllocError>
+    ensures { IfOk result (λ value. view value ≡ fault_data guest kind found.place found.fault) }
+{
+    let ids = word(kind);
+    let number = number_at(found.place)?;
+    match found.fault {
+        RangeFault::Empty => range_value(alloc, guest, ids, number, "empty", None),
+        RangeFault::Beyond => range_value(alloc, guest, ids, number, "beyond", None),
+        RangeFault::MeetsInside(place) => {
+            let other = number_at(place)?;
+            range_value(alloc, guest, ids, number, "overlaps_inside", Some(other))
+        }
+        RangeFault::MeetsOutside(place) => {
+            let other = number_at(place)?;
+            range_value(alloc, guest, ids, number, "overlaps_outside", Some(other))
+        }
+    }
+}
+
+/// A rule that decides no name.
+fn idle_value(alloc: Global, guest: usize, place: usize) -> Result<Value, AllocError>
+    ensures { IfOk result (λ value. view value ≡ idle_data guest (place + 1)) }
+{
+    let rule = number_at(place)?;
+    json!(in alloc; {"guest": guest, "kind": "idle_rule", "rule": rule})
+}
+
+/// A finding that has no members of its own.
+fn plain_value(alloc: Global, guest: usize, what: &str) -> Result<Value, AllocError>
+    ensures { IfOk result (λ value. view value ≡ plain_data guest what.now) }
+{
+    json!(in alloc; {"guest": guest, "kind": what})
+}
+
+/// Names of a guest.
+fn names_value(
+    alloc: Global,
+    guest: usize,
+    what: &str,
     least: &LeastName<Global>,
-) {
-    begin_found(json, whose, kind);
-    write_least(alloc, json, least);
-    json.end_object();
+) -> Result<Value, AllocError>
+    ensures { IfOk result (λ value. view value ≡ names_data guest what.now (least_data least.now)) }
+{
+    let least = least_value(alloc, least)?;
+    json!(in alloc; {"guest": guest, "kind": what, "least": least})
 }
 
-/// Writes a rule that decides no name. Rules are counted from 1.
-fn write_idle(json: &mut Writer, guest: usize, place: usize) {
-    begin_found(json, Whose::Guest(guest), "idle_rule");
-    write_count(json, "rule", place.saturating_add(1));
-    json.end_object();
-}
-
-/// Writes a finding that has no members of its own.
-fn write_plain(json: &mut Writer, guest: usize, kind: &str) {
-    begin_found(json, Whose::Guest(guest), kind);
-    json.end_object();
-}
-
-/// Writes a finding; one of a single guest is that of the guest of this number.
-pub(super) fn write_finding(
+/// Names of two guests. They are told by those of the first.
+fn names_between(
     alloc: Global,
-    json: &mut Writer,
+    first: usize,
+    second: usize,
+    what: &str,
+    least: &LeastName<Global>,
+) -> Result<Value, AllocError>
+    ensures { IfOk result (λ value.
+        view value ≡ between_data first second what.now (least_data least.now)) }
+{
+    let least = least_value(alloc, least)?;
+    json!(in alloc; {"guests": [first, second], "kind": what, "least": least})
+}
+
+/// An id of the host that two guests reach.
+fn met_value(
+    alloc: Global,
+    first: usize,
+    second: usize,
+    ids: &str,
+    it: IdFound,
+) -> Result<Value, AllocError>
+    ensures { IfOk result (λ value. view value ≡ met_data first second ids.now it) }
+{
+    json!(in alloc; {
+        "guests": [first, second], "kind": "id_of_both", "ids": ids, "id": it.guest,
+        "other": it.other, "host": it.host
+    })
+}
+
+/// A finding; one of a single guest is that of the guest of this number.
+fn finding_value(
+    alloc: Global,
     guest: usize,
     finding: &Finding<Global>,
-) {
+) -> Result<Value, AllocError>
+    ensures { IfOk result (λ value. view value ≡ finding_data guest finding.now) }
+{
     match finding {
-        Finding::PosixAcl => write_plain(json, guest, "posix_acl"),
-        Finding::Range { kind, range } => write_range(json, guest, *kind, *range),
+        Finding::PosixAcl => plain_value(alloc, guest, "posix_acl"),
+        Finding::Range { kind, range } => fault_value(alloc, guest, *kind, *range),
         Finding::Id {
             kind,
             fault,
             id,
             ..
-        } => write_id(json, guest, *kind, *fault, *id),
-        Finding::NoRule => write_plain(json, guest, "no_rule"),
-        Finding::NotListed(least) => {
-            write_names(alloc, json, Whose::Guest(guest), "not_listed", least)
-        }
-        Finding::ListedElsewhere(least) => {
-            write_names(alloc, json, Whose::Guest(guest), "listed_elsewhere", least)
-        }
-        Finding::IdleRule(place) => write_idle(json, guest, *place),
+        } => id_value(alloc, guest, *kind, *fault, *id),
+        Finding::NoRule => plain_value(alloc, guest, "no_rule"),
+        Finding::NotListed(least) => names_value(alloc, guest, "not_listed", least),
+        Finding::ListedElsewhere(least) => names_value(alloc, guest, "listed_elsewhere", least),
+        Finding::IdleRule(place) => idle_value(alloc, guest, *place),
         Finding::IdOfBoth {
             first,
             second,
             kind,
             id,
-        } => write_meeting(json, Whose::Guests(*first, *second), *kind, *id),
+        } => { met_value(alloc, *first, *second, word(*kind), *id) }
         Finding::ShownToOther {
             setter,
             lister,
             least,
-        } => {
-            let whose = Whose::Guests(*setter, *lister);
-            write_names(alloc, json, whose, "shown_to_other", least)
-        }
+        } => { names_between(alloc, *setter, *lister, "shown_to_other", least) }
         Finding::NameOfBoth {
             first,
             second,
             least,
-        } => {
-            let whose = Whose::Guests(*first, *second);
-            write_names(alloc, json, whose, "name_of_both", least)
-        }
+        } => { names_between(alloc, *first, *second, "name_of_both", least) }
     }
+}
+
+/// Adds findings at the end of a list; one of a single guest is that of the guest of this number.
+pub(super) fn push_findings(
+    alloc: Global,
+    list: &mut Vec<Value>,
+    guest: usize,
+    found: &[Finding<Global>],
+) -> Result<(), AllocError>
+    ensures { OnOk result (map view list.new.items
+        ≡ map view list.old.items ++ map (finding_data guest) found.now) }
+{
+    for finding in found {
+        list.push(finding_value(alloc, guest, finding)?)?;
+    }
+    Ok(())
 }

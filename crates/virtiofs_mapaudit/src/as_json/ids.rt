@@ -1,57 +1,73 @@
-//! Ids in JSON.
+//! Ids as JSON.
+ghost use Rattle.std.specs.Prelude.{◌≡◌, IfOk, List, map};
+ghost use Rattle.serde_json.specs.View.{view};
+ghost use Rattle.virtiofs_map.specs.Pieces.{ArePieces};
+ghost use Rattle.virtiofs_map.specs.declared.soft_idmap.piece.Piece.{Piece};
+ghost use Rattle.virtiofs_mapaudit.specs.IdJson.{piece_data, namespace_data, IsIdTable};
 
-use super::members::{write_maybe, write_number, write_text};
-use super::writer::Writer;
 use crate::ids::audits::Ids;
-use std::alloc::Global;
+use crate::setup::IdSetUp;
+use serde_json::{Value, json};
+use std::alloc::{AllocError, Global};
 use virtiofs_map::idmap::UidMap;
 use virtiofs_map::soft_idmap::{Direction, Outcome, Piece};
 
-/// Writes a piece: its first and last id, and what becomes of them.
-fn write_piece(json: &mut Writer, piece: Piece) {
+/// A piece: its first and last id, and what becomes of them.
+fn piece_value(alloc: Global, piece: Piece) -> Result<Value, AllocError>
+    ensures { IfOk result (λ value. view value ≡ piece_data piece) }
+{
     let (becomes, to) = match piece.becomes {
         Outcome::Kept => ("itself", Some(piece.first)),
         Outcome::OneToOne { to } => ("one_to_one", Some(to)),
         Outcome::AllToOne { to } => ("all_to_one", Some(to)),
         Outcome::Forbidden => ("forbidden", None),
     };
-    json.begin_object();
-    write_number(json, "first", piece.first);
-    write_number(json, "last", piece.last);
-    write_text(json, "becomes", becomes);
-    write_maybe(json, "to", to.map(|id| id as usize));
-    json.end_object();
+    json!(in alloc; {"first": piece.first, "last": piece.last, "becomes": becomes, "to": to})
 }
 
-/// Writes the pieces of a direction.
-fn write_pieces(json: &mut Writer, name: &str, map: &Ids<Global>, direction: Direction) {
-    json.key(name);
-    json.begin_array();
-    for piece in map.pieces(direction) {
-        write_piece(json, piece);
+/// The pieces of a direction.
+fn pieces_value(
+    alloc: Global,
+    ids: &Ids<Global>,
+    direction: Direction,
+) -> Result<Vec<Value>, AllocError>
+    ensures { IfOk result (λ list. (pieces : List Piece) × ArePieces ids.now direction pieces
+        × (map view list.items ≡ map piece_data pieces)) }
+{
+    let mut list = Vec::new(alloc);
+    for piece in ids.pieces(direction) {
+        list.push(piece_value(alloc, piece)?)?;
     }
-    json.end_array();
+    Ok(list)
 }
 
-/// Writes a range of the daemon's namespace.
-fn write_namespace_range(json: &mut Writer, range: &UidMap) {
-    json.begin_object();
-    write_number(json, "inside", range.inside_uid);
-    write_number(json, "outside", range.outside_uid);
-    write_number(json, "count", range.count);
-    json.end_object();
+/// A range of the daemon's namespace.
+fn range_value(alloc: Global, range: &UidMap) -> Result<Value, AllocError>
+    ensures { IfOk result (λ value. view value ≡ namespace_data range.now) }
+{
+    json!(in alloc; {
+        "inside": range.inside_uid, "outside": range.outside_uid, "count": range.count
+    })
 }
 
-/// Writes what becomes of all ids, and the ranges of the daemon's namespace.
-pub(super) fn write_id_table(json: &mut Writer, map: &Ids<Global>, ranges: &[UidMap]) {
-    json.begin_object();
-    write_pieces(json, "from_guest", map, Direction::GuestToHost);
-    write_pieces(json, "from_host", map, Direction::HostToGuest);
-    json.key("namespace");
-    json.begin_array();
+/// The ranges of the daemon's namespace.
+fn ranges_value(alloc: Global, ranges: &[UidMap]) -> Result<Vec<Value>, AllocError>
+    ensures { IfOk result (λ list. map view list.items ≡ map namespace_data ranges.now) }
+{
+    let mut list = Vec::new(alloc);
     for range in ranges {
-        write_namespace_range(json, range);
+        list.push(range_value(alloc, range)?)?;
     }
-    json.end_array();
-    json.end_object();
+    Ok(list)
+}
+
+/// What becomes of all ids, and the ranges of the daemon's namespace.
+pub(super) fn id_table(alloc: Global, set: &IdSetUp<Global>) -> Result<Value, AllocError>
+    ensures { IfOk result (λ value. IsIdTable set.now (view value)) }
+{
+    json!(in alloc; {
+        "from_guest": pieces_value(alloc, &set.map, Direction::GuestToHost)?,
+        "from_host": pieces_value(alloc, &set.map, Direction::HostToGuest)?,
+        "namespace": ranges_value(alloc, set.ranges.as_slice())?,
+    })
 }

@@ -1,118 +1,155 @@
-//! Names in JSON.
+//! Names as JSON.
+ghost use Rattle.std.specs.List.{list_all};
+ghost use Rattle.std.specs.Prelude.{◌≡◌, true, IfOk, map};
+ghost use Rattle.serde_json.specs.View.{view};
+ghost use Rattle.virtiofs_map.specs.Names.{client_answer, host_answer};
+ghost use Rattle.virtiofs_mapaudit.specs.NameJson.{text_data, name_data, answer_data, least_data, becomes_data, stands_data, named_data, set_data, listed_data, table_data, IsNameTable};
+ghost use Rattle.virtiofs_mapaudit.specs.NameTableParts.{is_shown, names_of};
 
-use super::members::{write_count, write_text};
-use super::writer::Writer;
 use crate::names::found::LeastName;
 use crate::names::table::SHOWN;
-use std::alloc::Global;
+use serde_json::{Value, json};
+use std::alloc::{AllocError, Global};
 use virtiofs_map::audit::Audit;
 use virtiofs_map::xattrmap::{AppliedRule, ErrorKind, XattrMap, XattrName};
-use virtiofs_output::written::Written;
+use virtiofs_output::written::push_written;
 
-/// Writes a name: its text, and whether that is escaped as in the lines since the bytes are no
-/// UTF-8.
-fn write_name(alloc: Global, json: &mut Writer, bytes: &[u8]) {
-    json.begin_object();
-    match std::str::from_utf8(bytes) {
-        Ok(text) => {
-            write_text(json, "text", text);
-            json.key("written");
-            json.boolean(false);
-        }
-        Err(_) => {
-            let name = Written(bytes);
-            match format!(in alloc; "{name}") {
-                Ok(text) => write_text(json, "text", text.as_str()),
-                Err(_) => json.fail(),
-            }
-            json.key("written");
-            json.boolean(true);
-        }
-    }
-    json.end_object();
+/// A text, and whether it is an escaped one.
+fn text_value(alloc: Global, text: &str, escaped: bool) -> Result<Value, AllocError>
+    ensures { IfOk result (λ value. view value ≡ text_data text.now escaped) }
+{
+    json!(in alloc; {"text": text, "written": escaped})
 }
 
-/// Writes the name of an answer, or null.
-fn write_answer(alloc: Global, json: &mut Writer, member: &str, answer: &Audit<Global>) {
-    json.key(member);
+/// A name: as it is where it is UTF-8, and else escaped as in the lines.
+fn name_value(alloc: Global, name: &[u8]) -> Result<Value, AllocError>
+    ensures { IfOk result (λ value. view value ≡ name_data name.now) }
+{
+    if let Ok(text) = std::str::from_utf8(name) {
+        return text_value(alloc, text, false);
+    }
+    let mut text = String::new(alloc);
+    push_written(&mut text, name)?;
+    text_value(alloc, text.as_str(), true)
+}
+
+/// The name of an answer, or null.
+fn answer_value(alloc: Global, answer: &Audit<Global>) -> Result<Value, AllocError>
+    ensures { IfOk result (λ value. view value ≡ answer_data answer.now) }
+{
     match answer {
-        Audit::Yes => json.null(),
-        Audit::No(name) => write_name(alloc, json, name.as_name().as_bytes()),
+        Audit::Yes => Ok(Value::Null),
+        Audit::No(name) => name_value(alloc, name.as_name().as_bytes()),
     }
 }
 
-/// Writes the least names: of all, and of each usual beginning.
-pub(super) fn write_least(alloc: Global, json: &mut Writer, found: &LeastName<Global>) {
-    json.key("least");
-    json.begin_object();
-    json.key("all");
-    write_name(alloc, json, found.name.as_name().as_bytes());
-    write_answer(alloc, json, "user", &found.user);
-    write_answer(alloc, json, "trusted", &found.trusted);
-    write_answer(alloc, json, "security", &found.security);
-    write_answer(alloc, json, "system", &found.system);
-    json.end_object();
+/// The least names: of all, and of each usual beginning.
+pub(super) fn least_value(alloc: Global, least: &LeastName<Global>) -> Result<Value, AllocError>
+    ensures { IfOk result (λ value. view value ≡ least_data least.now) }
+{
+    json!(in alloc; {
+        "all": name_value(alloc, least.name.as_name().as_bytes())?,
+        "user": answer_value(alloc, &least.user)?,
+        "trusted": answer_value(alloc, &least.trusted)?,
+        "security": answer_value(alloc, &least.security)?,
+        "system": answer_value(alloc, &least.system)?,
+    })
 }
 
-/// Writes what becomes of a name from the guest.
-fn write_set(alloc: Global, json: &mut Writer, map: &XattrMap<Global>, name: XattrName<'_>) {
-    let told = match map.map_client_xattr(alloc, name) {
-        Ok(AppliedRule::Pass(passed)) => return write_name(alloc, json, passed.as_bytes()),
-        Ok(AppliedRule::Deny) => "denied",
-        Ok(AppliedRule::Unsupported) => "unsupported",
+/// What becomes of a name from the guest.
+fn becomes_value(alloc: Global, rules: &XattrMap<Global>, name: &[u8]) -> Result<Value, AllocError>
+    requires { is_shown name.now ≡ true }
+    ensures { IfOk result (λ value.
+        view value ≡ becomes_data (client_answer rules.now name.now)) }
+{
+    let Some(name) = XattrName::new(name) else {
+        unreachable!();
+    };
+    match rules.map_client_xattr(alloc, name) {
+        Ok(AppliedRule::Pass(passed)) => name_value(alloc, passed.as_bytes()),
+        Ok(AppliedRule::Deny) => Value::try_from_str(alloc, "denied"),
+        Ok(AppliedRule::Unsupported) => Value::try_from_str(alloc, "unsupported"),
         Err(error) => match error.cause {
-            ErrorKind::UnterminatedMapping => "no_rule",
-            _ => return json.fail(),
+            ErrorKind::UnterminatedMapping => Value::try_from_str(alloc, "no_rule"),
+            _ => Err(AllocError),
         },
-    };
-    json.string(told);
-}
-
-/// Writes what becomes of a name of the host in lists.
-fn write_listed(alloc: Global, json: &mut Writer, map: &XattrMap<Global>, name: &[u8]) {
-    let told = match map.listed_names(name).next() {
-        Some(Ok(listed)) => return write_name(alloc, json, listed),
-        Some(Err(_)) => "no_rule",
-        None => "hidden",
-    };
-    json.string(told);
-}
-
-/// Writes what becomes of some names from the guest.
-fn write_set_names(alloc: Global, json: &mut Writer, map: &XattrMap<Global>) {
-    json.begin_array();
-    for shown in SHOWN {
-        if let Some(name) = XattrName::new(shown.as_bytes()) {
-            json.begin_object();
-            write_text(json, "name", shown);
-            json.key("becomes");
-            write_set(alloc, json, map, name);
-            json.end_object();
-        }
     }
-    json.end_array();
 }
 
-/// Writes what becomes of some names of the host in lists.
-fn write_listed_names(alloc: Global, json: &mut Writer, map: &XattrMap<Global>) {
-    json.begin_array();
-    for shown in SHOWN {
-        json.begin_object();
-        write_text(json, "name", shown);
-        json.key("becomes");
-        write_listed(alloc, json, map, shown.as_bytes());
-        json.end_object();
+/// How a name of the host stands in lists.
+fn stands_value(alloc: Global, rules: &XattrMap<Global>, name: &[u8]) -> Result<Value, AllocError>
+    requires { is_shown name.now ≡ true }
+    ensures { IfOk result (λ value. view value ≡ stands_data (host_answer rules.now name.now)) }
+{
+    match rules.listed_names(name).next() {
+        Some(Ok(listed)) => name_value(alloc, listed),
+        Some(Err(_)) => Value::try_from_str(alloc, "no_rule"),
+        None => Value::try_from_str(alloc, "hidden"),
     }
-    json.end_array();
 }
 
-/// Writes what becomes of some names, and by how many bytes a name becomes longer at most.
-pub(super) fn write_name_table(alloc: Global, json: &mut Writer, map: &XattrMap<Global>) {
-    json.begin_object();
-    json.key("from_guest");
-    write_set_names(alloc, json, map);
-    json.key("from_host");
-    write_listed_names(alloc, json, map);
-    write_count(json, "most_added", map.most_added());
-    json.end_object();
+/// A name, and what becomes of it.
+fn named_value(alloc: Global, name: &str, becomes: Value) -> Result<Value, AllocError>
+    ensures { IfOk result (λ value. view value ≡ named_data name.now (view becomes)) }
+{
+    json!(in alloc; {"name": name, "becomes": becomes})
+}
+
+/// What becomes of names from the guest.
+fn set_names(
+    alloc: Global,
+    rules: &XattrMap<Global>,
+    names: &[&str],
+) -> Result<Vec<Value>, AllocError>
+    requires { list_all is_shown (names_of names.now) ≡ true }
+    ensures { IfOk result (λ list. map view list.items
+        ≡ map (set_data rules.now) (names_of names.now)) }
+{
+    let mut list = Vec::new(alloc);
+    for name in names {
+        let becomes = becomes_value(alloc, rules, name.as_bytes())?;
+        list.push(named_value(alloc, name, becomes)?)?;
+    }
+    Ok(list)
+}
+
+/// How names of the host stand in lists.
+fn listed_names(
+    alloc: Global,
+    rules: &XattrMap<Global>,
+    names: &[&str],
+) -> Result<Vec<Value>, AllocError>
+    requires { list_all is_shown (names_of names.now) ≡ true }
+    ensures { IfOk result (λ list. map view list.items
+        ≡ map (listed_data rules.now) (names_of names.now)) }
+{
+    let mut list = Vec::new(alloc);
+    for name in names {
+        let becomes = stands_value(alloc, rules, name.as_bytes())?;
+        list.push(named_value(alloc, name, becomes)?)?;
+    }
+    Ok(list)
+}
+
+/// What becomes of names, and by how many bytes a name becomes longer at most.
+fn table_value(
+    alloc: Global,
+    from_guest: Vec<Value>,
+    from_host: Vec<Value>,
+    most: usize,
+) -> Result<Value, AllocError>
+    ensures { IfOk result (λ value. view value
+        ≡ table_data (map view from_guest.items) (map view from_host.items) most) }
+{
+    json!(in alloc; {"from_guest": from_guest, "from_host": from_host, "most_added": most})
+}
+
+/// What becomes of some names, and by how many bytes a name becomes longer at most.
+pub(super) fn name_table(alloc: Global, rules: &XattrMap<Global>) -> Result<Value, AllocError>
+    ensures { IfOk result (λ value. IsNameTable rules.now (view value)) }
+{
+    let most = rules.most_added();
+    let from_guest = set_names(alloc, rules, &SHOWN)?;
+    let from_host = listed_names(alloc, rules, &SHOWN)?;
+    table_value(alloc, from_guest, from_host, most)
 }

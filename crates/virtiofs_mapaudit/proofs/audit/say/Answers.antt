@@ -23,3 +23,4 @@ returns c =
     c.has_found-is_found.ensures
     (rw c.new-refusals.ensures.items at c.in_ok-sets.ensures.says) c.in_ok-text.ensures.quiet
     (rw (c.as_slice-2.ensures.value, c.as_slice-told.ensures.value) at c.in_ok-text.ensures.plain)
+    (rw (c.as_slice-2.ensures.value, c.as_slice-told.ensures.value) at c.in_ok-text.ensures.json)

@@ -1,0 +1,191 @@
+-- No number of the JSON is a float, so its text is known byte by byte.
+use Rattle.std.proofs.Common.{◌≡◌, ℕ, ◌+◌, Bool, true, false, List, [], ◌∷◌, ◌++◌, map, codes, Option, Some, None, refl, ap, ◌∙◌}
+use Rattle.std.proofs.lemmas.Bool.{true≢false}
+use Rattle.std.specs.Str.{is_utf8}
+use Rattle.std.specs.declared.vec.Vec.{Vec}
+use Rattle.serde_json.specs.Data.{Data, string}
+use Rattle.serde_json.specs.View.{items_of}
+use Rattle.serde_json.specs.Written.{has_float, items_have_float, compact_text}
+use Rattle.virtiofs_map.specs.Names.{ClientAnswer, Passes, IsDenied, IsUnsupported, IsUnterminated, client_answer}
+use Rattle.virtiofs_map.specs.Names.{HostAnswer, IsListed, IsHidden, IsUndecided, host_answer}
+use Rattle.virtiofs_map.specs.Rule.{MappingRule}
+use Rattle.virtiofs_map.specs.declared.audit.answer.Audit.{Audit}
+use Rattle.virtiofs_map.specs.declared.audit.answer.Audit.TheVariants.{Yes, No}
+use Rattle.virtiofs_map.specs.declared.idmap.UidMap.{UidMap}
+use Rattle.virtiofs_map.specs.declared.soft_idmap.piece.Outcome.TheVariants.{Kept, OneToOne, AllToOne, Forbidden}
+use Rattle.virtiofs_map.specs.declared.soft_idmap.piece.Outcome.{Outcome}
+use Rattle.virtiofs_map.specs.declared.soft_idmap.piece.Piece.{Piece}
+use Rattle.virtiofs_mapaudit.specs.FindingJson.{finding_data, fault_data, id_data}
+use Rattle.virtiofs_mapaudit.specs.IdJson.{piece_data, outcome_data, namespace_data, id_table, IsIdTable}
+use Rattle.virtiofs_mapaudit.specs.NameJson.{name_data, answer_data, least_data, becomes_data, stands_data}
+use Rattle.virtiofs_mapaudit.specs.NameJson.{set_data, listed_data, name_table}
+use Rattle.virtiofs_mapaudit.specs.NameTable.{shown}
+use Rattle.virtiofs_mapaudit.specs.RefusalText.{refusal_text}
+use Rattle.virtiofs_mapaudit.specs.declared.refusal.Refusal.{Refusal}
+use Rattle.virtiofs_mapaudit.specs.ReportJson.{IsTableIf, IsNamesOf, IsGuest, AreGuests, findings_data, pairs_data, report_data, IsJson}
+use Rattle.virtiofs_mapaudit.specs.declared.audit.Pair.{Pair}
+use Rattle.virtiofs_mapaudit.specs.declared.audit.Report.{Report}
+use Rattle.virtiofs_mapaudit.specs.declared.finding.Finding.{Finding}
+use Rattle.virtiofs_mapaudit.specs.declared.finding.Finding.TheVariants as findings
+use Rattle.virtiofs_mapaudit.specs.declared.ids.found.IdFault.{IdFault}
+use Rattle.virtiofs_mapaudit.specs.declared.ids.found.IdFault.TheVariants.{NotBack, Shared, Root, Lacking}
+use Rattle.virtiofs_mapaudit.specs.declared.ids.found.IdFound.{IdFound}
+use Rattle.virtiofs_mapaudit.specs.declared.ids.kind.IdKind.{IdKind}
+use Rattle.virtiofs_mapaudit.specs.declared.ids.ranges.RangeFault.{RangeFault}
+use Rattle.virtiofs_mapaudit.specs.declared.ids.ranges.RangeFault.TheVariants.{Empty, Beyond, MeetsInside, MeetsOutside}
+use Rattle.virtiofs_mapaudit.specs.declared.names.found.LeastName.{LeastName}
+use Rattle.virtiofs_mapaudit.specs.declared.setup.SetUp.{SetUp}
+use Rattle.virtiofs_options.specs.declared.front.Asked.{Asked}
+
+-- ---- lists
+
+-- no item of a list has a float
+abbrev HasNone : Data → Type 0
+HasNone d = has_float d ≡ false
+
+abbrev HaveNone : List Data → Type 0
+HaveNone ds = items_have_float (items_of ds) ≡ false
+
+have_none-map : {S : Type 0} (f : S → Data) → ((s : S) → HasNone (f s)) → (xs : List S) → HaveNone (map f xs)
+have_none-map f none [] = refl
+have_none-map f none (x ∷ xs) = rw (none x) (have_none-map f none xs)
+
+have_none-append : (xs ys : List Data) → HaveNone xs → HaveNone ys → HaveNone (xs ++ ys)
+have_none-append [] ys none none_too = none_too
+have_none-append (x ∷ xs) ys none none_too =
+    behind (has_float x) refl none (λ rest. have_none-append xs ys rest none_too) where
+      behind : (b : Bool) → has_float x ≡ b → HaveNone (x ∷ xs) → (HaveNone xs → HaveNone (xs ++ ys))
+          → HaveNone (x ∷ (xs ++ ys))
+      behind true is none more = absurd (true≢false (rw is at none))
+      behind false is none more = rw is (more (rw is at none))
+
+-- ---- names
+
+name_none : (name : List ℕ) → HasNone (name_data name)
+name_none name = by_test (is_utf8 name) refl where
+  by_test : (b : Bool) → is_utf8 name ≡ b → HasNone (name_data name)
+  by_test true is = rw is refl
+  by_test false is = rw is refl
+
+answer_none : {A : Type 0} (answer : Audit A) → HasNone (answer_data answer)
+answer_none Yes = refl
+answer_none (No name) = name_none name
+
+least_none : {A : Type 0} (least : LeastName A) → HasNone (least_data least)
+least_none least =
+    rw (name_none least.name, answer_none least.security, answer_none least.system, answer_none least.trusted, answer_none least.user) refl
+
+becomes_none : (answer : ClientAnswer) → HasNone (becomes_data answer)
+becomes_none (Passes host) = name_none host
+becomes_none IsDenied = refl
+becomes_none IsUnsupported = refl
+becomes_none IsUnterminated = refl
+
+stands_none : (answer : HostAnswer) → HasNone (stands_data answer)
+stands_none (IsListed name) = name_none name
+stands_none IsHidden = refl
+stands_none IsUndecided = refl
+
+set_none : (rules : List MappingRule) (name : List ℕ) → HasNone (set_data rules name)
+set_none rules name = rw (becomes_none (client_answer rules name)) refl
+
+listed_none : (rules : List MappingRule) (name : List ℕ) → HasNone (listed_data rules name)
+listed_none rules name = rw (stands_none (host_answer rules name)) refl
+
+name_table_none : (rules : List MappingRule) (most : ℕ) → HasNone (name_table rules most)
+name_table_none rules most =
+    rw (have_none-map (set_data rules) (set_none rules) shown, have_none-map (listed_data rules) (listed_none rules) shown) refl
+
+-- ---- ids
+
+outcome_none : (first last : ℕ) (outcome : Outcome) → HasNone (outcome_data first last outcome)
+outcome_none first last Kept = refl
+outcome_none first last (OneToOne to) = refl
+outcome_none first last (AllToOne to) = refl
+outcome_none first last Forbidden = refl
+
+piece_none : (piece : Piece) → HasNone (piece_data piece)
+piece_none piece = outcome_none piece.first piece.last piece.becomes
+
+id_table_none : (from_guest from_host : List Piece) (ranges : List UidMap) → HasNone (id_table from_guest from_host ranges)
+id_table_none from_guest from_host ranges =
+    rw (have_none-map piece_data piece_none from_guest, have_none-map piece_data piece_none from_host, have_none-map namespace_data (λ range. refl) ranges) refl
+
+-- ---- findings
+
+id_none : (guest : ℕ) (kind : IdKind) (fault : IdFault) (it : IdFound) → HasNone (id_data guest kind fault it)
+id_none guest kind NotBack it = refl
+id_none guest kind Shared it = refl
+id_none guest kind Root it = refl
+id_none guest kind Lacking it = refl
+
+fault_none : (guest : ℕ) (kind : IdKind) (place : ℕ) (fault : RangeFault) → HasNone (fault_data guest kind place fault)
+fault_none guest kind place Empty = refl
+fault_none guest kind place Beyond = refl
+fault_none guest kind place (MeetsInside other) = refl
+fault_none guest kind place (MeetsOutside other) = refl
+
+finding_none : {A : Type 0} (guest : ℕ) (finding : Finding A) → HasNone (finding_data guest finding)
+finding_none guest findings.PosixAcl = refl
+finding_none guest (findings.Range kind range) = fault_none guest kind range.place range.fault
+finding_none guest (findings.Id kind in_namespace fault it) = id_none guest kind fault it
+finding_none guest findings.NoRule = refl
+finding_none guest (findings.NotListed least) = rw (least_none least) refl
+finding_none guest (findings.ListedElsewhere least) = rw (least_none least) refl
+finding_none guest (findings.IdleRule place) = refl
+finding_none guest (findings.IdOfBoth first second kind it) = refl
+finding_none guest (findings.ShownToOther setter lister least) = rw (least_none least) refl
+finding_none guest (findings.NameOfBoth first second least) = rw (least_none least) refl
+
+findings_none : {A : Type 0} (number : ℕ) (found : List (Vec (Finding A) A)) → HaveNone (findings_data number found)
+findings_none number [] = refl
+findings_none number (one ∷ others) =
+    have_none-append (map (finding_data number) one.items) _
+    (have_none-map (finding_data number) (finding_none number) one.items) (findings_none (number + 1) others)
+
+pairs_none : {A : Type 0} (pairs : List (Pair A)) → HaveNone (pairs_data pairs)
+pairs_none [] = refl
+pairs_none (pair ∷ pairs) =
+    have_none-append (map (finding_data pair.first) pair.found.items) _
+    (have_none-map (finding_data pair.first) (finding_none pair.first) pair.found.items) (pairs_none pairs)
+
+-- ---- guests
+
+table_none : {S : Type 0} (asked : Bool) (IsTable : S → Data → Type 0)
+    → ((set : S) (table : Data) → IsTable set table → HasNone table)
+    → (set : Option S) (table : Data) → IsTableIf asked IsTable set table → HasNone table
+table_none true IsTable none (Some set) table is = none set table is
+table_none true IsTable none None table is = rw is refl
+table_none false IsTable none set table is = rw is refl
+
+guest_none : {A : Type 0} (asked : Asked) (number : ℕ) (set : SetUp A) (guest : Data) → IsGuest asked number set guest
+    → HasNone guest
+guest_none asked number set guest is =
+    rw (is.whole, table_none asked.ids IsIdTable (λ ids table of. rw of.whole (id_table_none of.from_guest of.from_host ids.ranges.items)) set.users is.of_users is.users, table_none asked.ids IsIdTable (λ ids table of. rw of.whole (id_table_none of.from_guest of.from_host ids.ranges.items)) set.groups is.of_groups is.groups, table_none asked.names IsNamesOf (λ names table of. rw of.2 (name_table_none names.map of.0)) set.names is.of_names is.names) refl
+
+guests_none : {A : Type 0} (asked : Asked) (number : ℕ) (sets : List (SetUp A)) (guests : List Data)
+    → AreGuests asked number sets guests → HaveNone guests
+guests_none asked number [] guests are = rw are refl
+guests_none asked number (set ∷ sets) guests (guest, others, is, are, whole) =
+    rw (whole, guest_none asked number set guest is) (guests_none asked (number + 1) sets others are)
+
+-- no number that is written is a float
+report_none : {A : Type 0} (asked : Asked) (sets : List (SetUp A)) (guests : List Data) (report : Report A)
+    (refusals : List (Refusal A)) → AreGuests asked 1 sets guests → has_float (report_data guests report refusals) ≡ false
+report_none asked sets guests report refusals are =
+    rw (have_none-append (findings_data 1 report.guests.items) (pairs_data report.pairs.items) (findings_none 1 report.guests.items) (pairs_none report.pairs.items), guests_none asked 1 sets guests are, have_none-map string (λ line. refl) (map refusal_text refusals)) refl
+
+-- so the text is that of the report
+pub json_written : {A : Type 0} (asked : Asked) (sets : List (SetUp A)) (report : Report A) (refusals : List (Refusal A))
+    (value : Data) (text new : List ℕ)
+    → ((guests : List Data) × AreGuests asked 1 sets guests × (value ≡ report_data guests report refusals))
+    → (has_float value ≡ false → text ≡ compact_text value) → new ≡ text ++ codes "\n"
+    → IsJson asked sets report refusals new
+json_written asked sets report refusals value text new (guests, are, is) written ended = record {
+  guests = guests;
+  are_guests = are;
+  whole =
+      ended
+      ∙ ap (λ (xs : List ℕ). xs ++ codes "\n")
+      (written (ap has_float is ∙ report_none asked sets guests report refusals are) ∙ ap compact_text is);
+}
