@@ -12,13 +12,15 @@ use Rattle.virtiofs_map.specs.Rule.{MappingRule}
 use Rattle.virtiofs_map.specs.declared.audit.answer.Audit.{Audit}
 use Rattle.virtiofs_map.specs.declared.audit.answer.Audit.TheVariants.{Yes, No}
 use Rattle.virtiofs_map.specs.declared.idmap.UidMap.{UidMap}
+use Rattle.virtiofs_map.specs.declared.soft_idmap.entry.Direction.{Direction}
+use Rattle.virtiofs_map.specs.declared.soft_idmap.entry.Direction.TheVariants.{GuestToHost, HostToGuest}
 use Rattle.virtiofs_map.specs.declared.soft_idmap.piece.Outcome.TheVariants.{Kept, OneToOne, AllToOne, Forbidden}
 use Rattle.virtiofs_map.specs.declared.soft_idmap.piece.Outcome.{Outcome}
 use Rattle.virtiofs_map.specs.declared.soft_idmap.piece.Piece.{Piece}
-use Rattle.virtiofs_mapaudit.specs.FindingJson.{finding_data, fault_data, id_data}
-use Rattle.virtiofs_mapaudit.specs.IdJson.{piece_data, outcome_data, namespace_data, id_table, IsIdTable}
-use Rattle.virtiofs_mapaudit.specs.NameJson.{name_data, answer_data, least_data, becomes_data, stands_data}
-use Rattle.virtiofs_mapaudit.specs.NameJson.{set_data, listed_data, name_table}
+use Rattle.virtiofs_mapaudit.specs.FindingJson.{finding_data, fault_data, id_data, range_data, count_if}
+use Rattle.virtiofs_mapaudit.specs.IdJson.{count, piece_data, outcome_data, namespace_data, id_table, IsIdTable}
+use Rattle.virtiofs_mapaudit.specs.NameJson.{name_data, text_data, answer_data, least_data, becomes_data, stands_data}
+use Rattle.virtiofs_mapaudit.specs.NameJson.{told_data, name_line, name_table, IsNameTable}
 use Rattle.virtiofs_mapaudit.specs.NameTable.{shown}
 use Rattle.virtiofs_mapaudit.specs.RefusalText.{refusal_text}
 use Rattle.virtiofs_mapaudit.specs.declared.refusal.Refusal.{Refusal}
@@ -86,15 +88,16 @@ stands_none (IsListed name) = name_none name
 stands_none IsHidden = refl
 stands_none IsUndecided = refl
 
-set_none : (rules : List MappingRule) (name : List ℕ) → HasNone (set_data rules name)
-set_none rules name = rw (becomes_none (client_answer rules name)) refl
+told_none : (direction : Direction) (rules : List MappingRule) (name : List ℕ) → HasNone (told_data direction rules name)
+told_none GuestToHost rules name = becomes_none (client_answer rules name)
+told_none HostToGuest rules name = stands_none (host_answer rules name)
 
-listed_none : (rules : List MappingRule) (name : List ℕ) → HasNone (listed_data rules name)
-listed_none rules name = rw (stands_none (host_answer rules name)) refl
+line_none : (direction : Direction) (rules : List MappingRule) (name : List ℕ) → HasNone (name_line direction rules name)
+line_none direction rules name = rw (told_none direction rules name) refl
 
 name_table_none : (rules : List MappingRule) (most : ℕ) → HasNone (name_table rules most)
 name_table_none rules most =
-    rw (have_none-map (set_data rules) (set_none rules) shown, have_none-map (listed_data rules) (listed_none rules) shown) refl
+    rw (have_none-map (name_line GuestToHost rules) (line_none GuestToHost rules) shown, have_none-map (name_line HostToGuest rules) (line_none HostToGuest rules) shown) refl
 
 -- ---- ids
 

@@ -9,6 +9,8 @@ use Rattle.virtiofs_map.specs.Names.{HostAnswer, IsListed, IsHidden, IsUndecided
 use Rattle.virtiofs_map.specs.Rule.{MappingRule}
 use Rattle.virtiofs_map.specs.declared.audit.answer.Audit.{Audit}
 use Rattle.virtiofs_map.specs.declared.audit.answer.Audit.TheVariants.{Yes, No}
+use Rattle.virtiofs_map.specs.declared.soft_idmap.entry.Direction.{Direction}
+use Rattle.virtiofs_map.specs.declared.soft_idmap.entry.Direction.TheVariants.{GuestToHost, HostToGuest}
 use Rattle.virtiofs_mapaudit.specs.NameTable.{shown}
 use Rattle.virtiofs_mapaudit.specs.declared.names.found.LeastName.{LeastName}
 use Rattle.virtiofs_output.specs.Written.{written}
@@ -54,13 +56,14 @@ abbrev pub named_data : List ℕ → Data → Data
 named_data name becomes =
     object (member (codes "becomes") becomes (member (codes "name") (string name) no_members))
 
--- a name from the guest, and what it becomes
-abbrev pub set_data : List MappingRule → List ℕ → Data
-set_data rules name = named_data name (becomes_data (client_answer rules name))
+-- what a name from the guest becomes, or how a name of the host stands in lists
+abbrev pub told_data : Direction → List MappingRule → List ℕ → Data
+told_data GuestToHost rules name = becomes_data (client_answer rules name)
+told_data HostToGuest rules name = stands_data (host_answer rules name)
 
--- a name of the host, and how it stands in lists
-abbrev pub listed_data : List MappingRule → List ℕ → Data
-listed_data rules name = named_data name (stands_data (host_answer rules name))
+-- a name, and what becomes of it in that direction
+abbrev pub name_line : Direction → List MappingRule → List ℕ → Data
+name_line direction rules name = named_data name (told_data direction rules name)
 
 -- what becomes of names from the guest and of names of the host, and how many bytes are put before a name at most
 abbrev pub table_data : List Data → List Data → ℕ → Data
@@ -71,7 +74,8 @@ table_data from_guest from_host most =
 
 -- the table of the names that are shown
 abbrev pub name_table : List MappingRule → ℕ → Data
-name_table rules most = table_data (map (set_data rules) shown) (map (listed_data rules) shown) most
+name_table rules most =
+    table_data (map (name_line GuestToHost rules) shown) (map (name_line HostToGuest rules) shown) most
 
 -- it is the table of these rules
 abbrev pub IsNameTable : List MappingRule → Data → Type 0

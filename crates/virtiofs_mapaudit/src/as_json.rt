@@ -21,8 +21,14 @@ use serde_json::{Value, json};
 use std::alloc::{AllocError, Global};
 use virtiofs_options::front::Asked;
 
+/// A value that was built; an error if memory ran out.
+type Built = Result<Value, AllocError>;
+
+/// The same of a list of values.
+type BuiltList = Result<Vec<Value>, AllocError>;
+
 /// What becomes of all ids of one kind, or null.
-fn shown_ids(alloc: Global, asked: bool, set: &Option<IdSetUp<Global>>) -> Result<Value, AllocError>
+fn shown_ids(alloc: Global, asked: bool, set: &Option<IdSetUp<Global>>) -> Built
     ensures { IfOk result (λ value. IsTableIf asked IsIdTable set.now (view value)) }
 {
     if !asked {
@@ -35,11 +41,7 @@ fn shown_ids(alloc: Global, asked: bool, set: &Option<IdSetUp<Global>>) -> Resul
 }
 
 /// What becomes of some names, or null.
-fn shown_names(
-    alloc: Global,
-    asked: bool,
-    set: &Option<NamesSetUp<Global>>,
-) -> Result<Value, AllocError>
+fn shown_names(alloc: Global, asked: bool, set: &Option<NamesSetUp<Global>>) -> Built
     ensures { IfOk result (λ value. IsTableIf asked IsNamesOf set.now (view value)) }
 {
     if !asked {
@@ -52,12 +54,7 @@ fn shown_names(
 }
 
 /// What was asked to be shown of the guest of a number.
-fn guest_value(
-    alloc: Global,
-    asked: Asked,
-    number: usize,
-    set: &SetUp<Global>,
-) -> Result<Value, AllocError>
+fn guest_value(alloc: Global, asked: Asked, number: usize, set: &SetUp<Global>) -> Built
     ensures { IfOk result (λ value. IsGuest asked number set.now (view value)) }
 {
     let users = shown_ids(alloc, asked.ids, &set.users)?;
@@ -67,11 +64,7 @@ fn guest_value(
 }
 
 /// What was asked to be shown of each guest.
-fn guests_value(
-    alloc: Global,
-    asked: Asked,
-    sets: &[SetUp<Global>],
-) -> Result<Vec<Value>, AllocError>
+fn guests_value(alloc: Global, asked: Asked, sets: &[SetUp<Global>]) -> BuiltList
     ensures { IfOk result (λ list. AreGuests asked 1 sets.now (map view list.items)) }
 {
     let mut list = Vec::new(alloc);
@@ -82,7 +75,7 @@ fn guests_value(
 }
 
 /// What was found of each guest by itself.
-fn guests_found(alloc: Global, guests: &[Vec<Finding<Global>>]) -> Result<Vec<Value>, AllocError>
+fn guests_found(alloc: Global, guests: &[Vec<Finding<Global>>]) -> BuiltList
     ensures { IfOk result (λ list. map view list.items ≡ findings_data 1 guests.now) }
 {
     let mut list = Vec::new(alloc);
@@ -93,7 +86,7 @@ fn guests_found(alloc: Global, guests: &[Vec<Finding<Global>>]) -> Result<Vec<Va
 }
 
 /// What was found.
-fn findings_value(alloc: Global, report: &Report<Global>) -> Result<Vec<Value>, AllocError>
+fn findings_value(alloc: Global, report: &Report<Global>) -> BuiltList
     ensures { IfOk result (λ list. map view list.items
         ≡ findings_data 1 report.now.guests.items ++ pairs_data report.now.pairs.items) }
 {
@@ -105,7 +98,7 @@ fn findings_value(alloc: Global, report: &Report<Global>) -> Result<Vec<Value>, 
 }
 
 /// What is told of texts that are refused.
-fn refused_value(alloc: Global, refusals: &[Refusal<Global>]) -> Result<Vec<Value>, AllocError>
+fn refused_value(alloc: Global, refusals: &[Refusal<Global>]) -> BuiltList
     ensures { IfOk result (λ list.
         map view list.items ≡ map string (map refusal_text refusals.now)) }
 {
@@ -124,7 +117,7 @@ fn report_value(
     sets: &[SetUp<Global>],
     report: &Report<Global>,
     refusals: &[Refusal<Global>],
-) -> Result<Value, AllocError>
+) -> Built
     ensures { IfOk result (λ value. (guests : List Data) × AreGuests asked 1 sets.now guests
         × (view value ≡ report_data guests report.now refusals.now)) }
 {

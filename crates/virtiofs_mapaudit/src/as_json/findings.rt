@@ -4,6 +4,7 @@ ghost use Rattle.serde_json.specs.View.{view};
 ghost use Rattle.virtiofs_mapaudit.specs.NameJson.{least_data};
 ghost use Rattle.virtiofs_mapaudit.specs.FindingJson.{ids_word, not_back_data, shared_data, alone_data, id_data, range_data, fault_data, idle_data, plain_data, names_data, between_data, met_data, finding_data};
 
+use super::Built;
 use super::names::least_value;
 use crate::finding::Finding;
 use crate::ids::found::{IdFault, IdFound};
@@ -32,7 +33,7 @@ fn number_at(place: usize) -> Result<usize, AllocError>
 }
 
 /// An id that does not come back.
-fn not_back(alloc: Global, guest: usize, ids: &str, it: IdFound) -> Result<Value, AllocError>
+fn not_back(alloc: Global, guest: usize, ids: &str, it: IdFound) -> Built
     ensures { IfOk result (λ value. view value ≡ not_back_data guest ids.now it) }
 {
     json!(in alloc; {
@@ -42,7 +43,7 @@ fn not_back(alloc: Global, guest: usize, ids: &str, it: IdFound) -> Result<Value
 }
 
 /// An id that shares its id of the host with another one.
-fn shared(alloc: Global, guest: usize, ids: &str, it: IdFound) -> Result<Value, AllocError>
+fn shared(alloc: Global, guest: usize, ids: &str, it: IdFound) -> Built
     ensures { IfOk result (λ value. view value ≡ shared_data guest ids.now it) }
 {
     json!(in alloc; {
@@ -52,13 +53,7 @@ fn shared(alloc: Global, guest: usize, ids: &str, it: IdFound) -> Result<Value, 
 }
 
 /// An id with which another thing is wrong, of which no second id is told.
-fn alone(
-    alloc: Global,
-    guest: usize,
-    what: &str,
-    ids: &str,
-    it: IdFound,
-) -> Result<Value, AllocError>
+fn alone(alloc: Global, guest: usize, what: &str, ids: &str, it: IdFound) -> Built
     ensures { IfOk result (λ value. view value ≡ alone_data guest what.now ids.now it) }
 {
     json!(in alloc; {
@@ -67,13 +62,7 @@ fn alone(
 }
 
 /// What is wrong with an id.
-fn id_value(
-    alloc: Global,
-    guest: usize,
-    kind: IdKind,
-    fault: IdFault,
-    it: IdFound,
-) -> Result<Value, AllocError>
+fn id_value(alloc: Global, guest: usize, kind: IdKind, fault: IdFault, it: IdFound) -> Built
     ensures { IfOk result (λ value. view value ≡ id_data guest kind fault it) }
 {
     let ids = word(kind);
@@ -93,7 +82,7 @@ fn range_value(
     number: usize,
     fault: &str,
     other: Option<usize>,
-) -> Result<Value, AllocError>
+) -> Built
     ensures { IfOk result (λ value. view value ≡ range_data guest ids.now number fault.now other) }
 {
     json!(in alloc; {
@@ -103,12 +92,7 @@ fn range_value(
 }
 
 /// What is wrong with a range.
-fn fault_value(
-    alloc: Global,
-    guest: usize,
-    kind: IdKind,
-    found: RangeFound,
-) -> Result<Value, AllocError>
+fn fault_value(alloc: Global, guest: usize, kind: IdKind, found: RangeFound) -> Built
     ensures { IfOk result (λ value. view value ≡ fault_data guest kind found.place found.fault) }
 {
     let ids = word(kind);
@@ -128,7 +112,7 @@ fn fault_value(
 }
 
 /// A rule that decides no name.
-fn idle_value(alloc: Global, guest: usize, place: usize) -> Result<Value, AllocError>
+fn idle_value(alloc: Global, guest: usize, place: usize) -> Built
     ensures { IfOk result (λ value. view value ≡ idle_data guest (place + 1)) }
 {
     let rule = number_at(place)?;
@@ -136,19 +120,14 @@ fn idle_value(alloc: Global, guest: usize, place: usize) -> Result<Value, AllocE
 }
 
 /// A finding that has no members of its own.
-fn plain_value(alloc: Global, guest: usize, what: &str) -> Result<Value, AllocError>
+fn plain_value(alloc: Global, guest: usize, what: &str) -> Built
     ensures { IfOk result (λ value. view value ≡ plain_data guest what.now) }
 {
     json!(in alloc; {"guest": guest, "kind": what})
 }
 
 /// Names of a guest.
-fn names_value(
-    alloc: Global,
-    guest: usize,
-    what: &str,
-    least: &LeastName<Global>,
-) -> Result<Value, AllocError>
+fn names_value(alloc: Global, guest: usize, what: &str, least: &LeastName<Global>) -> Built
     ensures { IfOk result (λ value. view value ≡ names_data guest what.now (least_data least.now)) }
 {
     let least = least_value(alloc, least)?;
@@ -162,7 +141,7 @@ fn names_between(
     second: usize,
     what: &str,
     least: &LeastName<Global>,
-) -> Result<Value, AllocError>
+) -> Built
     ensures { IfOk result (λ value.
         view value ≡ between_data first second what.now (least_data least.now)) }
 {
@@ -171,13 +150,7 @@ fn names_between(
 }
 
 /// An id of the host that two guests reach.
-fn met_value(
-    alloc: Global,
-    first: usize,
-    second: usize,
-    ids: &str,
-    it: IdFound,
-) -> Result<Value, AllocError>
+fn met_value(alloc: Global, first: usize, second: usize, ids: &str, it: IdFound) -> Built
     ensures { IfOk result (λ value. view value ≡ met_data first second ids.now it) }
 {
     json!(in alloc; {
@@ -187,11 +160,7 @@ fn met_value(
 }
 
 /// A finding; one of a single guest is that of the guest of this number.
-fn finding_value(
-    alloc: Global,
-    guest: usize,
-    finding: &Finding<Global>,
-) -> Result<Value, AllocError>
+fn finding_value(alloc: Global, guest: usize, finding: &Finding<Global>) -> Built
     ensures { IfOk result (λ value. view value ≡ finding_data guest finding.now) }
 {
     match finding {

@@ -5,15 +5,16 @@ ghost use Rattle.virtiofs_map.specs.Pieces.{ArePieces};
 ghost use Rattle.virtiofs_map.specs.declared.soft_idmap.piece.Piece.{Piece};
 ghost use Rattle.virtiofs_mapaudit.specs.IdJson.{piece_data, namespace_data, IsIdTable};
 
+use super::{Built, BuiltList};
 use crate::ids::audits::Ids;
 use crate::setup::IdSetUp;
 use serde_json::{Value, json};
-use std::alloc::{AllocError, Global};
+use std::alloc::Global;
 use virtiofs_map::idmap::UidMap;
 use virtiofs_map::soft_idmap::{Direction, Outcome, Piece};
 
 /// A piece: its first and last id, and what becomes of them.
-fn piece_value(alloc: Global, piece: Piece) -> Result<Value, AllocError>
+fn piece_value(alloc: Global, piece: Piece) -> Built
     ensures { IfOk result (λ value. view value ≡ piece_data piece) }
 {
     let (becomes, to) = match piece.becomes {
@@ -26,11 +27,7 @@ fn piece_value(alloc: Global, piece: Piece) -> Result<Value, AllocError>
 }
 
 /// The pieces of a direction.
-fn pieces_value(
-    alloc: Global,
-    ids: &Ids<Global>,
-    direction: Direction,
-) -> Result<Vec<Value>, AllocError>
+fn pieces_value(alloc: Global, ids: &Ids<Global>, direction: Direction) -> BuiltList
     ensures { IfOk result (λ list. (pieces : List Piece) × ArePieces ids.now direction pieces
         × (map view list.items ≡ map piece_data pieces)) }
 {
@@ -42,7 +39,7 @@ fn pieces_value(
 }
 
 /// A range of the daemon's namespace.
-fn range_value(alloc: Global, range: &UidMap) -> Result<Value, AllocError>
+fn range_value(alloc: Global, range: &UidMap) -> Built
     ensures { IfOk result (λ value. view value ≡ namespace_data range.now) }
 {
     json!(in alloc; {
@@ -51,7 +48,7 @@ fn range_value(alloc: Global, range: &UidMap) -> Result<Value, AllocError>
 }
 
 /// The ranges of the daemon's namespace.
-fn ranges_value(alloc: Global, ranges: &[UidMap]) -> Result<Vec<Value>, AllocError>
+fn ranges_value(alloc: Global, ranges: &[UidMap]) -> BuiltList
     ensures { IfOk result (λ list. map view list.items ≡ map namespace_data ranges.now) }
 {
     let mut list = Vec::new(alloc);
@@ -62,7 +59,7 @@ fn ranges_value(alloc: Global, ranges: &[UidMap]) -> Result<Vec<Value>, AllocErr
 }
 
 /// What becomes of all ids, and the ranges of the daemon's namespace.
-pub(super) fn id_table(alloc: Global, set: &IdSetUp<Global>) -> Result<Value, AllocError>
+pub(super) fn id_table(alloc: Global, set: &IdSetUp<Global>) -> Built
     ensures { IfOk result (λ value. IsIdTable set.now (view value)) }
 {
     json!(in alloc; {

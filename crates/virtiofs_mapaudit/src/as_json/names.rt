@@ -3,26 +3,28 @@ ghost use Rattle.std.specs.List.{list_all};
 ghost use Rattle.std.specs.Prelude.{◌≡◌, true, IfOk, map};
 ghost use Rattle.serde_json.specs.View.{view};
 ghost use Rattle.virtiofs_map.specs.Names.{client_answer, host_answer};
-ghost use Rattle.virtiofs_mapaudit.specs.NameJson.{text_data, name_data, answer_data, least_data, becomes_data, stands_data, named_data, set_data, listed_data, table_data, IsNameTable};
+ghost use Rattle.virtiofs_mapaudit.specs.NameJson.{text_data, name_data, answer_data, least_data, becomes_data, stands_data, named_data, told_data, name_line, table_data, IsNameTable};
 ghost use Rattle.virtiofs_mapaudit.specs.NameTableParts.{is_shown, names_of};
 
+use super::{Built, BuiltList};
 use crate::names::found::LeastName;
 use crate::names::table::SHOWN;
 use serde_json::{Value, json};
 use std::alloc::{AllocError, Global};
 use virtiofs_map::audit::Audit;
+use virtiofs_map::soft_idmap::Direction;
 use virtiofs_map::xattrmap::{AppliedRule, ErrorKind, XattrMap, XattrName};
 use virtiofs_output::written::push_written;
 
 /// A text, and whether it is an escaped one.
-fn text_value(alloc: Global, text: &str, escaped: bool) -> Result<Value, AllocError>
+fn text_value(alloc: Global, text: &str, escaped: bool) -> Built
     ensures { IfOk result (λ value. view value ≡ text_data text.now escaped) }
 {
     json!(in alloc; {"text": text, "written": escaped})
 }
 
 /// A name: as it is where it is UTF-8, and else escaped as in the lines.
-fn name_value(alloc: Global, name: &[u8]) -> Result<Value, AllocError>
+fn name_value(alloc: Global, name: &[u8]) -> Built
     ensures { IfOk result (λ value. view value ≡ name_data name.now) }
 {
     if let Ok(text) = std::str::from_utf8(name) {
@@ -34,7 +36,7 @@ fn name_value(alloc: Global, name: &[u8]) -> Result<Value, AllocError>
 }
 
 /// The name of an answer, or null.
-fn answer_value(alloc: Global, answer: &Audit<Global>) -> Result<Value, AllocError>
+fn answer_value(alloc: Global, answer: &Audit<Global>) -> Built
     ensures { IfOk result (λ value. view value ≡ answer_data answer.now) }
 {
     match answer {
@@ -44,7 +46,7 @@ fn answer_value(alloc: Global, answer: &Audit<Global>) -> Result<Value, AllocErr
 }
 
 /// The least names: of all, and of each usual beginning.
-pub(super) fn least_value(alloc: Global, least: &LeastName<Global>) -> Result<Value, AllocError>
+pub(super) fn least_value(alloc: Global, least: &LeastName<Global>) -> Built
     ensures { IfOk result (λ value. view value ≡ least_data least.now) }
 {
     json!(in alloc; {
@@ -57,7 +59,7 @@ pub(super) fn least_value(alloc: Global, least: &LeastName<Global>) -> Result<Va
 }
 
 /// What becomes of a name from the guest.
-fn becomes_value(alloc: Global, rules: &XattrMap<Global>, name: &[u8]) -> Result<Value, AllocError>
+fn becomes_value(alloc: Global, rules: &XattrMap<Global>, name: &[u8]) -> Built
     requires { is_shown name.now ≡ true }
     ensures { IfOk result (λ value.
         view value ≡ becomes_data (client_answer rules.now name.now)) }
@@ -77,7 +79,7 @@ fn becomes_value(alloc: Global, rules: &XattrMap<Global>, name: &[u8]) -> Result
 }
 
 /// How a name of the host stands in lists.
-fn stands_value(alloc: Global, rules: &XattrMap<Global>, name: &[u8]) -> Result<Value, AllocError>
+fn stands_value(alloc: Global, rules: &XattrMap<Global>, name: &[u8]) -> Built
     requires { is_shown name.now ≡ true }
     ensures { IfOk result (λ value. view value ≡ stands_data (host_answer rules.now name.now)) }
 {
@@ -89,55 +91,44 @@ fn stands_value(alloc: Global, rules: &XattrMap<Global>, name: &[u8]) -> Result<
 }
 
 /// A name, and what becomes of it.
-fn named_value(alloc: Global, name: &str, becomes: Value) -> Result<Value, AllocError>
+fn named_value(alloc: Global, name: &str, becomes: Value) -> Built
     ensures { IfOk result (λ value. view value ≡ named_data name.now (view becomes)) }
 {
     json!(in alloc; {"name": name, "becomes": becomes})
 }
 
-/// What becomes of names from the guest.
-fn set_names(
-    alloc: Global,
-    rules: &XattrMap<Global>,
-    names: &[&str],
-) -> Result<Vec<Value>, AllocError>
-    requires { list_all is_shown (names_of names.now) ≡ true }
-    ensures { IfOk result (λ list. map view list.items
-        ≡ map (set_data rules.now) (names_of names.now)) }
+/// What becomes of a name in a direction.
+fn told_value(alloc: Global, rules: &XattrMap<Global>, direction: Direction, name: &[u8]) -> Built
+    requires { is_shown name.now ≡ true }
+    ensures { IfOk result (λ value. view value ≡ told_data direction rules.now name.now) }
 {
-    let mut list = Vec::new(alloc);
-    for name in names {
-        let becomes = becomes_value(alloc, rules, name.as_bytes())?;
-        list.push(named_value(alloc, name, becomes)?)?;
+    match direction {
+        Direction::GuestToHost => becomes_value(alloc, rules, name),
+        Direction::HostToGuest => stands_value(alloc, rules, name),
     }
-    Ok(list)
 }
 
-/// How names of the host stand in lists.
-fn listed_names(
+/// What becomes of names in a direction.
+fn names_value(
     alloc: Global,
     rules: &XattrMap<Global>,
+    direction: Direction,
     names: &[&str],
-) -> Result<Vec<Value>, AllocError>
+) -> BuiltList
     requires { list_all is_shown (names_of names.now) ≡ true }
     ensures { IfOk result (λ list. map view list.items
-        ≡ map (listed_data rules.now) (names_of names.now)) }
+        ≡ map (name_line direction rules.now) (names_of names.now)) }
 {
     let mut list = Vec::new(alloc);
     for name in names {
-        let becomes = stands_value(alloc, rules, name.as_bytes())?;
+        let becomes = told_value(alloc, rules, direction, name.as_bytes())?;
         list.push(named_value(alloc, name, becomes)?)?;
     }
     Ok(list)
 }
 
 /// What becomes of names, and by how many bytes a name becomes longer at most.
-fn table_value(
-    alloc: Global,
-    from_guest: Vec<Value>,
-    from_host: Vec<Value>,
-    most: usize,
-) -> Result<Value, AllocError>
+fn table_value(alloc: Global, from_guest: Vec<Value>, from_host: Vec<Value>, most: usize) -> Built
     ensures { IfOk result (λ value. view value
         ≡ table_data (map view from_guest.items) (map view from_host.items) most) }
 {
@@ -145,11 +136,11 @@ fn table_value(
 }
 
 /// What becomes of some names, and by how many bytes a name becomes longer at most.
-pub(super) fn name_table(alloc: Global, rules: &XattrMap<Global>) -> Result<Value, AllocError>
+pub(super) fn name_table(alloc: Global, rules: &XattrMap<Global>) -> Built
     ensures { IfOk result (λ value. IsNameTable rules.now (view value)) }
 {
     let most = rules.most_added();
-    let from_guest = set_names(alloc, rules, &SHOWN)?;
-    let from_host = listed_names(alloc, rules, &SHOWN)?;
+    let from_guest = names_value(alloc, rules, Direction::GuestToHost, &SHOWN)?;
+    let from_host = names_value(alloc, rules, Direction::HostToGuest, &SHOWN)?;
     table_value(alloc, from_guest, from_host, most)
 }

@@ -1,9 +1,9 @@
 use Rattle.std.proofs.Common.{ap, ◌∙◌}
 use Rattle.virtiofs_mapaudit.specs.NameTableParts.{is_shown}
 use Rattle.virtiofs_mapaudit.proofs.NameTableLemmas.{each_shown}
-use Rattle.virtiofs_mapaudit.proofs.as_json.names.listed_names.Goals as goal
+use Rattle.virtiofs_mapaudit.proofs.as_json.names.names_value.Goals as goal
 
-pub stands_value-requires : goal.stands_value-requires
-stands_value-requires c =
+pub told_value-requires : goal.told_value-requires
+told_value-requires c =
     ap is_shown c.as_bytes.ensures.value
     ∙ each_shown c.args.names.now c.loop-name.name-index _ c.requires c.loop-name-test.true

@@ -1,9 +1,0 @@
-use Rattle.std.proofs.Common.{◌≡◌, take, map}
-use Rattle.serde_json.specs.View.{view}
-use Rattle.virtiofs_mapaudit.specs.NameJson.{listed_data}
-use Rattle.virtiofs_mapaudit.specs.NameTableParts.{names_of}
-use Rattle.virtiofs_mapaudit.proofs.as_json.names.listed_names.Given as goal
-
--- the names so far were added
-abbrev pub invariant-loop-name : goal.invariant-loop-name
-invariant-loop-name l = map view l.list.items ≡ map (listed_data l.rules) (names_of (take l.name-index l.names))
