@@ -17,10 +17,10 @@ use Rattle.virtiofs_map.specs.declared.soft_idmap.entry.Direction.TheVariants.{G
 use Rattle.virtiofs_map.specs.declared.soft_idmap.piece.Outcome.TheVariants.{Kept, OneToOne, AllToOne, Forbidden}
 use Rattle.virtiofs_map.specs.declared.soft_idmap.piece.Outcome.{Outcome}
 use Rattle.virtiofs_map.specs.declared.soft_idmap.piece.Piece.{Piece}
-use Rattle.virtiofs_mapaudit.specs.FindingJson.{finding_data, fault_data, id_data, range_data, count_if}
-use Rattle.virtiofs_mapaudit.specs.IdJson.{count, piece_data, outcome_data, namespace_data, id_table, IsIdTable}
-use Rattle.virtiofs_mapaudit.specs.NameJson.{name_data, text_data, answer_data, least_data, becomes_data, stands_data}
-use Rattle.virtiofs_mapaudit.specs.NameJson.{told_data, name_line, name_table, IsNameTable}
+use Rattle.virtiofs_mapaudit.specs.FindingJson.{ids_word, finding_data, fault_data, id_data}
+use Rattle.virtiofs_mapaudit.specs.IdJson.{piece_data, outcome_data, namespace_data, id_table, IsIdTable}
+use Rattle.virtiofs_mapaudit.specs.NameJson.{name_data, answer_data, least_data, becomes_data, stands_data}
+use Rattle.virtiofs_mapaudit.specs.NameJson.{told_data, name_line, name_table}
 use Rattle.virtiofs_mapaudit.specs.NameTable.{shown}
 use Rattle.virtiofs_mapaudit.specs.RefusalText.{refusal_text}
 use Rattle.virtiofs_mapaudit.specs.declared.refusal.Refusal.{Refusal}
@@ -116,11 +116,11 @@ id_table_none from_guest from_host ranges =
 
 -- ---- findings
 
-id_none : (guest : ℕ) (kind : IdKind) (fault : IdFault) (it : IdFound) → HasNone (id_data guest kind fault it)
-id_none guest kind NotBack it = refl
-id_none guest kind Shared it = refl
-id_none guest kind Root it = refl
-id_none guest kind Lacking it = refl
+id_none : (guest : ℕ) (ids : List ℕ) (fault : IdFault) (it : IdFound) → HasNone (id_data guest ids fault it)
+id_none guest ids NotBack it = refl
+id_none guest ids Shared it = refl
+id_none guest ids Root it = refl
+id_none guest ids Lacking it = refl
 
 fault_none : (guest : ℕ) (kind : IdKind) (place : ℕ) (fault : RangeFault) → HasNone (fault_data guest kind place fault)
 fault_none guest kind place Empty = refl
@@ -131,7 +131,7 @@ fault_none guest kind place (MeetsOutside other) = refl
 finding_none : {A : Type 0} (guest : ℕ) (finding : Finding A) → HasNone (finding_data guest finding)
 finding_none guest findings.PosixAcl = refl
 finding_none guest (findings.Range kind range) = fault_none guest kind range.place range.fault
-finding_none guest (findings.Id kind in_namespace fault it) = id_none guest kind fault it
+finding_none guest (findings.Id kind in_namespace fault it) = id_none guest (ids_word kind) fault it
 finding_none guest findings.NoRule = refl
 finding_none guest (findings.NotListed least) = rw (least_none least) refl
 finding_none guest (findings.ListedElsewhere least) = rw (least_none least) refl

@@ -30,26 +30,18 @@ guest_id guest what ids it more =
     (member (codes "ids") (string ids)
     (member (codes "kind") (string what) more))))
 
--- an id that does not come back
-abbrev pub not_back_data : ℕ → List ℕ → IdFound → Data
-not_back_data guest ids it =
-    object (member (codes "back") (count it.other) (guest_id guest (codes "not_back") ids it no_members))
-
--- an id that shares its id of the host with another one
-abbrev pub shared_data : ℕ → List ℕ → IdFound → Data
-shared_data guest ids it =
-    object (guest_id guest (codes "one_on_host") ids it (member (codes "other") (count it.other) no_members))
-
--- an id with which another thing is wrong, of which no second id is told
+-- an id of which no second id is told
 abbrev pub alone_data : ℕ → List ℕ → List ℕ → IdFound → Data
 alone_data guest what ids it = object (guest_id guest what ids it no_members)
 
 -- what is wrong with an id of the guest
-abbrev pub id_data : ℕ → IdKind → IdFault → IdFound → Data
-id_data guest kind NotBack it = not_back_data guest (ids_word kind) it
-id_data guest kind Shared it = shared_data guest (ids_word kind) it
-id_data guest kind Root it = alone_data guest (codes "root") (ids_word kind) it
-id_data guest kind Lacking it = alone_data guest (codes "lacking") (ids_word kind) it
+abbrev pub id_data : ℕ → List ℕ → IdFault → IdFound → Data
+id_data guest ids NotBack it =
+    object (member (codes "back") (count it.other) (guest_id guest (codes "not_back") ids it no_members))
+id_data guest ids Shared it =
+    object (guest_id guest (codes "one_on_host") ids it (member (codes "other") (count it.other) no_members))
+id_data guest ids Root it = alone_data guest (codes "root") ids it
+id_data guest ids Lacking it = alone_data guest (codes "lacking") ids it
 
 -- a number, if there is one
 abbrev pub count_if : Option ℕ → Data
@@ -123,7 +115,7 @@ between_data first second what least =
 abbrev pub finding_data : {A : Type 0} → ℕ → Finding A → Data
 finding_data guest findings.PosixAcl = plain_data guest (codes "posix_acl")
 finding_data guest (findings.Range kind range) = fault_data guest kind range.place range.fault
-finding_data guest (findings.Id kind in_namespace fault it) = id_data guest kind fault it
+finding_data guest (findings.Id kind in_namespace fault it) = id_data guest (ids_word kind) fault it
 finding_data guest findings.NoRule = plain_data guest (codes "no_rule")
 finding_data guest (findings.NotListed least) = names_data guest (codes "not_listed") (least_data least)
 finding_data guest (findings.ListedElsewhere least) = names_data guest (codes "listed_elsewhere") (least_data least)

@@ -2,7 +2,7 @@
 ghost use Rattle.std.specs.Prelude.{◌≡◌, ◌+◌, ◌++◌, IfOk, OnOk, map};
 ghost use Rattle.serde_json.specs.View.{view};
 ghost use Rattle.virtiofs_mapaudit.specs.NameJson.{least_data};
-ghost use Rattle.virtiofs_mapaudit.specs.FindingJson.{ids_word, not_back_data, shared_data, alone_data, id_data, range_data, fault_data, idle_data, plain_data, names_data, between_data, met_data, finding_data};
+ghost use Rattle.virtiofs_mapaudit.specs.FindingJson.{ids_word, alone_data, id_data, range_data, fault_data, idle_data, names_data, between_data, met_data, finding_data};
 
 use super::Built;
 use super::names::least_value;
@@ -32,43 +32,29 @@ fn number_at(place: usize) -> Result<usize, AllocError>
     place.checked_add(1).ok_or(AllocError)
 }
 
-/// An id that does not come back.
-fn not_back(alloc: Global, guest: usize, ids: &str, it: IdFound) -> Built
-    ensures { IfOk result (λ value. view value ≡ not_back_data guest ids.now it) }
-{
-    json!(in alloc; {
-        "guest": guest, "kind": "not_back", "ids": ids, "id": it.guest, "host": it.host,
-        "back": it.other
-    })
-}
-
-/// An id that shares its id of the host with another one.
-fn shared(alloc: Global, guest: usize, ids: &str, it: IdFound) -> Built
-    ensures { IfOk result (λ value. view value ≡ shared_data guest ids.now it) }
-{
-    json!(in alloc; {
-        "guest": guest, "kind": "one_on_host", "ids": ids, "id": it.guest, "host": it.host,
-        "other": it.other
-    })
-}
-
-/// An id with which another thing is wrong, of which no second id is told.
+/// An id of which no second id is told.
 fn alone(alloc: Global, guest: usize, what: &str, ids: &str, it: IdFound) -> Built
     ensures { IfOk result (λ value. view value ≡ alone_data guest what.now ids.now it) }
 {
-    json!(in alloc; {
-        "guest": guest, "kind": what, "ids": ids, "id": it.guest, "host": it.host
-    })
+    json!(in alloc; {"guest": guest, "kind": what, "ids": ids, "id": it.guest, "host": it.host})
 }
 
-/// What is wrong with an id.
-fn id_value(alloc: Global, guest: usize, kind: IdKind, fault: IdFault, it: IdFound) -> Built
-    ensures { IfOk result (λ value. view value ≡ id_data guest kind fault it) }
+/// What is wrong with an id, and its second id under the name that it has there.
+fn id_value(alloc: Global, guest: usize, ids: &str, fault: IdFault, it: IdFound) -> Built
+    ensures { IfOk result (λ value. view value ≡ id_data guest ids.now fault it) }
 {
-    let ids = word(kind);
+    let IdFound {
+        guest: id,
+        host,
+        other,
+    } = it;
     match fault {
-        IdFault::NotBack => not_back(alloc, guest, ids, it),
-        IdFault::Shared => shared(alloc, guest, ids, it),
+        IdFault::NotBack => json!(in alloc; {
+            "guest": guest, "kind": "not_back", "ids": ids, "id": id, "host": host, "back": other
+        }),
+        IdFault::Shared => json!(in alloc; {
+            "guest": guest, "kind": "one_on_host", "ids": ids, "id": id, "host": host, "other": other
+        }),
         IdFault::Root => alone(alloc, guest, "root", ids, it),
         IdFault::Lacking => alone(alloc, guest, "lacking", ids, it),
     }
@@ -119,13 +105,6 @@ fn idle_value(alloc: Global, guest: usize, place: usize) -> Built
     json!(in alloc; {"guest": guest, "kind": "idle_rule", "rule": rule})
 }
 
-/// A finding that has no members of its own.
-fn plain_value(alloc: Global, guest: usize, what: &str) -> Built
-    ensures { IfOk result (λ value. view value ≡ plain_data guest what.now) }
-{
-    json!(in alloc; {"guest": guest, "kind": what})
-}
-
 /// Names of a guest.
 fn names_value(alloc: Global, guest: usize, what: &str, least: &LeastName<Global>) -> Built
     ensures { IfOk result (λ value. view value ≡ names_data guest what.now (least_data least.now)) }
@@ -164,15 +143,15 @@ fn finding_value(alloc: Global, guest: usize, finding: &Finding<Global>) -> Buil
     ensures { IfOk result (λ value. view value ≡ finding_data guest finding.now) }
 {
     match finding {
-        Finding::PosixAcl => plain_value(alloc, guest, "posix_acl"),
+        Finding::PosixAcl => json!(in alloc; {"guest": guest, "kind": "posix_acl"}),
         Finding::Range { kind, range } => fault_value(alloc, guest, *kind, *range),
         Finding::Id {
             kind,
             fault,
             id,
             ..
-        } => id_value(alloc, guest, *kind, *fault, *id),
-        Finding::NoRule => plain_value(alloc, guest, "no_rule"),
+        } => id_value(alloc, guest, word(*kind), *fault, *id),
+        Finding::NoRule => json!(in alloc; {"guest": guest, "kind": "no_rule"}),
         Finding::NotListed(least) => names_value(alloc, guest, "not_listed", least),
         Finding::ListedElsewhere(least) => names_value(alloc, guest, "listed_elsewhere", least),
         Finding::IdleRule(place) => idle_value(alloc, guest, *place),
