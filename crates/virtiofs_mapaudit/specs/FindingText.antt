@@ -83,6 +83,23 @@ least_text found = quoted found.name ++ (if is_usual found.name then [] else als
 abbrev pub own_prefix : List ℕ
 own_prefix = codes "\n  fix: give each guest a prefix of its own, for example --xattrmap :map::user.guest1.:\n"
 
+-- ---- rules and names of guests
+
+-- a rule that decides no name, at a place that is counted from 0
+abbrev pub idle_text : ℕ → List ℕ
+idle_text place =
+    joined (codes "rule " ∷ decimal (place + 1) ∷ codes " decides no name: earlier rules take all names that it fits\n  fix: remove it, or change the rules before it\n" ∷ [])
+
+-- a name that a guest can set, and that lists of another guest then show
+abbrev pub shown_text : {A : Type 0} → ℕ → ℕ → LeastName A → List ℕ
+shown_text setter lister least =
+    joined (codes "guest " ∷ decimal setter ∷ codes " can set the name " ∷ least_text least ∷ codes ", and lists then show it to guest " ∷ decimal lister ∷ own_prefix ∷ [])
+
+-- a name by which a guest reaches what another guest reaches too
+abbrev pub reached_text : {A : Type 0} → ℕ → ℕ → LeastName A → List ℕ
+reached_text first second least =
+    joined (codes "guest " ∷ decimal first ∷ codes " reaches an attribute of the host by the name " ∷ least_text least ∷ codes ", and guest " ∷ decimal second ∷ codes " reaches it too" ∷ own_prefix ∷ [])
+
 -- ---- findings
 
 -- what is printed of a finding. Guests and rules are counted from 1
@@ -93,10 +110,10 @@ finding_text (findings.Id kind in_namespace fault it) = id_text kind in_namespac
 finding_text findings.NoRule = codes "some names have no rule: calls with them fail\n  fix: end the rules with one that fits all names, for example :bad:all:::\n"
 finding_text (findings.NotListed least) = joined (codes "the guest can set the name " ∷ least_text least ∷ codes ", but lists do not show it\n  fix: change the scope of the rule that decides it to all, or deny the name\n" ∷ [])
 finding_text (findings.ListedElsewhere least) = joined (codes "lists show the host's attribute " ∷ least_text least ∷ codes " under a name by which the guest does not reach it\n  fix: before the other rules, put one that hides names with this beginning, for example :bad:server::NAME:\n" ∷ [])
-finding_text (findings.IdleRule place) = joined (codes "rule " ∷ decimal (place + 1) ∷ codes " decides no name: earlier rules take all names that it fits\n  fix: remove it, or change the rules before it\n" ∷ [])
+finding_text (findings.IdleRule place) = idle_text place
 finding_text (findings.IdOfBoth first second kind it) = met_text (one_of kind) first second it
-finding_text (findings.ShownToOther setter lister least) = joined (codes "guest " ∷ decimal setter ∷ codes " can set the name " ∷ least_text least ∷ codes ", and lists then show it to guest " ∷ decimal lister ∷ own_prefix ∷ [])
-finding_text (findings.NameOfBoth first second least) = joined (codes "guest " ∷ decimal first ∷ codes " reaches an attribute of the host by the name " ∷ least_text least ∷ codes ", and guest " ∷ decimal second ∷ codes " reaches it too" ∷ own_prefix ∷ [])
+finding_text (findings.ShownToOther setter lister least) = shown_text setter lister least
+finding_text (findings.NameOfBoth first second least) = reached_text first second least
 
 -- the findings, one below the other
 abbrev pub findings_text : {A : Type 0} → List (Finding A) → List ℕ

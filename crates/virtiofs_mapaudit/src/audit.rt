@@ -313,7 +313,8 @@ fn set_up_all<A: Allocator + Copy>(
     guests: &[Guest<'_, A>],
 ) -> Result<Vec<SetUp<A>, A>, AllocError>
     ensures sets_up { IfOk result (λ sets. AllZip SetsUp guests.now sets.items) }
-    ensures says { OnOk result (Adds (TellsGuests 1 guests.now) refusals.old.items refusals.new.items) }
+    ensures says { OnOk result (Adds (TellsGuests 1 guests.now)
+        refusals.old.items refusals.new.items) }
 {
     let mut sets = Vec::new(alloc);
     for place in 0..guests.len() {

@@ -1,7 +1,7 @@
 //! What is found: facts about the options that may be mistakes.
 ghost use Rattle.std.specs.Prelude.{◌≡◌, [], Some};
 ghost use Rattle.std.specs.Fmt.{DisplaysOnOk};
-ghost use Rattle.virtiofs_mapaudit.specs.FindingText.{whereabouts, not_back_text, shared_text, root_text, lacking_text, id_text, met_text, or_name, also, is_usual, least_text, finding_text};
+ghost use Rattle.virtiofs_mapaudit.specs.FindingText.{whereabouts, not_back_text, shared_text, root_text, lacking_text, id_text, met_text, or_name, also, is_usual, least_text, idle_text, shown_text, reached_text, finding_text};
 
 use crate::ids::found::{IdFault, IdFound};
 use crate::ids::kind::{IdKind, one_of, ranging, translating};
@@ -256,15 +256,62 @@ impl<A: Allocator> fmt::Display for LeastName<A> {
     }
 }
 
+const POSIX_ACL: &str =
+    "--posix-acl does not go with --translate-uid or --translate-gid: the daemon does not start\n  fix: leave out --posix-acl\n";
+
+const NO_RULE: &str =
+    "some names have no rule: calls with them fail\n  fix: end the rules with one that fits all names, for example :bad:all:::\n";
+
+/// Writes that the rule at a place, counted from 0, decides no name.
+fn write_idle<W: fmt::Write>(f: &mut fmt::Formatter<W>, place: usize) -> fmt::Result
+    ensures { DisplaysOnOk W.write_str_gives f.old result (Some (idle_text place)) f.new }
+{
+    let number = place as u64 as u128 + 1;
+    write!(
+        f,
+        "rule {number} decides no name: earlier rules take all names that it fits\n  fix: remove it, or change the rules before it\n"
+    )
+}
+
+/// Writes that a guest can set a name which lists of another guest show.
+fn write_shown<W: fmt::Write, A: Allocator>(
+    f: &mut fmt::Formatter<W>,
+    setter: usize,
+    lister: usize,
+    least: &LeastName<A>,
+) -> fmt::Result
+    ensures { DisplaysOnOk W.write_str_gives f.old result
+        (Some (shown_text setter lister least.now)) f.new }
+{
+    write!(
+        f,
+        "guest {setter} can set the name {least}, and lists then show it to guest {lister}\n  fix: give each guest a prefix of its own, for example --xattrmap :map::user.guest1.:\n"
+    )
+}
+
+/// Writes that two guests reach one attribute of the host.
+fn write_reached<W: fmt::Write, A: Allocator>(
+    f: &mut fmt::Formatter<W>,
+    first: usize,
+    second: usize,
+    least: &LeastName<A>,
+) -> fmt::Result
+    ensures { DisplaysOnOk W.write_str_gives f.old result
+        (Some (reached_text first second least.now)) f.new }
+{
+    write!(
+        f,
+        "guest {first} reaches an attribute of the host by the name {least}, and guest {second} reaches it too\n  fix: give each guest a prefix of its own, for example --xattrmap :map::user.guest1.:\n"
+    )
+}
+
 /// A line that says what was found, and a line with what mends it.
 impl<A: Allocator> fmt::Display for Finding<A> {
     ghost output = { λ finding. Some (finding_text finding) };
 
     fn fmt<W: fmt::Write>(&self, f: &mut fmt::Formatter<W>) -> fmt::Result {
         match self {
-            Finding::PosixAcl => f.write_str(
-                "--posix-acl does not go with --translate-uid or --translate-gid: the daemon does not start\n  fix: leave out --posix-acl\n",
-            ),
+            Finding::PosixAcl => f.write_str(POSIX_ACL),
             Finding::Range { kind, range } => write_range(f, *kind, *range),
             Finding::Id {
                 kind,
@@ -272,9 +319,7 @@ impl<A: Allocator> fmt::Display for Finding<A> {
                 fault,
                 id,
             } => write_id(f, *kind, *in_namespace, *fault, *id),
-            Finding::NoRule => f.write_str(
-                "some names have no rule: calls with them fail\n  fix: end the rules with one that fits all names, for example :bad:all:::\n",
-            ),
+            Finding::NoRule => f.write_str(NO_RULE),
             Finding::NotListed(least) => write!(
                 f,
                 "the guest can set the name {least}, but lists do not show it\n  fix: change the scope of the rule that decides it to all, or deny the name\n"
@@ -283,13 +328,7 @@ impl<A: Allocator> fmt::Display for Finding<A> {
                 f,
                 "lists show the host's attribute {least} under a name by which the guest does not reach it\n  fix: before the other rules, put one that hides names with this beginning, for example :bad:server::NAME:\n"
             ),
-            Finding::IdleRule(place) => {
-                let number = *place as u64 as u128 + 1;
-                write!(
-                    f,
-                    "rule {number} decides no name: earlier rules take all names that it fits\n  fix: remove it, or change the rules before it\n"
-                )
-            }
+            Finding::IdleRule(place) => write_idle(f, *place),
             Finding::IdOfBoth {
                 first,
                 second,
@@ -300,18 +339,12 @@ impl<A: Allocator> fmt::Display for Finding<A> {
                 setter,
                 lister,
                 least,
-            } => write!(
-                f,
-                "guest {setter} can set the name {least}, and lists then show it to guest {lister}\n  fix: give each guest a prefix of its own, for example --xattrmap :map::user.guest1.:\n"
-            ),
+            } => write_shown(f, *setter, *lister, least),
             Finding::NameOfBoth {
                 first,
                 second,
                 least,
-            } => write!(
-                f,
-                "guest {first} reaches an attribute of the host by the name {least}, and guest {second} reaches it too\n  fix: give each guest a prefix of its own, for example --xattrmap :map::user.guest1.:\n"
-            ),
+            } => write_reached(f, *first, *second, least),
         }
     }
 }

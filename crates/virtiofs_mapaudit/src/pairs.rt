@@ -33,7 +33,8 @@ fn push_meeting<A: Allocator + Copy>(
     one: &Option<IdSetUp<A>>,
     other: &Option<IdSetUp<A>>,
 ) -> Result<(), AllocError>
-    ensures { OnOk result (Adds (FindsBoth (FindsIdOfBoth numbers.first numbers.second kind) one.now other.now)
+    ensures { OnOk result (Adds
+        (FindsBoth (FindsIdOfBoth numbers.first numbers.second kind) one.now other.now)
         found.old.items found.new.items) }
 {
     let (Some(one), Some(other)) = (one, other) else {
@@ -103,7 +104,8 @@ fn push_names<A: Allocator + Copy>(
     one: &Option<NamesSetUp<A>>,
     other: &Option<NamesSetUp<A>>,
 ) -> Result<(), AllocError>
-    ensures { OnOk result (Adds (FindsBoth (FindsNamesBetween numbers.first numbers.second) one.now other.now)
+    ensures { OnOk result (Adds
+        (FindsBoth (FindsNamesBetween numbers.first numbers.second) one.now other.now)
         found.old.items found.new.items) }
 {
     let (Some(one), Some(other)) = (one, other) else {
