@@ -1,3 +1,4 @@
+mod ApartLemmas
 mod HeldLemmas
 mod IdAuditLemmas
 mod ImageLemmas

@@ -1,5 +1,5 @@
 -- What an audit of ids decides of a map, for all ids of the guest.
-use Rattle.std.specs.Prelude.{◌≡◌, ◌≢◌, ℕ, ◌<◌, ◌≤◌, List, Contains, Option, Some, None, ⊤}
+use Rattle.std.specs.Prelude.{◌≡◌, ◌≢◌, ℕ, ◌+◌, ◌<◌, ◌≤◌, List, All, AllPairs, Contains, Option, Some, None, ⊤}
 use Rattle.virtiofs_map.specs.Mapping.{Becomes}
 use Rattle.virtiofs_map.specs.MappingLaws.{LeadsBack}
 use Rattle.virtiofs_map.specs.declared.cmdline.IdMap.{IdMap}
@@ -98,7 +98,7 @@ ReachedBy specs host = (guest : ℕ) × GoesTo specs guest host
 abbrev pub AreIdsApart : List IdMap → List IdMap → Type 0
 AreIdsApart specs others = (guest host : ℕ) → GoesTo specs guest host → ¬ ReachedBy others host
 
--- ---- spans of ids of the host
+-- ---- spans of ids
 
 -- the span has the id
 abbrev pub Has : Span → ℕ → Type 0
@@ -107,3 +107,8 @@ Has span id = (span.first ≤ id) × (id ≤ span.last)
 -- one of the spans has it
 abbrev pub Hold : List Span → ℕ → Type 0
 Hold spans id = (span : Span) × Contains spans span × Has span id
+
+-- each span has an id, and an id lies between each and those after it
+pub record AreRuns (spans : List Span) : Type 0 where
+  pub some : All (λ span. span.first ≤ span.last) spans
+  pub gaps : AllPairs (λ span later. span.last + 1 < later.first) spans

@@ -1,5 +1,5 @@
 -- What the parts of the audits of ids say. Only private functions cite these definitions.
-use Rattle.std.specs.Prelude.{◌≡◌, ◌≢◌, ◌⊎◌, ◌↔◌, ◌&&◌, if◌then◌else◌, ℕ, ◌+◌, ◌-◌, ◌<◌, ◌≤◌, nat_le, nat_lt, List, All}
+use Rattle.std.specs.Prelude.{◌≡◌, ◌≢◌, ◌⊎◌, ◌↔◌, ◌&&◌, if◌then◌else◌, ℕ, ◌+◌, ◌-◌, ◌<◌, ◌≤◌, nat_le, nat_lt, List, All, AllPairs}
 use Rattle.std.specs.Prelude.{Option, Some, None, sum_by}
 use Rattle.std.specs.List.Sorted.{IsNonDecreasingBy}
 use Rattle.virtiofs_map.specs.IdAudit.{GoesTo}
@@ -41,6 +41,11 @@ ComeBackBelow specs next = (n host : ℕ) → n < next → GoesTo specs n host �
 -- the span has an id, and only ids
 abbrev pub IsSpan : Span → Type 0
 IsSpan span = (span.first ≤ span.last) × (span.last ≤ 4294967295)
+
+-- each span has an id, and ends before those after it begin
+pub record AreApart (spans : List Span) : Type 0 where
+  pub some : All IsSpan spans
+  pub apart : AllPairs (λ span later. span.last < later.first) spans
 
 -- each span has an id, and neither the first nor the last ids of the spans fall
 pub record AreInOrder (spans : List Span) : Type 0 where

@@ -12,6 +12,7 @@ pub mod BuildParts
 pub mod ByteWordParts
 pub mod Capability
 pub mod CapabilityParts
+pub mod ExtentParts
 pub mod FirstRule
 pub mod GrowthParts
 pub mod IdAudit

@@ -1,70 +1,14 @@
 -- What the parts of mending say. Only private functions cite these definitions.
-use Rattle.std.specs.Prelude.{◌≡◌, ◌⊎◌, ◌↔◌, ℕ, ◌+◌, ◌-◌, ◌<◌, ◌≤◌, true, false, List, length, All, AllPairs, Contains, Option, Some, None}
+use Rattle.std.specs.Prelude.{◌≡◌, ◌⊎◌, ◌↔◌, ℕ, ◌+◌, List, length, Contains, Option, None}
 use Rattle.std.specs.Prelude.{IsSomeAnd, IfSome, ⊤}
 use Rattle.virtiofs_map.specs.Build.{Accepted, HasSource, HasTarget}
-use Rattle.virtiofs_map.specs.IdAudit.{GoesTo}
-use Rattle.virtiofs_map.specs.IdAuditParts.{IsSpan, Has, Hold}
-use Rattle.virtiofs_map.specs.Mapping.{entry_of, count_of, Covers, Maps, Becomes}
-use Rattle.virtiofs_map.specs.MappingLaws.{LeadsBack}
-use Rattle.virtiofs_map.specs.Mending.{IsBad, CoversSome, EndsWith}
-use Rattle.virtiofs_map.specs.Pieces.{value_in}
+use Rattle.virtiofs_map.specs.IdAuditParts.{Has, Hold}
+use Rattle.virtiofs_map.specs.Mapping.{entry_of, count_of, Covers, Maps}
+use Rattle.virtiofs_map.specs.Mending.{CoversSome, EndsWith}
 use Rattle.virtiofs_map.specs.declared.cmdline.IdMap.{IdMap}
-use Rattle.virtiofs_map.specs.declared.id_audit.mending.runs.Run.{Run}
 use Rattle.virtiofs_map.specs.declared.id_audit.spans.Span.{Span}
 use Rattle.virtiofs_map.specs.declared.soft_idmap.entry.Direction.{Direction}
 use Rattle.virtiofs_map.specs.declared.soft_idmap.entry.Direction.TheVariants.{GuestToHost, HostToGuest}
-use Rattle.virtiofs_map.specs.declared.soft_idmap.piece.Piece.{Piece}
-
--- ---- which ids are bad
-
--- a good id of the guest becomes that id of the host, which becomes it again and is not bad
-pub record IsGood (specs : List IdMap) (bad_host : ℕ → Type 0) (guest host : ℕ) : Type 0 where
-  pub goes : GoesTo specs guest host
-  pub back : LeadsBack specs GuestToHost guest host
-  pub not_bad : ¬ bad_host host
-
--- the numbers of the run, from first on and not above last, are all bad, or none of them is
-pub record IsRun (bad : ℕ → Type 0) (first last : ℕ) (run : Run) : Type 0 where
-  pub from : first ≤ run.last
-  pub to : run.last ≤ last
-  pub all : run.bad ≡ true → (n : ℕ) → first ≤ n → n ≤ run.last → bad n
-  pub none : run.bad ≡ false → (n : ℕ) → first ≤ n → n ≤ run.last → ¬ bad n
-
--- where an id of the host becomes an id of the guest that is none of the starts, the one before it becomes the one before
--- that
-abbrev pub AreStarts : List IdMap → List ℕ → Type 0
-AreStarts specs starts = (host guest : ℕ) → 1 ≤ host → host ≤ 4294967295 → Becomes specs HostToGuest host (Some guest)
-    → Contains starts guest ⊎ Becomes specs HostToGuest (host - 1) (Some (guest - 1))
-
--- the number of the piece becomes one of these
-abbrev pub BecomesOne : Piece → (ℕ → Type 0) → ℕ → Type 0
-BecomesOne piece hosts n = (host : ℕ) × (value_in piece n ≡ Some host) × hosts host
-
--- the ids of the run, from first on, are all bad, or each that becomes an id of the host is good
-pub record Tells (specs : List IdMap) (bad_host : ℕ → Type 0) (first : ℕ) (run : Run) : Type 0 where
-  pub bad : run.bad ≡ true → (n : ℕ) → first ≤ n → n ≤ run.last → IsBad specs bad_host n
-  pub good : run.bad ≡ false → (n host : ℕ) → first ≤ n → n ≤ run.last → GoesTo specs n host
-      → IsGood specs bad_host n host
-
--- of the ids below end, those that are not fine are bad, and each that is and becomes an id of the host is good
-pub record Sifts (specs : List IdMap) (bad_host : ℕ → Type 0) (end : ℕ) (fine : ℕ → Type 0) : Type 0 where
-  pub bad : (n : ℕ) → n < end → ¬ fine n → IsBad specs bad_host n
-  pub good : (n host : ℕ) → n < end → fine n → GoesTo specs n host → IsGood specs bad_host n host
-
--- it is known of each id whether it is bad
-pub record Decides (specs : List IdMap) (bad_host bad : ℕ → Type 0) : Type 0 where
-  pub decided : (n : ℕ) → bad n ⊎ (¬ bad n)
-  pub is_bad : (n : ℕ) → bad n → IsBad specs bad_host n
-  pub is_good : (n host : ℕ) → GoesTo specs n host → ¬ bad n → IsGood specs bad_host n host
-
--- each span has an id, and ends before those after it begin
-pub record AreApart (spans : List Span) : Type 0 where
-  pub some : All IsSpan spans
-  pub apart : AllPairs (λ span later. span.last < later.first) spans
-
--- an id lies between each span and those after it
-abbrev pub HaveGaps : List Span → Type 0
-HaveGaps spans = AllPairs (λ span later. span.last + 1 < later.first) spans
 
 -- ---- what is left of specifications
 

@@ -14,6 +14,8 @@
 //! - [`ids_apart`]: no id of the host is reached by two maps.
 //! - [`reached`]: the ids of the host that the guest reaches, as spans.
 //! - [`reaches_any`]: the least id that becomes an id of the host which one of some spans has.
+//! - [`ids_into`]: the ids of the guest that become an id of the host which one of some spans has.
+//! - [`ids_astray`]: the ids of the guest that do not come back, but for those.
 //! - [`mended`]: the specifications, with the ids forbidden that do not come back, and those that
 //!   become an id of the host which one of some spans has.
 //!
@@ -29,6 +31,8 @@ ghost use Rattle.virtiofs_map.specs.IdAudit.{ReachedBy, Hold};
 ghost use Rattle.virtiofs_map.specs.declared.id_audit.answer.IdAudit.TheVariants.{Yes};
 
 mod answer;
+mod cuts;
+mod extents;
 mod images;
 mod mending;
 mod round_trips;
@@ -37,6 +41,7 @@ mod spans;
 use crate::id_types::{GuestId, HostId};
 use crate::soft_idmap::{IdMap, id_of, number_of};
 pub use answer::{Astray, IdAudit, Shared};
+pub use extents::{ids_astray, ids_into};
 use images::{images_of, merged, reached_again};
 pub use mending::mended;
 use round_trips::first_astray;

@@ -5,8 +5,8 @@ use Asked::{ApartFrom, Back, IsReached, Own, Reaches, ReachesAny};
 use std::alloc::Global;
 use std::test::Fail;
 use virtiofs_map::id_audit::{
-    Astray, IdAudit, Shared, Span, comes_back, ids_apart, is_alone, mended, reached, reaches,
-    reaches_any,
+    Astray, IdAudit, Shared, Span, comes_back, ids_apart, ids_astray, ids_into, is_alone, mended,
+    reached, reaches, reaches_any,
 };
 use virtiofs_map::id_types::{GuestUid, HostUid, Id};
 
@@ -49,9 +49,131 @@ fn finds_the_least_id(rt: HostRuntime) -> Result<(), Fail> {
     Ok(())
 }
 
+/// The first and last ids of spans.
+type Ends = &'static [(u32, u32)];
+
+/// Specifications, spans of the host, the ids of the guest that become one of them, and those that
+/// do not come back and become none of them.
+static EXTENTS: [(&str, Ends, Ends, Ends); 15] = [
+    ("", &[(5, 7)], &[(5, 7)], &[]),
+    // 4294967295 is no id.
+    ("", &[(0, 4294967295)], &[(0, 4294967294)], &[]),
+    (OWN, &[], &[], &[]),
+    (OPEN, &[], &[], &[(100_000, 165_535)]),
+    // 0 and 100000 become 100000, which comes back as 0.
+    (
+        OPEN,
+        &[(100_000, 100_000)],
+        &[(0, 0), (100_000, 100_000)],
+        &[(100_001, 165_535)],
+    ),
+    (
+        OPEN,
+        &[(100_000, 100_010)],
+        &[(0, 10), (100_000, 100_010)],
+        &[(100_011, 165_535)],
+    ),
+    // Spans in no order, two of which overlap, and one of which has no id.
+    (
+        OPEN,
+        &[
+            (100_020, 100_030),
+            (7, 5),
+            (165_530, 165_540),
+            (100_000, 100_025),
+        ],
+        &[
+            (0, 30),
+            (65_530, 65_535),
+            (100_000, 100_030),
+            (165_530, 165_540),
+        ],
+        &[(100_031, 165_529)],
+    ),
+    // All become 1001, which comes back as 1000.
+    (
+        "squash-guest:0:1001:4294967295|host:1001:1000:1",
+        &[(1000, 1000)],
+        &[],
+        &[(0, 999), (1001, 4294967294)],
+    ),
+    (
+        "squash-guest:0:1001:4294967295|host:1001:1000:1",
+        &[(1001, 1001)],
+        &[(0, 4294967294)],
+        &[],
+    ),
+    // Ids that become the same ones, and stand side by side.
+    (
+        "guest:0:10:5|guest:5:10:5|guest:20:10:1",
+        &[(10, 14)],
+        &[(0, 14), (20, 20)],
+        &[],
+    ),
+    (
+        "guest:0:10:5|guest:5:10:5|guest:20:10:1",
+        &[(12, 12)],
+        &[(2, 2), (7, 7), (12, 12)],
+        &[(0, 1), (3, 6), (8, 9), (20, 20)],
+    ),
+    // Ranges of the host in other places.
+    (
+        "guest:10:50:10|host:55:15:3|map:7:3:0|squash-host:58:2:1",
+        &[(57, 59)],
+        &[(17, 19), (57, 59)],
+        &[(10, 14), (55, 56)],
+    ),
+    ("forbid-guest:0:4294967295", &[(0, 4294967295)], &[], &[]),
+    // 4294967293 and 4294967294 become 4294967294, which comes back as 4294967293.
+    (
+        "map:0:1:4294967294",
+        &[(4294967295, 4294967295)],
+        &[],
+        &[(4294967294, 4294967294)],
+    ),
+    (
+        "map:0:1:4294967294",
+        &[(4294967294, 4294967295)],
+        &[(4294967293, 4294967294)],
+        &[],
+    ),
+];
+
+#[test]
+fn tells_all_ids(rt: HostRuntime) -> Result<(), Fail> {
+    let alloc = rt.alloc();
+    for &(texts, hosts, into, astray) in &EXTENTS {
+        let map = users_of(alloc, texts).ok_or("no map")?;
+        let spans = spans_of(alloc, hosts)?;
+        let found = ids_into(alloc, &map, &spans)?;
+        let wanted = spans_of(alloc, into)?;
+        assert_eq!(rt;
+            found.as_slice(),
+            wanted.as_slice(),
+            "into {hosts:?}: {texts:?}"
+        );
+        let found = ids_astray(alloc, &map, &spans)?;
+        let wanted = spans_of(alloc, astray)?;
+        assert_eq!(rt;
+            found.as_slice(),
+            wanted.as_slice(),
+            "besides {hosts:?}: {texts:?}"
+        );
+    }
+    Ok(())
+}
+
+fn spans_of(alloc: Global, ends: &[(u32, u32)]) -> Result<Vec<Span>, Fail> {
+    let mut spans = Vec::new(alloc);
+    for &(first, last) in ends {
+        spans.push(Span { first, last })?;
+    }
+    Ok(spans)
+}
+
 /// Specifications, the first and last ids of spans of the host that are bad, and the specifications
 /// that are mended, with a bar between each two.
-static MENDED: [(&str, &[(u32, u32)], &str); 10] = [
+static MENDED: [(&str, Ends, &str); 10] = [
     ("", &[], ""),
     (OWN, &[], OWN),
     (OPEN, &[], "map:0:100000:65536|forbid-guest:100000:65536"),
@@ -106,10 +228,7 @@ fn mends_specifications(rt: HostRuntime) -> Result<(), Fail> {
 
 fn mended_texts(alloc: Global, texts: &str, bad: &[(u32, u32)]) -> Result<String, Fail> {
     let map = users_of(alloc, texts).ok_or("no map")?;
-    let mut spans = Vec::new(alloc);
-    for &(first, last) in bad {
-        spans.push(Span { first, last })?;
-    }
+    let spans = spans_of(alloc, bad)?;
     let mut found = String::new(alloc);
     for (index, spec) in mended(alloc, &map, &spans)?.iter().enumerate() {
         let bar = if index == 0 { "" } else { "|" };

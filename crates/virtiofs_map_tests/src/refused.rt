@@ -5,8 +5,8 @@
 mod calls;
 
 use Asked::{
-    FromSpecs, FromStr, IdsApart, IsAlone, Mended, Of, Reached, ReachesAny, Rules, TryFrom,
-    WriteImage, WrittenRules,
+    FromSpecs, FromStr, IdsApart, IdsAstray, IdsInto, IsAlone, Mended, Of, Reached, ReachesAny,
+    Rules, TryFrom, WriteImage, WrittenRules,
 };
 use Question::{
     Apart, ApartWithin, Audit, AuditCounted, AuditListed, Client, Cloned, ListedWithin, Server,
@@ -19,7 +19,7 @@ use std::alloc::Global;
 use std::process::Abort;
 
 /// Calls that cannot do without memory.
-static TAKE: [Asked; 73] = [
+static TAKE: [Asked; 75] = [
     FromStr("foo:x"),
     FromStr("foo:1"),
     FromStr("foo"),
@@ -49,6 +49,8 @@ static TAKE: [Asked; 73] = [
     Reached(TEN),
     Reached("squash-guest:20:7:5|guest:0:1000:10"),
     ReachesAny(TEN),
+    IdsInto(TEN),
+    IdsAstray("squash-guest:20:7:5|guest:0:2000:10"),
     Mended(TEN),
     Rules("xokxallxxx"),
     Rules(THREE),

@@ -1,3 +1,2 @@
-mod ApartLemmas
 mod ListedLemmas
 mod MendsLemmas

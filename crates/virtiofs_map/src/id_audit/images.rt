@@ -7,6 +7,7 @@ ghost use Rattle.virtiofs_map.specs.Pieces.{IsNamed, IsPiece};
 ghost use Rattle.virtiofs_map.specs.declared.cmdline.IdMap.{IdMap as Specification};
 ghost use Rattle.virtiofs_map.specs.declared.soft_idmap.entry.Direction.TheVariants.{GuestToHost};
 
+use crate::id_audit::cuts::without;
 use crate::id_audit::spans::Span;
 use crate::id_types::{GuestId, HostId};
 use crate::soft_idmap::{Direction, IdMap, Piece};
@@ -114,7 +115,13 @@ pub(crate) fn reached_again<A: Allocator>(
     Ok(again)
 }
 
-/// The ids of the spans, as spans in order.
+/// Each id, and 4294967295.
+const EACH: Span = Span {
+    first: 0,
+    last: u32::MAX,
+};
+
+/// The ids of the spans, as few spans in order.
 pub(crate) fn merged<A: Allocator + Copy>(
     alloc: A,
     spans: &[Span],
@@ -123,5 +130,6 @@ pub(crate) fn merged<A: Allocator + Copy>(
     ensures hold { IfOk result (λ merged. (id : ℕ) → Hold merged.items id ↔ Hold spans.now id) }
 {
     let sorted = in_order(alloc, spans)?;
-    reached_again(alloc, &sorted, u64::from(u32::MAX) + 1)
+    let free = without(alloc, EACH, &sorted)?;
+    without(alloc, EACH, &free)
 }

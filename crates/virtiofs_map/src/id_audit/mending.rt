@@ -3,18 +3,13 @@ ghost use Rattle.std.specs.Prelude.{◌≡◌, ℕ, IfOk};
 ghost use Rattle.virtiofs_map.specs.IdAudit.{ComesBack, IsAlone, Hold};
 ghost use Rattle.virtiofs_map.specs.Mending.{IsBad, Mends, IsShort, KeepsClean};
 
-mod cuts;
-mod fine;
 mod parts;
-mod runs;
-mod starts;
 
 use crate::cmdline;
-use crate::id_audit::images::merged;
+use crate::id_audit::extents::{Sought, ids_sought};
 use crate::id_audit::spans::Span;
 use crate::id_types::{GuestId, HostId};
 use crate::soft_idmap::IdMap;
-use fine::bad_ids;
 use parts::{push_cut, push_parts};
 use std::alloc::{AllocError, Allocator};
 
@@ -66,8 +61,7 @@ pub fn mended<
     ensures unchanged { ((guest : ℕ) → ¬ IsBad map.now (Hold bad_host.now) guest)
         → IfOk result (λ mended. mended.items ≡ map.now) }
 {
-    let bad_host = merged(alloc, bad_host)?;
-    let bad = bad_ids(alloc, map, &bad_host)?;
+    let bad = ids_sought(alloc, map, Sought::Bad, bad_host)?;
     let mut specs = Vec::new(alloc);
     for spec in map.specs() {
         push_cut(alloc, &mut specs, *spec, &bad)?;

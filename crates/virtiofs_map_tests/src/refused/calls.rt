@@ -4,7 +4,9 @@ use crate::common::{specs_of, users_of};
 use rationed::{Call, Ended, Rationed};
 use std::alloc::{AllocError, Global};
 use std::fmt::Debug;
-use virtiofs_map::id_audit::{Span, ids_apart, is_alone, mended, reached, reaches_any};
+use virtiofs_map::id_audit::{
+    Span, ids_apart, ids_astray, ids_into, is_alone, mended, reached, reaches_any,
+};
 use virtiofs_map::id_types::{GuestUid, HostUid};
 use virtiofs_map::soft_idmap::image::write_image;
 use virtiofs_map::soft_idmap::{IdMap, IdMapBuildError, SpecsError};
@@ -29,6 +31,8 @@ pub(super) enum Asked {
     IdsApart(&'static str, &'static str),
     Reached(&'static str),
     ReachesAny(&'static str),
+    IdsInto(&'static str),
+    IdsAstray(&'static str),
     Mended(&'static str),
     /// `XattrMap::try_from`.
     Rules(&'static str),
@@ -97,14 +101,16 @@ impl Asked {
             }
             Asked::Reached(texts) => audited(ample, &reached(alloc, &users_of(ample, texts)?)),
             Asked::ReachesAny(texts) => {
-                let spans = [(1003, 1009), (9, 7), (30, 1005)];
-                let spans = spans.map(|(first, last)| Span { first, last });
-                audited(ample, &reaches_any(alloc, &users_of(ample, texts)?, &spans))
+                audited(ample, &reaches_any(alloc, &users_of(ample, texts)?, &SPANS))
+            }
+            Asked::IdsInto(texts) => {
+                audited(ample, &ids_into(alloc, &users_of(ample, texts)?, &SPANS))
+            }
+            Asked::IdsAstray(texts) => {
+                audited(ample, &ids_astray(alloc, &users_of(ample, texts)?, &SPANS))
             }
             Asked::Mended(texts) => {
-                let spans = [(1003, 1009), (9, 7), (30, 1005)];
-                let spans = spans.map(|(first, last)| Span { first, last });
-                audited(ample, &mended(alloc, &users_of(ample, texts)?, &spans))
+                audited(ample, &mended(alloc, &users_of(ample, texts)?, &SPANS))
             }
             Asked::Rules(text) => named(ample, &XattrMap::try_from(alloc, text)),
             Asked::WrittenRules(text) => named(ample, &XattrMap::written_rules(alloc, text)),
@@ -112,6 +118,19 @@ impl Asked {
         }
     }
 }
+
+/// Spans of the host in no order, one of which has no id.
+static SPANS: [Span; 3] = [
+    Span {
+        first: 1003,
+        last: 1009,
+    },
+    Span { first: 9, last: 7 },
+    Span {
+        first: 30,
+        last: 1005,
+    },
+];
 
 /// The numbers for which a map that was made is asked, on both sides.
 const NUMBERS: [u32; 12] = [0, 5, 7, 9, 22, 100, 105, 1000, 1009, 5001, 5002, 4294967295];

@@ -1,4 +1,4 @@
-use Rattle.std.proofs.Common.{◌≡◌, [], ◌++◌, ap, ◌∙◌, rules}
+use Rattle.std.proofs.Common.{◌≡◌, [], ◌++◌, ap, ◌∙◌}
 use Rattle.virtiofs_map.specs.Audit.{AnswersLeast, Within, Sound, IsLost}
 use Rattle.virtiofs_map.specs.AuditParts.{none_tried, is_lost, within, guest_names, one_byte_names, after}
 use Rattle.virtiofs_map.specs.Steps.{count_after}

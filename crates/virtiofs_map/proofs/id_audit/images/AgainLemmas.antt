@@ -1,7 +1,7 @@
 -- Which ids spans have again, as they come in the order of their first ids.
 use Rattle.std.proofs.Common.{◌≡◌, ◌↔◌, inl, inr, ◌⊎◌, ℕ, ◌+◌, ◌-◌, ◌<◌, ◌≤◌, min, max, List, [], ◌∷◌, ◌++◌, length}
 use Rattle.std.proofs.Common.{take, get_or, Contains, refl, ap, ◌∙◌, arith}
-use Rattle.std.proofs.Common.{rules, subst, Vec, Result, Ok, Err, IfOk}
+use Rattle.std.proofs.Common.{rules, subst}
 use Rattle.std.specs.List.{All}
 use Rattle.std.specs.List.Sorted.{IsPermutation, IsNonDecreasingBy}
 use Rattle.std.proofs.lemmas.Bool.{cases_order}
@@ -14,7 +14,7 @@ use Rattle.std.proofs.lemmas.List.Sums.{sum_by_more}
 use Rattle.virtiofs_map.specs.IdAuditParts.{IsSpan, Has, Hold, AreInOrder, has_times, times, once_below}
 use Rattle.virtiofs_map.specs.declared.id_audit.spans.Span.{Span}
 use Rattle.virtiofs_map.proofs.id_audit.HeldLemmas.{hold_push, push_hold, hold_none}
-use Rattle.virtiofs_map.proofs.id_audit.ImageLemmas.{has_or_not, times_hold, times-bounded}
+use Rattle.virtiofs_map.proofs.id_audit.ImageLemmas.{has_or_not, times_hold}
 
 -- ---- the images so far
 
@@ -304,24 +304,3 @@ kept_sorted spans kept sorted i over are permutation id =
     let same = hold_permuted kept sorted id permutation in
     let whole = (subst (λ xs. AreKept xs kept) (take_all i spans over) are).same id in
     ((λ held. whole.0 (same.0 held)), (λ held. same.1 (whole.1 held)))
-
--- spans that were put in order and joined have the same ids
-module _ (spans sorted merged : List Span) (some : All IsSpan sorted) (same : (id : ℕ) → Hold sorted id ↔ Hold spans id)
-    (all : (id : ℕ) → Hold merged id ↔ (2 ≤ times sorted id + once_below 4294967296 id)) where
-  pub merged_spans : (id : ℕ) → Hold merged id → Hold spans id
-  merged_spans id held =
-      (same id).0 ((times_hold sorted id).0 (let twice = (all id).0 held in grind (arith, nat_tests)))
-
-  pub spans_merged : (id : ℕ) → Hold spans id → Hold merged id
-  spans_merged id held =
-      let once : 1 ≤ times sorted id = (times_hold sorted id).1 ((same id).1 held) in
-      let bounded : id ≤ 4294967295 = times-bounded sorted id some once in
-      (all id).1 (grind (arith, nat_tests))
-
-pub Hold-merged : {A E : Type 0} (r : Result (Vec Span A) E) (spans sorted : List Span) → All IsSpan sorted
-    → ((id : ℕ) → Hold sorted id ↔ Hold spans id)
-    → IfOk r (λ merged. (id : ℕ) → Hold merged.items id ↔ (2 ≤ times sorted id + once_below 4294967296 id))
-    → IfOk r (λ merged. (id : ℕ) → Hold merged.items id ↔ Hold spans id)
-Hold-merged (Ok merged) spans sorted some same all =
-    λ id. (merged_spans spans sorted merged.items some same all id, spans_merged spans sorted merged.items some same all id)
-Hold-merged (Err e) spans sorted some same all = tt

@@ -1,17 +1,20 @@
 -- Two lists of specifications, one after the other.
 use Rattle.std.proofs.Common.{◌≡◌, ◌⊎◌, ◌↔◌, inl, inr, ℕ, ◌+◌, ◌-◌, ◌<◌, List, [], ◌∷◌, ◌++◌, length, get_or, AllPairs}
 use Rattle.std.proofs.Common.{Contains, Option, Some, None, IsSomeAnd, IfSome, refl, sym, ◌∙◌, subst, arith}
-use Rattle.std.proofs.lemmas.Bool.{cases_lt}
+use Rattle.std.proofs.lemmas.Bool.{cases_eq, cases_lt}
 use Rattle.std.proofs.lemmas.List.{get_or_push, get_or_append_left, get_or-append_right, length-append}
 use Rattle.std.proofs.lemmas.List.Elements.{All-append, All-cons, All-contains, All-nil, Contains-append_left}
 use Rattle.std.proofs.lemmas.List.Elements.{Contains-append_right, Contains-append_cases, Contains-get_or}
 use Rattle.virtiofs_map.specs.Build.{Accepted, HasSource, HasTarget, Meet}
-use Rattle.virtiofs_map.specs.Mapping.{entry_of, target_of, EntryCovers, Covers, Maps}
+use Rattle.virtiofs_map.specs.Mapping.{entry_of, first_of, count_of, target_of, EntryCovers, Covers, Maps, Becomes}
+use Rattle.virtiofs_map.specs.MappingLaws.{LeadsBack}
 use Rattle.virtiofs_map.specs.Mending.{StandsBefore}
 use Rattle.virtiofs_map.specs.MendingParts.{Listed}
 use Rattle.virtiofs_map.specs.declared.cmdline.IdMap.{IdMap}
 use Rattle.virtiofs_map.specs.declared.soft_idmap.entry.Direction.{Direction}
+use Rattle.virtiofs_map.specs.declared.soft_idmap.entry.Direction.TheVariants.{GuestToHost, HostToGuest}
 use Rattle.virtiofs_map.specs.declared.soft_idmap.entry.Entry.{Entry}
+use Rattle.virtiofs_map.proofs.MappingLawLemmas.{Becomes-forbidden, Becomes-one}
 
 -- ---- what is covered is mapped to something
 
@@ -54,6 +57,66 @@ Accepted-one spec source target = record {
       (All-nil (λ (s : IdMap). IfSome (entry_of s direction) HasTarget));
   apart = λ direction i j d before below. absurd (omega arith);
 }
+
+-- ---- every number becomes something
+
+covers_or_not : (spec : IdMap) (direction : Direction) (n : ℕ) → Covers spec direction n ⊎ (¬ Covers spec direction n)
+covers_or_not spec direction n = by (entry_of spec direction) where
+  by : (o : Option Entry)
+      → IsSomeAnd o (λ entry. EntryCovers entry n) ⊎ (¬ IsSomeAnd o (λ entry. EntryCovers entry n))
+  by None = inr (λ covers. covers)
+  by (Some entry) =
+      elim (cases_lt n (first_of entry)) [
+        | inl below ↦ inr (λ (low, high). omega arith)
+        | inr from ↦ elim (cases_lt n (first_of entry + count_of entry)) [
+          | inl inside ↦ inl (from, inside)
+          | inr over ↦ inr (λ (low, high). omega arith)
+        ]
+      ]
+
+one_covers_or_none : (specs : List IdMap) (direction : Direction) (n : ℕ)
+    → ((spec : IdMap) × Contains specs spec × Covers spec direction n)
+    ⊎ ((spec : IdMap) → Contains specs spec → ¬ Covers spec direction n)
+one_covers_or_none [] direction n = inr (λ spec (k, inside, here). absurd (omega arith))
+one_covers_or_none (spec ∷ specs) direction n =
+    first (covers_or_not spec direction n) (one_covers_or_none specs direction n) where
+      first : Covers spec direction n ⊎ (¬ Covers spec direction n)
+          → ((other : IdMap) × Contains specs other × Covers other direction n)
+          ⊎ ((other : IdMap) → Contains specs other → ¬ Covers other direction n)
+          → ((other : IdMap) × Contains (spec ∷ specs) other × Covers other direction n)
+          ⊎ ((other : IdMap) → Contains (spec ∷ specs) other → ¬ Covers other direction n)
+      first (inl covers) rest = inl (spec, (0, omega arith, refl), covers)
+      first (inr not) (inl (other, listed, covers)) =
+          inl (other, Contains-append_right (spec ∷ []) specs other listed, covers)
+      first (inr not) (inr none) = inr (λ other listed covers.
+          elim (Contains-append_cases (spec ∷ []) specs other listed) [
+            | inl front ↦ not (subst (λ (s : IdMap). Covers s direction n) (only spec other front) covers)
+            | inr later ↦ none other later covers
+          ])
+
+becomes_some : (specs : List IdMap) (direction : Direction) (n : ℕ) → (value : Option ℕ) × Becomes specs direction n value
+becomes_some specs direction n =
+    elim (one_covers_or_none specs direction n) [
+      | inl (spec, listed, covers) ↦
+          (let (value, maps) = covered_maps spec direction n covers in (value, inl (spec, listed, maps)))
+      | inr none ↦ (Some n, inr (none, refl))
+    ]
+
+-- so what cannot but lead back does
+pub LeadsBack-stable : (specs : List IdMap) (guest host : ℕ) → Accepted specs
+    → ¬ (¬ LeadsBack specs GuestToHost guest host) → LeadsBack specs GuestToHost guest host
+LeadsBack-stable specs guest host accepted not =
+    let (value, becomes) = becomes_some specs HostToGuest host in
+    by value becomes where
+      by : (value : Option ℕ) → Becomes specs HostToGuest host value → LeadsBack specs GuestToHost guest host
+      by None becomes =
+          absurd (not (λ back. Becomes-forbidden specs HostToGuest host guest accepted back becomes))
+      by (Some back) becomes =
+          elim (cases_eq back guest) [
+            | inl same ↦ rw same at becomes
+            | inr differ ↦
+                absurd (not (λ leads. differ (Becomes-one specs HostToGuest host back guest accepted becomes leads)))
+          ]
 
 -- ---- two lists
 

@@ -7,24 +7,24 @@ use Rattle.std.proofs.lemmas.List.{append-nil}
 use Rattle.std.proofs.lemmas.List.Elements.{All-contains, Contains-append_left, Contains-append_cases, Contains-push}
 use Rattle.std.proofs.lemmas.List.Elements.{Contains-push_cases}
 use Rattle.virtiofs_map.specs.Build.{Accepted}
-use Rattle.virtiofs_map.specs.IdAudit.{GoesTo, ComesBack, IsAlone}
-use Rattle.virtiofs_map.specs.IdAuditParts.{IsSpan, Has, Hold}
+use Rattle.virtiofs_map.specs.IdAudit.{GoesTo, ComesBack, IsAlone, AreRuns}
+use Rattle.virtiofs_map.specs.IdAuditParts.{Has, Hold}
 use Rattle.virtiofs_map.specs.Mapping.{Covers, Becomes}
+use Rattle.virtiofs_map.specs.MappingLaws.{LeadsBack}
 use Rattle.virtiofs_map.specs.Mending.{IsBad, Mends, EndsWith, OneEndsWith, IsEdge, IsShort, IsClean}
 use Rattle.virtiofs_map.specs.Mending.{StandsBefore, KeepsClean}
-use Rattle.virtiofs_map.specs.MendingParts.{AreApart, HaveGaps, AreCut, AreParts, IsRemnant, Decides}
-use Rattle.virtiofs_map.specs.MendingParts.{IsGood, Listed, Stays}
+use Rattle.virtiofs_map.specs.MendingParts.{AreCut, AreParts, IsRemnant, Listed, Stays}
 use Rattle.virtiofs_map.specs.declared.cmdline.IdMap.{IdMap}
 use Rattle.virtiofs_map.specs.declared.cmdline.IdMap.TheVariants.{ForbidGuest}
 use Rattle.virtiofs_map.specs.declared.id_audit.spans.Span.{Span}
 use Rattle.virtiofs_map.specs.declared.soft_idmap.entry.Direction.{Direction}
 use Rattle.virtiofs_map.specs.declared.soft_idmap.entry.Direction.TheVariants.{GuestToHost, HostToGuest}
 use Rattle.virtiofs_map.proofs.MappingLawLemmas.{Becomes-forbidden, Becomes-one, Covers-maps}
-use Rattle.virtiofs_map.proofs.id_audit.mending.ApartLemmas.{free_after}
+use Rattle.virtiofs_map.proofs.id_audit.ApartLemmas.{free_after, held_or_not}
 use Rattle.virtiofs_map.proofs.id_audit.mending.ListedLemmas.{StandsBefore-append, StandsBefore-push}
 use Rattle.virtiofs_map.proofs.id_audit.mending.ListedLemmas.{StandsBefore-push_cases}
 use Rattle.virtiofs_map.proofs.id_audit.mending.ListedLemmas.{Accepted-append, Accepted-one, KeepApart, Listed-append}
-use Rattle.virtiofs_map.proofs.id_audit.mending.ListedLemmas.{Listed-one, covered_maps, none_covers}
+use Rattle.virtiofs_map.proofs.id_audit.mending.ListedLemmas.{Listed-one, LeadsBack-stable, covered_maps, none_covers}
 
 -- ---- one specification more, cut
 
@@ -153,14 +153,14 @@ CutSoFar-more specs bad i d out new accepted inside so_far (parts, new_is, are) 
 -- ---- all of them, and what is forbidden
 
 module _ (specs cut forbids : List IdMap) (bad_host : ℕ → Type 0) (spans : List Span) (accepted : Accepted specs)
-    (decides : Decides specs bad_host (Hold spans)) (are : AreCut specs (Hold spans) cut)
+    (found : (n : ℕ) → Hold spans n ↔ IsBad specs bad_host n) (are : AreCut specs (Hold spans) cut)
     (forbid : AreParts (ForbidGuest 0 4294967295) spans forbids) where
   forbidden_bad : (n : ℕ) (value : Option ℕ) → Listed forbids GuestToHost n value → Hold spans n
   forbidden_bad n value listed = ((forbid.guest n value).0 listed).1
 
   bad_forbidden : (n : ℕ) → Hold spans n → Listed forbids GuestToHost n None
   bad_forbidden n is =
-      let is_id : n < 4294967295 = (decides.is_bad n is).goes.is_id in
+      let is_id : n < 4294967295 = ((found n).0 is).goes.is_id in
       (forbid.guest n None).1 (((omega arith, omega arith), refl), is)
 
   apart : KeepApart cut forbids
@@ -213,21 +213,25 @@ module _ (specs cut forbids : List IdMap) (bad_host : ℕ → Type 0) (spans : L
 
   -- what is none of the spans is not bad
   not_bad : (n : ℕ) → ¬ Hold spans n → ¬ IsBad specs bad_host n
-  not_bad n not is =
-      let good = decides.is_good n is.host is.goes not in
-      elim is.why [
-        | inl astray ↦ astray good.back
-        | inr bad_id ↦ good.not_bad bad_id
-      ]
+  not_bad n not is = not ((found n).1 is)
+
+  -- so it comes back, and does not become a bad id of the host
+  is_good : (n host : ℕ) → GoesTo specs n host → ¬ Hold spans n
+      → LeadsBack specs GuestToHost n host × (¬ bad_host host)
+  is_good n host goes not = (
+    LeadsBack-stable specs n host accepted
+        (λ astray. not_bad n not (record { host = host; goes = goes; why = inl astray })),
+    λ is. not_bad n not (record { host = host; goes = goes; why = inr is }),
+  )
 
   -- what goes to an id of the host is good
-  good_of : (n host : ℕ) → GoesTo (cut ++ forbids) n host → IsGood specs bad_host n host
-  good_of n host goes = by (decides.decided n) where
-    by : Hold spans n ⊎ (¬ Hold spans n) → IsGood specs bad_host n host
+  good_of : (n host : ℕ) → GoesTo (cut ++ forbids) n host → LeadsBack specs GuestToHost n host × (¬ bad_host host)
+  good_of n host goes = by (held_or_not spans n) where
+    by : Hold spans n ⊎ (¬ Hold spans n) → LeadsBack specs GuestToHost n host × (¬ bad_host host)
     by (inl is) =
         absurd (Becomes-forbidden (cut ++ forbids) GuestToHost n host all_accepted goes.becomes (bad_becomes n is))
     by (inr not) =
-        decides.is_good n host (record {
+        is_good n host (record {
           is_id = goes.is_id;
           becomes = becomes_stays GuestToHost n (Some host) not (not_forbidden n not) goes.becomes;
         }) not
@@ -235,9 +239,9 @@ module _ (specs cut forbids : List IdMap) (bad_host : ℕ → Type 0) (spans : L
   pub Mends-cut : Mends specs bad_host (cut ++ forbids)
   Mends-cut = record {
     accepted = all_accepted;
-    forbids = λ guest. (forbids_to guest (decides.decided guest), forbids_from guest (decides.decided guest));
+    forbids = λ guest. (forbids_to guest (held_or_not spans guest), forbids_from guest (held_or_not spans guest));
     keeps = λ guest value not_bad.
-        (let not : ¬ Hold spans guest = λ is. not_bad (decides.is_bad guest is) in (
+        (let not : ¬ Hold spans guest = λ is. not_bad ((found guest).0 is) in (
           becomes_stays GuestToHost guest value not (not_forbidden guest not),
           stays_becomes GuestToHost guest value not (not_forbidden guest not),
         ));
@@ -248,7 +252,7 @@ module _ (specs cut forbids : List IdMap) (bad_host : ℕ → Type 0) (spans : L
   } where
     forbids_to : (n : ℕ) → Hold spans n ⊎ (¬ Hold spans n) → Becomes (cut ++ forbids) GuestToHost n None
         → Becomes specs GuestToHost n None ⊎ IsBad specs bad_host n
-    forbids_to n (inl is) becomes = inr (decides.is_bad n is)
+    forbids_to n (inl is) becomes = inr ((found n).0 is)
     forbids_to n (inr not) becomes = inl (becomes_stays GuestToHost n None not (not_forbidden n not) becomes)
 
     forbids_from : (n : ℕ) → Hold spans n ⊎ (¬ Hold spans n)
@@ -261,7 +265,7 @@ module _ (specs cut forbids : List IdMap) (bad_host : ℕ → Type 0) (spans : L
 
   pub ComesBack-cut : ComesBack (cut ++ forbids)
   ComesBack-cut n host goes =
-      stays_becomes HostToGuest host (Some n) tt (forbid.host host) (good_of n host goes).back
+      stays_becomes HostToGuest host (Some n) tt (forbid.host host) (good_of n host goes).0
 
   pub IsAlone-cut : IsAlone (cut ++ forbids)
   IsAlone-cut n other host goes other_goes =
@@ -272,16 +276,16 @@ module _ (specs cut forbids : List IdMap) (bad_host : ℕ → Type 0) (spans : L
   none_bad n bad =
       elim bad.why [
         | inl astray ↦ astray (ComesBack-cut n bad.host bad.goes)
-        | inr is_bad ↦ (good_of n bad.host bad.goes).not_bad is_bad
+        | inr is_bad ↦ (good_of n bad.host bad.goes).1 is_bad
       ]
 
   -- ---- where ranges end
 
-  pub IsShort-cut : AreApart spans → HaveGaps spans
+  pub IsShort-cut : AreRuns spans
       → ((remnant : IdMap) → Contains cut remnant
       → (given : IdMap) × Contains specs given × IsRemnant given (Hold spans) remnant)
       → IsShort specs bad_host (cut ++ forbids)
-  IsShort-cut are_apart gaps remnants = record {
+  IsShort-cut runs remnants = record {
     some = λ spec listed. elim (Contains-append_cases cut forbids spec listed) [
       | inl before ↦
           (let (given, within, is) = remnants spec before in
@@ -291,8 +295,8 @@ module _ (specs cut forbids : List IdMap) (bad_host : ℕ → Type 0) (spans : L
           ])
       | inr after ↦
           (let (span, within, covered) = forbid.each spec after in
-          let is : IsSpan span = All-contains IsSpan spans span are_apart.some within in
-          inr (GuestToHost, span.first, (covered span.first).1 (omega arith, is.0)))
+          let order : span.first ≤ span.last = All-contains (λ s. s.first ≤ s.last) spans span runs.some within in
+          inr (GuestToHost, span.first, (covered span.first).1 (omega arith, order)))
     ];
     guest = λ spec n listed ends. guest_ends n spec ends (Contains-append_cases cut forbids spec listed);
     host = λ spec n listed ends. elim (Contains-append_cases cut forbids spec listed) [
@@ -308,7 +312,7 @@ module _ (specs cut forbids : List IdMap) (bad_host : ℕ → Type 0) (spans : L
         let (given, within, is) = remnants spec before in
         elim (is.guest n ends) [
           | inl given_ends ↦ inl (given, within, given_ends)
-          | inr (not, bad) ↦ inr (inr (not_bad n not, decides.is_bad (n + 1) bad))
+          | inr (not, bad) ↦ inr (inr (not_bad n not, (found (n + 1)).0 bad))
         ]
     guest_ends n spec ends (inr after) =
         let (span, within, covered) = forbid.each spec after in
@@ -317,8 +321,8 @@ module _ (specs cut forbids : List IdMap) (bad_host : ℕ → Type 0) (spans : L
           | inl over ↦
               (let at : n + 1 ≡ span.last + 1 = omega arith in
               inr (inl (
-                decides.is_bad n (span, within, has),
-                not_bad (n + 1) (λ held. free_after spans span are_apart gaps within (rw at at held)),
+                (found n).0 (span, within, has),
+                not_bad (n + 1) (λ held. free_after spans span runs within (rw at at held)),
               )))
           | inr under ↦ absurd (ends.end ((covered (n + 1)).1 (omega arith, under)))
         ]
@@ -337,48 +341,24 @@ module _ (specs cut forbids : List IdMap) (bad_host : ℕ → Type 0) (spans : L
         (order spec later stands (not_held spec clean) (not_held later clean'));
   } where
     not_held : (spec : IdMap) → IsClean specs bad_host spec → (n : ℕ) → Covers spec GuestToHost n → ¬ Hold spans n
-    not_held spec clean n covers is = clean n covers (decides.is_bad n is)
+    not_held spec clean n covers is = clean n covers ((found n).0 is)
 
-  pub all_unchanged : AreApart spans → (((n : ℕ) → ¬ Hold spans n) → cut ≡ specs)
+  pub all_unchanged : AreRuns spans → (((n : ℕ) → ¬ Hold spans n) → cut ≡ specs)
       → ((n : ℕ) → ¬ IsBad specs bad_host n) → cut ++ forbids ≡ specs
-  all_unchanged apart unchanged none =
-      let free : (n : ℕ) → ¬ Hold spans n = λ n is. none n (decides.is_bad n is) in
-      let nothing : forbids ≡ [] = nil_from_length forbids (forbid.count ∙ no_span spans apart free) in
+  all_unchanged runs unchanged none =
+      let free : (n : ℕ) → ¬ Hold spans n = λ n is. none n ((found n).0 is) in
+      let nothing : forbids ≡ [] = nil_from_length forbids (forbid.count ∙ no_span spans runs free) in
       rw nothing (append-nil cut ∙ unchanged free) where
-        no_span : (spans : List Span) → AreApart spans → ((n : ℕ) → ¬ Hold spans n) → length spans ≡ 0
-        no_span spans apart free =
+        no_span : (spans : List Span) → AreRuns spans → ((n : ℕ) → ¬ Hold spans n) → length spans ≡ 0
+        no_span spans runs free =
             elim (cases_lt 0 (length spans)) [
               | inl some ↦ absurd
                   (let none : Span = record { first = 0; last = 0 } in
                   let span : Span = get_or spans 0 none in
                   free span.first
-                  (span, (0, some, get_or_default spans 0 span none some), (omega arith, (apart.some 0 none some).0)))
+                  (span, (0, some, get_or_default spans 0 span none some), (omega arith, runs.some 0 none some)))
               | inr none ↦ omega arith
             ]
-
--- bad ids of the host by other words
-pub Decides-same : (specs : List IdMap) (hosts others bad : ℕ → Type 0) → ((id : ℕ) → others id ↔ hosts id)
-    → Decides specs others bad → Decides specs hosts bad
-Decides-same specs hosts others bad same decides = record {
-  decided = decides.decided;
-  is_bad = λ n is.
-      (let found = decides.is_bad n is in
-      record {
-        host = found.host;
-        goes = found.goes;
-        why = elim found.why [
-          | inl astray ↦ inl astray
-          | inr is_other ↦ inr ((same found.host).0 is_other)
-        ];
-      });
-  is_good = λ n host goes not.
-      (let good = decides.is_good n host goes not in
-      record {
-        goes = good.goes;
-        back = good.back;
-        not_bad = λ is. good.not_bad ((same host).1 is);
-      });
-}
 
 -- ---- all of it
 
@@ -392,26 +372,23 @@ pub record IsMended (specs : List IdMap) (bad_host : ℕ → Type 0) (mended : L
   pub clean : KeepsClean specs bad_host mended
   pub unchanged : ((guest : ℕ) → ¬ IsBad specs bad_host guest) → mended ≡ specs
 
-pub IsMended-cut : (specs items cut mended : List IdMap) (bad_host merged : ℕ → Type 0) (spans : List Span) (i : ℕ)
+pub IsMended-cut : (specs items cut mended : List IdMap) (bad_host : ℕ → Type 0) (spans : List Span) (i : ℕ)
     → Accepted specs → items ≡ specs → length items ≤ i → CutSoFar items (Hold spans) i cut
-    → ((id : ℕ) → merged id ↔ bad_host id) → Decides specs merged (Hold spans) → AreApart spans
-    → HaveGaps spans → ((forbids : List IdMap) × (mended ≡ cut ++ forbids) × AreParts (ForbidGuest 0 4294967295) spans forbids)
+    → ((n : ℕ) → Hold spans n ↔ IsBad specs bad_host n) → AreRuns spans → ((forbids : List IdMap) × (mended ≡ cut ++ forbids) × AreParts (ForbidGuest 0 4294967295) spans forbids)
     → IsMended specs bad_host mended
-IsMended-cut specs items cut mended bad_host merged spans i accepted items_are end so_far same decides' apart gaps
+IsMended-cut specs items cut mended bad_host spans i accepted items_are end so_far found runs
     (forbids, mended_is, forbid) =
     let all : take i items ≡ specs = take_all i items end ∙ items_are in
-    let decides : Decides specs bad_host (Hold spans) =
-    Decides-same specs bad_host merged (Hold spans) same decides' in
     let are : AreCut specs (Hold spans) cut = rw all at so_far.cut in
     rw mended_is (record {
-      mends = Mends-cut specs cut forbids bad_host spans accepted decides are forbid;
-      none_bad = none_bad specs cut forbids bad_host spans accepted decides are forbid;
-      comes_back = ComesBack-cut specs cut forbids bad_host spans accepted decides are forbid;
-      alone = IsAlone-cut specs cut forbids bad_host spans accepted decides are forbid;
-      short = IsShort-cut specs cut forbids bad_host spans accepted decides are forbid apart gaps
+      mends = Mends-cut specs cut forbids bad_host spans accepted found are forbid;
+      none_bad = none_bad specs cut forbids bad_host spans accepted found are forbid;
+      comes_back = ComesBack-cut specs cut forbids bad_host spans accepted found are forbid;
+      alone = IsAlone-cut specs cut forbids bad_host spans accepted found are forbid;
+      short = IsShort-cut specs cut forbids bad_host spans accepted found are forbid runs
           (rw all at so_far.remnants);
-      clean = KeepsClean-cut specs cut forbids bad_host spans accepted decides are forbid (rw all at so_far.clean)
+      clean = KeepsClean-cut specs cut forbids bad_host spans accepted found are forbid (rw all at so_far.clean)
           (rw all at so_far.order);
-      unchanged = all_unchanged specs cut forbids bad_host spans accepted decides are forbid apart
+      unchanged = all_unchanged specs cut forbids bad_host spans accepted found are forbid runs
           (rw all at so_far.unchanged);
     })

@@ -1,14 +1,14 @@
 //! What is left of a specification where ids of the guest are cut out of it.
 ghost use Rattle.std.specs.Prelude.{◌≡◌, ◌⊎◌, ◌≤◌, ℕ, List, [], ◌∷◌, ◌++◌, All, Contains, IsSomeAnd, IfSome, OnOk, MatchOption};
 ghost use Rattle.virtiofs_map.specs.Build.{Accepted, HasSource, HasTarget};
-ghost use Rattle.virtiofs_map.specs.IdAuditParts.{Hold};
+ghost use Rattle.virtiofs_map.specs.IdAuditParts.{Hold, AreApart};
 ghost use Rattle.virtiofs_map.specs.Mapping.{entry_of, EntryCovers, Covers};
-ghost use Rattle.virtiofs_map.specs.MendingParts.{AreApart, IsPart, AreParts, AreCut, IsRemnant, IsHostHalf, HasNoHostHalf};
+ghost use Rattle.virtiofs_map.specs.MendingParts.{IsPart, AreParts, AreCut, IsRemnant, IsHostHalf, HasNoHostHalf};
 ghost use Rattle.virtiofs_map.specs.declared.cmdline.IdMap.{IdMap as Specification};
 ghost use Rattle.virtiofs_map.specs.declared.soft_idmap.entry.Direction.TheVariants.{GuestToHost};
 
 use crate::cmdline::IdMap;
-use crate::id_audit::mending::cuts::{meeting, without};
+use crate::id_audit::cuts::{meeting, without};
 use crate::id_audit::spans::Span;
 use crate::soft_idmap::{Direction, entry_of};
 use std::alloc::{AllocError, Allocator};

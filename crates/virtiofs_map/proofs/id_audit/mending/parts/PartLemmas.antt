@@ -4,9 +4,9 @@ use Rattle.std.proofs.Common.{Option, Some, None, IsSomeAnd, IfSome, refl, sym, 
 use Rattle.std.proofs.lemmas.List.{append_assoc, length-append, get_or_default, get_or-take, length-take, take_more}
 use Rattle.std.proofs.lemmas.List.Elements.{Contains-append_left, Contains-push, Contains-push_cases}
 use Rattle.virtiofs_map.specs.Build.{HasSource, HasTarget, Accepted}
-use Rattle.virtiofs_map.specs.IdAuditParts.{Has, Hold}
+use Rattle.virtiofs_map.specs.IdAuditParts.{Has, Hold, AreApart}
 use Rattle.virtiofs_map.specs.Mapping.{entry_of, target_of, EntryCovers, Covers, Maps}
-use Rattle.virtiofs_map.specs.MendingParts.{AreApart, IsPart, AreParts, Listed}
+use Rattle.virtiofs_map.specs.MendingParts.{IsPart, AreParts, Listed}
 use Rattle.virtiofs_map.specs.declared.cmdline.IdMap.{IdMap}
 use Rattle.virtiofs_map.specs.declared.id_audit.spans.Span.{Span}
 use Rattle.virtiofs_map.specs.declared.soft_idmap.entry.Direction.{Direction}

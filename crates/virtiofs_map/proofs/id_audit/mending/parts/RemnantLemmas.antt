@@ -5,10 +5,11 @@ use Rattle.std.proofs.lemmas.Bool.{cases_lt, false≢true}
 use Rattle.std.proofs.lemmas.List.{get_or_default}
 use Rattle.std.proofs.lemmas.List.Elements.{All-contains, Contains-append_cases, Contains-push_cases}
 use Rattle.virtiofs_map.specs.Build.{Accepted, HasSource, HasTarget}
-use Rattle.virtiofs_map.specs.IdAuditParts.{IsSpan, Has, Hold}
+use Rattle.virtiofs_map.specs.IdAudit.{AreRuns}
+use Rattle.virtiofs_map.specs.IdAuditParts.{IsSpan, Has, Hold, AreApart}
 use Rattle.virtiofs_map.specs.Mapping.{entry_of, first_of, count_of, EntryCovers, Covers, Maps}
 use Rattle.virtiofs_map.specs.Mending.{CoversSome, EndsWith}
-use Rattle.virtiofs_map.specs.MendingParts.{AreApart, HaveGaps, AreParts, AreCut, IsRemnant, IsHostHalf}
+use Rattle.virtiofs_map.specs.MendingParts.{AreParts, AreCut, IsRemnant, IsHostHalf}
 use Rattle.virtiofs_map.specs.MendingParts.{HasNoHostHalf, Listed, Stays}
 use Rattle.virtiofs_map.specs.declared.cmdline.IdMap.{IdMap}
 use Rattle.virtiofs_map.specs.declared.id_audit.spans.Span.{Span}
@@ -17,7 +18,7 @@ use Rattle.virtiofs_map.specs.declared.soft_idmap.entry.Direction.TheVariants.{G
 use Rattle.virtiofs_map.specs.declared.soft_idmap.entry.Entry.{Entry}
 use Rattle.virtiofs_map.proofs.MappingLawLemmas.{Covers-maps}
 use Rattle.virtiofs_map.proofs.id_audit.HeldLemmas.{hold_none}
-use Rattle.virtiofs_map.proofs.id_audit.mending.ApartLemmas.{free_after, held_or_not}
+use Rattle.virtiofs_map.proofs.id_audit.ApartLemmas.{free_after, held_or_not}
 use Rattle.virtiofs_map.proofs.id_audit.mending.ListedLemmas.{Accepted-append, Accepted-one, KeepApart, Listed-append}
 use Rattle.virtiofs_map.proofs.id_audit.mending.ListedLemmas.{Listed-one, covered_maps}
 use Rattle.virtiofs_map.proofs.id_audit.mending.parts.PartLemmas.{maps_nothing}
@@ -96,9 +97,9 @@ module _ (spec : IdMap) (entry : Entry) (whole : Span) (bad met : List Span) (ac
 
     module _ (are : AreParts spec kept parts) where
       -- a part ends where the whole does, or before an id that is bad
-      part_ends : AreApart kept → HaveGaps kept → (part : IdMap) (n : ℕ) → Contains parts part
+      part_ends : AreRuns kept → (part : IdMap) (n : ℕ) → Contains parts part
           → EndsWith part GuestToHost n → EndsWith spec GuestToHost n ⊎ ((¬ Hold bad n) × Hold bad (n + 1))
-      part_ends apart gaps part n listed ends =
+      part_ends runs part n listed ends =
           let (span, within, covered) = are.each part listed in
           let has : Has span n = (covered n).0 ends.last in
           let (in_whole, not_met) = (keeps n).0 (span, within, has) in
@@ -106,7 +107,7 @@ module _ (spec : IdMap) (entry : Entry) (whole : Span) (bad met : List Span) (ac
             | inl over ↦
                 let at : n + 1 ≡ span.last + 1 = omega arith in
                 after n in_whole not_met
-                (λ held. free_after kept span apart gaps within (rw at at held))
+                (λ held. free_after kept span runs within (rw at at held))
                 (held_or_not met (n + 1)) (cases_lt whole.last (n + 1))
             | inr under ↦ absurd (ends.end ((covered (n + 1)).1 (omega arith, under)))
           ] where
@@ -124,14 +125,14 @@ module _ (spec : IdMap) (entry : Entry) (whole : Span) (bad met : List Span) (ac
                 let low : whole.first ≤ n = in_whole.0 in
                 absurd (free ((keeps (n + 1)).1 ((omega arith, under), not)))
 
-      pub parts_remnants : AreApart kept → HaveGaps kept → (part : IdMap) → Contains parts part
+      pub parts_remnants : AreRuns kept → (part : IdMap) → Contains parts part
           → IsRemnant spec (Hold bad) part
-      parts_remnants apart gaps part listed = record {
+      parts_remnants runs part listed = record {
         some =
             (let (span, within, covered) = are.each part listed in
-            let is : IsSpan span = All-contains IsSpan kept span apart.some within in
-            inr (GuestToHost, span.first, (covered span.first).1 (omega arith, is.0)));
-        guest = λ n ends. part_ends apart gaps part n listed ends;
+            let order : span.first ≤ span.last = All-contains (λ s. s.first ≤ s.last) kept span runs.some within in
+            inr (GuestToHost, span.first, (covered span.first).1 (omega arith, order)));
+        guest = λ n ends. part_ends runs part n listed ends;
         host = λ n ends. absurd
             (let (value, maps) = covered_maps part HostToGuest n ends.last in
             are.host n value (part, listed, maps));

@@ -1,4 +1,3 @@
-use Rattle.std.proofs.Common.{rules}
 use Rattle.virtiofs_map.specs.WordParts.{HasRanges}
 use Rattle.virtiofs_map.proofs.WordLemmas.{IsOfWords-ranges, SaysIn-exact, SaysIn-leads_back}
 use Rattle.virtiofs_map.proofs.soft_idmap.image.look_up.Goals as goal

@@ -1,6 +1,7 @@
 use Rattle.std.proofs.Common.{◌-◌, ◌∷◌, ◌++◌, [], ap, sym, ◌∙◌, arith}
 use Rattle.std.proofs.lemmas.Bool.Decides.{nat_tests}
 use Rattle.std.proofs.lemmas.List.{append_assoc, nil_from_length}
+use Rattle.virtiofs_map.proofs.id_audit.ApartLemmas.{AreApart-firsts}
 use Rattle.virtiofs_map.proofs.id_audit.mending.parts.RemnantLemmas.{AreCut-unmet, met_covered, kept_inside}
 use Rattle.virtiofs_map.proofs.id_audit.mending.parts.RemnantLemmas.{AreCut-parts, AreCut-half, not_empty}
 use Rattle.virtiofs_map.specs.Mapping.{count_of}
@@ -73,7 +74,7 @@ returns-in_default-host_half-clause-remnants g c =
     (parts_remnants c.args.spec c.in-Some.entry (record { first = c.first.result; last = c.end.result - 1 }) c.args.bad.now
     c.meeting-bad.result.now c.requires.accepted (sym c.in-Some.ensures) c.first.ensures (omega (arith, some, c.end.ensures.end))
     c.meeting-bad.ensures.hold c.in_ok-kept.kept.items parts c.in_ok-kept.ensures.hold (rw c.deref.ensures.value at are)
-    c.in_ok-kept.ensures.apart c.in_ok-kept.ensures.gaps)
+    c.in_ok-kept.ensures.runs)
 
 pub returns-clause-remnants : goal.returns-clause-remnants
 returns-clause-remnants g c =
@@ -86,6 +87,9 @@ returns-clause-remnants g c =
     (parts_remnants c.args.spec c.in-Some.entry (record { first = c.first.result; last = c.end.result - 1 }) c.args.bad.now
     c.meeting-bad.result.now c.requires.accepted (sym c.in-Some.ensures) c.first.ensures (omega (arith, some, c.end.ensures.end))
     c.meeting-bad.ensures.hold c.in_ok-kept.kept.items parts c.in_ok-kept.ensures.hold (rw c.deref.ensures.value at are)
-    c.in_ok-kept.ensures.apart c.in_ok-kept.ensures.gaps) c.in-Some-host_half.ensures
+    c.in_ok-kept.ensures.runs) c.in-Some-host_half.ensures
     (half_covers c.args.spec c.in-Some-host_half.half c.in-Some.entry c.in-Some-host_half.ensures
     (sym c.in-Some.ensures) some))
+
+pub without-requires-clause-firsts : goal.without-requires-clause-firsts
+without-requires-clause-firsts g c = AreApart-firsts _ c.meeting-bad.ensures.apart

@@ -1,4 +1,4 @@
-use Rattle.std.proofs.Common.{refl, arith, rules}
+use Rattle.std.proofs.Common.{refl, arith}
 use Rattle.std.proofs.lemmas.Result.{err_from_is_err_and}
 use Rattle.virtiofs_map.proofs.NamespaceLemmas.{SaysNamespace-parts, HasOtherField-parts}
 use Rattle.virtiofs_map.proofs.idmap.reader.Range.from_str.Goals as goal

@@ -1,4 +1,3 @@
-use Rattle.std.proofs.Common.{rules}
 use Rattle.virtiofs_map.proofs.xattrmap.errors.ErrorKindDisplay.fmt.Goals as goal
 
 pub returns-in-InvalidType-clause-writes : goal.returns-in-InvalidType-clause-writes

@@ -1,4 +1,4 @@
-use Rattle.std.proofs.Common.{ap, arith, length, refl, rules, sym, ◌+◌, ◌∙◌}
+use Rattle.std.proofs.Common.{ap, arith, length, refl, sym, ◌+◌, ◌∙◌}
 use Rattle.std.proofs.lemmas.Bool.{false≢true}
 use Rattle.virtiofs_map.specs.Steps.{count_after}
 use Rattle.virtiofs_map.proofs.xattrmap.trie.reading.BranchLemmas.{stays_at_end, stays_nowhere, stays_unlike}
