@@ -1,83 +1,145 @@
-//! Words, option by option, as a table of options says which have a value.
+//! Words, part by part, as the options that are known say which have a value.
+ghost use Rattle.std.specs.Prelude.{◌≡◌, ◌↔◌, ℕ, ◌∷◌, List, IsTrue, IfOk, IfErr, MatchOption, option_map};
+ghost use Rattle.virtiofs_options.specs.GuestOptions.{is_flag, value_in};
+ghost use Rattle.virtiofs_options.specs.Parts.{takes_of, IsOption, JoinsShort, JoinsLong, Names, StandsFirst, IsWrong};
 
-use crate::options::Takes;
+use crate::fault::Fault;
+use crate::options::{Options, Takes};
 
-/// What a word of a command line is.
+/// What one or two words of a command line are.
 #[derive(Clone, Copy)]
-pub(crate) enum Word<'a> {
-    /// No option.
-    Plain,
+pub(crate) enum Part<'a> {
+    /// A word that is no option.
+    Plain(&'a str),
     /// An option that has no value.
     Flag(&'a str),
-    /// An option and its value, and whether the value is the next word.
-    Valued(&'a str, &'a str, bool),
-    /// An option whose value is missing.
-    Missing(&'a str),
-    /// An option that has no value, with one.
-    Unwanted(&'a str),
-    /// A word that begins with `-` and is no option of the table.
-    Unknown(&'a str),
+    /// An option and its value.
+    Valued(&'a str, &'a str),
 }
 
-/// Whether an option of the table has a value, where the table has the option.
-fn takes(options: &[(&'static str, Takes)], name: &str) -> Option<Takes> {
-    for (known, takes) in options {
-        if *known == name {
-            return Some(*takes);
+impl<'a> Part<'a> {
+    /// Whether the part is an option that has no value.
+    pub(crate) fn is_flag(self, option: &str) -> bool
+        ensures { result ≡ is_flag option.now self.entry }
+    {
+        match self {
+            Part::Flag(name) => name == option,
+            _ => false,
         }
     }
-    None
-}
 
-/// What a word with a value of its own is: `--name=value`.
-fn with_equals<'a>(options: &[(&'static str, Takes)], name: &'a str, value: &'a str) -> Word<'a> {
-    match takes(options, name) {
-        None => Word::Unknown(name),
-        Some(Takes::Nothing) => Word::Unwanted(name),
-        Some(Takes::Value | Takes::AfterEquals) => Word::Valued(name, value, false),
+    /// The value of an option, where the part is that option.
+    pub(crate) fn value_in(self, option: &str) -> Option<&'a str>
+        ensures { result ≡ value_in option.now self.entry }
+    {
+        match self {
+            Part::Valued(name, value) if name == option => Some(value),
+            _ => None,
+        }
     }
 }
 
-/// What an option with no `=` is, whose value is the next word if it has one.
-fn without_equals<'a>(
-    options: &[(&'static str, Takes)],
+/// Whether an option has a value, where it is known.
+fn takes(options: Options, name: &str) -> Option<Takes>
+    ensures { result ≡ takes_of options name.now }
+{
+    options
+        .known
+        .iter()
+        .find(|(known, _)| *known == name)
+        .map(|(_, takes)| *takes)
+}
+
+/// Whether a word looks like an option: it begins with `-`, and has more than that. Such a word is no
+/// value of the option before it.
+fn is_option(word: &str) -> bool
+    ensures { IsTrue result ↔ IsOption word.now }
+{
+    word.starts_with('-') && word != "-"
+}
+
+/// The value in the word of a short option: `-oVALUE` or `-o=VALUE`.
+fn short_value(word: &str) -> Option<&str>
+    ensures { MatchOption result ((value : List ℕ) → ¬ JoinsShort word.now value)
+        (λ value. JoinsShort word.now value.now) }
+{
+    let value = word.strip_prefix("-o")?;
+    if value.is_empty() {
+        return None;
+    }
+    Some(value.strip_prefix("=").unwrap_or(value))
+}
+
+/// The option and the value in one word: `--NAME=VALUE`.
+fn long_value(word: &str) -> Option<(&str, &str)>
+    ensures { MatchOption result
+        ((name value : List ℕ) → ¬ JoinsLong word.now name value)
+        (λ p. JoinsLong word.now p.0.now p.1.now) }
+{
+    if !word.starts_with("--") {
+        return None;
+    }
+    word.split_once('=')
+}
+
+/// The option that a word names, and the value that it has in the same word, if it has one there.
+fn named(word: &str) -> (&str, Option<&str>)
+    ensures { Names word.now result.0.now (option_map (λ value. value.now) result.1) }
+{
+    if let Some((name, value)) = long_value(word) {
+        return (name, Some(value));
+    }
+    match short_value(word) {
+        Some(value) => ("-o", Some(value)),
+        None => (word, None),
+    }
+}
+
+/// The part that an option begins, which has no value in its own word, and how many words that has.
+/// `after` are the words after the first.
+fn apart<'a>(
+    options: Options,
     name: &'a str,
-    next: Option<&'a str>,
-) -> Word<'a> {
+    after: &[&'a str],
+) -> Result<(Part<'a>, usize), Fault<'a>>
+    requires option { IsOption name.now }
+    requires named { Names name.now name.now None }
+    ensures read { IfOk result (λ p. StandsFirst options name.entry after.now p.0 p.1) }
+    ensures refused { IfErr result (IsWrong options (name.entry ∷ after.now)) }
+{
     match takes(options, name) {
-        None => Word::Unknown(name),
-        Some(Takes::Nothing) => Word::Flag(name),
-        Some(Takes::AfterEquals) => Word::Missing(name),
-        Some(Takes::Value) => match next {
-            Some(value) if !value.starts_with('-') => Word::Valued(name, value, true),
-            _ => Word::Missing(name),
+        None => Err(Fault::Unknown(name)),
+        Some(Takes::Nothing) => Ok((Part::Flag(name), 1)),
+        Some(Takes::AfterEquals) => Err(Fault::Missing(name)),
+        Some(Takes::Value) => match after.first() {
+            Some(value) if !is_option(value) => Ok((Part::Valued(name, value), 2)),
+            _ => Err(Fault::Missing(name)),
         },
     }
 }
 
-/// What a word is that is not the value of the option before it. `next` is the word after it.
-pub(crate) fn read_word<'a>(
-    options: &[(&'static str, Takes)],
+/// The first part of words, and how many words it has.
+pub(crate) fn first_part<'a>(
+    options: Options,
     word: &'a str,
-    next: Option<&'a str>,
-) -> Word<'a> {
-    if !word.starts_with('-') || word == "-" {
-        return Word::Plain;
-    }
-    if word.starts_with("--") {
-        return match word.split_once('=') {
-            Some((name, value)) => with_equals(options, name, value),
-            None => without_equals(options, word, next),
-        };
-    }
-    // (a value may stand in the word of its short option)
-    if let Some(value) = word.strip_prefix("-o") {
-        if !value.is_empty() {
-            return match value.strip_prefix("=") {
-                Some(value) => with_equals(options, "-o", value),
-                None => with_equals(options, "-o", value),
-            };
+    after: &[&'a str],
+) -> Result<(Part<'a>, usize), Fault<'a>>
+    ensures read { IfOk result (λ p. StandsFirst options word.entry after.now p.0 p.1) }
+    ensures refused { IfErr result (IsWrong options (word.entry ∷ after.now)) }
+{
+    if !is_option(word) {
+        if options.plain {
+            return Ok((Part::Plain(word), 1));
         }
+        return Err(Fault::Unknown(word));
     }
-    without_equals(options, word, next)
+    let (name, joined) = named(word);
+    let Some(value) = joined else {
+        return apart(options, word, after);
+    };
+    match takes(options, name) {
+        None => Err(Fault::Unknown(name)),
+        Some(Takes::Nothing) => Err(Fault::Unwanted(name)),
+        Some(Takes::Value | Takes::AfterEquals) => Ok((Part::Valued(name, value), 1)),
+    }
 }

@@ -1,5 +1,10 @@
 //! The options of the daemon of one guest, as texts.
+ghost use Rattle.std.specs.Prelude.{◌≡◌, ◌∷◌, [], OnOk, unwrap_or};
+ghost use Rattle.std.specs.Option.{option_or};
+ghost use Rattle.virtiofs_options.specs.GuestOptions.{Adds, HasNoOption, TakesIn};
 
+use crate::command::Part;
+use crate::older::{Older, read_older};
 use std::alloc::{AllocError, Allocator};
 
 /// The texts of the options that say how the daemon of a guest maps ids and names, each in the order
@@ -22,7 +27,9 @@ pub struct Guest<'a, A: Allocator> {
 
 impl<'a, A: Allocator + Copy> Guest<'a, A> {
     /// A guest whose daemon has none of the options.
-    pub(crate) fn new(alloc: A) -> Self {
+    pub(crate) fn new(alloc: A) -> Self
+        ensures { HasNoOption result }
+    {
         Guest {
             translate_uid: Vec::new(alloc),
             translate_gid: Vec::new(alloc),
@@ -33,80 +40,67 @@ impl<'a, A: Allocator + Copy> Guest<'a, A> {
         }
     }
 
-    /// The list that an option adds a value to.
-    fn list(&mut self, option: &str) -> Option<&mut Vec<&'a str, A>> {
+    /// Takes in an option of the daemon that has a value. Options that map nothing are passed over.
+    fn take_value(&mut self, option: &'a str, value: &'a str) -> Result<(), AllocError>
+        ensures { OnOk result (Adds self.old self.new (Part.Valued option.entry value.entry ∷ [])) }
+    {
         match option {
-            "--translate-uid" => Some(&mut self.translate_uid),
-            "--translate-gid" => Some(&mut self.translate_gid),
-            "--uid-map" => Some(&mut self.uid_map),
-            "--gid-map" => Some(&mut self.gid_map),
-            _ => None,
-        }
-    }
-
-    /// Takes in an option of the daemon that has a value. Of several `--xattrmap`, the last counts.
-    /// Options that map nothing are passed over.
-    pub(crate) fn take(&mut self, option: &str, value: &'a str) -> Result<(), AllocError> {
-        if option == "--xattrmap" {
-            self.xattrmap = Some(value);
-        } else if let Some(list) = self.list(option) {
-            list.push(value)?;
+            "--translate-uid" => self.translate_uid.push(value)?,
+            "--translate-gid" => self.translate_gid.push(value)?,
+            "--uid-map" => self.uid_map.push(value)?,
+            "--gid-map" => self.gid_map.push(value)?,
+            "--xattrmap" => self.xattrmap = Some(value),
+            _ => {}
         }
         Ok(())
     }
 
     /// Takes in an option of the daemon that has no value.
-    pub(crate) fn take_flag(&mut self, option: &str) {
+    fn take_flag(&mut self, option: &'a str)
+        ensures { Adds self.old self.new (Part.Flag option.entry ∷ []) }
+    {
         if option == "--posix-acl" {
             self.posix_acl = true;
         }
     }
 
+    /// Takes in a part of a command line of the daemon.
+    fn take_part(&mut self, part: Part<'a>) -> Result<(), AllocError>
+        ensures { OnOk result (Adds self.old self.new (part.entry ∷ [])) }
+    {
+        match part {
+            Part::Plain(_) => Ok(()),
+            Part::Flag(option) => {
+                self.take_flag(option);
+                Ok(())
+            }
+            Part::Valued(option, value) => self.take_value(option, value),
+        }
+    }
+
     /// Takes in options of the daemon's older form.
-    pub(crate) fn take_older(&mut self, older: Older<'a>) {
+    fn take_older(&mut self, older: Older<'a>)
+        ensures rules { self.new.xattrmap ≡ option_or older.entry.xattrmap self.old.xattrmap }
+        ensures lists { self.new.posix_acl ≡ unwrap_or older.entry.posix_acl self.old.posix_acl }
+        ensures users { self.new.translate_uid ≡ self.old.translate_uid }
+        ensures groups { self.new.translate_gid ≡ self.old.translate_gid }
+        ensures user_ranges { self.new.uid_map ≡ self.old.uid_map }
+        ensures group_ranges { self.new.gid_map ≡ self.old.gid_map }
+    {
         self.xattrmap = older.xattrmap.or(self.xattrmap);
         self.posix_acl = older.posix_acl.unwrap_or(self.posix_acl);
     }
-}
 
-/// What options of the daemon's older form, which stand after `-o`, say. The last of each counts.
-#[derive(Clone, Copy)]
-pub(crate) struct Older<'a> {
-    /// The rules for names of attributes, if there are any.
-    pub(crate) xattrmap: Option<&'a str>,
-    /// Whether access control lists are on, if that is said.
-    pub(crate) posix_acl: Option<bool>,
-}
-
-impl<'a> Older<'a> {
-    /// The same with one option more.
-    fn with(self, option: &'a str) -> Self {
-        let Older {
-            xattrmap,
-            posix_acl,
-        } = self;
-        match option {
-            "posix_acl" => Older {
-                xattrmap,
-                posix_acl: Some(true),
-            },
-            "no_posix_acl" => Older {
-                xattrmap,
-                posix_acl: Some(false),
-            },
-            _ => Older {
-                xattrmap: option.strip_prefix("xattrmap=").or(xattrmap),
-                posix_acl,
-            },
+    /// Takes in the parts of a command line of the daemon. Of options that a daemon has once, the
+    /// last counts, as `virtiofsd` takes them. Options of the older form count more than the others,
+    /// wherever they stand. Words that are no options, as the path of the program, are passed over.
+    pub(crate) fn take_parts(&mut self, parts: &[Part<'a>]) -> Result<(), AllocError>
+        ensures { OnOk result (TakesIn self.old self.new parts.now) }
+    {
+        for part in parts {
+            self.take_part(*part)?;
         }
-    }
-
-    /// The same with the options of one `-o`, with a comma between two.
-    pub(crate) fn with_all(self, options: &'a str) -> Self {
-        let mut older = self;
-        for option in options.split(',') {
-            older = older.with(option);
-        }
-        older
+        self.take_older(read_older(parts));
+        Ok(())
     }
 }

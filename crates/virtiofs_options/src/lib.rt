@@ -1,13 +1,18 @@
 //! Reads the words of `virtiofs_mapaudit`: its own options, and the options of each guest's virtiofsd.
 //!
-//! Nothing is proved here but that each call is safe and ends. How words are read is shown by the rows
-//! of `tests/audit_program.jsonl`.
+//! Words become parts (`parts`), and parts become what is asked for (`front`) and the options of a
+//! guest (`guest`, `older`). The contracts say what counts: values in the order of the words, of
+//! `--xattrmap` the last, and older options before the others. `read_words`, which puts all of it
+//! together, has no contract: what it does is shown by the rows of `tests/audit_program.jsonl`.
 #![tactic(auto)]
 
 mod command;
-mod daemon;
+mod fault;
 pub mod front;
 pub mod guest;
+mod help;
 mod nearest;
+mod older;
 mod options;
+mod parts;
 pub mod words;

@@ -13,8 +13,29 @@ pub(crate) enum Takes {
 
 use Takes::{AfterEquals, Nothing, Value};
 
+/// What may stand in a part of the words.
+#[derive(Clone, Copy)]
+pub(crate) struct Options {
+    /// The options.
+    pub(crate) known: &'static [(&'static str, Takes)],
+    /// Whether also words that are no options.
+    pub(crate) plain: bool,
+}
+
 /// What may stand before the first `--`.
-pub(crate) const OWN: [(&str, Takes); 13] = [
+pub(crate) const OWN: Options = Options {
+    known: &KNOWN,
+    plain: false,
+};
+
+/// What may stand on a command line of the daemon.
+pub(crate) const OF_DAEMON: Options = Options {
+    known: &KNOWN_BY_DAEMON,
+    plain: true,
+};
+
+/// The options of the program, and those of the daemon that may stand beside them.
+const KNOWN: [(&str, Takes); 13] = [
     ("--translate-uid", Value),
     ("--translate-gid", Value),
     ("--uid-map", Value),
@@ -31,7 +52,7 @@ pub(crate) const OWN: [(&str, Takes); 13] = [
 ];
 
 /// The options of virtiofsd 1.13.2.
-pub(crate) const OF_DAEMON: [(&str, Takes); 44] = [
+const KNOWN_BY_DAEMON: [(&str, Takes); 44] = [
     ("--translate-uid", Value),
     ("--translate-gid", Value),
     ("--uid-map", Value),

@@ -1,14 +1,15 @@
 //! The program's words: what is asked for, and the guests.
 
-ghost use Rattle.std.specs.Prelude.{◌≤◌, length};
+ghost use Rattle.std.specs.Prelude.{◌≡◌, ◌<◌, length, IfOk, IfErr, IfSome};
+ghost use Rattle.virtiofs_options.specs.Parts.{WrongOnly};
+ghost use Rattle.virtiofs_options.specs.Words.{first_end, IsFront, HasFrontFault};
 
-use crate::daemon::{WordFault, read_daemon};
-use crate::front::{Asked, front_fault, read_front};
+use crate::fault::{ReadError, fault_text};
+use crate::front::{Asked, asked_of, telling_of};
 use crate::guest::Guest;
-use crate::nearest::nearest;
-use crate::options::{OF_DAEMON, OWN, Takes};
-use clap::Error;
-use clap::error::ErrorKind;
+use crate::help::{Telling, told};
+use crate::options::{OF_DAEMON, OWN, Options};
+use crate::parts::read_parts;
 use std::alloc::{AllocError, Global};
 
 /// What the words come to.
@@ -25,91 +26,85 @@ pub enum Words<'a> {
     Wrong(String),
 }
 
-/// Where the first `--` stands, or how many words there are.
-fn end_of_part(words: &[&str]) -> usize
-    ensures { result ≤ length words.now }
+/// Where the first `--` stands, if there is one.
+fn first_end(words: &[&str]) -> Option<usize>
+    ensures first { result ≡ first_end words.now }
+    ensures within { IfSome result (λ place. place < length words.now) }
 {
-    for i in 0..words.len() {
-        if words[i] == "--" {
-            return i;
-        }
-    }
-    words.len()
+    words.iter().position(|word| *word == "--")
 }
 
-/// The sentence on a word that is not known.
-fn unknown_text(
+/// What the words before the first `--` come to.
+#[derive(Drop)]
+enum Front<'a> {
+    /// The program is to tell of itself.
+    Tell(Telling),
+    /// What is asked for, and what the first guest is.
+    Audit(Asked, Guest<'a, Global>),
+}
+
+/// Reads the words before the first `--`.
+fn read_front<'a>(
     alloc: Global,
-    word: &str,
-    options: &'static [(&'static str, Takes)],
-) -> Result<String, AllocError> {
-    let known = nearest(alloc, word, options)?;
-    format!(in alloc; "unknown word '{word}': the nearest that is known is '{known}'\n")
-}
-
-/// The sentence on a word that is wrong where these options are known.
-fn fault_text(
-    alloc: Global,
-    fault: WordFault<'_>,
-    options: &'static [(&'static str, Takes)],
-) -> Result<String, AllocError> {
-    match fault {
-        WordFault::Unknown(word) => unknown_text(alloc, word, options),
-        WordFault::Missing(word) => format!(in alloc; "'{word}' lacks its value\n"),
-        WordFault::Unwanted(word) => format!(in alloc; "'{word}' has no value\n"),
+    options: Options,
+    words: &[&'a str],
+) -> Result<Front<'a>, ReadError<'a>>
+    ensures read { IfOk result (IsFront options words.now) }
+    ensures refused { IfErr result (WrongOnly (HasFrontFault options words.now)) }
+{
+    let parts = read_parts(alloc, options, words)?;
+    if let Some(telling) = telling_of(parts.as_slice()) {
+        return Ok(Front::Tell(telling));
     }
-}
-
-/// What an error of `clap` comes to.
-fn of_clap<'a>(alloc: Global, error: &Error) -> Result<Words<'a>, AllocError> {
-    let text = format!(in alloc; "{error}")?;
-    Ok(match error.kind() {
-        ErrorKind::OutOfMemory => return Err(AllocError),
-        ErrorKind::DisplayHelp | ErrorKind::DisplayVersion => Words::Shown(text),
-        _ => Words::Wrong(text),
-    })
+    let asked = asked_of(parts.as_slice())?;
+    let mut guest = Guest::new(alloc);
+    guest.take_parts(parts.as_slice())?;
+    Ok(Front::Audit(asked, guest))
 }
 
 /// Reads the command lines of the daemon: the first is that of the first guest, and each further
 /// one is that of a further guest.
 fn read_guests<'a>(
     alloc: Global,
-    words: &'a [&'a str],
-    asked: Asked,
+    options: Options,
+    words: &[&'a str],
     first: Guest<'a, Global>,
-) -> Result<Words<'a>, AllocError> {
+) -> Result<Vec<Guest<'a, Global>>, ReadError<'a>> {
     let mut guests = Vec::new(alloc);
     let mut guest = first;
     let mut rest = words;
-    loop {
-        let end = end_of_part(rest);
-        if let Some(fault) = read_daemon(&rest[..end], &mut guest)? {
-            return Ok(Words::Wrong(fault_text(alloc, fault, &OF_DAEMON)?));
-        }
+    while let Some(end) = first_end(rest) {
+        let parts = read_parts(alloc, options, &rest[..end])?;
+        guest.take_parts(parts.as_slice())?;
         guests.push(guest)?;
-        if end == rest.len() {
-            return Ok(Words::Audit { asked, guests });
-        }
         rest = &rest[end + 1..];
         guest = Guest::new(alloc);
     }
+    let parts = read_parts(alloc, options, rest)?;
+    guest.take_parts(parts.as_slice())?;
+    guests.push(guest)?;
+    Ok(guests)
 }
 
 /// Reads the program's words.
+///
+/// # Errors
+///
+/// `AllocError`: a request for memory was refused.
 pub fn read_words<'a>(alloc: Global, words: &'a [&'a str]) -> Result<Words<'a>, AllocError> {
-    let end = end_of_part(words);
-    let front = &words[..end];
-    if let Some(fault) = front_fault(front) {
-        return Ok(Words::Wrong(fault_text(alloc, fault, &OWN)?));
+    let (front, rest) = match first_end(words) {
+        Some(end) => (&words[..end], &words[end + 1..]),
+        None => (words, &words[words.len()..]),
+    };
+    let (asked, first) = match read_front(alloc, OWN, front) {
+        Ok(Front::Audit(asked, first)) => (asked, first),
+        Ok(Front::Tell(telling)) => return Ok(Words::Shown(told(alloc, telling)?)),
+        Err(ReadError::Wrong(fault)) => return Ok(Words::Wrong(fault_text(alloc, fault, OWN)?)),
+        Err(ReadError::OutOfMemory) => return Err(AllocError),
+    };
+    match read_guests(alloc, OF_DAEMON, rest, first) {
+        Ok(guests) => Ok(Words::Audit { asked, guests }),
+        Err(ReadError::Wrong(fault)) => Ok(Words::Wrong(fault_text(alloc, fault, OF_DAEMON)?)),
+        Err(ReadError::OutOfMemory) => Err(AllocError),
     }
-    let (asked, first) = match read_front(alloc, front) {
-        Ok(read) => read,
-        Err(error) => return of_clap(alloc, &error),
-    };
-    let rest = if end < words.len() {
-        &words[end + 1..]
-    } else {
-        &words[end..]
-    };
-    read_guests(alloc, rest, asked, first)
 }

@@ -2,8 +2,8 @@
 use Rattle.std.proofs.Common.{◌≤◌, length}
 use Rattle.virtiofs_options.proofs.words.read_guests.Given as goal
 
-abbrev pub invariant-loop-guest : goal.invariant-loop-guest
-invariant-loop-guest l = length l.rest ≤ length l.fn.words
+abbrev pub invariant-loop-end : goal.invariant-loop-end
+invariant-loop-end l = length l.rest ≤ length l.fn.words
 
-abbrev pub decreases-loop-guest : goal.decreases-loop-guest
-decreases-loop-guest l = length l.rest
+abbrev pub decreases-loop-end : goal.decreases-loop-end
+decreases-loop-end l = length l.rest

@@ -1,0 +1,4 @@
+mod GuestLemmas
+mod OlderLemmas
+mod PartLemmas
+mod WordLemmas

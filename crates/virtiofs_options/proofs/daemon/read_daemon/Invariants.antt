@@ -1,6 +1,0 @@
--- each turn passes a word or more
-use Rattle.std.proofs.Common.{length, ◌-◌}
-use Rattle.virtiofs_options.proofs.daemon.read_daemon.Given as goal
-
-abbrev pub decreases-loop-at : goal.decreases-loop-at
-decreases-loop-at g l = length l.words - l.at

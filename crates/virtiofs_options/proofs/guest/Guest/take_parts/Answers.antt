@@ -1,0 +1,24 @@
+use Rattle.std.proofs.Common.{subst}
+use Rattle.std.proofs.lemmas.List.{take_all}
+use Rattle.virtiofs_options.specs.GuestOptions.{Adds}
+use Rattle.virtiofs_options.proofs.GuestLemmas.{Adds-more, TakesIn-end}
+use Rattle.virtiofs_options.proofs.guest.Guest.take_parts.Goals as goal
+
+pub loop-part-preserved : goal.loop-part-preserved
+loop-part-preserved g c =
+    Adds-more _ c.loop-part.self c.take_part.new.self c.args.parts.now c.loop-part.part-index _ c.loop-part-test.true
+    c.loop-part.invariant c.in_ok-take_part.ensures
+
+pub returns : goal.returns
+returns g c =
+    let then = c.take_older.ensures in
+    TakesIn-end _ c.loop-part.self _ c.read_older.result _
+    (subst (Adds _ c.loop-part.self) (take_all c.loop-part.part-index c.args.parts.now c.loop-part-test.false) c.loop-part.invariant)
+    c.read_older.ensures.rules c.read_older.ensures.lists (record {
+      rules = then.rules;
+      lists = then.lists;
+      users = then.users;
+      groups = then.groups;
+      user_ranges = then.user_ranges;
+      group_ranges = then.group_ranges;
+    })

@@ -1,0 +1,46 @@
+-- What the parts before the first `--` ask for.
+use Rattle.std.specs.Prelude.{◌≡◌, ℕ, List, Bool, not, ◌||◌, Option, Some, None, find, bytes_eq, codes, is_some, if◌then◌else◌}
+use Rattle.std.specs.Borrow.{Bor}
+use Rattle.std.specs.List.{list_any}
+use Rattle.std.specs.Option.{option_and_then}
+use Rattle.virtiofs_options.specs.GuestOptions.{values_of, has_flag, is_flag}
+use Rattle.virtiofs_options.specs.declared.command.Part.{Part}
+use Rattle.virtiofs_options.specs.declared.fault.Fault.{Fault}
+use Rattle.virtiofs_options.specs.declared.fault.Fault.TheVariants.{Unknown, Missing, Unwanted, NotShown}
+use Rattle.virtiofs_options.specs.declared.front.Asked.{Asked}
+use Rattle.virtiofs_options.specs.declared.help.Telling.{Telling}
+use Rattle.virtiofs_options.specs.declared.help.Telling.TheVariants.{Help, Version}
+
+-- a `--show` with this value is among the parts
+abbrev pub has_shown : List ℕ → List Part → Bool
+has_shown what parts = list_any (λ value. bytes_eq value.now what) (values_of (codes "--show") parts)
+
+-- the first value of a `--show` that names nothing to show
+abbrev pub not_shown : List Part → Option (Bor (List ℕ))
+not_shown parts =
+    find (λ value. not (bytes_eq value.now (codes "ids") || bytes_eq value.now (codes "names")))
+    (values_of (codes "--show") parts)
+
+-- what parts that are right ask for
+pub record IsAsked (parts : List Part) (asked : Asked) : Type 0 where
+  pub json : asked.json ≡ has_flag (codes "--json") parts
+  pub quiet : asked.quiet ≡ has_flag (codes "--quiet") parts
+  pub ids : asked.ids ≡ has_shown (codes "ids") parts
+  pub names : asked.names ≡ has_shown (codes "names") parts
+
+-- what is wrong with what is asked for
+abbrev pub IsAskedWrongly : List Part → Fault → Type 0
+IsAskedWrongly parts (NotShown value) = not_shown parts ≡ Some value
+IsAskedWrongly parts (Unknown word) = ⊥
+IsAskedWrongly parts (Missing option) = ⊥
+IsAskedWrongly parts (Unwanted option) = ⊥
+
+-- what the program tells of itself, where a part asks for that
+unfoldable pub tells : Part → Option Telling
+tells part =
+    if is_flag (codes "--help") part || is_flag (codes "-h") part then Some Help
+    else (if is_flag (codes "--version") part || is_flag (codes "-V") part then Some Version else None)
+
+-- what the first part tells that asks for that
+abbrev pub first_told : List Part → Option Telling
+first_told parts = option_and_then tells (find (λ part. is_some (tells part)) parts)

@@ -1,0 +1,105 @@
+//! The help and the version, written by `clap`.
+
+use clap::{Arg, ArgAction, Command};
+use std::alloc::{AllocError, Global};
+
+/// An option of the daemon that has a value.
+fn valued<'a>(alloc: Global, name: &'a str, value: &'a str, help: &'a str) -> Arg<'a> {
+    Arg::new(alloc, name)
+        .long(name)
+        .action(ArgAction::Append)
+        .value_name(value)
+        .help(help)
+}
+
+/// An option that has no value.
+fn flag<'a>(alloc: Global, name: &'a str, help: &'a str) -> Arg<'a> {
+    Arg::new(alloc, name)
+        .long(name)
+        .action(ArgAction::SetTrue)
+        .help(help)
+}
+
+/// The options of the daemon that have a value: the name, what stands for the value, and what the
+/// option does.
+const VALUED: [(&str, &str, &str); 5] = [
+    (
+        "translate-uid",
+        "SPEC",
+        "Translate users, as the daemon does",
+    ),
+    (
+        "translate-gid",
+        "SPEC",
+        "Translate groups, as the daemon does",
+    ),
+    (
+        "uid-map",
+        "RANGE",
+        "A range of users of the daemon's namespace",
+    ),
+    (
+        "gid-map",
+        "RANGE",
+        "A range of groups of the daemon's namespace",
+    ),
+    ("xattrmap", "RULES", "Map names of attributes"),
+];
+
+/// The options of the daemon, which may stand before the first `--`.
+fn of_daemon<'a>(alloc: Global, command: Command<'a>) -> Result<Command<'a>, AllocError> {
+    let mut command = command;
+    for &(name, value, help) in &VALUED {
+        command = command.arg(valued(alloc, name, value, help))?;
+    }
+    command.arg(flag(alloc, "posix-acl", "Access control lists are on"))
+}
+
+/// The program, with no options yet.
+fn program<'a>(alloc: Global) -> Command<'a> {
+    Command::new(alloc, "virtiofs_mapaudit")
+        .version("2.0.0")
+        .about(
+            "Says what the options of a virtiofsd do to ids and names, and what is wrong with them.",
+        )
+        .after_help(
+            "After -- comes a command line of the daemon, and after a further -- that of a further guest of the same directory. virtiofs_mapaudit(1) says more.",
+        )
+        .override_usage("virtiofs_mapaudit [OPTIONS] [-- COMMAND LINE OF THE DAEMON].. ")
+}
+
+/// The option that shows more.
+fn show<'a>(alloc: Global) -> Arg<'a> {
+    Arg::new(alloc, "show")
+        .long("show")
+        .action(ArgAction::Append)
+        .value_name("WHAT")
+        .value_parser(["ids", "names"].as_slice())
+        .help("Show also what becomes of all ids, or of some names")
+}
+
+/// The program with its options.
+fn command<'a>(alloc: Global) -> Result<Command<'a>, AllocError> {
+    of_daemon(alloc, program(alloc))?
+        .arg(show(alloc))?
+        .arg(flag(alloc, "json", "Write JSON"))?
+        .arg(flag(alloc, "quiet", "Write nothing: the status tells"))
+}
+
+/// What the program says of itself, on demand.
+#[derive(Clone, Copy)]
+pub(crate) enum Telling {
+    /// The help.
+    Help,
+    /// The version.
+    Version,
+}
+
+/// The text of it.
+pub(crate) fn told(alloc: Global, telling: Telling) -> Result<String, AllocError> {
+    let mut command = command(alloc)?;
+    match telling {
+        Telling::Help => command.render_help(),
+        Telling::Version => command.render_version(),
+    }
+}
