@@ -79,7 +79,7 @@ def daemon_differs(command, environment, room):
     Path(room, "virtiofsd").write_text("read -r line\n")
     with subprocess.Popen(["sh", "virtiofsd", *OF_DAEMON], cwd=room, stdin=subprocess.PIPE) as daemon:
         found = differs(command.replace("PID", str(daemon.pid)), wanted, environment)
-    return found or "user 100000 does not come back" not in wanted and wanted
+    return found or "users 100000 to 165535 do not round-trip" not in wanted and wanted
 
 
 def lacks(name, page, environment):

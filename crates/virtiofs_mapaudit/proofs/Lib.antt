@@ -12,3 +12,7 @@ mod SetUpLemmas
 mod RefusalLemmas
 mod NoFloatLemmas
 mod ReportJsonLemmas
+mod SamePiecesLemmas
+mod SummaryLemmas
+mod AdviceLemmas
+mod AlikeLemmas

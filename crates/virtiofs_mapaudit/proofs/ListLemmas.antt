@@ -1,8 +1,10 @@
 -- Lists of which some item has a property.
-use Rattle.std.proofs.Common.{◌≡◌, ◌≢◌, ◌⊎◌, ◌↔◌, inl, inr, ℕ, ◌+◌, ◌<◌, List, [], ◌∷◌, ◌++◌, length, take, get_or}
-use Rattle.std.proofs.Common.{true, false, zero, suc, refl, sym, ap, ◌∙◌, arith, append_assoc}
+use Rattle.std.proofs.Common.{◌≡◌, ◌≢◌, ◌⊎◌, ◌↔◌, inl, inr, ℕ, ◌+◌, ◌<◌, ◌≤◌, List, [], ◌∷◌, ◌++◌, length, take, get_or}
+use Rattle.std.proofs.Common.{Result, Ok, Err, OnOk}
+use Rattle.std.proofs.Common.{Bool, true, false, zero, suc, refl, sym, ap, ◌∙◌, arith, append_assoc, append-nil, flat_map}
 use Rattle.std.proofs.lemmas.Bool.{true≢false}
-use Rattle.std.proofs.lemmas.List.{take_more}
+use Rattle.std.proofs.lemmas.Grind.{flat_map-append}
+use Rattle.std.proofs.lemmas.List.{take_more, take_all, length-take-le}
 use Rattle.std.specs.Bool.{◌==◌}
 use Rattle.virtiofs_mapaudit.specs.Lists.{AnyHas, AnyTwoHave}
 
@@ -89,6 +91,17 @@ pub is_some : {T : Type 0} (xs : List T) → false ≡ (length xs == 0) → xs �
 is_some [] some none = absurd (true≢false (sym some))
 is_some (x ∷ xs) some none = cc
 
+pub is_empty_here : {T : Type 0} (xs : List T) (r : Bool) → r ≡ (length xs == 0) → r ≡ true → xs ≡ []
+is_empty_here [] r e is = refl
+is_empty_here (x ∷ xs) r e is = absurd (is_none (x ∷ xs) (sym is ∙ e) (λ none. cc))
+
+pub is_some_here : {T : Type 0} (xs : List T) (r : Bool) → r ≡ (length xs == 0) → r ≡ false → xs ≢ []
+is_some_here xs r e is = is_some xs (sym is ∙ e)
+
+pub is_not_empty : {T : Type 0} (xs : List T) (r : Bool) → xs ≢ [] → r ≡ (length xs == 0) → r ≡ false
+is_not_empty xs true some e = absurd (is_none xs e some)
+is_not_empty xs false some e = refl
+
 -- ---- items that are added
 
 -- in two parts
@@ -107,3 +120,52 @@ pub in_four : {T : Type 0} (old x y z w one two three new : List T) → one ≡ 
 in_four old x y z w one two three new first second third fourth =
     fourth ∙ ap (λ xs. xs ++ w) (in_three old x y z one two three first second third)
     ∙ append_assoc old (x ++ y ++ z) w
+
+-- the same where the last part may fail
+pub in_four_ok : {T V E : Type 0} (r : Result V E) (old x y z w one two three new : List T) → one ≡ old ++ x
+    → two ≡ one ++ y → three ≡ two ++ z → OnOk r (new ≡ three ++ w) → OnOk r (new ≡ old ++ (x ++ y ++ z ++ w))
+in_four_ok (Ok done) old x y z w one two three new first second third fourth =
+    in_four old x y z w one two three new first second third fourth
+in_four_ok (Err e) old x y z w one two three new first second third fourth = tt
+
+-- ---- what is made of each item, one after the other
+
+-- of one more item
+pub flat_pushed : {A B : Type 0} (make : A → List B) (xs : List A) (i : ℕ) (x : A) (old mid new : List B)
+    → x ≡ get_or xs i x → i < length xs → mid ≡ old ++ flat_map make (take i xs) → new ≡ mid ++ make x
+    → new ≡ old ++ flat_map make (take (i + 1) xs)
+flat_pushed make xs i x old mid new is below so_far one =
+    one ∙ ap (λ ys. ys ++ make x) so_far ∙ append_assoc old (flat_map make (take i xs)) (make x)
+    ∙ ap (λ ys. old ++ (flat_map make (take i xs) ++ ys)) (sym (append-nil (make x)))
+    ∙ ap (λ ys. old ++ ys) (sym (flat_map-append make (take i xs) (x ∷ [])))
+    ∙ ap (λ ys. old ++ flat_map make ys) (sym (more_at xs i x is below))
+
+-- of all items
+pub flat_all : {A B : Type 0} (make : A → List B) (xs : List A) (i : ℕ) (old new : List B) → length xs ≤ i
+    → new ≡ old ++ flat_map make (take i xs) → new ≡ old ++ flat_map make xs
+flat_all make xs i old new over is = is ∙ ap (λ ys. old ++ flat_map make ys) (take_all i xs over)
+
+-- ---- two lists, item by item
+
+-- none of the items so far, nor the next ones
+pub AnyTwoHave-none : {A B : Type 0} (R : A → B → Type 0) (xs : List A) (ys : List B) (i : ℕ) (x : A) (y : B)
+    → x ≡ get_or xs i x → y ≡ get_or ys i y → i < length xs → length ys ≡ length xs
+    → ¬ AnyTwoHave R (take i xs) (take i ys) → ¬ R x y → ¬ AnyTwoHave R (take (i + 1) xs) (take (i + 1) ys)
+AnyTwoHave-none R xs ys i x y is is_too below same none not some =
+    let below_too : i < length ys = omega (arith, below, same) in
+    let long : length (take i ys) ≡ length (take i xs) =
+    length-take-le i ys (omega (arith, below_too)) ∙ sym (length-take-le i xs (omega (arith, below))) in
+    elim ((AnyTwoHave-push R (take i xs) (take i ys) x y long).0
+    (rw (more_at xs i x is below, more_at ys i y is_too below_too) at some)) [
+      | inl before ↦ none before
+      | inr here ↦ not here
+    ]
+
+-- the items at a place
+pub AnyTwoHave-at : {A B : Type 0} (R : A → B → Type 0) (xs : List A) (ys : List B) (i : ℕ) (d : A) (e : B)
+    → i < length xs → i < length ys → R (get_or xs i d) (get_or ys i e) → AnyTwoHave R xs ys
+AnyTwoHave-at R [] ys i d e below below_too here = absurd (omega (arith, below))
+AnyTwoHave-at R (x ∷ xs) [] i d e below below_too here = absurd (omega (arith, below_too))
+AnyTwoHave-at R (x ∷ xs) (y ∷ ys) zero d e below below_too here = inl here
+AnyTwoHave-at R (x ∷ xs) (y ∷ ys) (suc i) d e below below_too here =
+    inr (AnyTwoHave-at R xs ys i d e (omega (arith, below)) (omega (arith, below_too)) here)

@@ -1,15 +1,16 @@
 -- The ids of the host that two guests reach.
 use Rattle.std.proofs.Common.{◌≡◌, ◌≢◌, ◌↔◌, inl, inr, ℕ, ◌+◌, ◌<◌, ◌≤◌, List, [], ◌∷◌, ◌++◌, length, take, get_or}
-use Rattle.std.proofs.Common.{Contains, Option, Some, None, MatchOption, subst, sym, arith, rules}
+use Rattle.std.proofs.Common.{Contains, Option, Some, None, MatchOption, Vec, Result, Ok, Err, IfOk, subst, sym, arith, rules}
 use Rattle.std.proofs.lemmas.List.{take_more, take_all}
 use Rattle.std.proofs.lemmas.List.Elements.{Contains-get_or, Contains-push_cases}
-use Rattle.virtiofs_map.specs.IdAudit.{IsLeastId, GoesInto, ReachedBy, Hold}
+use Rattle.virtiofs_map.specs.IdAudit.{IsLeastId, GoesInto, ReachedBy, Hold, AreRuns}
 use Rattle.virtiofs_map.specs.declared.cmdline.IdMap.{IdMap as Specification}
 use Rattle.virtiofs_map.specs.declared.id_audit.spans.Span.{Span}
 use Rattle.virtiofs_map.specs.declared.idmap.UidMap.{UidMap}
-use Rattle.virtiofs_mapaudit.specs.IdFindings.{ReachedOutside, Meets}
+use Rattle.virtiofs_mapaudit.specs.IdFindings.{AreAll, ReachedOutside, Meets, TellsMeeting}
 use Rattle.virtiofs_mapaudit.specs.Namespace.{StandsBy, StandsAmong, StandsFor}
 use Rattle.virtiofs_mapaudit.specs.OutsideParts.{AreMoved}
+use Rattle.virtiofs_mapaudit.specs.declared.ids.found.IdsFound.{IdsFound}
 use Rattle.virtiofs_mapaudit.specs.declared.ids.meeting.Met.{Met}
 use Rattle.virtiofs_mapaudit.specs.declared.ids.outside.Way.TheVariants.{Inwards, Outwards}
 use Rattle.virtiofs_mapaudit.proofs.IdLemmas.{into_same}
@@ -23,7 +24,7 @@ stands_once : (range : UidMap) (inside outside other : ℕ) → StandsBy range o
 stands_once range inside outside other first second = omega (arith, first.same, second.same)
 
 -- by a range that says what it is
-pub met_here : (r : Option Met) (range : UidMap) (inside host : ℕ) (others : List Specification) (ranges : List UidMap)
+met_here : (r : Option Met) (range : UidMap) (inside host : ℕ) (others : List Specification) (ranges : List UidMap)
     → StandsBy range host inside
     → MatchOption r (¬ ReachedOutside others ranges host)
     (λ met. (met.host ≡ host) × IsLeastId (GoesInto others (StandsFor ranges host)) met.guest)
@@ -37,7 +38,7 @@ met_here (Some met) range inside host others ranges stands (same, least) = (
 )
 
 -- without ranges it is itself
-pub met_alone : (r : Option Met) (ranges : List UidMap) (inside : ℕ) (others : List Specification)
+met_alone : (r : Option Met) (ranges : List UidMap) (inside : ℕ) (others : List Specification)
     (other_ranges : List UidMap) → ranges ≡ []
     → MatchOption r (¬ ReachedOutside others other_ranges inside)
     (λ met. (met.host ≡ inside) × IsLeastId (GoesInto others (StandsFor other_ranges inside)) met.guest)
@@ -50,6 +51,28 @@ met_alone (Some met) [] inside others other_ranges none (same, least) = (
   subst (λ n. IsLeastId (GoesInto others (StandsFor other_ranges n)) met.guest) (sym same) least,
 )
 met_alone r (range ∷ ranges) inside others other_ranges none found = absurd (cc)
+
+-- the same, where memory may have run out
+pub met_here_if : {E : Type 0} (r : Result (Option Met) E) (range : UidMap) (inside host : ℕ)
+    (others : List Specification) (ranges : List UidMap) → StandsBy range host inside
+    → IfOk r (λ met. MatchOption met (¬ ReachedOutside others ranges host)
+    (λ met. (met.host ≡ host) × IsLeastId (GoesInto others (StandsFor ranges host)) met.guest))
+    → IfOk r (λ met. MatchOption met ((h : ℕ) → StandsBy range h inside → ¬ ReachedOutside others ranges h)
+    (λ met. StandsBy range met.host inside × IsLeastId (GoesInto others (StandsFor ranges met.host)) met.guest))
+met_here_if (Ok met) range inside host others ranges stands found =
+    met_here met range inside host others ranges stands found
+met_here_if (Err e) range inside host others ranges stands found = tt
+
+pub met_alone_if : {E : Type 0} (r : Result (Option Met) E) (ranges : List UidMap) (inside : ℕ)
+    (others : List Specification) (other_ranges : List UidMap) → ranges ≡ []
+    → IfOk r (λ met. MatchOption met (¬ ReachedOutside others other_ranges inside)
+    (λ met. (met.host ≡ inside) × IsLeastId (GoesInto others (StandsFor other_ranges inside)) met.guest))
+    → IfOk r (λ met. MatchOption met (¬ Meets ranges others other_ranges inside)
+    (λ met. StandsFor ranges met.host inside
+    × IsLeastId (GoesInto others (StandsFor other_ranges met.host)) met.guest))
+met_alone_if (Ok met) ranges inside others other_ranges none found =
+    met_alone met ranges inside others other_ranges none found
+met_alone_if (Err e) ranges inside others other_ranges none found = tt
 
 -- ---- by ranges, one after the other
 
@@ -122,4 +145,22 @@ module _ (specs : List Specification) (ranges : List UidMap) (others : List Spec
         into_same specs (Hold spans) (Meets ranges others other_ranges) (λ inside. (same inside).0) n least.is_bad;
     none_before = λ m before into. least.none_before m before
         (into_same specs (Meets ranges others other_ranges) (Hold spans) (λ inside. (same inside).1) m into);
+  }
+
+  -- all ids of the first guest, and what is told of the least of them
+  pub meetings : {A : Type 0} (found : IdsFound A) (ids : Vec Span A) (first : ℕ)
+      → ((n : ℕ) → Hold ids.items n ↔ GoesInto specs (Hold spans) n) → AreRuns ids.items
+      → IsLeastId (GoesInto specs (Hold spans)) first → found.ids ≡ ids → found.guest ≡ first
+      → TellsMeeting specs ranges others other_ranges found
+      → AreAll (GoesInto specs (Meets ranges others other_ranges)) (TellsMeeting specs ranges others other_ranges) found
+  meetings {A} found ids first each runs least are is tells = record {
+    each = λ n. (
+      (λ held. into_same specs (Hold spans) (Meets ranges others other_ranges) (λ inside. (same inside).0) n
+          ((each n).0 (subst (λ (xs : Vec Span A). Hold xs.items n) are held))),
+      (λ into. subst (λ (xs : Vec Span A). Hold xs.items n) (sym are)
+          ((each n).1 (into_same specs (Meets ranges others other_ranges) (Hold spans) (λ inside. (same inside).1) n into))),
+    );
+    runs = subst (λ (xs : Vec Span A). AreRuns xs.items) (sym are) runs;
+    least = subst (IsLeastId (GoesInto specs (Meets ranges others other_ranges))) (sym is) (meets_first first least);
+    tells = tells;
   }

@@ -1,10 +1,13 @@
 -- Which ids the ranges of a namespace have.
-use Rattle.std.proofs.Common.{◌≡◌, inl, inr, ℕ, ◌+◌, ◌<◌, ◌≤◌, List, [], ◌∷◌, ◌++◌, length, take, get_or, subst, sym}
-use Rattle.std.proofs.Common.{arith}
+use Rattle.std.proofs.Common.{◌≡◌, ◌≢◌, ◌↔◌, inl, inr, ℕ, ◌+◌, ◌<◌, ◌≤◌, List, [], ◌∷◌, ◌++◌, length, take, get_or}
+use Rattle.std.proofs.Common.{Contains, subst, refl, sym, arith, rules}
+use Rattle.std.proofs.lemmas.Bool.{cases_lt}
 use Rattle.std.proofs.lemmas.List.{take_more, take_all}
-use Rattle.std.proofs.lemmas.List.Elements.{Contains-get_or, Contains-push_cases}
+use Rattle.std.proofs.lemmas.List.Elements.{Contains-append_left, Contains-get_or, Contains-push, Contains-push_cases}
+use Rattle.virtiofs_map.specs.IdAudit.{Hold, Has as Has_id}
+use Rattle.virtiofs_map.specs.declared.id_audit.spans.Span.{Span}
 use Rattle.virtiofs_map.specs.declared.idmap.UidMap.{UidMap}
-use Rattle.virtiofs_mapaudit.specs.Namespace.{Has, HasSome}
+use Rattle.virtiofs_mapaudit.specs.Namespace.{Has, HasSome, IsLacking}
 
 -- no range has the id if none of the first ones has, and they are all
 pub none_has : (ranges : List UidMap) (i n : ℕ) → length ranges ≤ i → ¬ HasSome (take i ranges) n → ¬ HasSome ranges n
@@ -33,3 +36,65 @@ none_more ranges i d n below none not = rw (take_more ranges i d below) last whe
 pub not_that : (ranges : List UidMap) (i : ℕ) (d : UidMap) (n : ℕ) → i < length ranges → ¬ HasSome ranges n
     → ¬ Has (get_or ranges i d) n
 not_that ranges i d n below none has = none (get_or ranges i d, Contains-get_or ranges i d below, has)
+
+-- ---- the ids that no range has
+
+-- the spans have the ids below a number that no range has
+abbrev pub LacksBelow : List UidMap → ℕ → List Span → Type 0
+LacksBelow ranges next ids =
+    (inside : ℕ) → Hold ids inside ↔ ((inside < next) × (inside ≤ 4294967295) × (¬ HasSome ranges inside))
+
+pub lacks_none : (ranges : List UidMap) → LacksBelow ranges 0 []
+lacks_none ranges inside = ((λ (span, listed, has). absurd (not_in_none span listed)), λ (below, is_id, none). absurd (omega (arith, below))) where
+  not_in_none : (span : Span) → ¬ Contains [] span
+  not_in_none span = search rules
+
+-- some range has each id up to the next number
+pub lacks_had : (ranges : List UidMap) (first next : ℕ) (ids : List Span) → first < next
+    → ((n : ℕ) → first ≤ n → n < next → HasSome ranges n) → LacksBelow ranges first ids → LacksBelow ranges next ids
+lacks_had ranges first next ids order has so_far inside = (
+  (λ held. let at = (so_far inside).0 held in (omega (arith, order, at.0), at.1, at.2)),
+  (λ (below, is_id, none). elim (cases_lt inside first) [
+    | inl before ↦ (so_far inside).1 (before, is_id, none)
+    | inr after ↦ absurd (none (has inside after below))
+  ]),
+)
+
+-- no range has any of the ids of one more span
+pub lacks_more : (ranges : List UidMap) (first last : ℕ) (ids : List Span) (span : Span) → span.first ≡ first
+    → span.last ≡ last → last ≤ 4294967295 → first ≤ last → ((n : ℕ) → first ≤ n → n ≤ last → ¬ HasSome ranges n)
+    → LacksBelow ranges first ids → LacksBelow ranges (last + 1) (ids ++ span ∷ [])
+lacks_more ranges first last ids span is_first is_last bound order none so_far inside = (
+  (λ (one, listed, has). elim (Contains-push_cases ids span one listed) [
+    | inl before ↦ let at = (so_far inside).0 (one, before, has) in (omega (arith, at.0, order), at.1, at.2)
+    | inr same ↦ of_span (subst (λ (s : Span). Has_id s inside) (sym same) has)
+  ]),
+  (λ (below, is_id, not). elim (cases_lt inside first) [
+    | inl before ↦ let (one, listed, has) = (so_far inside).1 (before, is_id, not) in (one, Contains-append_left ids (span ∷ []) one listed, has)
+    | inr after ↦ (span, Contains-push ids span, (omega (arith, is_first, after), omega (arith, is_last, below)))
+  ]),
+) where
+  of_span : Has_id span inside → (inside < last + 1) × (inside ≤ 4294967295) × (¬ HasSome ranges inside)
+  of_span has = (
+    omega (arith, has.1, is_last),
+    omega (arith, has.1, is_last, bound),
+    none inside (omega (arith, has.0, is_first)) (omega (arith, has.1, is_last)),
+  )
+
+-- all ids were passed
+pub lacks_all : (ranges : List UidMap) (next : ℕ) (ids : List Span) → ranges ≢ [] → 4294967295 < next
+    → LacksBelow ranges next ids → (inside : ℕ) → Hold ids inside ↔ IsLacking ranges inside
+lacks_all [] next ids some passed so_far inside = absurd (some refl)
+lacks_all (range ∷ ranges) next ids some passed so_far inside = (
+  (λ held. let at = (so_far inside).0 held in (at.1, at.2)),
+  (λ (is_id, none). (so_far inside).1 (omega (arith, is_id, passed), is_id, none)),
+)
+
+-- without ranges none is lacking
+pub lacks_nothing : (ranges : List UidMap) (ids : List Span) → ranges ≡ [] → ids ≡ [] → (inside : ℕ)
+    → Hold ids inside ↔ IsLacking ranges inside
+lacks_nothing [] [] none empty inside = ((λ (span, listed, has). not_in_none span listed), λ lacks. absurd lacks) where
+  not_in_none : (span : Span) → ¬ Contains [] span
+  not_in_none span = search rules
+lacks_nothing (range ∷ ranges) ids none empty inside = absurd (cc)
+lacks_nothing [] (span ∷ ids) none empty inside = absurd (cc)

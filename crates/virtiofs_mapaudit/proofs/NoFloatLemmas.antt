@@ -1,8 +1,8 @@
 -- No number of the JSON is a float, so its text is known byte by byte.
-use Rattle.std.proofs.Common.{◌≡◌, ℕ, ◌+◌, Bool, true, false, List, [], ◌∷◌, ◌++◌, map, codes, Option, Some, None, refl, ap, ◌∙◌}
+use Rattle.std.proofs.Common.{◌≡◌, ℕ, ◌+◌, Bool, true, false, List, [], ◌∷◌, ◌++◌, map, flat_map, codes, Option, Some, None, refl, ap, ◌∙◌}
 use Rattle.std.proofs.lemmas.Bool.{true≢false}
 use Rattle.std.specs.Str.{is_utf8}
-use Rattle.std.specs.declared.vec.Vec.{Vec}
+use Rattle.std.specs.Borrow.{Bor}
 use Rattle.serde_json.specs.Data.{Data, string}
 use Rattle.serde_json.specs.View.{items_of}
 use Rattle.serde_json.specs.Written.{has_float, items_have_float, compact_text}
@@ -11,33 +11,36 @@ use Rattle.virtiofs_map.specs.Names.{HostAnswer, IsListed, IsHidden, IsUndecided
 use Rattle.virtiofs_map.specs.Rule.{MappingRule}
 use Rattle.virtiofs_map.specs.declared.audit.answer.Audit.{Audit}
 use Rattle.virtiofs_map.specs.declared.audit.answer.Audit.TheVariants.{Yes, No}
+use Rattle.virtiofs_map.specs.declared.id_audit.spans.Span.{Span}
 use Rattle.virtiofs_map.specs.declared.idmap.UidMap.{UidMap}
 use Rattle.virtiofs_map.specs.declared.soft_idmap.entry.Direction.{Direction}
 use Rattle.virtiofs_map.specs.declared.soft_idmap.entry.Direction.TheVariants.{GuestToHost, HostToGuest}
 use Rattle.virtiofs_map.specs.declared.soft_idmap.piece.Outcome.TheVariants.{Kept, OneToOne, AllToOne, Forbidden}
 use Rattle.virtiofs_map.specs.declared.soft_idmap.piece.Outcome.{Outcome}
 use Rattle.virtiofs_map.specs.declared.soft_idmap.piece.Piece.{Piece}
-use Rattle.virtiofs_mapaudit.specs.FindingJson.{ids_word, finding_data, fault_data, id_data}
+use Rattle.virtiofs_mapaudit.specs.FindingJson.{ids_word, finding_data, fault_data, span_data, ids_data}
 use Rattle.virtiofs_mapaudit.specs.IdJson.{piece_data, outcome_data, namespace_data, id_table, IsIdTable}
 use Rattle.virtiofs_mapaudit.specs.NameJson.{name_data, answer_data, least_data, becomes_data, stands_data}
 use Rattle.virtiofs_mapaudit.specs.NameJson.{told_data, name_line, name_table}
 use Rattle.virtiofs_mapaudit.specs.NameTable.{shown}
 use Rattle.virtiofs_mapaudit.specs.RefusalText.{refusal_text}
 use Rattle.virtiofs_mapaudit.specs.declared.refusal.Refusal.{Refusal}
-use Rattle.virtiofs_mapaudit.specs.ReportJson.{IsTableIf, IsNamesOf, IsGuest, AreGuests, findings_data, pairs_data, report_data, IsJson}
-use Rattle.virtiofs_mapaudit.specs.declared.audit.Pair.{Pair}
+use Rattle.virtiofs_mapaudit.specs.ReportJson.{IsTableIf, IsNamesOf, IsGuest, AreGuests, parts_data, guest_words, option_words, rules_words, acl_words, words_data, advised_data, report_data, IsJson}
+use Rattle.virtiofs_mapaudit.specs.declared.advice.Advised.{Advised}
+use Rattle.virtiofs_mapaudit.specs.declared.audit.Part.{Part}
 use Rattle.virtiofs_mapaudit.specs.declared.audit.Report.{Report}
 use Rattle.virtiofs_mapaudit.specs.declared.finding.Finding.{Finding}
 use Rattle.virtiofs_mapaudit.specs.declared.finding.Finding.TheVariants as findings
 use Rattle.virtiofs_mapaudit.specs.declared.ids.found.IdFault.{IdFault}
-use Rattle.virtiofs_mapaudit.specs.declared.ids.found.IdFault.TheVariants.{NotBack, Shared, Root, Lacking}
-use Rattle.virtiofs_mapaudit.specs.declared.ids.found.IdFound.{IdFound}
+use Rattle.virtiofs_mapaudit.specs.declared.ids.found.IdFault.TheVariants.{NotBack, Root, Lacking}
+use Rattle.virtiofs_mapaudit.specs.declared.ids.found.IdsFound.{IdsFound}
 use Rattle.virtiofs_mapaudit.specs.declared.ids.kind.IdKind.{IdKind}
 use Rattle.virtiofs_mapaudit.specs.declared.ids.ranges.RangeFault.{RangeFault}
 use Rattle.virtiofs_mapaudit.specs.declared.ids.ranges.RangeFault.TheVariants.{Empty, Beyond, MeetsInside, MeetsOutside}
 use Rattle.virtiofs_mapaudit.specs.declared.names.found.LeastName.{LeastName}
 use Rattle.virtiofs_mapaudit.specs.declared.setup.SetUp.{SetUp}
 use Rattle.virtiofs_options.specs.declared.front.Asked.{Asked}
+use Rattle.virtiofs_options.specs.declared.guest.Guest.{Guest}
 
 -- ---- lists
 
@@ -116,11 +119,14 @@ id_table_none from_guest from_host ranges =
 
 -- ---- findings
 
-id_none : (guest : ℕ) (ids : List ℕ) (fault : IdFault) (it : IdFound) → HasNone (id_data guest ids fault it)
-id_none guest ids NotBack it = refl
-id_none guest ids Shared it = refl
-id_none guest ids Root it = refl
-id_none guest ids Lacking it = refl
+spans_none : (ids : List Span) → HaveNone (map span_data ids)
+spans_none ids = have_none-map span_data (λ span. refl) ids
+
+ids_none : {A : Type 0} (guest : ℕ) (ids : List ℕ) (fault : IdFault) (it : IdsFound A)
+    → HasNone (ids_data guest ids fault it)
+ids_none guest ids NotBack it = rw (spans_none it.ids.items) refl
+ids_none guest ids Root it = rw (spans_none it.ids.items) refl
+ids_none guest ids Lacking it = rw (spans_none it.ids.items) refl
 
 fault_none : (guest : ℕ) (kind : IdKind) (place : ℕ) (fault : RangeFault) → HasNone (fault_data guest kind place fault)
 fault_none guest kind place Empty = refl
@@ -131,26 +137,61 @@ fault_none guest kind place (MeetsOutside other) = refl
 finding_none : {A : Type 0} (guest : ℕ) (finding : Finding A) → HasNone (finding_data guest finding)
 finding_none guest findings.PosixAcl = refl
 finding_none guest (findings.Range kind range) = fault_none guest kind range.place range.fault
-finding_none guest (findings.Id kind in_namespace fault it) = id_none guest (ids_word kind) fault it
+finding_none guest (findings.Ids kind in_namespace fault it) = ids_none guest (ids_word kind) fault it
 finding_none guest findings.NoRule = refl
 finding_none guest (findings.NotListed least) = rw (least_none least) refl
 finding_none guest (findings.ListedElsewhere least) = rw (least_none least) refl
 finding_none guest (findings.IdleRule place) = refl
-finding_none guest (findings.IdOfBoth first second kind it) = refl
+finding_none guest (findings.IdsOfBoth first second kind it) = rw (spans_none it.ids.items) refl
 finding_none guest (findings.ShownToOther setter lister least) = rw (least_none least) refl
 finding_none guest (findings.NameOfBoth first second least) = rw (least_none least) refl
 
-findings_none : {A : Type 0} (number : ℕ) (found : List (Vec (Finding A) A)) → HaveNone (findings_data number found)
-findings_none number [] = refl
-findings_none number (one ∷ others) =
-    have_none-append (map (finding_data number) one.items) _
-    (have_none-map (finding_data number) (finding_none number) one.items) (findings_none (number + 1) others)
+parts_none : {A : Type 0} (parts : List (Part A)) → HaveNone (parts_data parts)
+parts_none [] = refl
+parts_none (part ∷ parts) =
+    have_none-append (map (finding_data part.first) part.found.items) _
+    (have_none-map (finding_data part.first) (finding_none part.first) part.found.items) (parts_none parts)
 
-pairs_none : {A : Type 0} (pairs : List (Pair A)) → HaveNone (pairs_data pairs)
-pairs_none [] = refl
-pairs_none (pair ∷ pairs) =
-    have_none-append (map (finding_data pair.first) pair.found.items) _
-    (have_none-map (finding_data pair.first) (finding_none pair.first) pair.found.items) (pairs_none pairs)
+both_none : {A : Type 0} (guests pairs : List (Part A)) → HaveNone (parts_data guests ++ parts_data pairs)
+both_none guests pairs =
+    have_none-append (parts_data guests) (parts_data pairs) (parts_none guests) (parts_none pairs)
+
+-- ---- advice
+
+values_none : (option : List ℕ) (values : List (Bor (List ℕ))) → HaveNone (flat_map (option_words option) values)
+values_none option [] = refl
+values_none option (value ∷ values) = values_none option values
+
+rules_none : (rules : Option (Bor (List ℕ))) → HaveNone (rules_words rules)
+rules_none None = refl
+rules_none (Some rules) = refl
+
+acl_none : (are_on : Bool) → HaveNone (acl_words are_on)
+acl_none true = refl
+acl_none false = refl
+
+words_none : {A : Type 0} (guest : Guest A) → HaveNone (words_data guest)
+words_none guest =
+    let users : List Data = flat_map (option_words (codes "--translate-uid")) guest.translate_uid.items in
+    let groups : List Data = flat_map (option_words (codes "--translate-gid")) guest.translate_gid.items in
+    let inside : List Data = flat_map (option_words (codes "--uid-map")) guest.uid_map.items in
+    let inside_groups : List Data = flat_map (option_words (codes "--gid-map")) guest.gid_map.items in
+    let rules : List Data = rules_words guest.xattrmap in
+    have_none-append (users ++ groups ++ inside ++ inside_groups ++ rules) (acl_words guest.posix_acl)
+    (have_none-append (users ++ groups ++ inside ++ inside_groups) rules
+    (have_none-append (users ++ groups ++ inside) inside_groups
+    (have_none-append (users ++ groups) inside
+    (have_none-append users groups (values_none (codes "--translate-uid") guest.translate_uid.items)
+    (values_none (codes "--translate-gid") guest.translate_gid.items))
+    (values_none (codes "--uid-map") guest.uid_map.items))
+    (values_none (codes "--gid-map") guest.gid_map.items))
+    (rules_none guest.xattrmap))
+    (acl_none guest.posix_acl)
+
+advised_none : {A : Type 0} (advised : Option (Advised A)) → HasNone (advised_data advised)
+advised_none None = refl
+advised_none (Some advised) =
+    rw (both_none advised.after.guests.items advised.after.pairs.items, have_none-map guest_words words_none advised.guests.items) refl
 
 -- ---- guests
 
@@ -174,21 +215,22 @@ guests_none asked number (set ∷ sets) guests (guest, others, is, are, whole) =
 
 -- no number that is written is a float
 report_none : {A : Type 0} (asked : Asked) (sets : List (SetUp A)) (guests : List Data) (report : Report A)
-    (refusals : List (Refusal A)) → AreGuests asked 1 sets guests → has_float (report_data guests report refusals) ≡ false
-report_none asked sets guests report refusals are =
-    rw (have_none-append (findings_data 1 report.guests.items) (pairs_data report.pairs.items) (findings_none 1 report.guests.items) (pairs_none report.pairs.items), guests_none asked 1 sets guests are, have_none-map string (λ line. refl) (map refusal_text refusals)) refl
+    (refusals : List (Refusal A)) (advised : Option (Advised A)) → AreGuests asked 1 sets guests
+    → has_float (report_data guests report refusals advised) ≡ false
+report_none asked sets guests report refusals advised are =
+    rw (advised_none advised, both_none report.guests.items report.pairs.items, guests_none asked 1 sets guests are, have_none-map string (λ line. refl) (map refusal_text refusals)) refl
 
 -- so the text is that of the report
 pub json_written : {A : Type 0} (asked : Asked) (sets : List (SetUp A)) (report : Report A) (refusals : List (Refusal A))
-    (value : Data) (text new : List ℕ)
-    → ((guests : List Data) × AreGuests asked 1 sets guests × (value ≡ report_data guests report refusals))
+    (advised : Option (Advised A)) (value : Data) (text new : List ℕ)
+    → ((guests : List Data) × AreGuests asked 1 sets guests × (value ≡ report_data guests report refusals advised))
     → (has_float value ≡ false → text ≡ compact_text value) → new ≡ text ++ codes "\n"
-    → IsJson asked sets report refusals new
-json_written asked sets report refusals value text new (guests, are, is) written ended = record {
+    → IsJson asked sets report refusals advised new
+json_written asked sets report refusals advised value text new (guests, are, is) written ended = record {
   guests = guests;
   are_guests = are;
   whole =
       ended
       ∙ ap (λ (xs : List ℕ). xs ++ codes "\n")
-      (written (ap has_float is ∙ report_none asked sets guests report refusals are) ∙ ap compact_text is);
+      (written (ap has_float is ∙ report_none asked sets guests report refusals advised are) ∙ ap compact_text is);
 }

@@ -1,33 +1,37 @@
 -- What is found of guests, and its text.
-use Rattle.std.proofs.Common.{◌≡◌, ◌≢◌, ◌↔◌, inl, inr, ℕ, ◌+◌, ◌<◌, ◌≤◌, Bool, IsTrue, IsFalse, string_bytes, List}
+use Rattle.std.proofs.Common.{◌≡◌, ◌≢◌, ◌↔◌, inl, inr, ℕ, ◌+◌, ◌<◌, ◌≤◌, Bool, true, false, IsTrue, IsFalse, string_bytes, List}
 use Rattle.std.proofs.Common.{[], ◌∷◌, ◌++◌, length, take, get_or, All, Result, Ok, Err, OnOk, refl, sym, ap, ◌∙◌}
-use Rattle.std.proofs.Common.{subst, arith, rules, append_assoc, append-nil, Option}
+use Rattle.std.proofs.Common.{subst, arith, rules, append_assoc, append-nil, flat_map, Option, None, IfSome}
 use Rattle.std.proofs.lemmas.Bool.{cases_lt}
 use Rattle.std.proofs.lemmas.Grind.{flat_map-append}
-use Rattle.std.proofs.lemmas.List.{take_all, length-take-le}
+use Rattle.std.proofs.lemmas.List.{take_all, length-take-le, length-append}
 use Rattle.std.proofs.lemmas.List.Elements.{All-append}
 use Rattle.std.proofs.lemmas.Option.{slice_get_read}
 use Rattle.std.proofs.lemmas.Slice.Zip.{AllZip-long}
 use Rattle.std.specs.Global.{Global}
 use Rattle.std.specs.List.{AllZip}
-use Rattle.std.specs.declared.vec.Vec.{Vec}
 use Rattle.virtiofs_map.proofs.ForCallers.{AllZip-push}
-use Rattle.virtiofs_mapaudit.proofs.ListLemmas.{more_at, AnyHas-left, AnyHas-right, in_two}
+use Rattle.virtiofs_mapaudit.proofs.ListLemmas.{more_at, AnyHas-left, AnyHas-right, in_two, in_three}
+use Rattle.virtiofs_mapaudit.specs.AlikeGuests.{alike_to, is_first}
 use Rattle.virtiofs_mapaudit.specs.FindingText.{findings_text}
+use Rattle.virtiofs_mapaudit.specs.SummaryText.{SumsUp}
+use Rattle.virtiofs_mapaudit.specs.declared.alike.Alike.{Alike}
 use Rattle.virtiofs_mapaudit.specs.Lists.{Adds, listed}
 use Rattle.virtiofs_mapaudit.specs.IdFindings.{FindsIds}
 use Rattle.virtiofs_mapaudit.specs.PairFindings.{FindsPair}
 use Rattle.virtiofs_mapaudit.specs.Ranges.{FindsFault}
-use Rattle.virtiofs_mapaudit.specs.Report.{FindsGuest, FindsKind, ids_found, FindsReport, IsFound, IsPairOf, HasPair}
+use Rattle.virtiofs_mapaudit.specs.Report.{FindsGuest, FindsKind, ids_found, FindsReport, IsFound, IsPairOf, HasPair, AreNumbered}
 use Rattle.virtiofs_mapaudit.specs.ReportJson.{IsJson}
 use Rattle.virtiofs_mapaudit.specs.ReportParts.{AddsPairs, AreCompared}
-use Rattle.virtiofs_mapaudit.specs.Said.{Says, AreTables, rules_given, options_text, set_up_line}
-use Rattle.virtiofs_mapaudit.specs.Said.{guests_text, pairs_text, IsPlain}
+use Rattle.virtiofs_mapaudit.specs.Said.{Says, SaysMended, IsBest, ShownIf, AreTables, SaysAlike, SaysAt, SaysFrom, SaysGuests, IsPlain}
 use Rattle.virtiofs_mapaudit.specs.Guests.{SetsUp}
 use Rattle.virtiofs_mapaudit.proofs.RefusalLemmas.{told_where_refused}
 use Rattle.virtiofs_mapaudit.specs.Refusals.{TellsGuests}
+use Rattle.virtiofs_mapaudit.specs.Advice.{IsAdvice}
+use Rattle.virtiofs_mapaudit.specs.AdviceText.{mend_text}
+use Rattle.virtiofs_mapaudit.specs.declared.advice.Advised.{Advised}
 use Rattle.virtiofs_mapaudit.specs.declared.audit.Said.{Said}
-use Rattle.virtiofs_mapaudit.specs.declared.audit.Pair.{Pair}
+use Rattle.virtiofs_mapaudit.specs.declared.audit.Part.{Part}
 use Rattle.virtiofs_mapaudit.specs.declared.audit.Report.{Report}
 use Rattle.virtiofs_options.specs.declared.front.Asked.{Asked}
 use Rattle.virtiofs_options.specs.declared.guest.Guest.{Guest}
@@ -41,56 +45,119 @@ use Rattle.virtiofs_mapaudit.specs.declared.setup.SetUp.{SetUp}
 
 -- ---- the text of guests
 
--- one more guest
-pub guests_more : {A : Type 0} (n : ℕ) (guests : List (Guest A)) (tables : List (List ℕ))
-    (found : List (Vec (Finding A) A))
-    (guest : Guest A) (table : List ℕ) (one : Vec (Finding A) A) → length tables ≡ length guests
-    → length found ≡ length guests
-    → guests_text n (guests ++ guest ∷ []) (tables ++ table ∷ []) (found ++ one ∷ [])
-    ≡ guests_text n guests tables found ++ (set_up_line (n + length guests) guest ++ table ++ findings_text one.items)
-guests_more n [] [] [] guest table one same same_too =
-    append-nil (set_up_line n guest ++ table ++ findings_text one.items)
-    ∙ ap (λ k. set_up_line k guest ++ table ++ findings_text one.items) (omega arith)
-guests_more n [] (t ∷ tables) found guest table one same same_too = absurd (omega (arith, same))
-guests_more n [] [] (f ∷ found) guest table one same same_too = absurd (omega (arith, same_too))
-guests_more n (g ∷ guests) [] found guest table one same same_too = absurd (omega (arith, same))
-guests_more n (g ∷ guests) (t ∷ tables) [] guest table one same same_too = absurd (omega (arith, same_too))
-guests_more n (g ∷ guests) (t ∷ tables) (f ∷ found) guest table one same same_too =
-    let first = set_up_line n g ++ t ++ findings_text f.items in
-    let later =
-    guests_more (n + 1) guests tables found guest table one (omega (arith, same)) (omega (arith, same_too)) in
-    ap (λ x. first ++ x) later
-    ∙ sym (append_assoc first (guests_text (n + 1) guests tables found)
-    (set_up_line ((n + 1) + length guests) guest ++ table ++ findings_text one.items))
-    ∙ ap (λ k. (first ++ guests_text (n + 1) guests tables found) ++ (set_up_line k guest ++ table ++ findings_text one.items))
-    (omega arith)
+-- the guest at a place
+abbrev pub IsAt : {A : Type 0} → List (Guest A) → List (SetUp A) → List (Part A) → ℕ → Guest A → SetUp A → Part A → Type 0
+IsAt guests sets parts place guest set part =
+    (place < length guests) × (length sets ≡ length guests) × (length parts ≡ length guests)
+    × (guest ≡ get_or guests place guest) × (set ≡ get_or sets place set) × (part ≡ get_or parts place part)
 
--- the text of one more guest, in three parts
-pub text_more : {A : Type 0} (guests : List (Guest A)) (tables : List (List ℕ)) (found : List (Vec (Finding A) A))
-    (guests_next : List (Guest A)) (found_next : List (Vec (Finding A) A))
-    (guest : Guest A) (table : List ℕ) (one : Vec (Finding A) A) (before text set_up tabled next : List ℕ) (place : ℕ)
-    → guests_next ≡ guests ++ guest ∷ [] → found_next ≡ found ++ one ∷ [] → length guests ≡ place
-    → length tables ≡ length guests → length found ≡ length guests → text ≡ before ++ guests_text 1 guests tables found
-    → set_up ≡ text ++ set_up_line (place + 1) guest → tabled ≡ set_up ++ table → next ≡ tabled ++ findings_text one.items
-    → next ≡ before ++ guests_text 1 guests_next (tables ++ table ∷ []) found_next
-text_more guests tables found guests_next found_next guest table one before text set_up tabled next place more
-    more_found long same same_too whole first second third =
-    third ∙ ap (λ x. x ++ findings_text one.items) second ∙ ap (λ x. (x ++ table) ++ findings_text one.items) first
-    ∙ ap (λ x. ((x ++ set_up_line (place + 1) guest) ++ table) ++ findings_text one.items) whole
-    ∙ gathered before (guests_text 1 guests tables found) (set_up_line (place + 1) guest) table (findings_text one.items)
-    ∙ ap (λ k. before ++ (guests_text 1 guests tables found ++ ((set_up_line k guest ++ table) ++ findings_text one.items)))
-    (omega (arith, long))
-    ∙ ap (λ x. before ++ x) (sym (guests_more 1 guests tables found guest table one same same_too))
-    ∙ ap (λ xs. before ++ guests_text 1 xs (tables ++ table ∷ []) (found ++ one ∷ [])) (sym more)
-    ∙ ap (λ xs. before ++ guests_text 1 guests_next (tables ++ table ∷ []) xs) (sym more_found) where
-      gathered : (a b x y z : List ℕ) → (((a ++ b) ++ x) ++ y) ++ z ≡ a ++ (b ++ ((x ++ y) ++ z))
-      gathered a b x y z = simp append_assoc
+-- what is said of it
+says_at : {A : Type 0} (asked : Asked) (guests : List (Guest A)) (sets : List (SetUp A)) (parts : List (Part A))
+    (place : ℕ) (guest : Guest A) (set : SetUp A) (part : Part A) (text : List ℕ)
+    → IsAt guests sets parts place guest set part
+    → ShownIf (is_first (alike_to guests guest) (place + 1))
+    (SaysAlike asked (alike_to guests guest) guest set part.found.items) text
+    → SaysAt asked guests sets parts place text
+says_at asked guests sets parts place guest set part text (below, same, same_too, is, is_set, is_part) says = record {
+  guest = guest;
+  set = set;
+  part = part;
+  is_guest = slice_get_read guests (length guests) place guest refl below is;
+  is_set = slice_get_read sets (length sets) place set refl (omega (arith, below, same)) is_set;
+  is_part = slice_get_read parts (length parts) place part refl (omega (arith, below, same_too)) is_part;
+  says = says;
+}
+
+-- it is said, since no earlier guest has the same options
+pub said_at : {A V E : Type 0} (r : Result V E) (asked : Asked) (guests : List (Guest A)) (sets : List (SetUp A))
+    (parts : List (Part A)) (place : ℕ) (guest : Guest A) (set : SetUp A) (part : Part A) (old new : List ℕ)
+    → IsAt guests sets parts place guest set part → is_first (alike_to guests guest) (place + 1) ≡ true
+    → OnOk r ((said : List ℕ) × SaysAlike asked (alike_to guests guest) guest set part.found.items said
+    × (new ≡ old ++ said)) → OnOk r ((said : List ℕ) × SaysAt asked guests sets parts place said × (new ≡ old ++ said))
+said_at (Ok done) asked guests sets parts place guest set part old new at first (said, says, added) =
+    (said, says_at asked guests sets parts place guest set part said at (rw first says), added)
+said_at (Err e) asked guests sets parts place guest set part old new at first says = tt
+
+-- nothing is said, since one has
+pub silent_at : {A : Type 0} (asked : Asked) (guests : List (Guest A)) (sets : List (SetUp A)) (parts : List (Part A))
+    (place : ℕ) (guest : Guest A) (set : SetUp A) (part : Part A) (old : List ℕ)
+    → IsAt guests sets parts place guest set part → is_first (alike_to guests guest) (place + 1) ≡ false
+    → (said : List ℕ) × SaysAt asked guests sets parts place said × (old ≡ old ++ said)
+silent_at asked guests sets parts place guest set part old at not =
+    ([], says_at asked guests sets parts place guest set part [] at (rw not refl), sym (append-nil old))
+
+-- what is said of one more guest
+says_more : (Says : ℕ → List ℕ → Type 0) (n : ℕ) (texts : List (List ℕ)) (text : List ℕ) → SaysFrom Says n texts
+    → Says (n + length texts) text → SaysFrom Says n (texts ++ text ∷ [])
+says_more Says n [] text all one = (subst (λ k. Says k text) (omega arith) one, tt)
+says_more Says n (first ∷ texts) text (is, all) one =
+    (is, says_more Says (n + 1) texts text all (subst (λ k. Says k text) (omega arith) one))
+
+-- the guests before that place were written
+pub record AreWritten {A : Type 0} (asked : Asked) (guests : List (Guest A)) (sets : List (SetUp A)) (parts : List (Part A))
+    (place : ℕ) (before text : List ℕ) : Type 0 where
+  pub texts : List (List ℕ)
+  pub each : SaysFrom (SaysAt asked guests sets parts) 0 texts
+  pub all : length texts ≡ place
+  pub bound : place ≤ length guests
+  pub whole : text ≡ before ++ flat_map (λ one. one) texts
+
+-- in three parts: what is set up, the tables, and what was found
+pub alike_said : {A V E : Type 0} (r : Result V E) (asked : Asked) (alike : Alike) (guest : Guest A) (set : SetUp A)
+    (found : List (Finding A)) (old one two new : List ℕ)
+    → ((summary : List ℕ) × SumsUp alike guest set summary × (one ≡ old ++ summary))
+    → ((tables : List ℕ) × AreTables asked set tables × (two ≡ one ++ tables))
+    → OnOk r (new ≡ two ++ findings_text found)
+    → OnOk r ((said : List ℕ) × SaysAlike asked alike guest set found said × (new ≡ old ++ said))
+alike_said (Ok done) asked alike guest set found old one two new (summary, sums, first) (tables, are, second) third = (
+  summary ++ tables ++ findings_text found,
+  record { summary = summary; tables = tables; sums_up = sums; are_tables = are; whole = refl },
+  in_three old summary tables (findings_text found) one two new first second third,
+)
+alike_said (Err e) asked alike guest set found old one two new first second third = tt
+
+-- none at first
+pub written_none : {A : Type 0} (asked : Asked) (guests : List (Guest A)) (sets : List (SetUp A)) (parts : List (Part A))
+    (text : List ℕ) → AreWritten asked guests sets parts 0 text text
+written_none asked guests sets parts text =
+    record { texts = []; each = tt; all = refl; bound = omega arith; whole = sym (append-nil text) }
+
+-- one more
+pub written_more : {A : Type 0} (asked : Asked) (guests : List (Guest A)) (sets : List (SetUp A)) (parts : List (Part A))
+    (place : ℕ) (before text said next : List ℕ) → place < length guests → AreWritten asked guests sets parts place before text
+    → SaysAt asked guests sets parts place said → next ≡ text ++ said → AreWritten asked guests sets parts (place + 1) before next
+written_more asked guests sets parts place before text said next below so_far says added = record {
+  texts = so_far.texts ++ said ∷ [];
+  each = says_more (SaysAt asked guests sets parts) 0 so_far.texts said so_far.each
+      (subst (λ k. SaysAt asked guests sets parts k said) (omega (arith, so_far.all)) says);
+  all = length-append so_far.texts (said ∷ []) ∙ ap (λ (n : ℕ). n + 1) so_far.all;
+  bound = omega (arith, below);
+  whole = added ∙ ap (λ xs. xs ++ said) so_far.whole
+      ∙ append_assoc before (flat_map (λ one. one) so_far.texts) said
+      ∙ ap (λ xs. before ++ (flat_map (λ one. one) so_far.texts ++ xs)) (sym (append-nil said))
+      ∙ ap (λ xs. before ++ xs) (sym (flat_map-append (λ one. one) so_far.texts (said ∷ [])));
+}
+
+-- all
+pub written_all : {A : Type 0} (asked : Asked) (guests : List (Guest A)) (sets : List (SetUp A)) (parts : List (Part A))
+    (place : ℕ) (before text : List ℕ) → length guests ≤ place → AreWritten asked guests sets parts place before text
+    → (said : List ℕ) × SaysGuests asked guests sets parts said × (text ≡ before ++ said)
+written_all asked guests sets parts place before text over so_far = (
+  flat_map (λ one. one) so_far.texts,
+  record {
+    texts = so_far.texts;
+    each = so_far.each;
+    all = so_far.all ∙ omega (arith, over, so_far.bound);
+    whole = refl;
+  },
+  so_far.whole,
+)
 
 -- ---- ids of a kind
 
 -- what is found of ids of a kind, part by part
 pub kind_found : {A V E : Type 0} (r : Result V E) (kind : IdKind) (set : IdSetUp A) (range : Option RangeFound)
-    (ids : IdFindings) (in_namespace : Bool) (a b c : List (Finding A)) → FindsFault set.ranges.items range
+    (ids : IdFindings A) (in_namespace : Bool) (a b c : List (Finding A)) → FindsFault set.ranges.items range
     → FindsIds set.map set.ranges.items ids → (IsTrue in_namespace ↔ (set.ranges.items ≢ []))
     → b ≡ a ++ listed (Range kind) range → OnOk r (c ≡ b ++ ids_found kind in_namespace ids)
     → OnOk r (Adds (FindsKind kind set) a c)
@@ -111,26 +178,8 @@ kind_found (Err e) kind set range ids in_namespace a b c finds_range finds_ids n
 
 -- ---- pairs
 
--- one more pair
-pub pairs_more : {A : Type 0} (pairs : List (Pair A)) (pair : Pair A)
-    → pairs_text (pairs ++ pair ∷ []) ≡ pairs_text pairs ++ findings_text pair.found.items
-pairs_more pairs pair =
-    flat_map-append (λ one. findings_text one.found.items) pairs (pair ∷ [])
-    ∙ ap (λ x. pairs_text pairs ++ x) (append-nil (findings_text pair.found.items))
-
--- what was found between one more pair
-pub pairs_written : {A : Type 0} (pairs : List (Pair A)) (i : ℕ) (pair : Pair A) (old text next : List ℕ)
-    → pair ≡ get_or pairs i pair → i < length pairs
-    → text ≡ old ++ pairs_text (take i pairs) → next ≡ text ++ findings_text pair.found.items
-    → next ≡ old ++ pairs_text (take (i + 1) pairs)
-pairs_written pairs i pair old text next is below so_far one =
-    one ∙ ap (λ x. x ++ findings_text pair.found.items) so_far
-    ∙ append_assoc old (pairs_text (take i pairs)) (findings_text pair.found.items)
-    ∙ ap (λ x. old ++ x) (sym (pairs_more (take i pairs) pair))
-    ∙ ap (λ xs. old ++ pairs_text xs) (sym (more_at pairs i pair is below))
-
 -- none of no guests was compared
-pub adds_none : {A : Type 0} (sets : List (SetUp A)) (place : ℕ) (pairs : List (Pair A))
+pub adds_none : {A : Type 0} (sets : List (SetUp A)) (place : ℕ) (pairs : List (Part A))
     → AddsPairs sets place 0 pairs pairs
 adds_none sets place pairs =
     record {
@@ -144,8 +193,8 @@ adds_none sets place pairs =
       All-none = search rules
 
 -- one more guest was compared with that one
-pub adds_one : {A : Type 0} (sets : List (SetUp A)) (place count : ℕ) (before after next : List (Pair A))
-    (pair : Pair A)
+pub adds_one : {A : Type 0} (sets : List (SetUp A)) (place count : ℕ) (before after next : List (Part A))
+    (pair : Part A)
     → AddsPairs sets place count before after → next ≡ after ++ pair ∷ [] → IsPairOf sets pair
     → pair.first ≡ count + 1 → pair.second ≡ place + 1 → AddsPairs sets place (count + 1) before next
 adds_one sets place count before after next pair so_far pushed is first second = record {
@@ -159,7 +208,7 @@ adds_one sets place count before after next pair so_far pushed is first second =
 }
 
 -- the guests so far and one more were compared
-pub compared_more : {A : Type 0} (sets : List (SetUp A)) (place : ℕ) (before after : List (Pair A))
+pub compared_more : {A : Type 0} (sets : List (SetUp A)) (place : ℕ) (before after : List (Part A))
     → AreCompared place before → AddsPairs sets place place before after → AreCompared (place + 1) after
 compared_more sets place before after so_far more one other order below = elim (cases_lt other place) [
   | inl earlier ↦ rw more.added (AnyHas-left _ before more.more (so_far one other order earlier))
@@ -170,7 +219,7 @@ compared_more sets place before after so_far more one other order below = elim (
 
 -- the guests at two places were compared
 pub compared_one : {A : Type 0} (sets : List (SetUp A)) (place earlier : ℕ) (one other : SetUp A)
-    (before after next : List (Pair A)) (pair : Pair A)
+    (before after next : List (Part A)) (pair : Part A)
     → one ≡ get_or sets earlier one → other ≡ get_or sets place other → place < length sets → earlier < place
     → AddsPairs sets place earlier before after → next ≡ after ++ pair ∷ []
     → pair.first ≡ earlier + 1 → pair.second ≡ place + 1 → FindsPair pair.first pair.second one other pair.found.items
@@ -191,7 +240,7 @@ compared_one sets place earlier one other before after next pair is is_too below
     }) first second
 
 -- all guests before that place were compared with it
-pub compared_all : {A : Type 0} (sets : List (SetUp A)) (place count : ℕ) (before after : List (Pair A)) → place ≤ count
+pub compared_all : {A : Type 0} (sets : List (SetUp A)) (place count : ℕ) (before after : List (Part A)) → place ≤ count
     → AddsPairs sets place count before after → AddsPairs sets place place before after
 compared_all sets place count before after over so_far =
     record {
@@ -204,119 +253,110 @@ compared_all sets place count before after over so_far =
 
 -- ---- the report
 
+-- the part is of the guest by itself
+abbrev pub IsOf : {A : Type 0} → SetUp A → Part A → Type 0
+IsOf set part = FindsGuest set part.found
+
+-- one more number
+numbered_more : {A : Type 0} (number : ℕ) (parts : List (Part A)) (part : Part A) → AreNumbered number parts
+    → part.first ≡ number + length parts → part.second ≡ number + length parts → AreNumbered number (parts ++ part ∷ [])
+numbered_more number [] part none first second = (omega (arith, first), omega (arith, second), tt)
+numbered_more number (one ∷ parts) part (is, is_too, are) first second =
+    (is, is_too, numbered_more (number + 1) parts part are (omega (arith, first)) (omega (arith, second)))
+
 -- the guests before that place were audited, and each two of them compared
-abbrev pub AreAudited : {A : Type 0} → List (SetUp A) → ℕ → List (Vec (Finding A) A) → List (Pair A) → Type 0
-AreAudited sets place guests pairs =
-    AllZip FindsGuest (take place sets) guests × All (IsPairOf sets) pairs × AreCompared place pairs
+pub record AreAudited {A : Type 0} (sets : List (SetUp A)) (place : ℕ) (guests pairs : List (Part A)) : Type 0 where
+  pub each : AllZip IsOf (take place sets) guests
+  pub numbers : AreNumbered 1 guests
+  pub all : All (IsPairOf sets) pairs
+  pub compared : AreCompared place pairs
 
 -- none at first
-pub audited_none : {A : Type 0} (sets : List (SetUp A)) (guests : List (Vec (Finding A) A)) (pairs : List (Pair A))
-    → guests ≡ [] → pairs ≡ []
+pub audited_none : {A : Type 0} (sets : List (SetUp A)) (guests pairs : List (Part A)) → guests ≡ [] → pairs ≡ []
     → AreAudited sets 0 guests pairs
-audited_none sets guests pairs none none_too =
-    rw (none, none_too) (tt, search rules, λ place place_2 order below. absurd (omega (arith, below)))
+audited_none sets guests pairs none none_too = rw (none, none_too) (record {
+  each = tt;
+  numbers = tt;
+  all = search rules;
+  compared = λ place place_2 order below. absurd (omega (arith, below));
+})
 
 -- one more guest
-pub audited_more : {A : Type 0} (sets : List (SetUp A)) (place : ℕ) (set : SetUp A)
-    (guests more : List (Vec (Finding A) A)) (pairs next : List (Pair A))
-    (one : Vec (Finding A) A) → set ≡ get_or sets place set → place < length sets → AreAudited sets place guests pairs
-    → more ≡ guests ++ one ∷ []
-    → FindsGuest set one → AddsPairs sets place place pairs next → AreAudited sets (place + 1) more next
-audited_more sets place set guests more pairs next one is below (each, all, compared) pushed finds adds = (
-  rw (pushed, more_at sets place set is below) (AllZip-push FindsGuest (take place sets) guests set one each finds),
-  rw adds.added (All-append (IsPairOf sets) pairs adds.more all adds.pairs),
-  compared_more sets place pairs next compared adds,
-)
+pub audited_more : {A : Type 0} (sets : List (SetUp A)) (place : ℕ) (set : SetUp A) (guests more pairs next : List (Part A))
+    (one : Part A) → set ≡ get_or sets place set → place < length sets → AreAudited sets place guests pairs
+    → more ≡ guests ++ one ∷ [] → one.first ≡ place + 1 → one.second ≡ place + 1
+    → FindsGuest set one.found → AddsPairs sets place place pairs next → AreAudited sets (place + 1) more next
+audited_more sets place set guests more pairs next one is below so_far pushed first second finds adds =
+    let long : length guests ≡ place =
+    AllZip-long IsOf (take place sets) guests so_far.each ∙ length-take-le place sets (omega (arith, below)) in record {
+      each = rw (pushed, more_at sets place set is below) (AllZip-push IsOf (take place sets) guests set one so_far.each finds);
+      numbers = rw pushed (numbered_more 1 guests one so_far.numbers (omega (arith, first, long)) (omega (arith, second, long)));
+      all = rw adds.added (All-append (IsPairOf sets) pairs adds.more so_far.all adds.pairs);
+      compared = compared_more sets place pairs next so_far.compared adds;
+    }
 
 -- all guests
 pub audited_all : {A : Type 0} (sets : List (SetUp A)) (report : Report A) (place : ℕ) → length sets ≤ place
     → AreAudited sets place report.guests.items report.pairs.items → FindsReport sets report
-audited_all sets report place over (each, all, compared) = record {
-  guests = subst (λ xs. AllZip FindsGuest xs report.guests.items) (take_all place sets over) each;
-  pairs = all;
-  each_two = λ one other order below. compared one other order (omega (arith, below, over));
+audited_all sets report place over so_far = record {
+  guests = subst (λ xs. AllZip IsOf xs report.guests.items) (take_all place sets over) so_far.each;
+  numbers = so_far.numbers;
+  pairs = so_far.all;
+  each_two = λ one other order below. so_far.compared one other order (omega (arith, below, over));
 }
 
--- ---- the text of all guests
-
--- the guests before that place were written, with these tables
-abbrev pub AreWritten : {A : Type 0} → Asked → List (Guest A) → List (SetUp A) → List (Vec (Finding A) A) → ℕ → List ℕ
-    → List ℕ → Type 0
-AreWritten asked guests sets found place before text =
-    (tables : List (List ℕ)) × AllZip (AreTables asked) (take place sets) tables
-    × (text ≡ before ++ guests_text 1 (take place guests) tables (take place found))
-
--- one more guest was written
-pub written_more : {A : Type 0} (asked : Asked) (guests : List (Guest A)) (sets : List (SetUp A))
-    (found : List (Vec (Finding A) A)) (place : ℕ)
-    (guest : Guest A) (set : SetUp A) (one : Vec (Finding A) A) (before text set_up tabled next table : List ℕ)
-    → guest ≡ get_or guests place guest → set ≡ get_or sets place set → one ≡ get_or found place one
-    → place < length guests → length sets ≡ length guests → length found ≡ length guests
-    → AreWritten asked guests sets found place before text → set_up ≡ text ++ set_up_line (place + 1) guest
-    → AreTables asked set table → tabled ≡ set_up ++ table → next ≡ tabled ++ findings_text one.items
-    → AreWritten asked guests sets found (place + 1) before next
-written_more asked guests sets found place guest set one before text set_up tabled next table is_guest is_set is_one
-    below same same_too (tables, all, whole) first are second third =
-    let of_guests : length (take place guests) ≡ place = length-take-le place guests (omega (arith, below)) in
-    let of_found : length (take place found) ≡ place = length-take-le place found (omega (arith, below, same_too)) in
-    let of_sets : length (take place sets) ≡ place = length-take-le place sets (omega (arith, below, same)) in
-    let of_tables : length tables ≡ length (take place sets) =
-    AllZip-long (AreTables asked) (take place sets) tables all in (
-      tables ++ table ∷ [],
-      rw (more_at sets place set is_set (omega (arith, below, same)))
-          (AllZip-push (AreTables asked) (take place sets) tables set table all are),
-      text_more (take place guests) tables (take place found) (take (place + 1) guests) (take (place + 1) found) guest
-          table one before text set_up tabled next place
-          (more_at guests place guest is_guest below) (more_at found place one is_one (omega (arith, below, same_too)))
-          of_guests (of_tables ∙ of_sets ∙ sym of_guests) (of_found ∙ sym of_guests) whole first second third,
-    )
-
--- all guests were written
-pub written_all : {A : Type 0} (asked : Asked) (guests : List (Guest A)) (sets : List (SetUp A))
-    (found : List (Vec (Finding A) A)) (place : ℕ)
-    (before text : List ℕ) → length guests ≤ place → length sets ≡ length guests → length found ≡ length guests
-    → AreWritten asked guests sets found place before text
-    → (tables : List (List ℕ)) × AllZip (AreTables asked) sets tables
-    × (text ≡ before ++ guests_text 1 guests tables found)
-written_all asked guests sets found place before text over same same_too (tables, all, whole) = (
-  tables,
-  subst (λ xs. AllZip (AreTables asked) xs tables) (take_all place sets (omega (arith, over, same))) all,
-  rw (take_all place guests over, take_all place found (omega (arith, over, same_too))) at whole,
-)
-
--- what the options of a guest are
-pub set_up_written : {A V E : Type 0} (r : Result V E) (old new : List ℕ) (number users groups inside inside_groups : ℕ)
-    (rules : List ℕ) (guest : Guest A)
-    → users ≡ length guest.translate_uid.items → groups ≡ length guest.translate_gid.items
-    → inside ≡ length guest.uid_map.items → inside_groups ≡ length guest.gid_map.items
-    → rules ≡ rules_given guest.xattrmap
-    → OnOk r (new ≡ old ++ options_text number users groups inside inside_groups rules)
-    → OnOk r (new ≡ old ++ set_up_line number guest)
-set_up_written r old new number users groups inside inside_groups rules guest u g i j are written =
-    rw (u, g, i, j, are) at written
+-- ---- what is said
 
 -- what is said is all of this
 pub says_all : (asked : Asked) (guests : List (Guest Global)) (said : Said) (sets : List (SetUp Global))
-    (report : Report Global) → AllZip SetsUp guests sets → FindsReport sets report
+    (report : Report Global) (advised : Option (Advised Global)) → AllZip SetsUp guests sets → FindsReport sets report
     → (IsTrue said.is_found ↔ IsFound report)
     → Adds (TellsGuests 1 guests) [] said.refusals.items
+    → IfSome advised (IsAdvice report) → ((said.refusals.items ≢ []) → advised ≡ None)
     → (IsTrue asked.quiet → string_bytes said.text ≡ [])
     → (IsFalse asked.quiet → IsFalse asked.json
-    → IsPlain asked guests sets report said.is_found said.refusals.items (string_bytes said.text))
+    → IsPlain asked guests sets report said.is_found said.refusals.items advised (string_bytes said.text))
     → (IsFalse asked.quiet → IsTrue asked.json
-    → IsJson asked sets report said.refusals.items (string_bytes said.text))
+    → IsJson asked sets report said.refusals.items advised (string_bytes said.text))
     → Says asked guests said
-says_all asked guests said sets report sets_up finds found says quiet plain json =
+says_all asked guests said sets report advised sets_up finds found says advice none quiet plain json =
     let told = subst (TellsGuests 1 guests) (sym says.added) says.is in
     record {
       sets = sets;
       report = report;
+      advised = advised;
       sets_up = sets_up;
       finds = finds;
       found = found;
       refused = told_where_refused 1 guests sets said.refusals.items sets_up told;
       refusals = told;
+      advice = advice;
+      none_advised = none;
       quiet = quiet;
       plain = plain;
       json = json;
+    }
+
+-- what is said of options alone
+pub says_mended : (guests : List (Guest Global)) (said : Said) (sets : List (SetUp Global)) (report : Report Global)
+    (best : List (Guest Global)) (left : Report Global) → AllZip SetsUp guests sets → FindsReport sets report
+    → Adds (TellsGuests 1 guests) [] said.refusals.items → IsBest guests report best left
+    → ((said.refusals.items ≢ []) → string_bytes said.text ≡ [])
+    → (said.refusals.items ≡ [] → string_bytes said.text ≡ mend_text best)
+    → (said.refusals.items ≡ [] → IsTrue said.is_found ↔ IsFound left) → SaysMended guests said
+says_mended guests said sets report best left sets_up finds says is_best nothing text found =
+    let told = subst (TellsGuests 1 guests) (sym says.added) says.is in
+    record {
+      sets = sets;
+      report = report;
+      best = best;
+      left = left;
+      sets_up = sets_up;
+      finds = finds;
+      refused = told_where_refused 1 guests sets said.refusals.items sets_up told;
+      refusals = told;
+      nothing = nothing;
+      is_best = is_best;
+      text = text;
+      found = found;
     }

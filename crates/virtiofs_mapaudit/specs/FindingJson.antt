@@ -1,14 +1,16 @@
 -- What is written as JSON of a finding. Guests, ranges and rules are counted from 1. The members of an object are in
 -- the order of their keys.
-use Rattle.std.specs.Prelude.{ℕ, ◌+◌, List, codes, Option, Some, None}
-use Rattle.serde_json.specs.Data.{Data, null, string, array, object, Members, member, no_members, item, no_items}
+use Rattle.std.specs.Prelude.{ℕ, ◌+◌, List, codes, map, Option, Some, None}
+use Rattle.serde_json.specs.Data.{Data, null, boolean, string, array, object, Members, member, no_members, item, no_items}
+use Rattle.serde_json.specs.View.{items_of}
+use Rattle.virtiofs_map.specs.declared.id_audit.spans.Span.{Span}
 use Rattle.virtiofs_mapaudit.specs.IdJson.{count}
 use Rattle.virtiofs_mapaudit.specs.NameJson.{least_data}
 use Rattle.virtiofs_mapaudit.specs.declared.finding.Finding.{Finding}
 use Rattle.virtiofs_mapaudit.specs.declared.finding.Finding.TheVariants as findings
 use Rattle.virtiofs_mapaudit.specs.declared.ids.found.IdFault.{IdFault}
-use Rattle.virtiofs_mapaudit.specs.declared.ids.found.IdFault.TheVariants.{NotBack, Shared, Root, Lacking}
-use Rattle.virtiofs_mapaudit.specs.declared.ids.found.IdFound.{IdFound}
+use Rattle.virtiofs_mapaudit.specs.declared.ids.found.IdFault.TheVariants.{NotBack, Root, Lacking}
+use Rattle.virtiofs_mapaudit.specs.declared.ids.found.IdsFound.{IdsFound}
 use Rattle.virtiofs_mapaudit.specs.declared.ids.kind.IdKind.{IdKind}
 use Rattle.virtiofs_mapaudit.specs.declared.ids.kind.IdKind.TheVariants.{Users, Groups}
 use Rattle.virtiofs_mapaudit.specs.declared.ids.ranges.RangeFault.{RangeFault}
@@ -21,27 +23,39 @@ abbrev pub ids_word : IdKind → List ℕ
 ids_word Users = codes "users"
 ids_word Groups = codes "groups"
 
--- an id of the guest, with its kind and what follows that
-abbrev pub guest_id : ℕ → List ℕ → List ℕ → IdFound → Members → Members
-guest_id guest what ids it more =
+-- ids that follow one another
+abbrev pub span_data : Span → Data
+span_data span =
+    object (member (codes "first") (count span.first) (member (codes "last") (count span.last) no_members))
+
+-- ids of the guest, with their kind and what follows that: all of them, the least, and what it becomes
+abbrev pub guest_ids : {A : Type 0} → ℕ → List ℕ → List ℕ → IdsFound A → Members → Members
+guest_ids guest what ids it more =
     member (codes "guest") (count guest)
     (member (codes "host") (count it.host)
     (member (codes "id") (count it.guest)
     (member (codes "ids") (string ids)
     (member (codes "kind") (string what) more))))
 
--- an id of which no second id is told
-abbrev pub alone_data : ℕ → List ℕ → List ℕ → IdFound → Data
-alone_data guest what ids it = object (guest_id guest what ids it no_members)
+-- all of them
+abbrev pub spans : {A : Type 0} → IdsFound A → Members
+spans it = member (codes "spans") (array (items_of (map span_data it.ids.items))) no_members
 
--- what is wrong with an id of the guest
-abbrev pub id_data : ℕ → List ℕ → IdFault → IdFound → Data
-id_data guest ids NotBack it =
-    object (member (codes "back") (count it.other) (guest_id guest (codes "not_back") ids it no_members))
-id_data guest ids Shared it =
-    object (guest_id guest (codes "one_on_host") ids it (member (codes "other") (count it.other) no_members))
-id_data guest ids Root it = alone_data guest (codes "root") ids it
-id_data guest ids Lacking it = alone_data guest (codes "lacking") ids it
+-- ids of which no second id is told
+abbrev pub alone_data : {A : Type 0} → ℕ → List ℕ → List ℕ → IdsFound A → Data
+alone_data guest what ids it = object (guest_ids guest what ids it (spans it))
+
+-- ids that do not round-trip: what the least comes back as, and whether that becomes the same
+abbrev pub not_back_data : {A : Type 0} → ℕ → List ℕ → IdsFound A → Data
+not_back_data guest ids it =
+    object (member (codes "back") (count it.other)
+    (guest_ids guest (codes "not_back") ids it (member (codes "shared") (boolean it.is_shared) (spans it))))
+
+-- what is wrong with ids of the guest
+abbrev pub ids_data : {A : Type 0} → ℕ → List ℕ → IdFault → IdsFound A → Data
+ids_data guest ids NotBack it = not_back_data guest ids it
+ids_data guest ids Root it = alone_data guest (codes "root") ids it
+ids_data guest ids Lacking it = alone_data guest (codes "lacking") ids it
 
 -- a number, if there is one
 abbrev pub count_if : Option ℕ → Data
@@ -92,15 +106,15 @@ names_data guest what least =
 abbrev pub two : ℕ → ℕ → Data
 two first second = array (item (count first) (item (count second) no_items))
 
--- an id of one guest and an id of another that are one on the host
-abbrev pub met_data : ℕ → ℕ → List ℕ → IdFound → Data
+-- ids of one guest that are, on the host, ids of another
+abbrev pub met_data : {A : Type 0} → ℕ → ℕ → List ℕ → IdsFound A → Data
 met_data first second ids it =
     object (member (codes "guests") (two first second)
     (member (codes "host") (count it.host)
     (member (codes "id") (count it.guest)
     (member (codes "ids") (string ids)
     (member (codes "kind") (string (codes "id_of_both"))
-    (member (codes "other") (count it.other) no_members))))))
+    (member (codes "other") (count it.other) (spans it)))))))
 
 -- names of two guests
 abbrev pub between_data : ℕ → ℕ → List ℕ → Data → Data
@@ -115,12 +129,12 @@ between_data first second what least =
 abbrev pub finding_data : {A : Type 0} → ℕ → Finding A → Data
 finding_data guest findings.PosixAcl = plain_data guest (codes "posix_acl")
 finding_data guest (findings.Range kind range) = fault_data guest kind range.place range.fault
-finding_data guest (findings.Id kind in_namespace fault it) = id_data guest (ids_word kind) fault it
+finding_data guest (findings.Ids kind in_namespace fault it) = ids_data guest (ids_word kind) fault it
 finding_data guest findings.NoRule = plain_data guest (codes "no_rule")
 finding_data guest (findings.NotListed least) = names_data guest (codes "not_listed") (least_data least)
 finding_data guest (findings.ListedElsewhere least) = names_data guest (codes "listed_elsewhere") (least_data least)
 finding_data guest (findings.IdleRule place) = idle_data guest (place + 1)
-finding_data guest (findings.IdOfBoth first second kind it) = met_data first second (ids_word kind) it
+finding_data guest (findings.IdsOfBoth first second kind it) = met_data first second (ids_word kind) it
 finding_data guest (findings.ShownToOther setter lister least) =
     between_data setter lister (codes "shown_to_other") (least_data least)
 finding_data guest (findings.NameOfBoth first second least) =

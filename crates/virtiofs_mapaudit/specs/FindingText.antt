@@ -1,18 +1,20 @@
--- What is printed of a finding: what was found, and below it what mends that.
+-- What is printed of a finding.
 use Rattle.std.specs.Prelude.{ℕ, ◌+◌, Bool, true, false, ◌||◌, if◌then◌else◌, List, [], ◌∷◌, ◌++◌, codes, flat_map}
 use Rattle.std.specs.Fmt.{decimal}
 use Rattle.virtiofs_map.specs.Names.{begins}
 use Rattle.virtiofs_map.specs.declared.audit.answer.Audit.{Audit}
 use Rattle.virtiofs_map.specs.declared.audit.answer.Audit.TheVariants.{Yes, No}
+use Rattle.virtiofs_map.specs.declared.id_audit.spans.Span.{Span}
 use Rattle.virtiofs_mapaudit.specs.Lists.{joined}
-use Rattle.virtiofs_mapaudit.specs.KindWords.{one_of, translating, ranging}
+use Rattle.virtiofs_mapaudit.specs.ExtentText.{is_one, extent_text}
+use Rattle.virtiofs_mapaudit.specs.KindWords.{one_of}
 use Rattle.virtiofs_mapaudit.specs.RangeText.{range_text}
 use Rattle.virtiofs_output.specs.Written.{quoted}
 use Rattle.virtiofs_mapaudit.specs.declared.finding.Finding.{Finding}
 use Rattle.virtiofs_mapaudit.specs.declared.finding.Finding.TheVariants as findings
 use Rattle.virtiofs_mapaudit.specs.declared.ids.found.IdFault.{IdFault}
 use Rattle.virtiofs_mapaudit.specs.declared.ids.found.IdFault.TheVariants as of_ids
-use Rattle.virtiofs_mapaudit.specs.declared.ids.found.IdFound.{IdFound}
+use Rattle.virtiofs_mapaudit.specs.declared.ids.found.IdsFound.{IdsFound}
 use Rattle.virtiofs_mapaudit.specs.declared.ids.kind.IdKind.{IdKind}
 use Rattle.virtiofs_mapaudit.specs.declared.names.found.LeastName.{LeastName}
 
@@ -23,40 +25,79 @@ abbrev pub whereabouts : Bool → List ℕ
 whereabouts false = codes "of the host"
 whereabouts true = codes "in the daemon's namespace"
 
--- an id that does not come back
-abbrev pub not_back_text : List ℕ → List ℕ → List ℕ → IdFound → List ℕ
-not_back_text one there option it =
-    joined (one ∷ codes " " ∷ decimal it.guest ∷ codes " does not come back: it is " ∷ one ∷ codes " " ∷ decimal it.host ∷ codes " " ∷ there ∷ [])
-    ++ joined (codes ", and that is " ∷ one ∷ codes " " ∷ decimal it.other ∷ codes " of the guest\n  fix: forbid it, for example by " ∷ option ∷ codes " forbid-guest:" ∷ decimal it.guest ∷ codes ":1, or map it to an id of its own\n" ∷ [])
+-- the word for what one does, or what many do
+abbrev pub verb : List Span → List ℕ → List ℕ → List ℕ
+verb ids of_one of_many = if is_one ids then of_one else of_many
 
--- two ids that are one there
-abbrev pub shared_text : List ℕ → List ℕ → List ℕ → IdFound → List ℕ
-shared_text one there option it =
-    joined (one ∷ codes "s " ∷ decimal it.guest ∷ codes " and " ∷ decimal it.other ∷ codes " of the guest are one " ∷ one ∷ codes " " ∷ there ∷ codes ", " ∷ decimal it.host ∷ codes "\n" ∷ [])
-    ++ joined (codes "  fix: forbid one of them, for example by " ∷ option ∷ codes " forbid-guest:" ∷ decimal it.other ∷ codes ":1, or map it to an id of its own\n" ∷ [])
+-- that a second id becomes the same, if it does
+abbrev pub shared_text : List ℕ → ℕ → Bool → List ℕ
+shared_text one other false = []
+shared_text one other true = joined (codes ", as " ∷ one ∷ codes " " ∷ decimal other ∷ codes " does," ∷ [])
 
--- an id that acts as root of the host
-abbrev pub root_text : List ℕ → List ℕ → IdFound → List ℕ
-root_text one option it = joined (one ∷ codes " " ∷ decimal it.guest ∷ codes " acts as " ∷ one ∷ codes " 0 of the host, which is root's\n  fix: map it to another " ∷ one ∷ codes " of the host, or forbid it, for example by " ∷ option ∷ codes " forbid-guest:" ∷ decimal it.guest ∷ codes ":1\n" ∷ [])
+-- which ids do not round-trip
+abbrev pub astray_text : List ℕ → List Span → List ℕ
+astray_text one ids =
+    joined (extent_text one ids ∷ codes " " ∷ verb ids (codes "does") (codes "do") ∷ codes " not round-trip: " ∷ [])
 
--- an id that becomes one which the namespace of the daemon lacks
-abbrev pub lacking_text : List ℕ → List ℕ → List ℕ → IdFound → List ℕ
-lacking_text one option range it =
-    joined (one ∷ codes " " ∷ decimal it.guest ∷ codes " becomes " ∷ one ∷ codes " " ∷ decimal it.host ∷ codes ", which the daemon's namespace does not have: calls with it fail\n" ∷ [])
-    ++ joined (codes "  fix: give the namespace that " ∷ one ∷ codes " by a further " ∷ range ∷ codes ", or forbid it, for example by " ∷ option ∷ codes " forbid-guest:" ∷ decimal it.guest ∷ codes ":1\n" ∷ [])
+-- what an id becomes
+abbrev pub becomes_text : List ℕ → List ℕ → ℕ → ℕ → List ℕ
+becomes_text one there guest host =
+    joined (one ∷ codes " " ∷ decimal guest ∷ codes " becomes " ∷ one ∷ codes " " ∷ decimal host ∷ codes " " ∷ there ∷ [])
 
--- what is wrong with an id of a guest, whose daemon may run in a namespace
-abbrev pub id_text : IdKind → Bool → IdFault → IdFound → List ℕ
-id_text kind in_namespace of_ids.NotBack it =
-    not_back_text (one_of kind) (whereabouts in_namespace) (translating kind) it
-id_text kind in_namespace of_ids.Shared it =
-    shared_text (one_of kind) (whereabouts in_namespace) (translating kind) it
-id_text kind in_namespace of_ids.Root it = root_text (one_of kind) (translating kind) it
-id_text kind in_namespace of_ids.Lacking it = lacking_text (one_of kind) (translating kind) (ranging kind) it
+-- as which id it comes back
+abbrev pub back_text : List ℕ → ℕ → List ℕ
+back_text one back = joined (codes " and comes back as " ∷ one ∷ codes " " ∷ decimal back ∷ codes "\n" ∷ [])
+
+-- what an id becomes, whether another one becomes that too, and as which id it comes back
+abbrev pub way_text : List ℕ → List ℕ → ℕ → ℕ → ℕ → Bool → List ℕ
+way_text one there guest host back is_shared =
+    becomes_text one there guest host ++ shared_text one back is_shared ++ back_text one back
+
+-- ids that do not round-trip, and what the least of them becomes
+abbrev pub not_back_text : {A : Type 0} → List ℕ → List ℕ → IdsFound A → List ℕ
+not_back_text one there it =
+    astray_text one it.ids.items ++ way_text one there it.guest it.host it.other it.is_shared
+
+-- ids that act as root of the host
+abbrev pub root_text : {A : Type 0} → List ℕ → IdsFound A → List ℕ
+root_text one it =
+    joined (extent_text one it.ids.items ∷ codes " " ∷ verb it.ids.items (codes "acts") (codes "act") ∷ codes " as " ∷ one ∷ codes " 0 of the host, which is root's\n" ∷ [])
+
+-- with which ids calls fail
+abbrev pub failing_text : List ℕ → List Span → List ℕ
+failing_text one ids = joined (codes "calls with " ∷ extent_text one ids ∷ codes " fail: " ∷ [])
+
+-- that the namespace lacks what an id becomes
+abbrev pub lack_text : List ℕ → ℕ → ℕ → List ℕ
+lack_text one guest host =
+    joined (one ∷ codes " " ∷ decimal guest ∷ codes " becomes " ∷ one ∷ codes " " ∷ decimal host ∷ codes ", which the daemon's namespace does not have\n" ∷ [])
+
+-- ids that become some which the namespace of the daemon lacks
+abbrev pub lacking_text : {A : Type 0} → List ℕ → IdsFound A → List ℕ
+lacking_text one it = failing_text one it.ids.items ++ lack_text one it.guest it.host
+
+-- what is wrong with ids of a guest, whose daemon may run in a namespace
+abbrev pub ids_text : {A : Type 0} → IdKind → Bool → IdFault → IdsFound A → List ℕ
+ids_text kind in_namespace of_ids.NotBack it = not_back_text (one_of kind) (whereabouts in_namespace) it
+ids_text kind in_namespace of_ids.Root it = root_text (one_of kind) it
+ids_text kind in_namespace of_ids.Lacking it = lacking_text (one_of kind) it
+
+-- that two guests reach the same ids of the host, and by which ids the first one does
+abbrev pub both_text : List ℕ → ℕ → ℕ → List Span → List ℕ
+both_text one first second ids =
+    joined (codes "guests " ∷ decimal first ∷ codes " and " ∷ decimal second ∷ codes " reach the same " ∷ one ∷ codes "s of the host, " ∷ [])
+    ++ joined (codes "guest " ∷ decimal first ∷ codes " by " ∷ extent_text one ids ∷ codes ": " ∷ [])
 
 -- an id of one guest and an id of another that are one on the host
-abbrev pub met_text : List ℕ → ℕ → ℕ → IdFound → List ℕ
-met_text one first second it = joined (one ∷ codes " " ∷ decimal it.guest ∷ codes " of guest " ∷ decimal first ∷ codes " and " ∷ one ∷ codes " " ∷ decimal it.other ∷ codes " of guest " ∷ decimal second ∷ codes " are one " ∷ one ∷ codes " of the host, " ∷ decimal it.host ∷ codes "\n  fix: give each guest host ids of its own\n" ∷ [])
+abbrev pub one_text : List ℕ → ℕ → ℕ → ℕ → ℕ → ℕ → List ℕ
+one_text one first second guest other host =
+    joined (one ∷ codes " " ∷ decimal guest ∷ codes " of guest " ∷ decimal first ∷ codes " and " ∷ [])
+    ++ joined (one ∷ codes " " ∷ decimal other ∷ codes " of guest " ∷ decimal second ∷ codes " are both " ∷ one ∷ codes " " ∷ decimal host ∷ codes "\n" ∷ [])
+
+-- ids of one guest that are, on the host, ids of another
+abbrev pub met_text : {A : Type 0} → List ℕ → ℕ → ℕ → IdsFound A → List ℕ
+met_text one first second it =
+    both_text one first second it.ids.items ++ one_text one first second it.guest it.other it.host
 
 -- ---- names
 
@@ -79,39 +120,35 @@ also found = or_name found.user (or_name found.trusted (or_name found.security (
 abbrev pub least_text : {A : Type 0} → LeastName A → List ℕ
 least_text found = quoted found.name ++ (if is_usual found.name then [] else also found)
 
--- what mends names that two guests have in common
-abbrev pub own_prefix : List ℕ
-own_prefix = codes "\n  fix: give each guest a prefix of its own, for example --xattrmap :map::user.guest1.:\n"
-
 -- ---- rules and names of guests
 
 -- a rule that decides no name, at a place that is counted from 0
 abbrev pub idle_text : ℕ → List ℕ
 idle_text place =
-    joined (codes "rule " ∷ decimal (place + 1) ∷ codes " decides no name: earlier rules take all names that it fits\n  fix: remove it, or change the rules before it\n" ∷ [])
+    joined (codes "rule " ∷ decimal (place + 1) ∷ codes " decides no name: earlier rules take all names that it fits\n" ∷ [])
 
 -- a name that a guest can set, and that lists of another guest then show
 abbrev pub shown_text : {A : Type 0} → ℕ → ℕ → LeastName A → List ℕ
 shown_text setter lister least =
-    joined (codes "guest " ∷ decimal setter ∷ codes " can set the name " ∷ least_text least ∷ codes ", and lists then show it to guest " ∷ decimal lister ∷ own_prefix ∷ [])
+    joined (codes "guest " ∷ decimal setter ∷ codes " can set the name " ∷ least_text least ∷ codes ", and lists then show it to guest " ∷ decimal lister ∷ codes "\n" ∷ [])
 
 -- a name by which a guest reaches what another guest reaches too
 abbrev pub reached_text : {A : Type 0} → ℕ → ℕ → LeastName A → List ℕ
 reached_text first second least =
-    joined (codes "guest " ∷ decimal first ∷ codes " reaches an attribute of the host by the name " ∷ least_text least ∷ codes ", and guest " ∷ decimal second ∷ codes " reaches it too" ∷ own_prefix ∷ [])
+    joined (codes "guest " ∷ decimal first ∷ codes " reaches an attribute of the host by the name " ∷ least_text least ∷ codes ", and guest " ∷ decimal second ∷ codes " reaches it too\n" ∷ [])
 
 -- ---- findings
 
 -- what is printed of a finding. Guests and rules are counted from 1
 abbrev pub finding_text : {A : Type 0} → Finding A → List ℕ
-finding_text findings.PosixAcl = codes "--posix-acl does not go with --translate-uid or --translate-gid: the daemon does not start\n  fix: leave out --posix-acl\n"
+finding_text findings.PosixAcl = codes "--posix-acl does not go with --translate-uid or --translate-gid: the daemon does not start\n"
 finding_text (findings.Range kind range) = range_text kind range
-finding_text (findings.Id kind in_namespace fault it) = id_text kind in_namespace fault it
-finding_text findings.NoRule = codes "some names have no rule: calls with them fail\n  fix: end the rules with one that fits all names, for example :bad:all:::\n"
-finding_text (findings.NotListed least) = joined (codes "the guest can set the name " ∷ least_text least ∷ codes ", but lists do not show it\n  fix: change the scope of the rule that decides it to all, or deny the name\n" ∷ [])
-finding_text (findings.ListedElsewhere least) = joined (codes "lists show the host's attribute " ∷ least_text least ∷ codes " under a name by which the guest does not reach it\n  fix: before the other rules, put one that hides names with this beginning, for example :bad:server::NAME:\n" ∷ [])
+finding_text (findings.Ids kind in_namespace fault it) = ids_text kind in_namespace fault it
+finding_text findings.NoRule = codes "some names have no rule: calls with them fail\n"
+finding_text (findings.NotListed least) = joined (codes "the guest can set the name " ∷ least_text least ∷ codes ", but lists do not show it\n" ∷ [])
+finding_text (findings.ListedElsewhere least) = joined (codes "lists show the host's attribute " ∷ least_text least ∷ codes " under a name by which the guest does not reach it\n" ∷ [])
 finding_text (findings.IdleRule place) = idle_text place
-finding_text (findings.IdOfBoth first second kind it) = met_text (one_of kind) first second it
+finding_text (findings.IdsOfBoth first second kind it) = met_text (one_of kind) first second it
 finding_text (findings.ShownToOther setter lister least) = shown_text setter lister least
 finding_text (findings.NameOfBoth first second least) = reached_text first second least
 

@@ -1,36 +1,43 @@
 -- What an audit of the ids of users, or of groups, finds.
-use Rattle.std.specs.Prelude.{ℕ, List, Option, Some, None}
-use Rattle.virtiofs_map.specs.IdAudit.{IsLeastId, GoesTo, WanderTo, SharedAs, IsAstray, IsShared, GoesInto}
+use Rattle.std.specs.Prelude.{◌↔◌, ℕ, IsTrue, List, Option, Some, None}
+use Rattle.virtiofs_map.specs.IdAudit.{IsLeastId, GoesTo, WanderTo, IsAstray, GoesInto, Hold, AreRuns}
 use Rattle.virtiofs_map.specs.declared.cmdline.IdMap.{IdMap}
 use Rattle.virtiofs_map.specs.declared.idmap.UidMap.{UidMap}
 use Rattle.virtiofs_mapaudit.specs.Namespace.{IsLacking, IsRoot, StandsFor}
-use Rattle.virtiofs_mapaudit.specs.declared.ids.found.IdFound.{IdFound}
+use Rattle.virtiofs_mapaudit.specs.declared.ids.found.IdsFound.{IdsFound}
 use Rattle.virtiofs_mapaudit.specs.declared.ids.found.IdFindings.{IdFindings}
 
--- None where no id is bad, and else the least one that is, with what is told of it
-abbrev pub FindsLeast : (ℕ → Type 0) → (IdFound → Type 0) → Option IdFound → Type 0
-FindsLeast bad tells None = (n : ℕ) → ¬ bad n
-FindsLeast bad tells (Some it) = IsLeastId bad it.guest × tells it
+-- all ids that are bad, as runs in order, and what is told of the least of them
+pub record AreAll {A : Type 0} (bad : ℕ → Type 0) (Tells : IdsFound A → Type 0) (found : IdsFound A) : Type 0 where
+  pub each : (n : ℕ) → Hold found.ids.items n ↔ bad n
+  pub runs : AreRuns found.ids.items
+  pub least : IsLeastId bad found.guest
+  pub tells : Tells found
 
--- what the id becomes on the host, and what that becomes in the guest
-abbrev pub TellsAstray : List IdMap → IdFound → Type 0
-TellsAstray specs it = WanderTo specs it.guest it.host it.other
+-- None where no id is bad, and else all that are
+abbrev pub FindsAll : {A : Type 0} → (ℕ → Type 0) → (IdsFound A → Type 0) → Option (IdsFound A) → Type 0
+FindsAll bad Tells None = (n : ℕ) → ¬ bad n
+FindsAll bad Tells (Some found) = AreAll bad Tells found
 
--- the least id with which it shares its id of the host, and that id
-abbrev pub TellsShared : List IdMap → IdFound → Type 0
-TellsShared specs it = SharedAs specs it.guest it.other it.host
+-- what the id becomes on the host, what that becomes in the guest, and whether this other id becomes that of the host too
+pub record TellsAstray {A : Type 0} (specs : List IdMap) (it : IdsFound A) : Type 0 where
+  pub wanders : WanderTo specs it.guest it.host it.other
+  pub shared : IsTrue it.is_shared ↔ GoesTo specs it.other it.host
 
 -- what the id becomes on the host
-abbrev pub TellsHost : List IdMap → IdFound → Type 0
+abbrev pub TellsHost : {A : Type 0} → List IdMap → IdsFound A → Type 0
 TellsHost specs it = GoesTo specs it.guest it.host
 
--- of the ids under these specifications, in a namespace of these ranges: which does not come back, which shares its id
--- of the host, which acts as root of the host, and which becomes an id that the namespace lacks
-pub record FindsIds (specs : List IdMap) (ranges : List UidMap) (found : IdFindings) : Type 0 where
-  pub astray : FindsLeast (IsAstray specs) (TellsAstray specs) found.astray
-  pub shared : FindsLeast (IsShared specs) (TellsShared specs) found.shared
-  pub root : FindsLeast (GoesInto specs (IsRoot ranges)) (TellsHost specs) found.root
-  pub lacking : FindsLeast (GoesInto specs (IsLacking ranges)) (TellsHost specs) found.lacking
+-- an id that does not round-trip, and does not become one of these ids
+abbrev pub IsAstrayBut : List IdMap → (ℕ → Type 0) → ℕ → Type 0
+IsAstrayBut specs besides guest = IsAstray specs guest × (¬ GoesInto specs besides guest)
+
+-- of the ids under these specifications, in a namespace of these ranges: which do not round-trip, though the namespace
+-- has what they become, which act as root of the host, and which become one that the namespace lacks
+pub record FindsIds {A : Type 0} (specs : List IdMap) (ranges : List UidMap) (found : IdFindings A) : Type 0 where
+  pub astray : FindsAll (IsAstrayBut specs (IsLacking ranges)) (TellsAstray specs) found.astray
+  pub root : FindsAll (GoesInto specs (IsRoot ranges)) (TellsHost specs) found.root
+  pub lacking : FindsAll (GoesInto specs (IsLacking ranges)) (TellsHost specs) found.lacking
 
 -- some id of the guest is that id of the host, outside the namespace of these ranges
 abbrev pub ReachedOutside : List IdMap → List UidMap → ℕ → Type 0
@@ -42,12 +49,13 @@ Meets ranges others other_ranges inside =
     (outside : ℕ) × StandsFor ranges outside inside × ReachedOutside others other_ranges outside
 
 -- an id of the host that the id is, and the least id of the other guest that is it too
-pub record TellsMeeting (specs : List IdMap) (ranges : List UidMap) (others : List IdMap) (other_ranges : List UidMap)
-    (it : IdFound) : Type 0 where
+pub record TellsMeeting {A : Type 0} (specs : List IdMap) (ranges : List UidMap) (others : List IdMap)
+    (other_ranges : List UidMap) (it : IdsFound A) : Type 0 where
   pub is : GoesInto specs (StandsFor ranges it.host) it.guest
   pub other : IsLeastId (GoesInto others (StandsFor other_ranges it.host)) it.other
 
--- None, or the least id of the first guest that is, outside the namespaces, an id of the host that the second reaches too
-abbrev pub FindsMeeting : List IdMap → List UidMap → List IdMap → List UidMap → Option IdFound → Type 0
+-- None, or all ids of the first guest that are, outside the namespaces, ids of the host that the second reaches too
+abbrev pub FindsMeeting : {A : Type 0} → List IdMap → List UidMap → List IdMap → List UidMap → Option (IdsFound A)
+    → Type 0
 FindsMeeting specs ranges others other_ranges =
-    FindsLeast (GoesInto specs (Meets ranges others other_ranges)) (TellsMeeting specs ranges others other_ranges)
+    FindsAll (GoesInto specs (Meets ranges others other_ranges)) (TellsMeeting specs ranges others other_ranges)

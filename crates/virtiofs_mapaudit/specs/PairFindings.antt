@@ -5,8 +5,8 @@ use Rattle.virtiofs_mapaudit.specs.IdFindings.{FindsMeeting}
 use Rattle.virtiofs_mapaudit.specs.Lists.{listed}
 use Rattle.virtiofs_mapaudit.specs.NameFindings.{FindsLeast}
 use Rattle.virtiofs_mapaudit.specs.declared.finding.Finding.{Finding}
-use Rattle.virtiofs_mapaudit.specs.declared.finding.Finding.TheVariants.{IdOfBoth, ShownToOther, NameOfBoth}
-use Rattle.virtiofs_mapaudit.specs.declared.ids.found.IdFound.{IdFound}
+use Rattle.virtiofs_mapaudit.specs.declared.finding.Finding.TheVariants.{IdsOfBoth, ShownToOther, NameOfBoth}
+use Rattle.virtiofs_mapaudit.specs.declared.ids.found.IdsFound.{IdsFound}
 use Rattle.virtiofs_mapaudit.specs.declared.ids.kind.IdKind.{IdKind}
 use Rattle.virtiofs_mapaudit.specs.declared.ids.kind.IdKind.TheVariants.{Users, Groups}
 use Rattle.virtiofs_mapaudit.specs.declared.setup.IdSetUp.{IdSetUp}
@@ -19,11 +19,11 @@ FindsBoth Finds None second found = found ≡ []
 FindsBoth Finds (Some one) None found = found ≡ []
 FindsBoth Finds (Some one) (Some other) found = Finds one other found
 
--- the least id of the first guest whose id of the host the second reaches too
-abbrev pub FindsIdOfBoth : {A : Type 0} → ℕ → ℕ → IdKind → IdSetUp A → IdSetUp A → List (Finding A) → Type 0
-FindsIdOfBoth number number_2 kind one other found =
-    (met : Option IdFound) × FindsMeeting one.map one.ranges.items other.map other.ranges.items met
-    × (found ≡ listed (IdOfBoth number number_2 kind) met)
+-- the ids of the first guest that are, on the host, ids which the second reaches too
+abbrev pub FindsIdsOfBoth : {A : Type 0} → ℕ → ℕ → IdKind → IdSetUp A → IdSetUp A → List (Finding A) → Type 0
+FindsIdsOfBoth {A} number number_2 kind one other found =
+    (met : Option (IdsFound A)) × FindsMeeting one.map one.ranges.items other.map other.ranges.items met
+    × (found ≡ listed (IdsOfBoth number number_2 kind) met)
 
 -- names of each that lists of the other show, and names that lead to one name of the host
 pub record FindsNamesBetween {A : Type 0} (number number_2 : ℕ) (one other : NamesSetUp A)
@@ -42,7 +42,7 @@ pub record FindsPair {A : Type 0} (number number_2 : ℕ) (first second : SetUp 
   pub of_users : List (Finding A)
   pub of_groups : List (Finding A)
   pub of_names : List (Finding A)
-  pub users : FindsBoth (FindsIdOfBoth number number_2 Users) first.users second.users of_users
-  pub groups : FindsBoth (FindsIdOfBoth number number_2 Groups) first.groups second.groups of_groups
+  pub users : FindsBoth (FindsIdsOfBoth number number_2 Users) first.users second.users of_users
+  pub groups : FindsBoth (FindsIdsOfBoth number number_2 Groups) first.groups second.groups of_groups
   pub names : FindsBoth (FindsNamesBetween number number_2) first.names second.names of_names
   pub whole : found ≡ of_users ++ of_groups ++ of_names

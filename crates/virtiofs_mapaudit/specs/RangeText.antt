@@ -12,12 +12,12 @@ use Rattle.virtiofs_mapaudit.specs.declared.ids.ranges.RangeFound.{RangeFound}
 abbrev pub place_text : ℕ → List ℕ → List ℕ
 place_text place option = joined (codes "the " ∷ ordinal (place + 1) ∷ codes " " ∷ option ∷ [])
 
--- what is wrong with a range that the option gives, and what mends it
+-- what is wrong with a range that the option gives
 abbrev pub fault_text : List ℕ → RangeFault → List ℕ
-fault_text option Empty = codes " has no id\n  fix: leave it out\n"
-fault_text option Beyond = codes " reaches past the greatest id, 4294967294\n  fix: make it shorter\n"
-fault_text option (MeetsInside place) = joined (codes " overlaps " ∷ place_text place option ∷ codes " inside the namespace\n  fix: make one of them shorter\n" ∷ [])
-fault_text option (MeetsOutside place) = joined (codes " overlaps " ∷ place_text place option ∷ codes " outside the namespace\n  fix: make one of them shorter\n" ∷ [])
+fault_text option Empty = codes " has no id\n"
+fault_text option Beyond = codes " reaches past the greatest id, 4294967294\n"
+fault_text option (MeetsInside place) = joined (codes " overlaps " ∷ place_text place option ∷ codes " inside the namespace\n" ∷ [])
+fault_text option (MeetsOutside place) = joined (codes " overlaps " ∷ place_text place option ∷ codes " outside the namespace\n" ∷ [])
 
 -- a range that is at fault
 abbrev pub range_text : IdKind → RangeFound → List ℕ

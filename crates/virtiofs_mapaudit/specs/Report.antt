@@ -1,5 +1,5 @@
 -- What is found of guests, of what their options set up.
-use Rattle.std.specs.Prelude.{◌≡◌, ◌≢◌, ◌⊎◌, ◌↔◌, ℕ, ◌+◌, ◌<◌, Bool, IsTrue, List, [], ◌++◌, length, slice_get, All}
+use Rattle.std.specs.Prelude.{◌≡◌, ◌≢◌, ◌⊎◌, ◌↔◌, ℕ, ◌+◌, ◌<◌, Bool, IsTrue, List, [], ◌∷◌, ◌++◌, ⊤, length, slice_get, All}
 use Rattle.std.specs.Prelude.{Option, Some, None}
 use Rattle.std.specs.List.{AllZip}
 use Rattle.std.specs.declared.vec.Vec.{Vec}
@@ -8,11 +8,11 @@ use Rattle.virtiofs_mapaudit.specs.Lists.{AnyHas, listed, if_so}
 use Rattle.virtiofs_mapaudit.specs.NameFindings.{FindsNames}
 use Rattle.virtiofs_mapaudit.specs.PairFindings.{FindsPair}
 use Rattle.virtiofs_mapaudit.specs.Ranges.{FindsFault}
-use Rattle.virtiofs_mapaudit.specs.declared.audit.Pair.{Pair}
+use Rattle.virtiofs_mapaudit.specs.declared.audit.Part.{Part}
 use Rattle.virtiofs_mapaudit.specs.declared.audit.Report.{Report}
 use Rattle.virtiofs_mapaudit.specs.declared.finding.Finding.{Finding}
-use Rattle.virtiofs_mapaudit.specs.declared.finding.Finding.TheVariants.{PosixAcl, Range, Id}
-use Rattle.virtiofs_mapaudit.specs.declared.ids.found.IdFault.TheVariants.{NotBack, Shared, Root, Lacking}
+use Rattle.virtiofs_mapaudit.specs.declared.finding.Finding.TheVariants.{PosixAcl, Range, Ids}
+use Rattle.virtiofs_mapaudit.specs.declared.ids.found.IdFault.TheVariants.{NotBack, Root, Lacking}
 use Rattle.virtiofs_mapaudit.specs.declared.ids.found.IdFindings.{IdFindings}
 use Rattle.virtiofs_mapaudit.specs.declared.ids.kind.IdKind.{IdKind}
 use Rattle.virtiofs_mapaudit.specs.declared.ids.kind.IdKind.TheVariants.{Users, Groups}
@@ -27,15 +27,15 @@ FindsIf Finds None found = found ≡ []
 FindsIf Finds (Some set) found = Finds set found
 
 -- what is wrong with ids of one kind, in order
-abbrev pub ids_found : {A : Type 0} → IdKind → Bool → IdFindings → List (Finding A)
+abbrev pub ids_found : {A : Type 0} → IdKind → Bool → IdFindings A → List (Finding A)
 ids_found kind in_namespace ids =
-    listed (Id kind in_namespace NotBack) ids.astray ++ listed (Id kind in_namespace Shared) ids.shared
-    ++ listed (Id kind in_namespace Root) ids.root ++ listed (Id kind in_namespace Lacking) ids.lacking
+    listed (Ids kind in_namespace NotBack) ids.astray ++ listed (Ids kind in_namespace Root) ids.root
+    ++ listed (Ids kind in_namespace Lacking) ids.lacking
 
 -- what is found of ids of one kind
 pub record FindsKind {A : Type 0} (kind : IdKind) (set : IdSetUp A) (found : List (Finding A)) : Type 0 where
   pub range : Option RangeFound
-  pub ids : IdFindings
+  pub ids : IdFindings A
   pub in_namespace : Bool
   pub finds_range : FindsFault set.ranges.items range
   pub finds_ids : FindsIds set.map set.ranges.items ids
@@ -57,7 +57,7 @@ pub record FindsGuest {A : Type 0} (set : SetUp A) (found : Vec (Finding A) A) :
   pub whole : found.items ≡ if_so set.translates_lists PosixAcl ++ of_users ++ of_groups ++ of_names
 
 -- what is found between the two guests of these numbers, counted from 1, of which the first is the lesser
-pub record IsPairOf {A : Type 0} (sets : List (SetUp A)) (pair : Pair A) : Type 0 where
+pub record IsPairOf {A : Type 0} (sets : List (SetUp A)) (pair : Part A) : Type 0 where
   pub first : SetUp A
   pub second : SetUp A
   pub place : ℕ
@@ -70,24 +70,27 @@ pub record IsPairOf {A : Type 0} (sets : List (SetUp A)) (pair : Pair A) : Type 
   pub finds : FindsPair pair.first pair.second first second pair.found.items
 
 -- the two guests at these places, counted from 0, are compared
-abbrev pub HasPair : {A : Type 0} → List (Pair A) → ℕ → ℕ → Type 0
+abbrev pub HasPair : {A : Type 0} → List (Part A) → ℕ → ℕ → Type 0
 HasPair pairs place place_2 = AnyHas (λ pair. (pair.first ≡ place + 1) × (pair.second ≡ place_2 + 1)) pairs
+
+-- the parts are of guests by themselves, which have the numbers from that one on
+abbrev pub AreNumbered : {A : Type 0} → ℕ → List (Part A) → Type 0
+AreNumbered number [] = ⊤
+AreNumbered number (part ∷ parts) =
+    (part.first ≡ number) × (part.second ≡ number) × AreNumbered (number + 1) parts
 
 -- what is found of each guest by itself, and between each two
 pub record FindsReport {A : Type 0} (sets : List (SetUp A)) (report : Report A) : Type 0 where
-  pub guests : AllZip FindsGuest sets report.guests.items
+  pub guests : AllZip (λ set part. FindsGuest set part.found) sets report.guests.items
+  pub numbers : AreNumbered 1 report.guests.items
   pub pairs : All (IsPairOf sets) report.pairs.items
   pub each_two : (place place_2 : ℕ) → place < place_2 → place_2 < length sets
       → HasPair report.pairs.items place place_2
 
--- something is found of a guest
-abbrev pub IsFoundOf : {A : Type 0} → Report A → Type 0
-IsFoundOf report = AnyHas (λ found. found.items ≢ []) report.guests.items
-
--- something is found between two guests
-abbrev pub IsFoundBetween : {A : Type 0} → Report A → Type 0
-IsFoundBetween report = AnyHas (λ pair. pair.found.items ≢ []) report.pairs.items
+-- something is found in some part
+abbrev pub IsFoundIn : {A : Type 0} → List (Part A) → Type 0
+IsFoundIn parts = AnyHas (λ part. part.found.items ≢ []) parts
 
 -- something is found
 abbrev pub IsFound : {A : Type 0} → Report A → Type 0
-IsFound report = IsFoundOf report ⊎ IsFoundBetween report
+IsFound report = IsFoundIn report.guests.items ⊎ IsFoundIn report.pairs.items

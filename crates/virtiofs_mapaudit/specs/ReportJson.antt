@@ -1,6 +1,6 @@
 -- What is written as JSON of guests. The members of an object are in the order of their keys.
 use Rattle.std.specs.Prelude.{◌≡◌, ℕ, ◌+◌, Bool, true, false, List, [], ◌∷◌, ◌++◌, codes, map, flat_map, Option, Some, None}
-use Rattle.std.specs.declared.vec.Vec.{Vec}
+use Rattle.std.specs.Borrow.{Bor}
 use Rattle.serde_json.specs.Data.{Data, null, string, array, object, member, no_members}
 use Rattle.serde_json.specs.View.{items_of}
 use Rattle.serde_json.specs.Written.{compact_text}
@@ -8,13 +8,14 @@ use Rattle.virtiofs_mapaudit.specs.FindingJson.{finding_data}
 use Rattle.virtiofs_mapaudit.specs.IdJson.{count, IsIdTable}
 use Rattle.virtiofs_mapaudit.specs.NameJson.{IsNameTable}
 use Rattle.virtiofs_mapaudit.specs.RefusalText.{refusal_text}
-use Rattle.virtiofs_mapaudit.specs.declared.audit.Pair.{Pair}
+use Rattle.virtiofs_mapaudit.specs.declared.advice.Advised.{Advised}
+use Rattle.virtiofs_mapaudit.specs.declared.audit.Part.{Part}
 use Rattle.virtiofs_mapaudit.specs.declared.audit.Report.{Report}
-use Rattle.virtiofs_mapaudit.specs.declared.finding.Finding.{Finding}
 use Rattle.virtiofs_mapaudit.specs.declared.refusal.Refusal.{Refusal}
 use Rattle.virtiofs_mapaudit.specs.declared.setup.NamesSetUp.{NamesSetUp}
 use Rattle.virtiofs_mapaudit.specs.declared.setup.SetUp.{SetUp}
 use Rattle.virtiofs_options.specs.declared.front.Asked.{Asked}
+use Rattle.virtiofs_options.specs.declared.guest.Guest.{Guest}
 
 -- the table of what is set up, where it was asked for; null where it was not, and where nothing is set up
 abbrev pub IsTableIf : {S : Type 0} → Bool → (S → Data → Type 0) → Option S → Data → Type 0
@@ -51,27 +52,56 @@ AreGuests asked number (set ∷ sets) guests =
     (guest : Data) × (others : List Data) × IsGuest asked number set guest × AreGuests asked (number + 1) sets others
     × (guests ≡ guest ∷ others)
 
--- what was found of each guest by itself, from that number on
-abbrev pub findings_data : {A : Type 0} → ℕ → List (Vec (Finding A) A) → List Data
-findings_data number [] = []
-findings_data number (found ∷ others) = map (finding_data number) found.items ++ findings_data (number + 1) others
+-- what was found, part by part
+abbrev pub parts_data : {A : Type 0} → List (Part A) → List Data
+parts_data parts = flat_map (λ part. map (finding_data part.first) part.found.items) parts
 
--- what was found between guests
-abbrev pub pairs_data : {A : Type 0} → List (Pair A) → List Data
-pairs_data pairs = flat_map (λ pair. map (finding_data pair.first) pair.found.items) pairs
+-- an option and its value, as two words
+abbrev pub option_words : List ℕ → Bor (List ℕ) → List Data
+option_words option value = string option ∷ string value.now ∷ []
 
--- all that is written: of the guests, what was found, and the line of each refusal
-abbrev pub report_data : {A : Type 0} → List Data → Report A → List (Refusal A) → Data
-report_data guests report refusals =
+abbrev pub rules_words : Option (Bor (List ℕ)) → List Data
+rules_words None = []
+rules_words (Some rules) = option_words (codes "--xattrmap") rules
+
+abbrev pub acl_words : Bool → List Data
+acl_words false = []
+acl_words true = string (codes "--posix-acl") ∷ []
+
+-- all options of a guest
+abbrev pub words_data : {A : Type 0} → Guest A → List Data
+words_data guest =
+    flat_map (option_words (codes "--translate-uid")) guest.translate_uid.items
+    ++ flat_map (option_words (codes "--translate-gid")) guest.translate_gid.items
+    ++ flat_map (option_words (codes "--uid-map")) guest.uid_map.items
+    ++ flat_map (option_words (codes "--gid-map")) guest.gid_map.items
+    ++ rules_words guest.xattrmap ++ acl_words guest.posix_acl
+
+abbrev pub guest_words : {A : Type 0} → Guest A → Data
+guest_words guest = array (items_of (words_data guest))
+
+-- what is advised: the options of each guest, and what is still found with them
+abbrev pub advised_data : {A : Type 0} → Option (Advised A) → Data
+advised_data None = null
+advised_data (Some advised) =
     object (member (codes "findings")
-    (array (items_of (findings_data 1 report.guests.items ++ pairs_data report.pairs.items)))
+    (array (items_of (parts_data advised.after.guests.items ++ parts_data advised.after.pairs.items)))
+    (member (codes "options") (array (items_of (map guest_words advised.guests.items)))
+    no_members))
+
+-- all that is written: what is advised, what was found, of the guests, and the line of each refusal
+abbrev pub report_data : {A : Type 0} → List Data → Report A → List (Refusal A) → Option (Advised A) → Data
+report_data guests report refusals advised =
+    object (member (codes "advised") (advised_data advised)
+    (member (codes "findings")
+    (array (items_of (parts_data report.guests.items ++ parts_data report.pairs.items)))
     (member (codes "guests") (array (items_of guests))
     (member (codes "refused") (array (items_of (map string (map refusal_text refusals))))
-    (member (codes "schema") (count 2) no_members))))
+    (member (codes "schema") (count 3) no_members)))))
 
 -- the text is that of the report, and a line feed
 pub record IsJson {A : Type 0} (asked : Asked) (sets : List (SetUp A)) (report : Report A) (refusals : List (Refusal A))
-    (text : List ℕ) : Type 0 where
+    (advised : Option (Advised A)) (text : List ℕ) : Type 0 where
   pub guests : List Data
   pub are_guests : AreGuests asked 1 sets guests
-  pub whole : text ≡ compact_text (report_data guests report refusals) ++ codes "\n"
+  pub whole : text ≡ compact_text (report_data guests report refusals advised) ++ codes "\n"

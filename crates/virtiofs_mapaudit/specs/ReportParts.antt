@@ -1,17 +1,17 @@
 -- Parts of an audit of all guests. Only private functions cite these words.
 use Rattle.std.specs.Prelude.{◌≡◌, ℕ, ◌<◌, List, ◌++◌, All}
 use Rattle.virtiofs_mapaudit.specs.Report.{IsPairOf, HasPair}
-use Rattle.virtiofs_mapaudit.specs.declared.audit.Pair.{Pair}
+use Rattle.virtiofs_mapaudit.specs.declared.audit.Part.{Part}
 use Rattle.virtiofs_mapaudit.specs.declared.setup.SetUp.{SetUp}
 
 -- the guest at that place was compared with each of the first `count`
-pub record AddsPairs {A : Type 0} (sets : List (SetUp A)) (place count : ℕ) (before after : List (Pair A)) : Type
+pub record AddsPairs {A : Type 0} (sets : List (SetUp A)) (place count : ℕ) (before after : List (Part A)) : Type
     0 where
-  pub more : List (Pair A)
+  pub more : List (Part A)
   pub added : after ≡ before ++ more
   pub pairs : All (IsPairOf sets) more
   pub each : (earlier : ℕ) → earlier < count → HasPair more earlier place
 
 -- the first `count` guests were compared
-abbrev pub AreCompared : {A : Type 0} → ℕ → List (Pair A) → Type 0
+abbrev pub AreCompared : {A : Type 0} → ℕ → List (Part A) → Type 0
 AreCompared count pairs = (place place_2 : ℕ) → place < place_2 → place_2 < count → HasPair pairs place place_2

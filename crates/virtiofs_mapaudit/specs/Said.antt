@@ -1,19 +1,22 @@
 -- What the program says of guests.
-use Rattle.std.specs.Prelude.{◌≡◌, ◌≢◌, ◌↔◌, ℕ, ◌+◌, Bool, true, false, IsTrue, IsFalse, List, [], ◌∷◌, ◌++◌, length}
-use Rattle.std.specs.Prelude.{codes, flat_map, Option, Some, None, string_bytes}
-use Rattle.std.specs.Fmt.{decimal}
+use Rattle.std.specs.Prelude.{◌≡◌, ◌≢◌, ◌⊎◌, ◌↔◌, ℕ, ◌+◌, Bool, true, false, IsTrue, IsFalse, ⊤, List, [], ◌∷◌, ◌++◌}
+use Rattle.std.specs.Prelude.{codes, flat_map, if◌then◌else◌, length, Option, Some, None, IfSome, slice_get, string_bytes}
 use Rattle.std.specs.Global.{Global}
 use Rattle.std.specs.List.{AllZip}
-use Rattle.std.specs.declared.vec.Vec.{Vec}
+use Rattle.virtiofs_mapaudit.specs.Advice.{IsAudited, IsBetter, IsAdvice}
+use Rattle.virtiofs_mapaudit.specs.AdviceText.{advised_text, mend_text}
+use Rattle.virtiofs_mapaudit.specs.AlikeGuests.{alike_to, likes_of, is_first, is_told}
 use Rattle.virtiofs_mapaudit.specs.FindingText.{findings_text}
 use Rattle.virtiofs_mapaudit.specs.Guests.{SetsUp}
 use Rattle.virtiofs_mapaudit.specs.IdTable.{ShowsIds}
-use Rattle.virtiofs_mapaudit.specs.Lists.{joined}
 use Rattle.virtiofs_mapaudit.specs.NameTable.{ShowsNames}
 use Rattle.virtiofs_mapaudit.specs.Refusals.{IsSomeRefused, TellsGuests}
 use Rattle.virtiofs_mapaudit.specs.Report.{FindsReport, IsFound}
 use Rattle.virtiofs_mapaudit.specs.ReportJson.{IsJson}
-use Rattle.virtiofs_mapaudit.specs.declared.audit.Pair.{Pair}
+use Rattle.virtiofs_mapaudit.specs.SummaryText.{SumsUp}
+use Rattle.virtiofs_mapaudit.specs.declared.advice.Advised.{Advised}
+use Rattle.virtiofs_mapaudit.specs.declared.alike.Alike.{Alike}
+use Rattle.virtiofs_mapaudit.specs.declared.audit.Part.{Part}
 use Rattle.virtiofs_mapaudit.specs.declared.audit.Report.{Report}
 use Rattle.virtiofs_mapaudit.specs.declared.audit.Said.{Said}
 use Rattle.virtiofs_mapaudit.specs.declared.finding.Finding.{Finding}
@@ -59,60 +62,107 @@ pub record AreTables {A : Type 0} (asked : Asked) (set : SetUp A) (text : List �
   pub names : ShownIf asked.names (ShowsSomeNames set) of_names
   pub whole : text ≡ of_ids ++ of_names
 
--- whether there are rules
-abbrev pub rules_given : {T : Type 0} → Option T → List ℕ
-rules_given (Some rules) = codes "--xattrmap\n"
-rules_given None = codes "no --xattrmap\n"
+-- what is said of guests with the same options: what is set up, the tables that were asked for, and what was found
+pub record SaysAlike {A : Type 0} (asked : Asked) (alike : Alike) (guest : Guest A) (set : SetUp A)
+    (found : List (Finding A)) (text : List ℕ) : Type 0 where
+  pub summary : List ℕ
+  pub tables : List ℕ
+  pub sums_up : SumsUp alike guest set summary
+  pub are_tables : AreTables asked set tables
+  pub whole : text ≡ summary ++ tables ++ findings_text found
 
--- the guest of that number, and how many options of each kind its daemon has
-abbrev pub options_text : ℕ → ℕ → ℕ → ℕ → ℕ → List ℕ → List ℕ
-options_text number users groups inside inside_groups rules =
-    joined (codes "guest " ∷ decimal number ∷ codes ": " ∷ decimal users ∷ codes " --translate-uid, " ∷ decimal groups ∷ codes " --translate-gid, " ∷ decimal inside ∷ codes " --uid-map, " ∷ decimal inside_groups ∷ codes " --gid-map, " ∷ rules ∷ [])
+-- what is said of the guest at a place, which is counted from 0; nothing if an earlier one has the same options
+pub record SaysAt {A : Type 0} (asked : Asked) (guests : List (Guest A)) (sets : List (SetUp A)) (parts : List (Part A))
+    (place : ℕ) (text : List ℕ) : Type 0 where
+  pub guest : Guest A
+  pub set : SetUp A
+  pub part : Part A
+  pub is_guest : slice_get guests place ≡ Some guest
+  pub is_set : slice_get sets place ≡ Some set
+  pub is_part : slice_get parts place ≡ Some part
+  pub says : ShownIf (is_first (alike_to guests guest) (place + 1))
+      (SaysAlike asked (alike_to guests guest) guest set part.found.items) text
 
-abbrev pub set_up_line : {A : Type 0} → ℕ → Guest A → List ℕ
-set_up_line number guest =
-    options_text number (length guest.translate_uid.items) (length guest.translate_gid.items) (length guest.uid_map.items)
-    (length guest.gid_map.items) (rules_given guest.xattrmap)
+-- these are said at the places from that one on
+abbrev pub SaysFrom : (ℕ → List ℕ → Type 0) → ℕ → List (List ℕ) → Type 0
+SaysFrom Says place [] = ⊤
+SaysFrom Says place (text ∷ texts) = Says place text × SaysFrom Says (place + 1) texts
 
--- for each guest, from that number on: what its options are, the tables that were asked for, and what was found
-abbrev pub guests_text : {A : Type 0} → ℕ → List (Guest A) → List (List ℕ) → List (Vec (Finding A) A) → List ℕ
-guests_text number (guest ∷ guests) (table ∷ tables) (found ∷ others) =
-    (set_up_line number guest ++ table ++ findings_text found.items) ++ guests_text (number + 1) guests tables others
-guests_text number guests tables found = []
+-- what is said of each guest
+pub record SaysGuests {A : Type 0} (asked : Asked) (guests : List (Guest A)) (sets : List (SetUp A))
+    (parts : List (Part A)) (text : List ℕ) : Type 0 where
+  pub texts : List (List ℕ)
+  pub each : SaysFrom (SaysAt asked guests sets parts) 0 texts
+  pub all : length texts ≡ length guests
+  pub whole : text ≡ flat_map (λ one. one) texts
 
--- what was found between each two guests
-abbrev pub pairs_text : {A : Type 0} → List (Pair A) → List ℕ
-pairs_text pairs = flat_map (λ pair. findings_text pair.found.items) pairs
+-- what was found in a part, if it is told
+abbrev pub part_text : {A : Type 0} → List Alike → Part A → List ℕ
+part_text likes part = if is_told likes part.first part.second then findings_text part.found.items else []
+
+-- what was found, part by part
+abbrev pub parts_text : {A : Type 0} → List Alike → List (Part A) → List ℕ
+parts_text likes parts = flat_map (part_text likes) parts
 
 -- what is said where nothing was found: it is another sentence where something was refused
-abbrev pub closing : {R : Type 0} → Bool → List R → List ℕ
-closing true refusals = []
-closing false [] = codes "nothing found\n"
-closing false (refusal ∷ refusals) = codes "nothing found in what was not refused\n"
+abbrev pub nothing_found : Bool → List ℕ
+nothing_found true = codes "nothing found in what was not refused\n"
+nothing_found false = codes "nothing found\n"
 
--- the whole text
-abbrev pub report_text : {A : Type 0} → List (Guest A) → List (List ℕ) → Report A → Bool → List (Refusal A) → List ℕ
-report_text guests tables report is_found refusals =
-    guests_text 1 guests tables report.guests.items ++ pairs_text report.pairs.items ++ closing is_found refusals
+-- what is said of what was found: nothing where a text is refused, and else what is advised
+abbrev pub something_found : {A : Type 0} → Option (Advised A) → List ℕ
+something_found None = codes "no other options are known to mend this\n"
+something_found (Some advised) = advised_text advised
 
--- the text is the whole one, with the tables that were asked for
+-- what is said at the end
+abbrev pub closing : {A : Type 0} → Bool → List (Refusal A) → Option (Advised A) → List ℕ
+closing true [] advised = something_found advised
+closing true (refusal ∷ refusals) advised = []
+closing false [] advised = nothing_found false
+closing false (refusal ∷ refusals) advised = nothing_found true
+
+-- the text is the whole one: guest by guest, then what was found between two guests, then what is said at the end
 pub record IsPlain {A : Type 0} (asked : Asked) (guests : List (Guest A)) (sets : List (SetUp A)) (report : Report A)
-    (is_found : Bool) (refusals : List (Refusal A)) (text : List ℕ) : Type 0 where
-  pub tables : List (List ℕ)
-  pub are_tables : AllZip (AreTables asked) sets tables
-  pub whole : text ≡ report_text guests tables report is_found refusals
+    (is_found : Bool) (refusals : List (Refusal A)) (advised : Option (Advised A)) (text : List ℕ) : Type 0 where
+  pub of_guests : List ℕ
+  pub says_guests : SaysGuests asked guests sets report.guests.items of_guests
+  pub whole : text ≡ of_guests ++ parts_text (likes_of guests) report.pairs.items ++ closing is_found refusals advised
 
 -- what is written of the guests. With `quiet` the text is empty
 pub record Says (asked : Asked) (guests : List (Guest Global)) (said : Said) : Type 0 where
   pub sets : List (SetUp Global)
   pub report : Report Global
+  pub advised : Option (Advised Global)
   pub sets_up : AllZip SetsUp guests sets
   pub finds : FindsReport sets report
   pub found : IsTrue said.is_found ↔ IsFound report
   pub refused : (said.refusals.items ≢ []) ↔ IsSomeRefused guests sets
   pub refusals : TellsGuests 1 guests said.refusals.items
+  pub advice : IfSome advised (IsAdvice report)
+  pub none_advised : (said.refusals.items ≢ []) → advised ≡ None
   pub quiet : IsTrue asked.quiet → string_bytes said.text ≡ []
   pub plain : IsFalse asked.quiet → IsFalse asked.json
-      → IsPlain asked guests sets report said.is_found said.refusals.items (string_bytes said.text)
+      → IsPlain asked guests sets report said.is_found said.refusals.items advised (string_bytes said.text)
   pub json : IsFalse asked.quiet → IsTrue asked.json
-      → IsJson asked sets report said.refusals.items (string_bytes said.text)
+      → IsJson asked sets report said.refusals.items advised (string_bytes said.text)
+
+-- the options that the guests have, and what is found with them; or options that are advised, and what is left then
+abbrev pub IsBest : List (Guest Global) → Report Global → List (Guest Global) → Report Global → Type 0
+IsBest guests report best left =
+    ((best ≡ guests) × (left ≡ report)) ⊎ (IsAudited best [] left × IsBetter left report)
+
+-- what is written of the guests where options alone are asked for: nothing where a text is refused, and else the best
+-- options; then what is found is what is found with these
+pub record SaysMended (guests : List (Guest Global)) (said : Said) : Type 0 where
+  pub sets : List (SetUp Global)
+  pub report : Report Global
+  pub best : List (Guest Global)
+  pub left : Report Global
+  pub sets_up : AllZip SetsUp guests sets
+  pub finds : FindsReport sets report
+  pub refused : (said.refusals.items ≢ []) ↔ IsSomeRefused guests sets
+  pub refusals : TellsGuests 1 guests said.refusals.items
+  pub nothing : (said.refusals.items ≢ []) → string_bytes said.text ≡ []
+  pub is_best : IsBest guests report best left
+  pub text : said.refusals.items ≡ [] → string_bytes said.text ≡ mend_text best
+  pub found : said.refusals.items ≡ [] → IsTrue said.is_found ↔ IsFound left

@@ -1,19 +1,21 @@
 //! What was found, as JSON. docs/virtiofs_mapaudit.1 has its schema.
-ghost use Rattle.std.specs.Prelude.{◌≡◌, ◌++◌, List, IfOk, map, string_bytes};
+ghost use Rattle.std.specs.Prelude.{◌≡◌, ◌++◌, List, IfOk, OnOk, map, string_bytes};
 ghost use Rattle.serde_json.specs.Data.{Data, string};
 ghost use Rattle.serde_json.specs.View.{view};
-ghost use Rattle.virtiofs_mapaudit.specs.ReportJson.{IsTableIf, IsNamesOf, IsGuest, AreGuests, findings_data, pairs_data, report_data, IsJson};
+ghost use Rattle.virtiofs_mapaudit.specs.ReportJson.{IsTableIf, IsNamesOf, IsGuest, AreGuests, parts_data, report_data, IsJson};
 ghost use Rattle.virtiofs_mapaudit.specs.IdJson.{IsIdTable};
 ghost use Rattle.virtiofs_mapaudit.specs.RefusalText.{refusal_text};
 
+mod advised;
 mod findings;
 mod ids;
 mod names;
 
-use crate::audit::Report;
-use crate::finding::Finding;
+use crate::advice::Advised;
+use crate::audit::{Part, Report};
 use crate::refusal::Refusal;
 use crate::setup::{IdSetUp, NamesSetUp, SetUp};
+use advised::advised_value;
 use findings::push_findings;
 use ids::id_table;
 use names::name_table;
@@ -74,26 +76,29 @@ fn guests_value(alloc: Global, asked: Asked, sets: &[SetUp<Global>]) -> BuiltLis
     Ok(list)
 }
 
-/// What was found of each guest by itself.
-fn guests_found(alloc: Global, guests: &[Vec<Finding<Global>>]) -> BuiltList
-    ensures { IfOk result (λ list. map view list.items ≡ findings_data 1 guests.now) }
+/// Adds what was found, part by part.
+fn push_parts(
+    alloc: Global,
+    list: &mut Vec<Value>,
+    parts: &[Part<Global>],
+) -> Result<(), AllocError>
+    ensures { OnOk result
+        (map view list.new.items ≡ map view list.old.items ++ parts_data parts.now) }
 {
-    let mut list = Vec::new(alloc);
-    for place in 0..guests.len() {
-        push_findings(alloc, &mut list, place + 1, guests[place].as_slice())?;
+    for part in parts {
+        push_findings(alloc, list, part.first, part.found.as_slice())?;
     }
-    Ok(list)
+    Ok(())
 }
 
 /// What was found.
 fn findings_value(alloc: Global, report: &Report<Global>) -> BuiltList
     ensures { IfOk result (λ list. map view list.items
-        ≡ findings_data 1 report.now.guests.items ++ pairs_data report.now.pairs.items) }
+        ≡ parts_data report.now.guests.items ++ parts_data report.now.pairs.items) }
 {
-    let mut list = guests_found(alloc, report.guests.as_slice())?;
-    for pair in report.pairs.as_slice() {
-        push_findings(alloc, &mut list, pair.first, pair.found.as_slice())?;
-    }
+    let mut list = Vec::new(alloc);
+    push_parts(alloc, &mut list, report.guests.as_slice())?;
+    push_parts(alloc, &mut list, report.pairs.as_slice())?;
     Ok(list)
 }
 
@@ -117,14 +122,19 @@ fn report_value(
     sets: &[SetUp<Global>],
     report: &Report<Global>,
     refusals: &[Refusal<Global>],
+    advised: &Option<Advised<'_, Global>>,
 ) -> Built
     ensures { IfOk result (λ value. (guests : List Data) × AreGuests asked 1 sets.now guests
-        × (view value ≡ report_data guests report.now refusals.now)) }
+        × (view value ≡ report_data guests report.now refusals.now advised.now)) }
 {
+    let advised = advised_value(alloc, advised)?;
     let guests = guests_value(alloc, asked, sets)?;
     let findings = findings_value(alloc, report)?;
     let refused = refused_value(alloc, refusals)?;
-    json!(in alloc; {"schema": 2, "guests": guests, "findings": findings, "refused": refused})
+    json!(in alloc; {
+        "schema": 3, "guests": guests, "findings": findings, "refused": refused,
+        "advised": advised
+    })
 }
 
 /// The JSON of a report, and a line feed.
@@ -134,11 +144,13 @@ pub(crate) fn report_as_json(
     sets: &[SetUp<Global>],
     report: &Report<Global>,
     refusals: &[Refusal<Global>],
+    advised: &Option<Advised<'_, Global>>,
 ) -> Result<String, AllocError>
     ensures { IfOk result (λ text.
-        IsJson asked sets.now report.now refusals.now (string_bytes text)) }
+        IsJson asked sets.now report.now refusals.now advised.now (string_bytes text)) }
 {
-    let mut text = report_value(alloc, asked, sets, report, refusals)?.to_string(alloc)?;
+    let value = report_value(alloc, asked, sets, report, refusals, advised)?;
+    let mut text = value.to_string(alloc)?;
     text.push_str("\n")?;
     Ok(text)
 }

@@ -1,15 +1,20 @@
 //! The audit of all guests: what their options set up, what is found, and its text.
-ghost use Rattle.std.specs.Prelude.{◌≡◌, ◌≢◌, ◌<◌, ◌⊎◌, ◌↔◌, ◌++◌, ℕ, List, [], length, IfOk, IsTrue, IsFalse, OnOk, string_bytes};
+ghost use Rattle.std.specs.Prelude.{◌≡◌, ◌≢◌, ◌<◌, ◌⊎◌, ◌↔◌, ◌++◌, ℕ, List, [], length, IfOk, IfSome, IsTrue, IsFalse, None, OnOk, string_bytes};
 ghost use Rattle.std.specs.List.{AllZip};
+ghost use Rattle.virtiofs_mapaudit.specs.Advice.{IsAdvice};
+ghost use Rattle.virtiofs_mapaudit.specs.AlikeGuests.{is_first, alike_to, likes_of};
 ghost use Rattle.virtiofs_mapaudit.specs.FindingText.{findings_text};
 ghost use Rattle.virtiofs_mapaudit.specs.Guests.{SetsUp};
 ghost use Rattle.virtiofs_mapaudit.specs.Lists.{Adds};
 ghost use Rattle.virtiofs_mapaudit.specs.Refusals.{TellsGuests};
-ghost use Rattle.virtiofs_mapaudit.specs.Report.{FindsReport, IsFound, IsFoundOf, IsFoundBetween};
+ghost use Rattle.virtiofs_mapaudit.specs.Report.{FindsReport, IsFound, IsFoundIn};
 ghost use Rattle.virtiofs_mapaudit.specs.ReportJson.{IsJson};
 ghost use Rattle.virtiofs_mapaudit.specs.ReportParts.{AddsPairs};
-ghost use Rattle.virtiofs_mapaudit.specs.Said.{Says, ShownIf, ShowsSet, ShowsKind, ShowsBothKinds, ShowsSomeNames, AreTables, rules_given, set_up_line, guests_text, pairs_text, closing, IsPlain};
+ghost use Rattle.virtiofs_mapaudit.specs.Said.{Says, ShownIf, ShowsSet, ShowsKind, ShowsBothKinds, ShowsSomeNames, AreTables, SaysAlike, SaysAt, SaysGuests, part_text, parts_text, nothing_found, closing, IsPlain};
 
+use crate::advice::text::push_advised;
+use crate::advice::{Advised, guests_of, options_of, tried};
+use crate::alike::{Alike, alike_to, is_first, is_told, likes_of};
 use crate::as_json::report_as_json;
 use crate::finding::Finding;
 use crate::ids::kind::IdKind;
@@ -19,16 +24,17 @@ use crate::pairs::{Numbers, audit_pair};
 use crate::refusal::Refusal;
 use crate::report::audit_guest;
 use crate::setup::{IdSetUp, SetUp, set_up};
+use crate::summary::push_summary;
 use std::alloc::{AllocError, Allocator, Global};
 use virtiofs_options::front::Asked;
 use virtiofs_options::guest::Guest;
 
-/// What is found between two guests, and which they are: their numbers, counted from 1.
+/// What is found of one guest by itself, or between two.
 #[derive(Drop)]
-pub(crate) struct Pair<A: Allocator> {
-    /// The number of the first.
+pub(crate) struct Part<A: Allocator> {
+    /// The number of the guest, or of the first of two, counted from 1.
     pub(crate) first: usize,
-    /// The number of the second, which is the greater.
+    /// The number of the second, which is the greater; of one guest, its number again.
     pub(crate) second: usize,
     /// What is found.
     pub(crate) found: Vec<Finding<A>, A>,
@@ -38,9 +44,9 @@ pub(crate) struct Pair<A: Allocator> {
 #[derive(Drop)]
 pub(crate) struct Report<A: Allocator> {
     /// What is found of each by itself, in order.
-    pub(crate) guests: Vec<Vec<Finding<A>, A>, A>,
+    pub(crate) guests: Vec<Part<A>, A>,
     /// What is found between each two.
-    pub(crate) pairs: Vec<Pair<A>, A>,
+    pub(crate) pairs: Vec<Part<A>, A>,
 }
 
 /// What is to be written.
@@ -59,7 +65,7 @@ fn audit_pairs<A: Allocator + Copy>(
     alloc: A,
     sets: &[SetUp<A>],
     place: usize,
-    pairs: &mut Vec<Pair<A>, A>,
+    pairs: &mut Vec<Part<A>, A>,
 ) -> Result<(), AllocError>
     requires { place < length sets.now }
     ensures { OnOk result (AddsPairs sets.now place place pairs.old.items pairs.new.items) }
@@ -70,7 +76,7 @@ fn audit_pairs<A: Allocator + Copy>(
             second: place + 1,
         };
         let found = audit_pair(alloc, numbers, &sets[earlier], &sets[place])?;
-        pairs.push(Pair {
+        pairs.push(Part {
             first: numbers.first,
             second: numbers.second,
             found,
@@ -80,13 +86,20 @@ fn audit_pairs<A: Allocator + Copy>(
 }
 
 /// What is found of guests by themselves and between each two.
-fn audit<A: Allocator + Copy>(alloc: A, sets: &[SetUp<A>]) -> Result<Report<A>, AllocError>
+pub(crate) fn audit<A: Allocator + Copy>(
+    alloc: A,
+    sets: &[SetUp<A>],
+) -> Result<Report<A>, AllocError>
     ensures { IfOk result (FindsReport sets.now) }
 {
     let mut guests = Vec::new(alloc);
     let mut pairs = Vec::new(alloc);
     for place in 0..sets.len() {
-        guests.push(audit_guest(alloc, &sets[place])?)?;
+        guests.push(Part {
+            first: place + 1,
+            second: place + 1,
+            found: audit_guest(alloc, &sets[place])?,
+        })?;
         audit_pairs(alloc, sets, place, &mut pairs)?;
     }
     Ok(Report { guests, pairs })
@@ -156,38 +169,11 @@ fn push_tables<A: Allocator + Copy>(
     push_some_names(alloc, text, asked.names, set)
 }
 
-/// Whether there are rules.
-fn rules_given(rules: Option<&str>) -> &'static str
-    ensures { result.now ≡ rules_given rules.entry }
-{
-    match rules {
-        Some(_) => "--xattrmap\n",
-        None => "no --xattrmap\n",
-    }
-}
-
-/// Writes what the options of a guest are at the end of a text.
-fn push_set_up<A: Allocator>(
-    text: &mut String<A>,
-    number: usize,
-    guest: &Guest<'_, A>,
-) -> Result<(), AllocError>
-    ensures { OnOk result
-        (string_bytes text.new ≡ string_bytes text.old ++ set_up_line number guest.now) }
-{
-    let users = guest.translate_uid.as_slice().len();
-    let groups = guest.translate_gid.as_slice().len();
-    let inside = guest.uid_map.as_slice().len();
-    let inside_groups = guest.gid_map.as_slice().len();
-    let rules = rules_given(guest.xattrmap);
-    write!(
-        text,
-        "guest {number}: {users} --translate-uid, {groups} --translate-gid, {inside} --uid-map, {inside_groups} --gid-map, {rules}"
-    )
-}
-
 /// Writes findings at the end of a text.
-fn push_findings<A: Allocator>(text: &mut String<A>, found: &[Finding<A>]) -> Result<(), AllocError>
+pub(crate) fn push_findings<A: Allocator>(
+    text: &mut String<A>,
+    found: &[Finding<A>],
+) -> Result<(), AllocError>
     ensures { OnOk result
         (string_bytes text.new ≡ string_bytes text.old ++ findings_text found.now) }
 {
@@ -197,72 +183,141 @@ fn push_findings<A: Allocator>(text: &mut String<A>, found: &[Finding<A>]) -> Re
     Ok(())
 }
 
-/// Writes at the end of a text, for each guest, its first line, its tables and what was found.
+/// Writes what is said of guests with the same options at the end of a text: what is set up, the
+/// tables that were asked for, and what was found.
+fn push_alike<A: Allocator + Copy>(
+    alloc: A,
+    text: &mut String<A>,
+    asked: Asked,
+    alike: Alike,
+    guest: &Guest<'_, A>,
+    set: &SetUp<A>,
+    found: &[Finding<A>],
+) -> Result<(), AllocError>
+    ensures { OnOk result ((said : List ℕ) × SaysAlike asked alike guest.now set.now found.now said
+        × (string_bytes text.new ≡ string_bytes text.old ++ said)) }
+{
+    push_summary(text, alike, guest, set)?;
+    push_tables(alloc, text, asked, set)?;
+    push_findings(text, found)
+}
+
+/// Writes what is said of the guest at a place at the end of a text, unless an earlier one has the
+/// same options.
+fn push_at<A: Allocator + Copy>(
+    alloc: A,
+    text: &mut String<A>,
+    asked: Asked,
+    guests: &[Guest<'_, A>],
+    sets: &[SetUp<A>],
+    parts: &[Part<A>],
+    place: usize,
+) -> Result<(), AllocError>
+    requires below { place < length guests.now }
+    requires same { length sets.now ≡ length guests.now }
+    requires same_2 { length parts.now ≡ length guests.now }
+    ensures { OnOk result ((said : List ℕ) × SaysAt asked guests.now sets.now parts.now place said
+        × (string_bytes text.new ≡ string_bytes text.old ++ said)) }
+{
+    let (guest, set, part) = (&guests[place], &sets[place], &parts[place]);
+    let alike = alike_to(guests, guest);
+    if is_first(alike, place + 1) {
+        let found = part.found.as_slice();
+        return push_alike(alloc, text, asked, alike, guest, set, found);
+    }
+    Ok(())
+}
+
+/// Writes what is said of each guest at the end of a text.
 fn push_guests<A: Allocator + Copy>(
     alloc: A,
     text: &mut String<A>,
     asked: Asked,
     guests: &[Guest<'_, A>],
     sets: &[SetUp<A>],
-    found: &[Vec<Finding<A>, A>],
+    parts: &[Part<A>],
 ) -> Result<(), AllocError>
     requires same { length sets.now ≡ length guests.now }
-    requires same_2 { length found.now ≡ length guests.now }
-    ensures { OnOk result ((tables : List (List ℕ))
-        × AllZip (AreTables asked) sets.now tables
-        × (string_bytes text.new ≡ string_bytes text.old
-        ++ guests_text 1 guests.now tables found.now)) }
+    requires same_2 { length parts.now ≡ length guests.now }
+    ensures { OnOk result ((said : List ℕ) × SaysGuests asked guests.now sets.now parts.now said
+        × (string_bytes text.new ≡ string_bytes text.old ++ said)) }
 {
     for place in 0..guests.len() {
-        push_set_up(text, place + 1, &guests[place])?;
-        push_tables(alloc, text, asked, &sets[place])?;
-        push_findings(text, found[place].as_slice())?;
+        push_at(alloc, text, asked, guests, sets, parts, place)?;
     }
     Ok(())
 }
 
-/// Writes what was found between guests at the end of a text.
-fn push_pairs<A: Allocator>(text: &mut String<A>, pairs: &[Pair<A>]) -> Result<(), AllocError>
+/// Writes what was found in a part at the end of a text, if it is told.
+fn push_part<A: Allocator>(
+    text: &mut String<A>,
+    likes: &[Alike],
+    part: &Part<A>,
+) -> Result<(), AllocError>
     ensures { OnOk result
-        (string_bytes text.new ≡ string_bytes text.old ++ pairs_text pairs.now) }
+        (string_bytes text.new ≡ string_bytes text.old ++ part_text likes.now part.now) }
 {
-    for pair in pairs {
-        push_findings(text, pair.found.as_slice())?;
+    if is_told(likes, part.first, part.second) {
+        return push_findings(text, part.found.as_slice());
     }
     Ok(())
+}
+
+/// Writes what was found, part by part, at the end of a text.
+fn push_parts<A: Allocator>(
+    text: &mut String<A>,
+    likes: &[Alike],
+    parts: &[Part<A>],
+) -> Result<(), AllocError>
+    ensures { OnOk result
+        (string_bytes text.new ≡ string_bytes text.old ++ parts_text likes.now parts.now) }
+{
+    for part in parts {
+        push_part(text, likes, part)?;
+    }
+    Ok(())
+}
+
+/// Writes what is said at the end: what to do about what was found, or that nothing was.
+fn push_closing<A: Allocator + Copy>(
+    alloc: A,
+    text: &mut String<A>,
+    is_found: bool,
+    refusals: &[Refusal<A>],
+    advised: &Option<Advised<'_, A>>,
+) -> Result<(), AllocError>
+    ensures { OnOk result (string_bytes text.new
+        ≡ string_bytes text.old ++ closing is_found refusals.now advised.now) }
+{
+    let any_refused = !refusals.is_empty();
+    if !is_found {
+        return text.push_str(nothing_found(any_refused));
+    }
+    if any_refused {
+        return Ok(());
+    }
+    match advised {
+        Some(advised) => push_advised(alloc, text, advised),
+        None => text.push_str("no other options are known to mend this\n"),
+    }
 }
 
 /// What is said where nothing was found.
-fn closing<A: Allocator>(is_found: bool, refusals: &[Refusal<A>]) -> &'static str
-    ensures { result.now ≡ closing is_found refusals.now }
+fn nothing_found(any_refused: bool) -> &'static str
+    ensures { result.now ≡ nothing_found any_refused }
 {
-    if is_found {
-        return "";
+    if any_refused {
+        return "nothing found in what was not refused\n";
     }
-    if refusals.is_empty() {
-        return "nothing found\n";
-    }
-    "nothing found in what was not refused\n"
+    "nothing found\n"
 }
 
-/// Whether something is found of a guest.
-fn has_found_of<A: Allocator>(report: &Report<A>) -> bool
-    ensures { IsTrue result ↔ IsFoundOf report.now }
+/// Whether something is found in some part.
+fn has_found_in<A: Allocator>(parts: &[Part<A>]) -> bool
+    ensures { IsTrue result ↔ IsFoundIn parts.now }
 {
-    for found in report.guests.as_slice() {
-        if !found.as_slice().is_empty() {
-            return true;
-        }
-    }
-    false
-}
-
-/// Whether something is found between two guests.
-fn has_found_between<A: Allocator>(report: &Report<A>) -> bool
-    ensures { IsTrue result ↔ IsFoundBetween report.now }
-{
-    for pair in report.pairs.as_slice() {
-        if !pair.found.as_slice().is_empty() {
+    for part in parts {
+        if !part.found.as_slice().is_empty() {
             return true;
         }
     }
@@ -270,10 +325,10 @@ fn has_found_between<A: Allocator>(report: &Report<A>) -> bool
 }
 
 /// Whether something is found.
-fn has_found<A: Allocator>(report: &Report<A>) -> bool
+pub(crate) fn has_found<A: Allocator>(report: &Report<A>) -> bool
     ensures { IsTrue result ↔ IsFound report.now }
 {
-    has_found_of(report) || has_found_between(report)
+    has_found_in(report.guests.as_slice()) || has_found_in(report.pairs.as_slice())
 }
 
 /// What is said of the guests.
@@ -285,11 +340,12 @@ fn plain<A: Allocator + Copy>(
     report: &Report<A>,
     is_found: bool,
     refusals: &[Refusal<A>],
+    advised: &Option<Advised<'_, A>>,
 ) -> Result<String<A>, AllocError>
     requires same { length sets.now ≡ length guests.now }
     requires same_2 { length report.now.guests.items ≡ length guests.now }
-    ensures { IfOk result (λ text.
-        IsPlain asked guests.now sets.now report.now is_found refusals.now (string_bytes text)) }
+    ensures { IfOk result (λ text. IsPlain asked guests.now sets.now report.now is_found
+        refusals.now advised.now (string_bytes text)) }
 {
     let mut text = String::new(alloc);
     push_guests(
@@ -300,14 +356,15 @@ fn plain<A: Allocator + Copy>(
         sets,
         report.guests.as_slice(),
     )?;
-    push_pairs(&mut text, report.pairs.as_slice())?;
-    text.push_str(closing(is_found, refusals))?;
+    let likes = likes_of(alloc, guests)?;
+    push_parts(&mut text, likes.as_slice(), report.pairs.as_slice())?;
+    push_closing(alloc, &mut text, is_found, refusals, advised)?;
     Ok(text)
 }
 
 /// What the options of each guest set up. Guest by guest, the first fault of each option that is
 /// refused goes to `refusals`.
-fn set_up_all<A: Allocator + Copy>(
+pub(crate) fn set_up_all<A: Allocator + Copy>(
     alloc: A,
     refusals: &mut Vec<Refusal<A>, A>,
     guests: &[Guest<'_, A>],
@@ -332,22 +389,42 @@ fn in_form(
     report: &Report<Global>,
     is_found: bool,
     refusals: &[Refusal<Global>],
+    advised: &Option<Advised<'_, Global>>,
 ) -> Result<String, AllocError>
     requires same { length sets.now ≡ length guests.now }
     requires same_2 { length report.now.guests.items ≡ length guests.now }
     ensures quiet { IsTrue asked.quiet → IfOk result (λ text. string_bytes text ≡ []) }
     ensures plain { IsFalse asked.quiet → IsFalse asked.json → IfOk result (λ text.
-        IsPlain asked guests.now sets.now report.now is_found refusals.now (string_bytes text)) }
+        IsPlain asked guests.now sets.now report.now is_found refusals.now advised.now
+        (string_bytes text)) }
     ensures json { IsFalse asked.quiet → IsTrue asked.json → IfOk result (λ text.
-        IsJson asked sets.now report.now refusals.now (string_bytes text)) }
+        IsJson asked sets.now report.now refusals.now advised.now (string_bytes text)) }
 {
     if asked.quiet {
         return Ok(String::new(alloc));
     }
     if asked.json {
-        return report_as_json(alloc, asked, sets, report, refusals);
+        return report_as_json(alloc, asked, sets, report, refusals, advised);
     }
-    plain(alloc, asked, guests, sets, report, is_found, refusals)
+    plain(
+        alloc, asked, guests, sets, report, is_found, refusals, advised,
+    )
+}
+
+/// What is advised in place of the options with which that was found, if it is to be tried.
+fn advice<'a, A: Allocator + Copy>(
+    alloc: A,
+    tries: bool,
+    others: Vec<Guest<'a, A>, A>,
+    report: &Report<A>,
+) -> Result<Option<Advised<'a, A>>, AllocError>
+    ensures tried { IfOk result (λ advised. IfSome advised (IsAdvice report.now)) }
+    ensures untried { IsFalse tries → IfOk result (λ advised. advised ≡ None) }
+{
+    if tries {
+        return tried(alloc, others, report);
+    }
+    Ok(None)
 }
 
 /// What is to be written of the guests.
@@ -362,6 +439,10 @@ pub(crate) fn say(
     let sets = set_up_all(alloc, &mut refusals, guests)?;
     let report = audit(alloc, sets.as_slice())?;
     let is_found = has_found(&report);
+    let tries = is_found && !asked.quiet && refusals.as_slice().is_empty();
+    let options = options_of(alloc, tries, guests, sets.as_slice())?;
+    let others = guests_of(alloc, options.as_slice())?;
+    let advised = advice(alloc, tries, others, &report)?;
     let told = refusals.as_slice();
     let text = in_form(
         alloc,
@@ -371,6 +452,7 @@ pub(crate) fn say(
         &report,
         is_found,
         told,
+        &advised,
     )?;
     Ok(Said {
         text,

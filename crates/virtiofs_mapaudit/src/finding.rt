@@ -1,15 +1,17 @@
 //! What is found: facts about the options that may be mistakes.
 ghost use Rattle.std.specs.Prelude.{◌≡◌, [], Some};
 ghost use Rattle.std.specs.Fmt.{DisplaysOnOk};
-ghost use Rattle.virtiofs_mapaudit.specs.FindingText.{whereabouts, not_back_text, shared_text, root_text, lacking_text, id_text, met_text, or_name, also, is_usual, least_text, idle_text, shown_text, reached_text, finding_text};
+ghost use Rattle.virtiofs_mapaudit.specs.FindingText.{whereabouts, shared_text, astray_text, becomes_text, back_text, way_text, not_back_text, root_text, failing_text, lack_text, lacking_text, ids_text, both_text, one_text, met_text, or_name, also, is_usual, least_text, idle_text, shown_text, reached_text, finding_text};
 
-use crate::ids::found::{IdFault, IdFound};
-use crate::ids::kind::{IdKind, one_of, ranging, translating};
+use crate::ids::extent::{Extent, is_one};
+use crate::ids::found::{IdFault, IdsFound};
+use crate::ids::kind::{IdKind, one_of};
 use crate::ids::ranges::{RangeFound, write_range};
 use crate::names::found::LeastName;
 use std::alloc::Allocator;
 use std::fmt;
 use virtiofs_map::audit::Audit;
+use virtiofs_map::id_audit::Span;
 use virtiofs_output::written::Written;
 
 /// A fact about the options of one guest, or of two, that may be a mistake. Guests are told by
@@ -25,16 +27,16 @@ pub(crate) enum Finding<A: Allocator> {
         /// Which range it is, and what is wrong with it.
         range: RangeFound,
     },
-    /// Something is wrong with an id: the least such id is told.
-    Id {
-        /// Whose id it is.
+    /// Something is wrong with ids.
+    Ids {
+        /// Whose ids they are.
         kind: IdKind,
-        /// Whether the daemon runs in a namespace of ranges. What the id becomes is then inside it.
+        /// Whether the daemon runs in a namespace of ranges. What the ids become is then inside it.
         in_namespace: bool,
         /// What is wrong.
         fault: IdFault,
-        /// The id, and what it becomes.
-        id: IdFound,
+        /// The ids, and what the least of them becomes.
+        found: IdsFound<A>,
     },
     /// Some names are decided by no rule.
     NoRule,
@@ -44,17 +46,17 @@ pub(crate) enum Finding<A: Allocator> {
     ListedElsewhere(LeastName<A>),
     /// The written rule at this place, counted from 0, decides no name.
     IdleRule(usize),
-    /// Two guests reach one id of the host.
-    IdOfBoth {
+    /// Two guests reach the same ids of the host.
+    IdsOfBoth {
         /// The number of the first guest.
         first: usize,
         /// The number of the second guest.
         second: usize,
         /// Whose ids they are.
         kind: IdKind,
-        /// The least such id of the first guest, the id of the host, and the least id of the second
-        /// guest that is it too.
-        id: IdFound,
+        /// The ids of the first guest, the id of the host that the least of them is, and the least
+        /// id of the second guest that is it too.
+        found: IdsFound<A>,
     },
     /// A guest can set this name, and lists of another guest then show it.
     ShownToOther {
@@ -86,126 +88,217 @@ fn whereabouts(in_namespace: bool) -> &'static str
     }
 }
 
-/// Writes that an id does not come back, and what mends it.
-fn write_not_back<W: fmt::Write>(
-    f: &mut fmt::Formatter<W>,
-    one: &str,
-    there: &str,
-    option: &str,
-    id: IdFound,
-) -> fmt::Result
-    ensures { DisplaysOnOk W.write_str_gives f.old result
-        (Some (not_back_text one.now there.now option.now id)) f.new }
-{
-    let IdFound { guest, host, other } = id;
-    write!(
-        f,
-        "{one} {guest} does not come back: it is {one} {host} {there}"
-    )?;
-    write!(
-        f,
-        ", and that is {one} {other} of the guest\n  fix: forbid it, for example by {option} forbid-guest:{guest}:1, or map it to an id of its own\n"
-    )
-}
-
-/// Writes that two ids are one there, and what mends it.
+/// Writes that the second id becomes the same, if it does.
 fn write_shared<W: fmt::Write>(
     f: &mut fmt::Formatter<W>,
     one: &str,
+    other: u32,
+    is_shared: bool,
+) -> fmt::Result
+    ensures { DisplaysOnOk W.write_str_gives f.old result
+        (Some (shared_text one.now other is_shared)) f.new }
+{
+    if is_shared {
+        return write!(f, ", as {one} {other} does,");
+    }
+    Ok(())
+}
+
+/// Writes which ids do not round-trip.
+fn write_astray<W: fmt::Write>(f: &mut fmt::Formatter<W>, one: &str, ids: &[Span]) -> fmt::Result
+    ensures { DisplaysOnOk W.write_str_gives f.old result
+        (Some (astray_text one.now ids.now)) f.new }
+{
+    let extent = Extent { one, ids };
+    let does = if is_one(ids) { "does" } else { "do" };
+    write!(f, "{extent} {does} not round-trip: ")
+}
+
+/// Writes what an id becomes.
+fn write_becomes<W: fmt::Write>(
+    f: &mut fmt::Formatter<W>,
+    one: &str,
     there: &str,
-    option: &str,
-    id: IdFound,
+    guest: u32,
+    host: u32,
 ) -> fmt::Result
     ensures { DisplaysOnOk W.write_str_gives f.old result
-        (Some (shared_text one.now there.now option.now id)) f.new }
+        (Some (becomes_text one.now there.now guest host)) f.new }
 {
-    let IdFound { guest, host, other } = id;
-    write!(
-        f,
-        "{one}s {guest} and {other} of the guest are one {one} {there}, {host}\n"
-    )?;
-    write!(
-        f,
-        "  fix: forbid one of them, for example by {option} forbid-guest:{other}:1, or map it to an id of its own\n"
-    )
+    write!(f, "{one} {guest} becomes {one} {host} {there}")
 }
 
-/// Writes that an id acts as root of the host, and what mends it.
-fn write_root<W: fmt::Write>(
+/// Writes as which id it comes back.
+fn write_back<W: fmt::Write>(f: &mut fmt::Formatter<W>, one: &str, back: u32) -> fmt::Result
+    ensures { DisplaysOnOk W.write_str_gives f.old result (Some (back_text one.now back)) f.new }
+{
+    write!(f, " and comes back as {one} {back}\n")
+}
+
+/// Writes what an id becomes, whether another one becomes that too, and as which id it comes back.
+fn write_way<W: fmt::Write>(
     f: &mut fmt::Formatter<W>,
     one: &str,
-    option: &str,
-    id: IdFound,
+    there: &str,
+    guest: u32,
+    host: u32,
+    back: u32,
+    is_shared: bool,
 ) -> fmt::Result
     ensures { DisplaysOnOk W.write_str_gives f.old result
-        (Some (root_text one.now option.now id)) f.new }
+        (Some (way_text one.now there.now guest host back is_shared)) f.new }
 {
-    let guest = id.guest;
-    write!(
-        f,
-        "{one} {guest} acts as {one} 0 of the host, which is root's\n  fix: map it to another {one} of the host, or forbid it, for example by {option} forbid-guest:{guest}:1\n"
-    )
+    write_becomes(f, one, there, guest, host)?;
+    write_shared(f, one, back, is_shared)?;
+    write_back(f, one, back)
 }
 
-/// Writes that the namespace lacks what an id becomes, and what mends it.
-fn write_lacking<W: fmt::Write>(
+/// Writes that ids do not round-trip.
+fn write_not_back<W: fmt::Write, A: Allocator>(
     f: &mut fmt::Formatter<W>,
     one: &str,
-    option: &str,
-    range: &str,
-    id: IdFound,
+    there: &str,
+    found: &IdsFound<A>,
 ) -> fmt::Result
     ensures { DisplaysOnOk W.write_str_gives f.old result
-        (Some (lacking_text one.now option.now range.now id)) f.new }
+        (Some (not_back_text one.now there.now found.now)) f.new }
 {
-    let IdFound { guest, host, .. } = id;
-    write!(
+    write_astray(f, one, found.ids.as_slice())?;
+    write_way(
         f,
-        "{one} {guest} becomes {one} {host}, which the daemon's namespace does not have: calls with it fail\n"
-    )?;
-    write!(
-        f,
-        "  fix: give the namespace that {one} by a further {range}, or forbid it, for example by {option} forbid-guest:{guest}:1\n"
+        one,
+        there,
+        found.guest,
+        found.host,
+        found.other,
+        found.is_shared,
     )
 }
 
-/// Writes what is wrong with an id, and what mends it.
-fn write_id<W: fmt::Write>(
+/// Writes that ids act as root of the host.
+fn write_root<W: fmt::Write, A: Allocator>(
+    f: &mut fmt::Formatter<W>,
+    one: &str,
+    found: &IdsFound<A>,
+) -> fmt::Result
+    ensures { DisplaysOnOk W.write_str_gives f.old result
+        (Some (root_text one.now found.now)) f.new }
+{
+    let ids = found.ids.as_slice();
+    let extent = Extent { one, ids };
+    let acts = if is_one(ids) { "acts" } else { "act" };
+    write!(
+        f,
+        "{extent} {acts} as {one} 0 of the host, which is root's\n"
+    )
+}
+
+/// Writes with which ids calls fail.
+fn write_failing<W: fmt::Write>(f: &mut fmt::Formatter<W>, one: &str, ids: &[Span]) -> fmt::Result
+    ensures { DisplaysOnOk W.write_str_gives f.old result
+        (Some (failing_text one.now ids.now)) f.new }
+{
+    let extent = Extent { one, ids };
+    write!(f, "calls with {extent} fail: ")
+}
+
+/// Writes that the namespace lacks what an id becomes.
+fn write_lack<W: fmt::Write>(
+    f: &mut fmt::Formatter<W>,
+    one: &str,
+    guest: u32,
+    host: u32,
+) -> fmt::Result
+    ensures { DisplaysOnOk W.write_str_gives f.old result
+        (Some (lack_text one.now guest host)) f.new }
+{
+    write!(
+        f,
+        "{one} {guest} becomes {one} {host}, which the daemon's namespace does not have\n"
+    )
+}
+
+/// Writes that the namespace lacks what ids become.
+fn write_lacking<W: fmt::Write, A: Allocator>(
+    f: &mut fmt::Formatter<W>,
+    one: &str,
+    found: &IdsFound<A>,
+) -> fmt::Result
+    ensures { DisplaysOnOk W.write_str_gives f.old result
+        (Some (lacking_text one.now found.now)) f.new }
+{
+    write_failing(f, one, found.ids.as_slice())?;
+    write_lack(f, one, found.guest, found.host)
+}
+
+/// Writes what is wrong with ids.
+fn write_ids<W: fmt::Write, A: Allocator>(
     f: &mut fmt::Formatter<W>,
     kind: IdKind,
     in_namespace: bool,
     fault: IdFault,
-    id: IdFound,
+    found: &IdsFound<A>,
 ) -> fmt::Result
     ensures { DisplaysOnOk W.write_str_gives f.old result
-        (Some (id_text kind in_namespace fault id)) f.new }
+        (Some (ids_text kind in_namespace fault found.now)) f.new }
 {
-    let (one, option) = (one_of(kind), translating(kind));
-    let there = whereabouts(in_namespace);
+    let (one, there) = (one_of(kind), whereabouts(in_namespace));
     match fault {
-        IdFault::NotBack => write_not_back(f, one, there, option, id),
-        IdFault::Shared => write_shared(f, one, there, option, id),
-        IdFault::Root => write_root(f, one, option, id),
-        IdFault::Lacking => write_lacking(f, one, option, ranging(kind), id),
+        IdFault::NotBack => write_not_back(f, one, there, found),
+        IdFault::Root => write_root(f, one, found),
+        IdFault::Lacking => write_lacking(f, one, found),
     }
 }
 
-/// Writes an id of one guest and an id of another that are one on the host.
-fn write_met<W: fmt::Write>(
+/// Writes that two guests reach the same ids of the host, and by which ids the first one does.
+fn write_both<W: fmt::Write>(
     f: &mut fmt::Formatter<W>,
     one: &str,
     first: usize,
     second: usize,
-    id: IdFound,
+    ids: &[Span],
 ) -> fmt::Result
     ensures { DisplaysOnOk W.write_str_gives f.old result
-        (Some (met_text one.now first second id)) f.new }
+        (Some (both_text one.now first second ids.now)) f.new }
 {
-    let IdFound { guest, host, other } = id;
+    let extent = Extent { one, ids };
     write!(
         f,
-        "{one} {guest} of guest {first} and {one} {other} of guest {second} are one {one} of the host, {host}\n  fix: give each guest host ids of its own\n"
-    )
+        "guests {first} and {second} reach the same {one}s of the host, "
+    )?;
+    write!(f, "guest {first} by {extent}: ")
+}
+
+/// Writes an id of one guest and an id of another that are one on the host.
+fn write_one<W: fmt::Write>(
+    f: &mut fmt::Formatter<W>,
+    one: &str,
+    first: usize,
+    second: usize,
+    guest: u32,
+    other: u32,
+    host: u32,
+) -> fmt::Result
+    ensures { DisplaysOnOk W.write_str_gives f.old result
+        (Some (one_text one.now first second guest other host)) f.new }
+{
+    write!(f, "{one} {guest} of guest {first} and ")?;
+    write!(f, "{one} {other} of guest {second} are both {one} {host}\n")
+}
+
+/// Writes that two guests reach the same ids of the host.
+fn write_met<W: fmt::Write, A: Allocator>(
+    f: &mut fmt::Formatter<W>,
+    one: &str,
+    first: usize,
+    second: usize,
+    found: &IdsFound<A>,
+) -> fmt::Result
+    ensures { DisplaysOnOk W.write_str_gives f.old result
+        (Some (met_text one.now first second found.now)) f.new }
+{
+    write_both(f, one, first, second, found.ids.as_slice())?;
+    write_one(f, one, first, second, found.guest, found.other, found.host)
 }
 
 /// Whether a name begins with `user.`, `trusted.`, `security.` or `system.`.
@@ -257,10 +350,9 @@ impl<A: Allocator> fmt::Display for LeastName<A> {
 }
 
 const POSIX_ACL: &str =
-    "--posix-acl does not go with --translate-uid or --translate-gid: the daemon does not start\n  fix: leave out --posix-acl\n";
+    "--posix-acl does not go with --translate-uid or --translate-gid: the daemon does not start\n";
 
-const NO_RULE: &str =
-    "some names have no rule: calls with them fail\n  fix: end the rules with one that fits all names, for example :bad:all:::\n";
+const NO_RULE: &str = "some names have no rule: calls with them fail\n";
 
 /// Writes that the rule at a place, counted from 0, decides no name.
 fn write_idle<W: fmt::Write>(f: &mut fmt::Formatter<W>, place: usize) -> fmt::Result
@@ -269,7 +361,7 @@ fn write_idle<W: fmt::Write>(f: &mut fmt::Formatter<W>, place: usize) -> fmt::Re
     let number = place as u64 as u128 + 1;
     write!(
         f,
-        "rule {number} decides no name: earlier rules take all names that it fits\n  fix: remove it, or change the rules before it\n"
+        "rule {number} decides no name: earlier rules take all names that it fits\n"
     )
 }
 
@@ -285,7 +377,7 @@ fn write_shown<W: fmt::Write, A: Allocator>(
 {
     write!(
         f,
-        "guest {setter} can set the name {least}, and lists then show it to guest {lister}\n  fix: give each guest a prefix of its own, for example --xattrmap :map::user.guest1.:\n"
+        "guest {setter} can set the name {least}, and lists then show it to guest {lister}\n"
     )
 }
 
@@ -301,11 +393,11 @@ fn write_reached<W: fmt::Write, A: Allocator>(
 {
     write!(
         f,
-        "guest {first} reaches an attribute of the host by the name {least}, and guest {second} reaches it too\n  fix: give each guest a prefix of its own, for example --xattrmap :map::user.guest1.:\n"
+        "guest {first} reaches an attribute of the host by the name {least}, and guest {second} reaches it too\n"
     )
 }
 
-/// A line that says what was found, and a line with what mends it.
+/// A line that says what was found.
 impl<A: Allocator> fmt::Display for Finding<A> {
     ghost output = { λ finding. Some (finding_text finding) };
 
@@ -313,28 +405,28 @@ impl<A: Allocator> fmt::Display for Finding<A> {
         match self {
             Finding::PosixAcl => f.write_str(POSIX_ACL),
             Finding::Range { kind, range } => write_range(f, *kind, *range),
-            Finding::Id {
+            Finding::Ids {
                 kind,
                 in_namespace,
                 fault,
-                id,
-            } => write_id(f, *kind, *in_namespace, *fault, *id),
+                found,
+            } => write_ids(f, *kind, *in_namespace, *fault, found),
             Finding::NoRule => f.write_str(NO_RULE),
             Finding::NotListed(least) => write!(
                 f,
-                "the guest can set the name {least}, but lists do not show it\n  fix: change the scope of the rule that decides it to all, or deny the name\n"
+                "the guest can set the name {least}, but lists do not show it\n"
             ),
             Finding::ListedElsewhere(least) => write!(
                 f,
-                "lists show the host's attribute {least} under a name by which the guest does not reach it\n  fix: before the other rules, put one that hides names with this beginning, for example :bad:server::NAME:\n"
+                "lists show the host's attribute {least} under a name by which the guest does not reach it\n"
             ),
             Finding::IdleRule(place) => write_idle(f, *place),
-            Finding::IdOfBoth {
+            Finding::IdsOfBoth {
                 first,
                 second,
                 kind,
-                id,
-            } => write_met(f, one_of(*kind), *first, *second, *id),
+                found,
+            } => write_met(f, one_of(*kind), *first, *second, found),
             Finding::ShownToOther {
                 setter,
                 lister,

@@ -1,6 +1,7 @@
 //! What is wrong with the ids of users, or of groups, of a guest.
 
 pub(crate) mod audits;
+pub(crate) mod extent;
 pub(crate) mod found;
 pub(crate) mod kind;
 pub(crate) mod meeting;

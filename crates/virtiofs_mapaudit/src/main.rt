@@ -3,18 +3,24 @@
 
 ghost use Rattle.std.specs.Prelude.{◌≡◌, ◌≢◌, ◌↔◌, [], IsTrue, IsFalse};
 
+mod advice;
+mod alike;
 mod as_json;
 mod audit;
 mod finding;
 mod ids;
+mod mend;
 mod names;
 mod ordinal;
 mod pairs;
 mod refusal;
 mod report;
 mod setup;
+mod shell;
+mod summary;
 
 use crate::audit::{Said, say};
+use crate::mend::say_mended;
 use std::alloc::Global;
 use std::process::ExitCode;
 use std::{env, io};
@@ -76,13 +82,17 @@ fn run(rt: &HostRuntime) -> Result<Answered, AnswerFault> {
     }
 }
 
-/// Audits guests, and writes what is to be said of them.
+/// Audits guests, and writes what is to be said of them, or options that are advised.
 fn answer(
     rt: &HostRuntime,
     asked: Asked,
     guests: &[Guest<'_, Global>],
 ) -> Result<Answered, AnswerFault> {
-    let said = say(rt.alloc(), asked, guests)?;
+    let said = if asked.mend {
+        say_mended(rt.alloc(), guests)?
+    } else {
+        say(rt.alloc(), asked, guests)?
+    };
     write_whole(rt, said.text.as_str())?;
     if !asked.quiet {
         for refusal in said.refusals.as_slice() {

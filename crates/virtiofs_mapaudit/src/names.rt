@@ -2,4 +2,5 @@
 
 pub(crate) mod audits;
 pub(crate) mod found;
+pub(crate) mod mending;
 pub(crate) mod table;

@@ -3,7 +3,7 @@ ghost use Rattle.std.specs.Prelude.{IfOk, OnOk};
 ghost use Rattle.virtiofs_map.specs.Audit.{IsSeen, IsShared};
 ghost use Rattle.virtiofs_mapaudit.specs.Lists.{Adds};
 ghost use Rattle.virtiofs_mapaudit.specs.NameFindings.{FindsLeast};
-ghost use Rattle.virtiofs_mapaudit.specs.PairFindings.{FindsPair, FindsBoth, FindsIdOfBoth, FindsNamesBetween};
+ghost use Rattle.virtiofs_mapaudit.specs.PairFindings.{FindsPair, FindsBoth, FindsIdsOfBoth, FindsNamesBetween};
 
 use crate::finding::Finding;
 use crate::ids::kind::IdKind;
@@ -23,8 +23,7 @@ pub(crate) struct Numbers {
     pub(crate) second: usize,
 }
 
-/// Adds the least id of the first guest that is an id of the host which the second reaches too.
-/// Guests of which a text is refused are not compared.
+/// Adds the ids of the first guest that are ids of the host which the second reaches too. Guests of which a text is refused are not compared.
 fn push_meeting<A: Allocator + Copy>(
     alloc: A,
     found: &mut Vec<Finding<A>, A>,
@@ -34,18 +33,18 @@ fn push_meeting<A: Allocator + Copy>(
     other: &Option<IdSetUp<A>>,
 ) -> Result<(), AllocError>
     ensures { OnOk result (Adds
-        (FindsBoth (FindsIdOfBoth numbers.first numbers.second kind) one.now other.now)
+        (FindsBoth (FindsIdsOfBoth numbers.first numbers.second kind) one.now other.now)
         found.old.items found.new.items) }
 {
     let (Some(one), Some(other)) = (one, other) else {
         return Ok(());
     };
-    if let Some(id) = meeting_of(alloc, one, other)? {
-        found.push(Finding::IdOfBoth {
+    if let Some(ids) = meeting_of(alloc, one, other)? {
+        found.push(Finding::IdsOfBoth {
             first: numbers.first,
             second: numbers.second,
             kind,
-            id,
+            found: ids,
         })?;
     }
     Ok(())

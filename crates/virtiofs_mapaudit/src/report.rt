@@ -5,7 +5,7 @@ ghost use Rattle.virtiofs_mapaudit.specs.Report.{ids_found, FindsKind, FindsName
 
 use crate::finding::Finding;
 use crate::ids::audits::audit_ids;
-use crate::ids::found::{IdFault, IdFindings, IdFound};
+use crate::ids::found::{IdFault, IdFindings, IdsFound};
 use crate::ids::kind::IdKind;
 use crate::ids::ranges::{RangeFound, first_fault};
 use crate::names::audits::push_names;
@@ -13,25 +13,25 @@ use crate::setup::{IdSetUp, NamesSetUp, SetUp};
 use std::alloc::{AllocError, Allocator};
 use virtiofs_map::idmap::UidMap;
 
-/// Adds what is wrong with an id, if something is.
-fn push_id<A: Allocator>(
+/// Adds what is wrong with ids, if something is.
+fn push_fault<A: Allocator>(
     found: &mut Vec<Finding<A>, A>,
     kind: IdKind,
     in_namespace: bool,
     fault: IdFault,
-    id: Option<IdFound>,
+    ids: Option<IdsFound<A>>,
 ) -> Result<(), AllocError>
     ensures { OnOk result (found.new.items
-        ≡ found.old.items ++ listed (Finding.Id kind in_namespace fault) id) }
+        ≡ found.old.items ++ listed (Finding.Ids kind in_namespace fault) ids) }
 {
-    let Some(id) = id else {
+    let Some(ids) = ids else {
         return Ok(());
     };
-    found.push(Finding::Id {
+    found.push(Finding::Ids {
         kind,
         in_namespace,
         fault,
-        id,
+        found: ids,
     })?;
     Ok(())
 }
@@ -41,15 +41,19 @@ fn push_ids<A: Allocator>(
     found: &mut Vec<Finding<A>, A>,
     kind: IdKind,
     in_namespace: bool,
-    ids: &IdFindings,
+    ids: IdFindings<A>,
 ) -> Result<(), AllocError>
     ensures { OnOk result (found.new.items
-        ≡ found.old.items ++ ids_found kind in_namespace ids.now) }
+        ≡ found.old.items ++ ids_found kind in_namespace ids) }
 {
-    push_id(found, kind, in_namespace, IdFault::NotBack, ids.astray)?;
-    push_id(found, kind, in_namespace, IdFault::Shared, ids.shared)?;
-    push_id(found, kind, in_namespace, IdFault::Root, ids.root)?;
-    push_id(found, kind, in_namespace, IdFault::Lacking, ids.lacking)
+    let IdFindings {
+        astray,
+        root,
+        lacking,
+    } = ids;
+    push_fault(found, kind, in_namespace, IdFault::NotBack, astray)?;
+    push_fault(found, kind, in_namespace, IdFault::Root, root)?;
+    push_fault(found, kind, in_namespace, IdFault::Lacking, lacking)
 }
 
 /// Adds the first range of the namespace that is at fault, if one is.
@@ -79,7 +83,7 @@ fn push_kind<A: Allocator + Copy>(
     let ranges = set.ranges.as_slice();
     let ids = audit_ids(alloc, &set.map, ranges)?;
     push_range(found, kind, first_fault(ranges))?;
-    push_ids(found, kind, has_some(ranges), &ids)
+    push_ids(found, kind, has_some(ranges), ids)
 }
 
 /// Whether there are ranges.

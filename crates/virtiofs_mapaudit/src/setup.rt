@@ -1,5 +1,5 @@
 //! What the texts of a guest set up, and which of them are refused.
-ghost use Rattle.std.specs.Prelude.{◌≡◌, ◌≢◌, ◌++◌, ◌∷◌, ◌↔◌, [], IfOk, IfErr, IsTrue, OnOk, Some, None, string_bytes};
+ghost use Rattle.std.specs.Prelude.{◌≡◌, ◌≢◌, ◌++◌, ◌∷◌, ◌↔◌, [], IfOk, IfErr, IfSome, IsTrue, OnOk, Some, None, string_bytes};
 ghost use Rattle.std.specs.Str.{chars};
 ghost use Rattle.virtiofs_map.specs.Refusal.{OutOfMemoryOr};
 ghost use Rattle.virtiofs_map.specs.Build.{BuildFault, build_fault_of};
@@ -229,6 +229,24 @@ fn read_text<A: Allocator + Copy>(alloc: A, text: &str) -> Result<NamesSetUp<A>,
     let map = XattrMap::try_from(alloc, text)?;
     let written = XattrMap::written_rules(alloc, text)?;
     Ok(NamesSetUp { map, written })
+}
+
+/// What a text of rules sets up; `None` where the text is refused.
+pub(crate) fn names_of_text<A: Allocator + Copy>(
+    alloc: A,
+    text: &str,
+) -> Result<Option<NamesSetUp<A>>, AllocError>
+    ensures { IfOk result (λ found. IfSome found (ReadsText (chars text.now))) }
+{
+    match read_text(alloc, text) {
+        Ok(set) => Ok(Some(set)),
+        Err(error) => {
+            if tells_fault(&error) {
+                return Ok(None);
+            }
+            Err(AllocError)
+        }
+    }
 }
 
 /// Whether an error tells what is wrong with a text of rules. Otherwise it says that memory ran out.

@@ -1,12 +1,12 @@
 -- What the parts before the first `--` ask for.
-use Rattle.std.specs.Prelude.{◌≡◌, ℕ, List, Bool, not, ◌||◌, Option, Some, None, find, bytes_eq, codes, is_some, if◌then◌else◌}
+use Rattle.std.specs.Prelude.{◌≡◌, ℕ, List, Bool, true, not, ◌||◌, ◌&&◌, Option, Some, None, find, bytes_eq, codes, is_some, if◌then◌else◌}
 use Rattle.std.specs.Borrow.{Bor}
 use Rattle.std.specs.List.{list_any}
 use Rattle.std.specs.Option.{option_and_then}
 use Rattle.virtiofs_options.specs.GuestOptions.{values_of, has_flag, is_flag}
 use Rattle.virtiofs_options.specs.declared.command.Part.{Part}
 use Rattle.virtiofs_options.specs.declared.fault.Fault.{Fault}
-use Rattle.virtiofs_options.specs.declared.fault.Fault.TheVariants.{Unknown, Missing, Unwanted, NotShown}
+use Rattle.virtiofs_options.specs.declared.fault.Fault.TheVariants.{Unknown, Missing, Unwanted, NotShown, NotAlone}
 use Rattle.virtiofs_options.specs.declared.front.Asked.{Asked}
 use Rattle.virtiofs_options.specs.declared.help.Telling.{Telling}
 use Rattle.virtiofs_options.specs.declared.help.Telling.TheVariants.{Help, Version}
@@ -25,12 +25,21 @@ not_shown parts =
 pub record IsAsked (parts : List Part) (asked : Asked) : Type 0 where
   pub json : asked.json ≡ has_flag (codes "--json") parts
   pub quiet : asked.quiet ≡ has_flag (codes "--quiet") parts
+  pub mend : asked.mend ≡ has_flag (codes "--mend") parts
   pub ids : asked.ids ≡ has_shown (codes "ids") parts
   pub names : asked.names ≡ has_shown (codes "names") parts
+
+-- `--mend` stands beside an option that also says what is written
+abbrev pub mixes : List Part → Bool
+mixes parts =
+    has_flag (codes "--mend") parts
+    && (has_flag (codes "--json") parts || has_flag (codes "--quiet") parts
+    || has_shown (codes "ids") parts || has_shown (codes "names") parts)
 
 -- what is wrong with what is asked for
 abbrev pub IsAskedWrongly : List Part → Fault → Type 0
 IsAskedWrongly parts (NotShown value) = not_shown parts ≡ Some value
+IsAskedWrongly parts NotAlone = (not_shown parts ≡ None) × (mixes parts ≡ true)
 IsAskedWrongly parts (Unknown word) = ⊥
 IsAskedWrongly parts (Missing option) = ⊥
 IsAskedWrongly parts (Unwanted option) = ⊥

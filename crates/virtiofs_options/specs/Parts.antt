@@ -4,7 +4,7 @@ use Rattle.std.specs.Borrow.{Bor}
 use Rattle.virtiofs_options.specs.declared.command.Part.{Part}
 use Rattle.virtiofs_options.specs.declared.command.Part.TheVariants.{Plain, Flag, Valued}
 use Rattle.virtiofs_options.specs.declared.fault.Fault.{Fault}
-use Rattle.virtiofs_options.specs.declared.fault.Fault.TheVariants.{Unknown, Missing, Unwanted, NotShown}
+use Rattle.virtiofs_options.specs.declared.fault.Fault.TheVariants.{Unknown, Missing, Unwanted, NotShown, NotAlone}
 use Rattle.virtiofs_options.specs.declared.fault.ReadError.{ReadError}
 use Rattle.virtiofs_options.specs.declared.fault.ReadError.TheVariants.{OutOfMemory, Wrong}
 use Rattle.virtiofs_options.specs.declared.options.Options.{Options}
@@ -82,6 +82,7 @@ IsWrong options words (Unwanted name) =
     (word : Bor (List ℕ)) × (rest : List (Bor (List ℕ))) × (words ≡ word ∷ rest) × IsOption word.now
     × ((value : List ℕ) × Names word.now name.now (Some value)) × (takes_of options name.now ≡ Some Nothing)
 IsWrong options words (NotShown value) = ⊥
+IsWrong options words NotAlone = ⊥
 
 -- the words are these parts, and then the rest
 abbrev pub PartsThen : Options → List (Bor (List ℕ)) → List Part → List (Bor (List ℕ)) → Type 0

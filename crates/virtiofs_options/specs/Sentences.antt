@@ -2,7 +2,7 @@
 use Rattle.std.specs.Prelude.{◌≡◌, ℕ, ◌∷◌, ◌++◌, List, [], flat_map, codes, length, take, nat_lt, if◌then◌else◌, chars, encode_utf8_all}
 use Rattle.virtiofs_output.specs.Written.{quoted}
 use Rattle.virtiofs_options.specs.declared.fault.Fault.{Fault}
-use Rattle.virtiofs_options.specs.declared.fault.Fault.TheVariants.{Unknown, Missing, Unwanted, NotShown}
+use Rattle.virtiofs_options.specs.declared.fault.Fault.TheVariants.{Unknown, Missing, Unwanted, NotShown, NotAlone}
 
 -- texts one after another
 abbrev pub joined : List (List ℕ) → List ℕ
@@ -31,3 +31,4 @@ IsSentence (Unknown word) text = (known : List ℕ) × (text ≡ unknown_sentenc
 IsSentence (Missing option) text = text ≡ codes "'" ++ option.now ++ codes "' lacks its value\n"
 IsSentence (Unwanted option) text = text ≡ codes "'" ++ option.now ++ codes "' has no value\n"
 IsSentence (NotShown value) text = text ≡ not_shown_sentence value.now
+IsSentence NotAlone text = text ≡ codes "'--mend' goes with neither '--json', '--quiet' nor '--show'\n"

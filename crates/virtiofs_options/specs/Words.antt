@@ -1,7 +1,7 @@
 -- What the program's words come to.
-use Rattle.std.specs.Prelude.{◌≡◌, ◌⊎◌, ℕ, List, Option, None, Some, position, bytes_eq, codes}
+use Rattle.std.specs.Prelude.{◌≡◌, ◌⊎◌, ℕ, List, false, Option, None, Some, position, bytes_eq, codes}
 use Rattle.std.specs.Borrow.{Bor}
-use Rattle.virtiofs_options.specs.AskedOptions.{IsAsked, IsAskedWrongly, first_told, not_shown}
+use Rattle.virtiofs_options.specs.AskedOptions.{IsAsked, IsAskedWrongly, first_told, not_shown, mixes}
 use Rattle.virtiofs_options.specs.GuestOptions.{HasNoOption, TakesIn}
 use Rattle.virtiofs_options.specs.Parts.{AreParts, HasFault}
 use Rattle.virtiofs_options.specs.declared.command.Part.{Part}
@@ -25,7 +25,7 @@ IsFront options words (Tell telling) =
     (parts : List Part) × AreParts options words parts × (first_told parts ≡ Some telling)
 IsFront options words (Audit asked guest) =
     (parts : List Part) × AreParts options words parts × (first_told parts ≡ None) × (not_shown parts ≡ None)
-    × IsAsked parts asked × IsGuestOf parts guest
+    × (mixes parts ≡ false) × IsAsked parts asked × IsGuestOf parts guest
 
 -- what is wrong with these words: a word, or what they ask for
 abbrev pub HasFrontFault : Options → List (Bor (List ℕ)) → Fault → Type 0

@@ -19,6 +19,8 @@ pub(crate) enum Fault<'a> {
     Unwanted(&'a str),
     /// `--show` has a value that names nothing to show.
     NotShown(&'a str),
+    /// `--mend` stands beside an option that also says what is written.
+    NotAlone,
 }
 
 /// Why words are not read.
@@ -124,5 +126,9 @@ pub(crate) fn fault_text(
         Fault::Missing(option) => format!(in alloc; "'{option}' lacks its value\n"),
         Fault::Unwanted(option) => format!(in alloc; "'{option}' has no value\n"),
         Fault::NotShown(value) => not_shown_text(alloc, value),
+        Fault::NotAlone => String::from_str(
+            alloc,
+            "'--mend' goes with neither '--json', '--quiet' nor '--show'\n",
+        ),
     }
 }

@@ -1,6 +1,6 @@
 //! What the words before the first `--` ask for.
 ghost use Rattle.std.specs.Prelude.{◌≡◌, true, false, None, find, is_some, IsOk, IfOk, IfErr};
-ghost use Rattle.virtiofs_options.specs.AskedOptions.{has_shown, not_shown, IsAsked, IsAskedWrongly, tells, first_told};
+ghost use Rattle.virtiofs_options.specs.AskedOptions.{has_shown, not_shown, IsAsked, IsAskedWrongly, mixes, tells, first_told};
 ghost use Rattle.virtiofs_options.specs.GuestOptions.{has_flag};
 
 use crate::command::Part;
@@ -14,6 +14,8 @@ pub struct Asked {
     pub json: bool,
     /// Not at all: the status alone tells.
     pub quiet: bool,
+    /// Mended options alone. Then none of the others is asked for.
+    pub mend: bool,
     /// What becomes of all ids.
     pub ids: bool,
     /// What becomes of some names.
@@ -51,21 +53,28 @@ fn not_shown<'a>(parts: &[Part<'a>]) -> Option<&'a str>
 ///
 /// # Errors
 ///
-/// `NotShown`: the first value of a `--show` that names nothing to show.
+/// `NotShown`: the first value of a `--show` that names nothing to show. `NotAlone`, where there is
+/// no such value: `--mend` and another option that says what is written.
 pub(crate) fn asked_of<'a>(parts: &[Part<'a>]) -> Result<Asked, Fault<'a>>
     ensures shown { IsOk result → not_shown parts.now ≡ None }
     ensures read { IfOk result (IsAsked parts.now) }
+    ensures alone { IsOk result → mixes parts.now ≡ false }
     ensures refused { IfErr result (IsAskedWrongly parts.now) }
 {
     if let Some(value) = not_shown(parts) {
         return Err(Fault::NotShown(value));
     }
-    Ok(Asked {
+    let asked = Asked {
         json: has_flag(parts, "--json"),
         quiet: has_flag(parts, "--quiet"),
+        mend: has_flag(parts, "--mend"),
         ids: has_shown(parts, "ids"),
         names: has_shown(parts, "names"),
-    })
+    };
+    if asked.mend && (asked.json || asked.quiet || asked.ids || asked.names) {
+        return Err(Fault::NotAlone);
+    }
+    Ok(asked)
 }
 
 /// What the program is to tell of itself, where a part asks for that.

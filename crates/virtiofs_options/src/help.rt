@@ -83,7 +83,12 @@ fn command<'a>(alloc: Global) -> Result<Command<'a>, AllocError> {
     of_daemon(alloc, program(alloc))?
         .arg(show(alloc))?
         .arg(flag(alloc, "json", "Write JSON"))?
-        .arg(flag(alloc, "quiet", "Write nothing: the status tells"))
+        .arg(flag(alloc, "quiet", "Write nothing: the status tells"))?
+        .arg(flag(
+            alloc,
+            "mend",
+            "Write mended options alone, a line for each guest",
+        ))
 }
 
 /// What the program says of itself, on demand.

@@ -35,7 +35,7 @@ pub(crate) const OF_DAEMON: Options = Options {
 };
 
 /// The options of the program, and those of the daemon that may stand beside them.
-const KNOWN: [(&str, Takes); 13] = [
+const KNOWN: [(&str, Takes); 14] = [
     ("--translate-uid", Value),
     ("--translate-gid", Value),
     ("--uid-map", Value),
@@ -44,6 +44,7 @@ const KNOWN: [(&str, Takes); 13] = [
     ("--posix-acl", Nothing),
     ("--json", Nothing),
     ("--quiet", Nothing),
+    ("--mend", Nothing),
     ("--show", Value),
     ("--help", Nothing),
     ("-h", Nothing),

@@ -2,17 +2,18 @@
 ghost use Rattle.std.specs.Prelude.{◌≡◌, ◌+◌, ◌++◌, IfOk, OnOk, map};
 ghost use Rattle.serde_json.specs.View.{view};
 ghost use Rattle.virtiofs_mapaudit.specs.NameJson.{least_data};
-ghost use Rattle.virtiofs_mapaudit.specs.FindingJson.{ids_word, alone_data, id_data, range_data, fault_data, idle_data, names_data, between_data, met_data, finding_data};
+ghost use Rattle.virtiofs_mapaudit.specs.FindingJson.{ids_word, span_data, alone_data, not_back_data, ids_data, range_data, fault_data, idle_data, names_data, between_data, met_data, finding_data};
 
-use super::Built;
 use super::names::least_value;
+use super::{Built, BuiltList};
 use crate::finding::Finding;
-use crate::ids::found::{IdFault, IdFound};
+use crate::ids::found::{IdFault, IdsFound};
 use crate::ids::kind::IdKind;
 use crate::ids::ranges::{RangeFault, RangeFound};
 use crate::names::found::LeastName;
 use serde_json::{Value, json};
 use std::alloc::{AllocError, Global};
+use virtiofs_map::id_audit::Span;
 
 /// The word for a kind of ids.
 fn word(kind: IdKind) -> &'static str
@@ -32,29 +33,51 @@ fn number_at(place: usize) -> Result<usize, AllocError>
     place.checked_add(1).ok_or(AllocError)
 }
 
-/// An id of which no second id is told.
-fn alone(alloc: Global, guest: usize, what: &str, ids: &str, it: IdFound) -> Built
-    ensures { IfOk result (λ value. view value ≡ alone_data guest what.now ids.now it) }
+/// Ids that follow one another.
+fn span_value(alloc: Global, span: Span) -> Built
+    ensures { IfOk result (λ value. view value ≡ span_data span) }
 {
-    json!(in alloc; {"guest": guest, "kind": what, "ids": ids, "id": it.guest, "host": it.host})
+    json!(in alloc; {"first": span.first, "last": span.last})
 }
 
-/// What is wrong with an id, and its second id under the name that it has there.
-fn id_value(alloc: Global, guest: usize, ids: &str, fault: IdFault, it: IdFound) -> Built
-    ensures { IfOk result (λ value. view value ≡ id_data guest ids.now fault it) }
+/// The ids of a finding.
+fn spans_value(alloc: Global, spans: &[Span]) -> BuiltList
+    ensures { IfOk result (λ list. map view list.items ≡ map span_data spans.now) }
 {
-    let IdFound {
-        guest: id,
-        host,
-        other,
-    } = it;
+    let mut list = Vec::new(alloc);
+    for span in spans {
+        list.push(span_value(alloc, *span)?)?;
+    }
+    Ok(list)
+}
+
+/// Ids of which no second id is told.
+fn alone(alloc: Global, guest: usize, what: &str, ids: &str, it: &IdsFound<Global>) -> Built
+    ensures { IfOk result (λ value. view value ≡ alone_data guest what.now ids.now it.now) }
+{
+    let spans = spans_value(alloc, it.ids.as_slice())?;
+    json!(in alloc; {
+        "guest": guest, "kind": what, "ids": ids, "id": it.guest, "host": it.host, "spans": spans
+    })
+}
+
+/// Ids that do not round-trip.
+fn not_back_value(alloc: Global, guest: usize, ids: &str, it: &IdsFound<Global>) -> Built
+    ensures { IfOk result (λ value. view value ≡ not_back_data guest ids.now it.now) }
+{
+    let spans = spans_value(alloc, it.ids.as_slice())?;
+    json!(in alloc; {
+        "guest": guest, "kind": "not_back", "ids": ids, "id": it.guest, "host": it.host,
+        "back": it.other, "shared": it.is_shared, "spans": spans
+    })
+}
+
+/// What is wrong with ids.
+fn ids_value(alloc: Global, guest: usize, ids: &str, fault: IdFault, it: &IdsFound<Global>) -> Built
+    ensures { IfOk result (λ value. view value ≡ ids_data guest ids.now fault it.now) }
+{
     match fault {
-        IdFault::NotBack => json!(in alloc; {
-            "guest": guest, "kind": "not_back", "ids": ids, "id": id, "host": host, "back": other
-        }),
-        IdFault::Shared => json!(in alloc; {
-            "guest": guest, "kind": "one_on_host", "ids": ids, "id": id, "host": host, "other": other
-        }),
+        IdFault::NotBack => not_back_value(alloc, guest, ids, it),
         IdFault::Root => alone(alloc, guest, "root", ids, it),
         IdFault::Lacking => alone(alloc, guest, "lacking", ids, it),
     }
@@ -128,13 +151,14 @@ fn names_between(
     json!(in alloc; {"guests": [first, second], "kind": what, "least": least})
 }
 
-/// An id of the host that two guests reach.
-fn met_value(alloc: Global, first: usize, second: usize, ids: &str, it: IdFound) -> Built
-    ensures { IfOk result (λ value. view value ≡ met_data first second ids.now it) }
+/// Ids of the host that two guests reach.
+fn met_value(alloc: Global, first: usize, second: usize, ids: &str, it: &IdsFound<Global>) -> Built
+    ensures { IfOk result (λ value. view value ≡ met_data first second ids.now it.now) }
 {
+    let spans = spans_value(alloc, it.ids.as_slice())?;
     json!(in alloc; {
         "guests": [first, second], "kind": "id_of_both", "ids": ids, "id": it.guest,
-        "other": it.other, "host": it.host
+        "other": it.other, "host": it.host, "spans": spans
     })
 }
 
@@ -145,22 +169,22 @@ fn finding_value(alloc: Global, guest: usize, finding: &Finding<Global>) -> Buil
     match finding {
         Finding::PosixAcl => json!(in alloc; {"guest": guest, "kind": "posix_acl"}),
         Finding::Range { kind, range } => fault_value(alloc, guest, *kind, *range),
-        Finding::Id {
+        Finding::Ids {
             kind,
             fault,
-            id,
+            found,
             ..
-        } => id_value(alloc, guest, word(*kind), *fault, *id),
+        } => ids_value(alloc, guest, word(*kind), *fault, found),
         Finding::NoRule => json!(in alloc; {"guest": guest, "kind": "no_rule"}),
         Finding::NotListed(least) => names_value(alloc, guest, "not_listed", least),
         Finding::ListedElsewhere(least) => names_value(alloc, guest, "listed_elsewhere", least),
         Finding::IdleRule(place) => idle_value(alloc, guest, *place),
-        Finding::IdOfBoth {
+        Finding::IdsOfBoth {
             first,
             second,
             kind,
-            id,
-        } => { met_value(alloc, *first, *second, word(*kind), *id) }
+            found,
+        } => { met_value(alloc, *first, *second, word(*kind), found) }
         Finding::ShownToOther {
             setter,
             lister,

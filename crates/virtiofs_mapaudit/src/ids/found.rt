@@ -1,39 +1,43 @@
 //! What is told of ids that are reported.
 
-/// What may be wrong with an id of a guest.
-#[derive(Clone, Copy)]
+use std::alloc::Allocator;
+use virtiofs_map::id_audit::Span;
+
+/// What may be wrong with ids of a guest.
+#[derive(Clone, Copy, PartialEq, Eq)]
 pub(crate) enum IdFault {
-    /// It becomes an id of the host that leads back to another id of the guest.
+    /// They do not round-trip: each becomes an id of the host that leads back to another id of the
+    /// guest.
     NotBack,
-    /// It becomes an id of the host that another id of the guest becomes too.
-    Shared,
-    /// It acts as root of the host.
+    /// They act as root of the host.
     Root,
-    /// It becomes an id that the namespace of the daemon lacks.
+    /// They become ids that the namespace of the daemon lacks.
     Lacking,
 }
 
-/// An id of a guest that is reported, and what is told of it.
-#[derive(Clone, Copy)]
-pub(crate) struct IdFound {
-    /// The id of the guest.
+/// Ids of a guest that are reported, and what is told of the least of them.
+#[derive(Drop)]
+pub(crate) struct IdsFound<A: Allocator> {
+    /// All of them, as spans in order; an id lies between each two.
+    pub(crate) ids: Vec<Span, A>,
+    /// The least of them.
     pub(crate) guest: u32,
-    /// What it becomes on the host.
+    /// What the least of them becomes: an id of the host, or one inside the daemon's namespace.
     pub(crate) host: u32,
-    /// A second id: what the id of the host becomes in the guest, or another id that becomes it. It
+    /// A second id: what `host` becomes in the guest, or the id of another guest that becomes it. It
     /// is 0 where none is told.
     pub(crate) other: u32,
+    /// Whether the second id is one of the same guest, and becomes `host` too.
+    pub(crate) is_shared: bool,
 }
 
-/// What is wrong with the ids of a guest: the least id of each kind.
-#[derive(Clone, Copy)]
-pub(crate) struct IdFindings {
-    /// An id that does not come back.
-    pub(crate) astray: Option<IdFound>,
-    /// An id that shares its id of the host with another one.
-    pub(crate) shared: Option<IdFound>,
-    /// An id that acts as root of the host.
-    pub(crate) root: Option<IdFound>,
-    /// An id that becomes one which the namespace of the daemon lacks.
-    pub(crate) lacking: Option<IdFound>,
+/// What is wrong with the ids of a guest.
+#[derive(Drop)]
+pub(crate) struct IdFindings<A: Allocator> {
+    /// The ids that do not round-trip, but for those that the namespace of the daemon lacks.
+    pub(crate) astray: Option<IdsFound<A>>,
+    /// The ids that act as root of the host.
+    pub(crate) root: Option<IdsFound<A>>,
+    /// The ids that become one which the namespace of the daemon lacks.
+    pub(crate) lacking: Option<IdsFound<A>>,
 }

@@ -3,7 +3,7 @@ ghost use Rattle.std.specs.Prelude.{◌≡◌};
 ghost use Rattle.virtiofs_mapaudit.specs.KindWords.{one_of, translating, ranging};
 
 /// Whether ids are those of users or of groups.
-#[derive(Clone, Copy)]
+#[derive(Clone, Copy, PartialEq, Eq)]
 pub(crate) enum IdKind {
     /// Ids of users.
     Users,

@@ -4,12 +4,11 @@ ghost use Rattle.virtiofs_map.specs.IdAudit.{IsLeastId, GoesInto, Hold};
 ghost use Rattle.virtiofs_mapaudit.specs.IdFindings.{ReachedOutside, Meets, TellsMeeting, FindsMeeting};
 ghost use Rattle.virtiofs_mapaudit.specs.Namespace.{StandsBy, StandsFor};
 
-use super::audits::standing_for;
-use super::found::IdFound;
+use super::found::IdsFound;
 use super::outside::{Way, id_moved, moved_all};
 use crate::setup::IdSetUp;
 use std::alloc::{AllocError, Allocator};
-use virtiofs_map::id_audit::{Span, reached, reaches_any};
+use virtiofs_map::id_audit::{Span, ids_into, reached, reaches_any};
 use virtiofs_map::id_types::{GuestUid, Id};
 use virtiofs_map::idmap::UidMap;
 
@@ -23,71 +22,102 @@ struct Met {
 }
 
 /// The id of the host, if the guest reaches it.
-fn met_at<A: Allocator>(host: u32, other: &IdSetUp<A>) -> Option<Met>
-    ensures { MatchOption result (¬ ReachedOutside other.now.map other.now.ranges.items host)
+fn met_at<A: Allocator + Copy>(
+    alloc: A,
+    host: u32,
+    other: &IdSetUp<A>,
+) -> Result<Option<Met>, AllocError>
+    ensures { IfOk result (λ met. MatchOption met
+        (¬ ReachedOutside other.now.map other.now.ranges.items host)
         (λ met. (met.host ≡ host) × IsLeastId
-        (GoesInto other.now.map (StandsFor other.now.ranges.items host)) met.guest) }
+        (GoesInto other.now.map (StandsFor other.now.ranges.items host)) met.guest)) }
 {
-    let Some(found) = standing_for(&other.map, other.ranges.as_slice(), host) else {
-        return None;
+    let one = [Span {
+        first: host,
+        last: host,
+    }];
+    let inside = moved_all(alloc, Way::Inwards, other.ranges.as_slice(), &one)?;
+    let Some(guest) = reaches_any(alloc, &other.map, inside.as_slice())? else {
+        return Ok(None);
     };
-    Some(Met {
+    Ok(Some(Met {
         host,
-        guest: found.guest,
-    })
+        guest: guest.into_inner(),
+    }))
 }
 
 /// What the id inside the range is outside it, if the guest reaches that.
-fn met_by<A: Allocator>(range: &UidMap, inside: u32, other: &IdSetUp<A>) -> Option<Met>
-    ensures { MatchOption result
+fn met_by<A: Allocator + Copy>(
+    alloc: A,
+    range: &UidMap,
+    inside: u32,
+    other: &IdSetUp<A>,
+) -> Result<Option<Met>, AllocError>
+    ensures { IfOk result (λ met. MatchOption met
         ((host : ℕ) → StandsBy range.now host inside
         → ¬ ReachedOutside other.now.map other.now.ranges.items host)
         (λ met. StandsBy range.now met.host inside × IsLeastId
-        (GoesInto other.now.map (StandsFor other.now.ranges.items met.host)) met.guest) }
+        (GoesInto other.now.map (StandsFor other.now.ranges.items met.host)) met.guest)) }
 {
     let Some(host) = id_moved(Way::Outwards, range, inside) else {
-        return None;
+        return Ok(None);
     };
-    met_at(host, other)
+    met_at(alloc, host, other)
 }
 
 /// What the id inside the namespace of these ranges is outside it, if the guest reaches that.
-fn met_of<A: Allocator>(ranges: &[UidMap], inside: u32, other: &IdSetUp<A>) -> Option<Met>
-    ensures { MatchOption result
+fn met_of<A: Allocator + Copy>(
+    alloc: A,
+    ranges: &[UidMap],
+    inside: u32,
+    other: &IdSetUp<A>,
+) -> Result<Option<Met>, AllocError>
+    ensures { IfOk result (λ met. MatchOption met
         (¬ Meets ranges.now other.now.map other.now.ranges.items inside)
         (λ met. StandsFor ranges.now met.host inside × IsLeastId
-        (GoesInto other.now.map (StandsFor other.now.ranges.items met.host)) met.guest) }
+        (GoesInto other.now.map (StandsFor other.now.ranges.items met.host)) met.guest)) }
 {
     if ranges.is_empty() {
-        return met_at(inside, other);
+        return met_at(alloc, inside, other);
     }
     for range in ranges {
-        if let Some(met) = met_by(range, inside, other) {
-            return Some(met);
+        if let Some(met) = met_by(alloc, range, inside, other)? {
+            return Ok(Some(met));
         }
     }
-    None
+    Ok(None)
 }
 
-/// What is told of an id of the first guest that is an id of the host which the second reaches.
-fn meeting_at<A: Allocator>(one: &IdSetUp<A>, other: &IdSetUp<A>, guest: GuestUid) -> IdFound
+/// What is told of ids of the first guest that are ids of the host which the second reaches, where
+/// `guest` is the least of them.
+fn meeting_at<A: Allocator + Copy>(
+    alloc: A,
+    one: &IdSetUp<A>,
+    other: &IdSetUp<A>,
+    guest: GuestUid,
+    ids: Vec<Span, A>,
+) -> Result<IdsFound<A>, AllocError>
     requires { GoesInto one.now.map
         (Meets one.now.ranges.items other.now.map other.now.ranges.items) guest }
-    ensures guest { result.guest ≡ guest }
-    ensures told { TellsMeeting one.now.map one.now.ranges.items
-        other.now.map other.now.ranges.items result }
+    ensures ids { IfOk result (λ found. found.ids ≡ ids) }
+    ensures guest { IfOk result (λ found. found.guest ≡ guest) }
+    ensures told { IfOk result (TellsMeeting one.now.map one.now.ranges.items
+        other.now.map other.now.ranges.items) }
 {
     let Ok(inside) = one.map.map_guest(guest) else {
         unreachable!();
     };
-    let Some(met) = met_of(one.ranges.as_slice(), inside.into_inner(), other) else {
+    let met = met_of(alloc, one.ranges.as_slice(), inside.into_inner(), other)?;
+    let Some(met) = met else {
         unreachable!();
     };
-    IdFound {
+    Ok(IdsFound {
+        ids,
         guest: guest.into_inner(),
         host: met.host,
         other: met.guest,
-    }
+        is_shared: false,
+    })
 }
 
 /// The ids inside the namespace of these ranges which are ids of the host that the guest reaches.
@@ -110,19 +140,20 @@ fn met_inside<A: Allocator + Copy>(
     Ok(met)
 }
 
-/// The least id of the first guest that is an id of the host which the second reaches too.
+/// The ids of the first guest that are ids of the host which the second reaches too.
 pub(crate) fn meeting_of<A: Allocator + Copy>(
     alloc: A,
     one: &IdSetUp<A>,
     other: &IdSetUp<A>,
-) -> Result<Option<IdFound>, AllocError>
+) -> Result<Option<IdsFound<A>>, AllocError>
     ensures { IfOk result (FindsMeeting one.now.map one.now.ranges.items
         other.now.map other.now.ranges.items) }
 {
     let met = met_inside(alloc, one.ranges.as_slice(), other)?;
-    let least = reaches_any(alloc, &one.map, met.as_slice())?;
-    let Some(guest) = least else {
+    let ids = ids_into(alloc, &one.map, met.as_slice())?;
+    let Some(span) = ids.as_slice().first() else {
         return Ok(None);
     };
-    Ok(Some(meeting_at(one, other, guest)))
+    let guest = GuestUid::from(span.first);
+    Ok(Some(meeting_at(alloc, one, other, guest, ids)?))
 }

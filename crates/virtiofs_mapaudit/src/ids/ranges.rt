@@ -114,7 +114,7 @@ impl fmt::Display for Place<'_> {
     }
 }
 
-/// Writes that a range is at fault, and what mends it.
+/// Writes that a range is at fault.
 pub(crate) fn write_range<W: fmt::Write>(
     f: &mut fmt::Formatter<W>,
     kind: IdKind,
@@ -128,24 +128,15 @@ pub(crate) fn write_range<W: fmt::Write>(
         option,
     };
     match found.fault {
-        RangeFault::Empty => write!(f, "{range} has no id\n  fix: leave it out\n"),
-        RangeFault::Beyond => write!(
-            f,
-            "{range} reaches past the greatest id, 4294967294\n  fix: make it shorter\n"
-        ),
+        RangeFault::Empty => write!(f, "{range} has no id\n"),
+        RangeFault::Beyond => write!(f, "{range} reaches past the greatest id, 4294967294\n"),
         RangeFault::MeetsInside(place) => {
             let other = Place { place, option };
-            write!(
-                f,
-                "{range} overlaps {other} inside the namespace\n  fix: make one of them shorter\n"
-            )
+            write!(f, "{range} overlaps {other} inside the namespace\n")
         }
         RangeFault::MeetsOutside(place) => {
             let other = Place { place, option };
-            write!(
-                f,
-                "{range} overlaps {other} outside the namespace\n  fix: make one of them shorter\n"
-            )
+            write!(f, "{range} overlaps {other} outside the namespace\n")
         }
     }
 }

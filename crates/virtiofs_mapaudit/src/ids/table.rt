@@ -18,7 +18,7 @@ pub(crate) struct Span {
 }
 
 /// Writes ids that follow one another at the end of a text.
-fn push_span<A: Allocator>(text: &mut String<A>, span: Span) -> Result<(), AllocError>
+pub(crate) fn push_span<A: Allocator>(text: &mut String<A>, span: Span) -> Result<(), AllocError>
     ensures { OnOk result (string_bytes text.new ≡ string_bytes text.old ++ span_text span) }
 {
     let Span { first, last } = span;
@@ -29,7 +29,7 @@ fn push_span<A: Allocator>(text: &mut String<A>, span: Span) -> Result<(), Alloc
 }
 
 /// The ids of a piece.
-fn span_of(piece: Piece) -> Span
+pub(crate) fn span_of(piece: Piece) -> Span
     ensures { result ≡ span_of piece }
 {
     Span {
@@ -39,7 +39,7 @@ fn span_of(piece: Piece) -> Span
 }
 
 /// What the ids of a piece become; `None` where their use fails.
-fn images_of(piece: Piece) -> Option<Span>
+pub(crate) fn images_of(piece: Piece) -> Option<Span>
     requires order { piece.first ≤ piece.last }
     ensures { result ≡ images_of piece }
 {

@@ -1,3 +1,4 @@
+use Rattle.std.proofs.Common.{refl}
 use Rattle.virtiofs_mapaudit.proofs.ReportLemmas.{audited_none, audited_more, audited_all}
 use Rattle.virtiofs_mapaudit.proofs.audit.audit.Goals as goal
 
@@ -7,7 +8,7 @@ loop-place-init g c = audited_none c.args.sets.now _ _ c.new-guests.ensures.item
 pub loop-place-preserved : goal.loop-place-preserved
 loop-place-preserved g c =
     audited_more c.args.sets.now c.loop-place.place c.index-sets-place.result _ _ _ _ _ c.index-sets-place.is
-    c.loop-place-test.true c.loop-place.invariant c.in_ok-push.ensures.items
+    c.loop-place-test.true c.loop-place.invariant c.in_ok-push.ensures.items refl refl
     c.in_ok-audit_guest.ensures c.in_ok-audit_pairs.ensures
 
 pub returns : goal.returns

@@ -4,5 +4,5 @@ use Rattle.virtiofs_mapaudit.proofs.finding.write_not_back.Goals as goal
 
 pub returns : goal.returns
 returns g c = λ plain ok.
-    let first = c.in_ok-write.ensures.writes plain refl in
-    put_two _ _ _ _ _ _ _ first (c.write-2.ensures.writes first.plain ok) refl
+    let first = rw c.as_slice.ensures.value at (c.in_ok-write_astray.ensures plain refl) in
+    put_two _ _ _ _ _ _ _ first (c.write_way.ensures first.plain ok) refl

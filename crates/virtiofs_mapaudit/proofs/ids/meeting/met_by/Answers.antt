@@ -1,4 +1,4 @@
-use Rattle.virtiofs_mapaudit.proofs.MeetingLemmas.{met_here}
+use Rattle.virtiofs_mapaudit.proofs.MeetingLemmas.{met_here_if}
 use Rattle.virtiofs_mapaudit.proofs.ids.meeting.met_by.Goals as goal
 
 pub returns-in_default : goal.returns-in_default
@@ -6,5 +6,5 @@ returns-in_default g c = λ host stands reached. c.in_default.ensures host stand
 
 pub returns : goal.returns
 returns g c =
-    met_here _ c.args.range.now c.args.inside c.in-Some.host c.args.other.now.map c.args.other.now.ranges.items
+    met_here_if c.met_at.result c.args.range.now c.args.inside c.in-Some.host c.args.other.now.map c.args.other.now.ranges.items
     c.in-Some.ensures c.met_at.ensures

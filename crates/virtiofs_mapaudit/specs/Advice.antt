@@ -1,0 +1,98 @@
+-- Options that are advised in place of those of guests. They were tried: less is found with them.
+use Rattle.std.specs.Prelude.{◌≡◌, ◌≢◌, ◌⊎◌, ◌↔◌, ℕ, IsTrue, nat_lt, if◌then◌else◌, List, [], length}
+use Rattle.std.specs.List.{AllZip}
+use Rattle.virtiofs_map.specs.IdAudit.{IsAstray, GoesInto}
+use Rattle.virtiofs_map.specs.Mending.{Mends}
+use Rattle.virtiofs_map.specs.declared.cmdline.IdMap.{IdMap}
+use Rattle.virtiofs_mapaudit.specs.Guests.{SetsUp}
+use Rattle.virtiofs_mapaudit.specs.Lists.{AnyHas, AnyTwoHave}
+use Rattle.virtiofs_mapaudit.specs.Namespace.{IsLacking}
+use Rattle.virtiofs_mapaudit.specs.Refusals.{TellsGuests}
+use Rattle.virtiofs_mapaudit.specs.Report.{FindsReport, IsFound}
+use Rattle.virtiofs_mapaudit.specs.declared.advice.Advised.{Advised}
+use Rattle.virtiofs_mapaudit.specs.declared.advice.kinds.FindingKind.{FindingKind}
+use Rattle.virtiofs_mapaudit.specs.declared.advice.kinds.FindingKind.TheVariants as kinds
+use Rattle.virtiofs_mapaudit.specs.declared.audit.Part.{Part}
+use Rattle.virtiofs_mapaudit.specs.declared.audit.Report.{Report}
+use Rattle.virtiofs_mapaudit.specs.declared.finding.Finding.{Finding}
+use Rattle.virtiofs_mapaudit.specs.declared.finding.Finding.TheVariants as findings
+use Rattle.virtiofs_mapaudit.specs.declared.refusal.Refusal.{Refusal}
+use Rattle.virtiofs_mapaudit.specs.declared.setup.IdSetUp.{IdSetUp}
+use Rattle.virtiofs_mapaudit.specs.declared.setup.SetUp.{SetUp}
+use Rattle.virtiofs_options.specs.declared.guest.Guest.{Guest}
+
+-- ---- what is tried for ids
+
+-- the ids that do not round-trip or become one which the namespace lacks are forbidden, and nothing else is changed; so
+-- there are no such ids any more
+pub record AreMended {A : Type 0} (set : IdSetUp A) (specs : List IdMap) : Type 0 where
+  pub mends : Mends set.map (IsLacking set.ranges.items) specs
+  pub none_astray : (guest : ℕ) → ¬ IsAstray specs guest
+  pub none_lacking : (guest : ℕ) → ¬ GoesInto specs (IsLacking set.ranges.items) guest
+
+-- ---- kinds of findings
+
+-- names that one guest can set, and that lists of another show
+abbrev pub shown_kind : ℕ → ℕ → FindingKind
+shown_kind setter lister = if nat_lt setter lister then kinds.ShownToSecond else kinds.ShownToFirst
+
+-- what a finding is about
+abbrev pub kind_of : {A : Type 0} → Finding A → FindingKind
+kind_of findings.PosixAcl = kinds.PosixAcl
+kind_of (findings.Range kind range) = kinds.Range kind
+kind_of (findings.Ids kind in_namespace fault found) = kinds.Ids kind fault
+kind_of findings.NoRule = kinds.NoRule
+kind_of (findings.NotListed least) = kinds.NotListed
+kind_of (findings.ListedElsewhere least) = kinds.ListedElsewhere
+kind_of (findings.IdleRule place) = kinds.IdleRule
+kind_of (findings.IdsOfBoth first second kind found) = kinds.IdsOfBoth kind
+kind_of (findings.ShownToOther setter lister least) = shown_kind setter lister
+kind_of (findings.NameOfBoth first second least) = kinds.NameOfBoth
+
+-- some finding is of that kind
+abbrev pub HasKind : {A : Type 0} → FindingKind → List (Finding A) → Type 0
+HasKind kind found = AnyHas (λ finding. kind_of finding ≡ kind) found
+
+-- some finding is of a kind of which none of the others is
+abbrev pub HasNew : {A : Type 0} → List (Finding A) → List (Finding A) → Type 0
+HasNew found others = AnyHas (λ finding. ¬ HasKind (kind_of finding) others) found
+
+-- less is found: nothing of a new kind, and of some kind nothing any more
+abbrev pub FindsLess : {A : Type 0} → List (Finding A) → List (Finding A) → Type 0
+FindsLess left found = (¬ HasNew left found) × HasNew found left
+
+-- ---- reports on the same guests
+
+-- the part has something of a new kind, or is of other guests
+abbrev pub IsNew : {A : Type 0} → Part A → Part A → Type 0
+IsNew part other =
+    (part.first ≢ other.first) ⊎ (part.second ≢ other.second) ⊎ HasNew part.found.items other.found.items
+
+-- some part is new, or there are not as many
+abbrev pub FindsNewIn : {A : Type 0} → List (Part A) → List (Part A) → Type 0
+FindsNewIn parts others = (length parts ≢ length others) ⊎ AnyTwoHave IsNew parts others
+
+-- the report has something of a kind that the other one has not, of the same guest or between the same two
+abbrev pub FindsNew : {A : Type 0} → Report A → Report A → Type 0
+FindsNew report other =
+    FindsNewIn report.guests.items other.guests.items ⊎ FindsNewIn report.pairs.items other.pairs.items
+
+-- nothing of a new kind is found, and some kind no more
+abbrev pub IsBetter : {A : Type 0} → Report A → Report A → Type 0
+IsBetter after before = (¬ FindsNew after before) × FindsNew before after
+
+-- ---- advice
+
+-- an audit of guests: which of their texts are refused, and what is found
+pub record IsAudited {A : Type 0} (guests : List (Guest A)) (refusals : List (Refusal A)) (report : Report A) : Type
+    0 where
+  pub sets : List (SetUp A)
+  pub sets_up : AllZip SetsUp guests sets
+  pub refused : TellsGuests 1 guests refusals
+  pub finds : FindsReport sets report
+
+-- with these options no text is refused, and less is found than before
+pub record IsAdvice {A : Type 0} (before : Report A) (advised : Advised A) : Type 0 where
+  pub audited : IsAudited advised.guests.items [] advised.after
+  pub better : IsBetter advised.after before
+  pub left : IsTrue advised.is_left ↔ IsFound advised.after

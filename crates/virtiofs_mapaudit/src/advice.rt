@@ -1,0 +1,88 @@
+//! Options in place of those of guests, under which less is found.
+//!
+//! The options are made of those that the guests have, and tried: they are read as any others are, and
+//! audited. They are advised if no text of them is refused, nothing of a new kind is found with them,
+//! and some kind is found no more.
+ghost use Rattle.std.specs.Prelude.{◌≡◌, IfOk, IfSome, length};
+ghost use Rattle.virtiofs_mapaudit.specs.Advice.{IsAdvice};
+
+mod better;
+pub(crate) mod kinds;
+mod mended;
+pub(crate) mod options;
+pub(crate) mod text;
+
+use crate::audit::{Report, audit, has_found, set_up_all};
+use crate::setup::SetUp;
+use better::is_better;
+use mended::mended_options;
+use options::{Options, guest_of};
+use std::alloc::{AllocError, Allocator};
+use virtiofs_options::guest::Guest;
+
+/// Options that are tried in place of those of each guest, if any are to be.
+pub(crate) fn options_of<'a, A: Allocator + Copy>(
+    alloc: A,
+    tries: bool,
+    guests: &[Guest<'a, A>],
+    sets: &[SetUp<A>],
+) -> Result<Vec<Options<'a, A>, A>, AllocError>
+    requires same { length sets.now ≡ length guests.now }
+{
+    let mut all = Vec::new(alloc);
+    if !tries {
+        return Ok(all);
+    }
+    for place in 0..guests.len() {
+        all.push(mended_options(alloc, &guests[place], &sets[place])?)?;
+    }
+    Ok(all)
+}
+
+/// Guests with these options.
+pub(crate) fn guests_of<'a, A: Allocator + Copy>(
+    alloc: A,
+    options: &'a [Options<'a, A>],
+) -> Result<Vec<Guest<'a, A>, A>, AllocError> {
+    let mut guests = Vec::new(alloc);
+    for one in options {
+        guests.push(guest_of(alloc, one)?)?;
+    }
+    Ok(guests)
+}
+
+/// Options of guests that are advised, and what is found with them.
+#[derive(Drop)]
+pub(crate) struct Advised<'a, A: Allocator> {
+    /// The guests, with these options.
+    pub(crate) guests: Vec<Guest<'a, A>, A>,
+    /// What is found.
+    pub(crate) after: Report<A>,
+    /// Whether something is.
+    pub(crate) is_left: bool,
+}
+
+/// Tries guests with other options, in place of those with which that was found before.
+pub(crate) fn tried<'a, A: Allocator + Copy>(
+    alloc: A,
+    guests: Vec<Guest<'a, A>, A>,
+    before: &Report<A>,
+) -> Result<Option<Advised<'a, A>>, AllocError>
+    ensures { IfOk result (λ advised. IfSome advised (IsAdvice before.now)) }
+{
+    let mut refusals = Vec::new(alloc);
+    let sets = set_up_all(alloc, &mut refusals, guests.as_slice())?;
+    if !refusals.as_slice().is_empty() {
+        return Ok(None);
+    }
+    let after = audit(alloc, sets.as_slice())?;
+    if !is_better(&after, before) {
+        return Ok(None);
+    }
+    let is_left = has_found(&after);
+    Ok(Some(Advised {
+        guests,
+        after,
+        is_left,
+    }))
+}

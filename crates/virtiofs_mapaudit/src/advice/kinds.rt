@@ -1,0 +1,105 @@
+//! Kinds of findings.
+ghost use Rattle.std.specs.Prelude.{◌≡◌, ◌↔◌, IsTrue};
+ghost use Rattle.virtiofs_mapaudit.specs.Advice.{shown_kind, kind_of, HasKind, HasNew, FindsLess};
+
+use crate::finding::Finding;
+use crate::ids::found::IdFault;
+use crate::ids::kind::IdKind;
+use std::alloc::Allocator;
+
+/// What a finding is about, of one guest or of two.
+#[derive(Clone, Copy, PartialEq, Eq)]
+pub(crate) enum FindingKind {
+    /// Access control lists and translation.
+    PosixAcl,
+    /// Ranges of the namespace.
+    Range(IdKind),
+    /// Ids with a fault.
+    Ids(IdKind, IdFault),
+    /// Names without a rule.
+    NoRule,
+    /// Names that the guest can set, and that are not listed back.
+    NotListed,
+    /// Names of the host that are listed under others.
+    ListedElsewhere,
+    /// Rules that decide no name.
+    IdleRule,
+    /// Ids of the host that both guests reach.
+    IdsOfBoth(IdKind),
+    /// Names that the first guest can set, and that lists of the second show.
+    ShownToSecond,
+    /// Names that the second guest can set, and that lists of the first show.
+    ShownToFirst,
+    /// Attributes of the host that both guests reach.
+    NameOfBoth,
+}
+
+/// The kind of names that one guest can set, and that lists of another show.
+fn shown_kind(setter: usize, lister: usize) -> FindingKind
+    ensures { result ≡ shown_kind setter lister }
+{
+    if setter < lister {
+        return FindingKind::ShownToSecond;
+    }
+    FindingKind::ShownToFirst
+}
+
+/// The kind of a finding.
+fn kind_of<A: Allocator>(finding: &Finding<A>) -> FindingKind
+    ensures { result ≡ kind_of finding.now }
+{
+    match finding {
+        Finding::PosixAcl => FindingKind::PosixAcl,
+        Finding::Range { kind, .. } => FindingKind::Range(*kind),
+        Finding::Ids { kind, fault, .. } => FindingKind::Ids(*kind, *fault),
+        Finding::NoRule => FindingKind::NoRule,
+        Finding::NotListed(_) => FindingKind::NotListed,
+        Finding::ListedElsewhere(_) => FindingKind::ListedElsewhere,
+        Finding::IdleRule(_) => FindingKind::IdleRule,
+        Finding::IdsOfBoth { kind, .. } => FindingKind::IdsOfBoth(*kind),
+        Finding::ShownToOther { setter, lister, .. } => shown_kind(*setter, *lister),
+        Finding::NameOfBoth { .. } => FindingKind::NameOfBoth,
+    }
+}
+
+/// Whether a finding is of a kind.
+fn is_of<A: Allocator>(finding: &Finding<A>, kind: FindingKind) -> bool
+    ensures { IsTrue result ↔ (kind_of finding.now ≡ kind) }
+{
+    kind_of(finding) == kind
+}
+
+/// Whether some finding is of a kind.
+fn has_kind<A: Allocator>(found: &[Finding<A>], kind: FindingKind) -> bool
+    ensures { IsTrue result ↔ HasKind kind found.now }
+{
+    for finding in found {
+        if is_of(finding, kind) {
+            return true;
+        }
+    }
+    false
+}
+
+/// Whether some finding is of a kind of which none of the others is.
+pub(super) fn has_new<A: Allocator>(found: &[Finding<A>], others: &[Finding<A>]) -> bool
+    ensures { IsTrue result ↔ HasNew found.now others.now }
+{
+    for finding in found {
+        if has_kind(others, kind_of(finding)) {
+            continue;
+        }
+        return true;
+    }
+    false
+}
+
+/// Whether less is found: nothing of a new kind, and of some kind nothing any more.
+pub(crate) fn finds_less<A: Allocator>(left: &[Finding<A>], found: &[Finding<A>]) -> bool
+    ensures { IsTrue result ↔ FindsLess left.now found.now }
+{
+    if has_new(left, found) {
+        return false;
+    }
+    has_new(found, left)
+}

@@ -1,0 +1,44 @@
+//! Options that are advised alone, for scripts.
+ghost use Rattle.std.specs.Prelude.{IfOk};
+ghost use Rattle.virtiofs_mapaudit.specs.Said.{SaysMended};
+
+use crate::advice::text::push_mend;
+use crate::advice::{guests_of, options_of, tried};
+use crate::audit::{Said, audit, has_found, set_up_all};
+use std::alloc::{AllocError, Global};
+use virtiofs_options::guest::Guest;
+
+/// What is to be written of guests: the options that are advised, or else those that they have. What is
+/// found is what is found with the options that are written.
+pub(crate) fn say_mended(alloc: Global, guests: &[Guest<'_, Global>]) -> Result<Said, AllocError>
+    ensures { IfOk result (SaysMended guests.now) }
+{
+    let mut refusals = Vec::new(alloc);
+    let mut text = String::new(alloc);
+    let sets = set_up_all(alloc, &mut refusals, guests)?;
+    let report = audit(alloc, sets.as_slice())?;
+    let is_found = has_found(&report);
+    if !refusals.as_slice().is_empty() {
+        return Ok(Said {
+            text,
+            refusals,
+            is_found,
+        });
+    }
+    let options = options_of(alloc, true, guests, sets.as_slice())?;
+    let others = guests_of(alloc, options.as_slice())?;
+    let Some(advised) = tried(alloc, others, &report)? else {
+        push_mend(&mut text, guests)?;
+        return Ok(Said {
+            text,
+            refusals,
+            is_found,
+        });
+    };
+    push_mend(&mut text, advised.guests.as_slice())?;
+    Ok(Said {
+        text,
+        refusals,
+        is_found: advised.is_left,
+    })
+}
