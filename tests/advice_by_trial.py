@@ -50,12 +50,17 @@ def guest(random):
         yield "--posix-acl"
 
 
+def command_lines(guests):
+    """The words for guests: the command line of a daemon for each."""
+    return [word for one in guests for word in ("--", "virtiofsd", *one)]
+
+
 def guests(random):
     """The words of one to three guests, of which some have the same options."""
     made = [list(guest(random))]
     for _ in range(random.choice((0, 0, 1, 2))):
         made.append(random.choice(made) if random.random() < 0.3 else list(guest(random)))
-    return [word for one in made for word in ["--", *one]]
+    return command_lines(made)
 
 
 def answer(program, words):
@@ -102,8 +107,7 @@ def fault(program, words):
     mended = as_mend_says(mend)
     if shown != alike or mended != options:
         return f"text, JSON and --mend differ: {shown}, {options}, {mended}"
-    applied = [word for one in options for word in ["--", *one]]
-    after_status, after = answer(program, ["--json", *applied])
+    after_status, after = answer(program, ["--json", *command_lines(options)])
     after, before, left = json.loads(after), kinds(told["findings"]), kinds(advised["findings"])
     if after["refused"] or after["findings"] != advised["findings"] or after_status != (5 if left else 0) != mend_status:
         return f"applied, they give {after}"

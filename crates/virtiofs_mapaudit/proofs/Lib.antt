@@ -16,3 +16,4 @@ mod SamePiecesLemmas
 mod SummaryLemmas
 mod AdviceLemmas
 mod AlikeLemmas
+mod DrawingLemmas

@@ -36,7 +36,7 @@ use Rattle.virtiofs_mapaudit.specs.declared.ids.found.IdFault.TheVariants.{NotBa
 use Rattle.virtiofs_mapaudit.specs.declared.ids.found.IdsFound.{IdsFound}
 use Rattle.virtiofs_mapaudit.specs.declared.ids.kind.IdKind.{IdKind}
 use Rattle.virtiofs_mapaudit.specs.declared.ids.ranges.RangeFault.{RangeFault}
-use Rattle.virtiofs_mapaudit.specs.declared.ids.ranges.RangeFault.TheVariants.{Empty, Beyond, MeetsInside, MeetsOutside}
+use Rattle.virtiofs_mapaudit.specs.declared.ids.ranges.RangeFault.TheVariants.{Empty, Beyond, TooMany, PastPage, MeetsInside, MeetsOutside}
 use Rattle.virtiofs_mapaudit.specs.declared.names.found.LeastName.{LeastName}
 use Rattle.virtiofs_mapaudit.specs.declared.setup.SetUp.{SetUp}
 use Rattle.virtiofs_options.specs.declared.front.Asked.{Asked}
@@ -131,6 +131,8 @@ ids_none guest ids Lacking it = rw (spans_none it.ids.items) refl
 fault_none : (guest : ℕ) (kind : IdKind) (place : ℕ) (fault : RangeFault) → HasNone (fault_data guest kind place fault)
 fault_none guest kind place Empty = refl
 fault_none guest kind place Beyond = refl
+fault_none guest kind place TooMany = refl
+fault_none guest kind place PastPage = refl
 fault_none guest kind place (MeetsInside other) = refl
 fault_none guest kind place (MeetsOutside other) = refl
 

@@ -1,13 +1,16 @@
 -- What is wrong with ranges of a namespace.
+use Rattle.std.proofs.Common.{[], ◌∷◌, ◌++◌, append-nil}
 use Rattle.std.proofs.Common.{◌≡◌, ◌≢◌, ℕ, ◌+◌, ◌<◌, ◌≤◌, List, length, take, get_or, Option, Some, None, MatchOption}
 use Rattle.std.proofs.Common.{slice_get, inl, inr, sym, ◌∙◌, ap, subst, arith}
 use Rattle.std.proofs.lemmas.Bool.{cases_lt}
+use Rattle.std.proofs.lemmas.Grind.{flat_map-append}
+use Rattle.std.proofs.lemmas.List.{take_more}
 use Rattle.std.proofs.lemmas.Option.{slice_get_past, slice_get-get_or, none-some, same_Some}
 use Rattle.virtiofs_map.specs.declared.idmap.UidMap.{UidMap}
-use Rattle.virtiofs_mapaudit.specs.Ranges.{MeetInside, MeetOutside, MeetsOneAt, IsBeyond, IsAtFault, HasFaultAt}
+use Rattle.virtiofs_mapaudit.specs.Ranges.{MeetInside, MeetOutside, MeetsOneAt, IsBeyond, line_of, lines_of, IsAtFault, HasFaultAt}
 use Rattle.virtiofs_mapaudit.specs.RangeParts.{MeetsNone}
 use Rattle.virtiofs_mapaudit.specs.declared.ids.ranges.RangeFault.{RangeFault}
-use Rattle.virtiofs_mapaudit.specs.declared.ids.ranges.RangeFault.TheVariants.{Empty, Beyond, MeetsInside, MeetsOutside}
+use Rattle.virtiofs_mapaudit.specs.declared.ids.ranges.RangeFault.TheVariants.{Empty, Beyond, TooMany, PastPage, MeetsInside, MeetsOutside}
 
 -- ---- ranges that meet
 
@@ -54,15 +57,35 @@ all_unmet before range place past so_far k = elim (cases_lt k place) [
 
 -- a range with ids, none of them too great, that meets no other
 pub none_wrong : (r : Option RangeFault) (before : List UidMap) (range : UidMap) → range.count ≢ 0 → ¬ IsBeyond range
+    → ¬ 340 ≤ length before → ¬ 4096 ≤ length (lines_of before ++ line_of range)
     → MatchOption r (MeetsNone before range) (IsAtFault before range)
     → MatchOption r ((fault : RangeFault) → ¬ IsAtFault before range fault) (IsAtFault before range)
-none_wrong None before range some within meets = not where
+none_wrong None before range some within few short meets = not where
   not : (fault : RangeFault) → ¬ IsAtFault before range fault
   not Empty at = some at
   not Beyond at = within at
+  not TooMany at = few at
+  not PastPage at = short at
   not (MeetsInside place) at = (meets place).0 at
   not (MeetsOutside place) at = (meets place).1 at
-none_wrong (Some fault) before range some within at = at
+none_wrong (Some fault) before range some within few short at = at
+
+-- one more line
+pub lines_more : (ranges : List UidMap) (d : UidMap) (place : ℕ) (old new : List ℕ) → place < length ranges
+    → old ≡ lines_of (take place ranges) → new ≡ old ++ line_of (get_or ranges place d)
+    → new ≡ lines_of (take (place + 1) ranges)
+lines_more ranges d place old new below so_far one =
+    one ∙ ap (λ xs. xs ++ line_of (get_or ranges place d)) so_far
+    ∙ ap (λ xs. lines_of (take place ranges) ++ xs) (sym (append-nil (line_of (get_or ranges place d))))
+    ∙ sym (flat_map-append line_of (take place ranges) (get_or ranges place d ∷ []))
+    ∙ ap lines_of (sym (take_more ranges place d below))
+
+-- how many bytes the lines are with one more
+pub written_is : (ranges : List UidMap) (d : UidMap) (place : ℕ) (old new bytes : List ℕ) → bytes ≡ new
+    → old ≡ lines_of (take place ranges) → new ≡ old ++ line_of (get_or ranges place d)
+    → length bytes ≡ length (lines_of (take place ranges) ++ line_of (get_or ranges place d))
+written_is ranges d place old new bytes same so_far one =
+    ap length (same ∙ one ∙ ap (λ xs. xs ++ line_of (get_or ranges place d)) so_far)
 
 -- none of the first `place` ranges is at fault
 abbrev pub NoneWrongBelow : List UidMap → ℕ → Type 0

@@ -14,7 +14,7 @@ use Rattle.virtiofs_mapaudit.specs.declared.ids.found.IdsFound.{IdsFound}
 use Rattle.virtiofs_mapaudit.specs.declared.ids.kind.IdKind.{IdKind}
 use Rattle.virtiofs_mapaudit.specs.declared.ids.kind.IdKind.TheVariants.{Users, Groups}
 use Rattle.virtiofs_mapaudit.specs.declared.ids.ranges.RangeFault.{RangeFault}
-use Rattle.virtiofs_mapaudit.specs.declared.ids.ranges.RangeFault.TheVariants.{Empty, Beyond, MeetsInside, MeetsOutside}
+use Rattle.virtiofs_mapaudit.specs.declared.ids.ranges.RangeFault.TheVariants.{Empty, Beyond, TooMany, PastPage, MeetsInside, MeetsOutside}
 
 -- ---- of one guest
 
@@ -76,6 +76,8 @@ range_data guest ids number fault other =
 abbrev pub fault_data : ℕ → IdKind → ℕ → RangeFault → Data
 fault_data guest kind place Empty = range_data guest (ids_word kind) (place + 1) (codes "empty") None
 fault_data guest kind place Beyond = range_data guest (ids_word kind) (place + 1) (codes "beyond") None
+fault_data guest kind place TooMany = range_data guest (ids_word kind) (place + 1) (codes "too_many") None
+fault_data guest kind place PastPage = range_data guest (ids_word kind) (place + 1) (codes "past_page") None
 fault_data guest kind place (MeetsInside earlier) =
     range_data guest (ids_word kind) (place + 1) (codes "overlaps_inside") (Some (earlier + 1))
 fault_data guest kind place (MeetsOutside earlier) =

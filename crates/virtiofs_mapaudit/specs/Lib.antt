@@ -1,6 +1,7 @@
 pub mod Advice
 pub mod AdviceText
 pub mod AlikeGuests
+pub mod Drawing
 pub mod ExtentText
 pub mod FindingJson
 pub mod FindingText
@@ -30,5 +31,6 @@ pub mod Report
 pub mod ReportJson
 pub mod ReportParts
 pub mod Said
+pub mod SaysDrawn
 pub mod ShellWord
 pub mod SummaryText

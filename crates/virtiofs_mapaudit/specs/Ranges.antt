@@ -1,9 +1,11 @@
 -- What is wrong with the ranges of a daemon's namespace. Linux takes no namespace with such a range.
-use Rattle.std.specs.Prelude.{◌≡◌, ◌⊎◌, ℕ, ◌+◌, ◌<◌, List, take, slice_get, Option, Some, None}
+use Rattle.std.specs.Prelude.{◌≡◌, ◌⊎◌, ℕ, ◌+◌, ◌<◌, ◌≤◌, List, [], ◌∷◌, ◌++◌, codes, flat_map, length, take, slice_get, Option, Some, None}
+use Rattle.std.specs.Fmt.{decimal}
 use Rattle.virtiofs_map.specs.Mapping.{InRange}
 use Rattle.virtiofs_map.specs.declared.idmap.UidMap.{UidMap}
+use Rattle.virtiofs_mapaudit.specs.Lists.{joined}
 use Rattle.virtiofs_mapaudit.specs.declared.ids.ranges.RangeFault.{RangeFault}
-use Rattle.virtiofs_mapaudit.specs.declared.ids.ranges.RangeFault.TheVariants.{Empty, Beyond, MeetsInside, MeetsOutside}
+use Rattle.virtiofs_mapaudit.specs.declared.ids.ranges.RangeFault.TheVariants.{Empty, Beyond, TooMany, PastPage, MeetsInside, MeetsOutside}
 use Rattle.virtiofs_mapaudit.specs.declared.ids.ranges.RangeFound.{RangeFound}
 
 -- some id is one of both
@@ -26,10 +28,22 @@ MeetOutside range other = MeetAt range.outside_uid range.count other.outside_uid
 abbrev pub MeetsOneAt : List UidMap → ℕ → (UidMap → Type 0) → Type 0
 MeetsOneAt ranges place Meets = (one : UidMap) × (slice_get ranges place ≡ Some one) × Meets one
 
--- the range, before which those others stand, is at fault in that way
+-- the range as a line of `/proc/PID/uid_map`
+abbrev pub line_of : UidMap → List ℕ
+line_of range =
+    joined (decimal range.inside_uid ∷ codes " " ∷ decimal range.outside_uid ∷ codes " " ∷ decimal range.count ∷ codes "\n" ∷ [])
+
+-- a line for each
+abbrev pub lines_of : List UidMap → List ℕ
+lines_of ranges = flat_map line_of ranges
+
+-- the range, before which those others stand, is at fault in that way. Linux takes up to 340 lines, and less than 4096
+-- bytes
 abbrev pub IsAtFault : List UidMap → UidMap → RangeFault → Type 0
 IsAtFault before range Empty = range.count ≡ 0
 IsAtFault before range Beyond = IsBeyond range
+IsAtFault before range TooMany = 340 ≤ length before
+IsAtFault before range PastPage = 4096 ≤ length (lines_of before ++ line_of range)
 IsAtFault before range (MeetsInside place) = MeetsOneAt before place (MeetInside range)
 IsAtFault before range (MeetsOutside place) = MeetsOneAt before place (MeetOutside range)
 

@@ -13,6 +13,7 @@ mod mend;
 mod names;
 mod ordinal;
 mod pairs;
+mod picture;
 mod refusal;
 mod report;
 mod setup;
@@ -21,11 +22,13 @@ mod summary;
 
 use crate::audit::{Said, say};
 use crate::mend::say_mended;
-use std::alloc::Global;
+use crate::picture::say_drawn;
+use std::alloc::{AllocError, Global};
 use std::process::ExitCode;
 use std::{env, io};
 use virtiofs_options::front::Asked;
 use virtiofs_options::guest::Guest;
+use virtiofs_options::unknown::{UnknownWord, unknown_line};
 use virtiofs_options::words::{Words, read_words};
 use virtiofs_output::emit::emit;
 use virtiofs_output::outcome::{AnswerFault, Answered, status};
@@ -60,6 +63,15 @@ fn arguments(rt: &HostRuntime) -> Result<Option<Vec<String>>, AnswerFault> {
     }
 }
 
+/// The lines on what the daemon does not know.
+fn unknown_lines(alloc: Global, unknown: &[UnknownWord<'_>]) -> Result<Vec<String>, AllocError> {
+    let mut lines = Vec::new(alloc);
+    for word in unknown {
+        lines.push(unknown_line(alloc, *word)?)?;
+    }
+    Ok(lines)
+}
+
 fn run(rt: &HostRuntime) -> Result<Answered, AnswerFault> {
     let Some(arguments) = arguments(rt)? else {
         let _ = eprint!(rt; "virtiofs_mapaudit: a word is not UTF-8\n{USAGE}");
@@ -78,11 +90,24 @@ fn run(rt: &HostRuntime) -> Result<Answered, AnswerFault> {
             let _ = eprint!(rt; "virtiofs_mapaudit: {text}{USAGE}");
             Ok(Answered::WrongWords)
         }
-        Words::Audit { asked, guests } => answer(rt, asked, guests.as_slice()),
+        Words::Audit {
+            asked,
+            guests,
+            unknown,
+        } => {
+            let lines = unknown_lines(rt.alloc(), unknown.as_slice())?;
+            let answered = answer(rt, asked, guests.as_slice())?;
+            if !asked.quiet {
+                for line in lines.as_slice() {
+                    let _ = eprintln!(rt; "{line}");
+                }
+            }
+            Ok(answered)
+        }
     }
 }
 
-/// Audits guests, and writes what is to be said of them, or options that are advised.
+/// Audits guests, and writes what is to be said of them, a drawing, or options that are advised.
 fn answer(
     rt: &HostRuntime,
     asked: Asked,
@@ -90,6 +115,8 @@ fn answer(
 ) -> Result<Answered, AnswerFault> {
     let said = if asked.mend {
         say_mended(rt.alloc(), guests)?
+    } else if asked.svg && !asked.quiet {
+        say_drawn(rt.alloc(), guests)?
     } else {
         say(rt.alloc(), asked, guests)?
     };

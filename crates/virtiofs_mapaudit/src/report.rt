@@ -82,7 +82,8 @@ fn push_kind<A: Allocator + Copy>(
 {
     let ranges = set.ranges.as_slice();
     let ids = audit_ids(alloc, &set.map, ranges)?;
-    push_range(found, kind, first_fault(ranges))?;
+    let range = first_fault(alloc, ranges)?;
+    push_range(found, kind, range)?;
     push_ids(found, kind, has_some(ranges), ids)
 }
 

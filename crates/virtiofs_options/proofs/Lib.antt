@@ -1,4 +1,10 @@
 mod GuestLemmas
+mod GuestsLemmas
+mod LineLemmas
 mod OlderLemmas
 mod PartLemmas
+mod ResultLemmas
+mod SearchLemmas
+mod SentenceLemmas
+mod UnknownLemmas
 mod WordLemmas

@@ -6,7 +6,7 @@ use Rattle.std.specs.Option.{option_and_then}
 use Rattle.virtiofs_options.specs.GuestOptions.{values_of, has_flag, is_flag}
 use Rattle.virtiofs_options.specs.declared.command.Part.{Part}
 use Rattle.virtiofs_options.specs.declared.fault.Fault.{Fault}
-use Rattle.virtiofs_options.specs.declared.fault.Fault.TheVariants.{Unknown, Missing, Unwanted, NotShown, NotAlone}
+use Rattle.virtiofs_options.specs.declared.fault.Fault.TheVariants.{Unknown, Missing, Unwanted, NotShown, NotAlone, Whole, OlderUnknown, BeforeDashes, AfterDashes, Nothing}
 use Rattle.virtiofs_options.specs.declared.front.Asked.{Asked}
 use Rattle.virtiofs_options.specs.declared.help.Telling.{Telling}
 use Rattle.virtiofs_options.specs.declared.help.Telling.TheVariants.{Help, Version}
@@ -25,6 +25,7 @@ not_shown parts =
 pub record IsAsked (parts : List Part) (asked : Asked) : Type 0 where
   pub json : asked.json ≡ has_flag (codes "--json") parts
   pub quiet : asked.quiet ≡ has_flag (codes "--quiet") parts
+  pub svg : asked.svg ≡ has_flag (codes "--svg") parts
   pub mend : asked.mend ≡ has_flag (codes "--mend") parts
   pub ids : asked.ids ≡ has_shown (codes "ids") parts
   pub names : asked.names ≡ has_shown (codes "names") parts
@@ -33,7 +34,7 @@ pub record IsAsked (parts : List Part) (asked : Asked) : Type 0 where
 abbrev pub mixes : List Part → Bool
 mixes parts =
     has_flag (codes "--mend") parts
-    && (has_flag (codes "--json") parts || has_flag (codes "--quiet") parts
+    && (has_flag (codes "--json") parts || has_flag (codes "--quiet") parts || has_flag (codes "--svg") parts
     || has_shown (codes "ids") parts || has_shown (codes "names") parts)
 
 -- what is wrong with what is asked for
@@ -43,6 +44,11 @@ IsAskedWrongly parts NotAlone = (not_shown parts ≡ None) × (mixes parts ≡ t
 IsAskedWrongly parts (Unknown word) = ⊥
 IsAskedWrongly parts (Missing option) = ⊥
 IsAskedWrongly parts (Unwanted option) = ⊥
+IsAskedWrongly parts (Whole word) = ⊥
+IsAskedWrongly parts (OlderUnknown text) = ⊥
+IsAskedWrongly parts (BeforeDashes word) = ⊥
+IsAskedWrongly parts (AfterDashes option) = ⊥
+IsAskedWrongly parts (Nothing guest) = ⊥
 
 -- what the program tells of itself, where a part asks for that
 unfoldable pub tells : Part → Option Telling

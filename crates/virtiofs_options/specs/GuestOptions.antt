@@ -1,10 +1,10 @@
 -- What the parts of a command line add to the options of a guest.
-use Rattle.std.specs.Prelude.{◌≡◌, ◌==◌, ℕ, ◌++◌, List, [], Bool, true, false, ◌||◌, Option, Some, None, option_map, unwrap_or, filter_map, flat_map, drop, nat_eq, bytes_eq, codes, if◌then◌else◌}
+use Rattle.std.specs.Prelude.{◌≡◌, ◌==◌, ◌+◌, length, nat_lt, is_some, ℕ, ◌++◌, List, [], Bool, true, false, ◌||◌, Option, Some, None, option_map, unwrap_or, filter_map, flat_map, drop, nat_eq, bytes_eq, codes, if◌then◌else◌}
 use Rattle.std.specs.Borrow.{Bor}
 use Rattle.std.specs.List.{list_any, last_or, slice_split, starts_with}
 use Rattle.std.specs.Option.{option_or}
 use Rattle.virtiofs_options.specs.declared.command.Part.{Part}
-use Rattle.virtiofs_options.specs.declared.command.Part.TheVariants.{Plain, Flag, Valued}
+use Rattle.virtiofs_options.specs.declared.command.Part.TheVariants.{Plain, Flag, Valued, Stray}
 use Rattle.virtiofs_options.specs.declared.guest.Guest.{Guest}
 use Rattle.virtiofs_options.specs.declared.older.Older.{Older}
 
@@ -12,6 +12,7 @@ use Rattle.virtiofs_options.specs.declared.older.Older.{Older}
 abbrev pub value_in : List ℕ → Part → Option (Bor (List ℕ))
 value_in option (Plain word) = None
 value_in option (Flag name) = None
+value_in option (Stray word) = None
 value_in option (Valued name value) = if bytes_eq name.now option then Some value else None
 
 -- the values of an option, in the order of the parts
@@ -23,6 +24,7 @@ abbrev pub is_flag : List ℕ → Part → Bool
 is_flag option (Plain word) = false
 is_flag option (Flag name) = bytes_eq name.now option
 is_flag option (Valued name value) = false
+is_flag option (Stray word) = false
 
 -- an option that has no value is among the parts
 abbrev pub has_flag : List ℕ → List Part → Bool
@@ -36,6 +38,13 @@ pub record HasNoOption {A : Type 0} (guest : Guest A) : Type 0 where
   pub group_ranges : guest.gid_map.items ≡ []
   pub rules : guest.xattrmap ≡ None
   pub lists : guest.posix_acl ≡ false
+
+-- the daemon of the guest has one of the options
+abbrev pub has_any : {A : Type 0} → Guest A → Bool
+has_any guest =
+    is_some guest.xattrmap || guest.posix_acl
+    || nat_lt 0 (length guest.translate_uid.items + length guest.uid_map.items)
+    || nat_lt 0 (length guest.translate_gid.items + length guest.gid_map.items)
 
 -- what the parts add by options of the newer form: values in their order, and of `--xattrmap` the last
 pub record Adds {A : Type 0} (old new : Guest A) (parts : List Part) : Type 0 where

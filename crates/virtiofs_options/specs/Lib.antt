@@ -1,5 +1,9 @@
 pub mod AskedOptions
 pub mod GuestOptions
+pub mod Guests
+pub mod Lines
 pub mod Parts
 pub mod Sentences
+pub mod Unknown
+pub mod Whole
 pub mod Words

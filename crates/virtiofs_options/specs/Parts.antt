@@ -1,19 +1,27 @@
 -- The words of a command line, and the parts that they are.
-use Rattle.std.specs.Prelude.{◌≡◌, ◌≢◌, ◌<◌, ◌≤◌, ◌⊎◌, ℕ, length, drop, ◌∷◌, ◌++◌, List, [], IsTrue, IsFalse, Option, Some, None, option_map, find, bytes_eq, codes, slice_index, EachIndex}
+use Rattle.std.specs.Prelude.{◌≡◌, ◌==◌, ◌≢◌, ◌<◌, ◌≤◌, ◌⊎◌, ℕ, length, drop, ◌∷◌, ◌++◌, List, [], IsTrue, IsFalse, Bool, not, ◌&&◌, nat_eq, Option, Some, None, option_map, find, bytes_eq, codes, slice_index, EachIndex}
 use Rattle.std.specs.Borrow.{Bor}
+use Rattle.std.specs.List.{before_first}
 use Rattle.virtiofs_options.specs.declared.command.Part.{Part}
-use Rattle.virtiofs_options.specs.declared.command.Part.TheVariants.{Plain, Flag, Valued}
+use Rattle.virtiofs_options.specs.declared.command.Part.TheVariants.{Plain, Flag, Valued, Stray}
 use Rattle.virtiofs_options.specs.declared.fault.Fault.{Fault}
-use Rattle.virtiofs_options.specs.declared.fault.Fault.TheVariants.{Unknown, Missing, Unwanted, NotShown, NotAlone}
+use Rattle.virtiofs_options.specs.declared.fault.Fault.TheVariants.{Unknown, Missing, Unwanted, NotShown, NotAlone, Whole, OlderUnknown, BeforeDashes, AfterDashes, Nothing}
 use Rattle.virtiofs_options.specs.declared.fault.ReadError.{ReadError}
 use Rattle.virtiofs_options.specs.declared.fault.ReadError.TheVariants.{OutOfMemory, Wrong}
 use Rattle.virtiofs_options.specs.declared.options.Options.{Options}
 use Rattle.virtiofs_options.specs.declared.options.Takes.{Takes}
-use Rattle.virtiofs_options.specs.declared.options.Takes.TheVariants.{Nothing, Value, AfterEquals}
+use Rattle.virtiofs_options.specs.declared.options.Takes.TheVariants as takes
 
 -- a word that looks like an option: it begins with `-`, and is not `-` alone
+abbrev pub is_option : List ℕ → Bool
+is_option word = nat_eq (slice_index word 0) 45 && not (bytes_eq word (codes "-"))
+
 abbrev pub IsOption : List ℕ → Type 0
-IsOption word = (slice_index word 0 ≡ 45) × (word ≢ codes "-")
+IsOption word = IsTrue (is_option word)
+
+-- the text before the first `=`
+abbrev pub key_of : List ℕ → List ℕ
+key_of text = before_first (λ byte. byte == 61) text
 
 -- whether an option has a value, where it is known
 abbrev pub takes_of : Options → List ℕ → Option Takes
@@ -52,15 +60,19 @@ LacksValue (next ∷ rest) = IsOption next.now
 -- the words begin with this part, and these words follow it
 abbrev pub Begins : Options → List (Bor (List ℕ)) → Part → List (Bor (List ℕ)) → Type 0
 Begins options words (Plain word) rest = (words ≡ word ∷ rest) × IsTrue options.plain × ¬ IsOption word.now
+Begins options words (Stray word) rest =
+    (words ≡ word ∷ rest) × IsTrue options.plain × IsOption word.now
+    × ((name : Bor (List ℕ)) × (value : Option (List ℕ)) × Names word.now name.now value
+    × (takes_of options name.now ≡ None))
 Begins options words (Flag name) rest =
     (word : Bor (List ℕ)) × (words ≡ word ∷ rest) × IsOption word.now × Names word.now name.now None
-    × (takes_of options name.now ≡ Some Nothing)
+    × (takes_of options name.now ≡ Some takes.Nothing)
 Begins options words (Valued name value) rest =
     (word : Bor (List ℕ)) × IsOption word.now
     × (((words ≡ word ∷ rest) × Names word.now name.now (Some value.now)
-    × ((takes_of options name.now ≡ Some Value) ⊎ (takes_of options name.now ≡ Some AfterEquals)))
+    × ((takes_of options name.now ≡ Some takes.Value) ⊎ (takes_of options name.now ≡ Some takes.AfterEquals)))
     ⊎ ((words ≡ word ∷ value ∷ rest) × Names word.now name.now None
-    × (takes_of options name.now ≡ Some Value) × ¬ IsOption value.now))
+    × (takes_of options name.now ≡ Some takes.Value) × ¬ IsOption value.now))
 
 -- the part that these words begin with has so many of them
 abbrev pub StandsFirst : Options → Bor (List ℕ) → List (Bor (List ℕ)) → Part → ℕ → Type 0
@@ -71,18 +83,24 @@ StandsFirst options word after part count =
 abbrev pub IsWrong : Options → List (Bor (List ℕ)) → Fault → Type 0
 IsWrong options words (Unknown name) =
     (word : Bor (List ℕ)) × (rest : List (Bor (List ℕ))) × (words ≡ word ∷ rest)
-    × ((IsFalse options.plain × (¬ IsOption word.now) × (name.now ≡ word.now))
+    × IsFalse options.plain
+    × (((¬ IsOption word.now) × (name.now ≡ word.now))
     ⊎ (IsOption word.now × ((value : Option (List ℕ)) × Names word.now name.now value) × (takes_of options name.now ≡ None)))
 IsWrong options words (Missing name) =
     (word : Bor (List ℕ)) × (rest : List (Bor (List ℕ))) × (words ≡ word ∷ rest) × IsOption word.now
     × Names word.now name.now None
-    × ((takes_of options name.now ≡ Some AfterEquals)
-    ⊎ ((takes_of options name.now ≡ Some Value) × LacksValue rest))
+    × ((takes_of options name.now ≡ Some takes.AfterEquals)
+    ⊎ ((takes_of options name.now ≡ Some takes.Value) × LacksValue rest))
 IsWrong options words (Unwanted name) =
     (word : Bor (List ℕ)) × (rest : List (Bor (List ℕ))) × (words ≡ word ∷ rest) × IsOption word.now
-    × ((value : List ℕ) × Names word.now name.now (Some value)) × (takes_of options name.now ≡ Some Nothing)
+    × ((value : List ℕ) × Names word.now name.now (Some value)) × (takes_of options name.now ≡ Some takes.Nothing)
 IsWrong options words (NotShown value) = ⊥
 IsWrong options words NotAlone = ⊥
+IsWrong options words (Whole word) = ⊥
+IsWrong options words (OlderUnknown text) = ⊥
+IsWrong options words (BeforeDashes word) = ⊥
+IsWrong options words (AfterDashes option) = ⊥
+IsWrong options words (Nothing guest) = ⊥
 
 -- the words are these parts, and then the rest
 abbrev pub PartsThen : Options → List (Bor (List ℕ)) → List Part → List (Bor (List ℕ)) → Type 0

@@ -1,8 +1,8 @@
 -- The sentences on what is wrong with words.
-use Rattle.std.specs.Prelude.{◌≡◌, ℕ, ◌∷◌, ◌++◌, List, [], flat_map, codes, length, take, nat_lt, if◌then◌else◌, chars, encode_utf8_all}
+use Rattle.std.specs.Prelude.{◌≡◌, ℕ, ◌∷◌, ◌++◌, List, [], Bool, true, false, decimal, flat_map, codes, length, take, nat_lt, if◌then◌else◌, chars, encode_utf8_all}
 use Rattle.virtiofs_output.specs.Written.{quoted}
 use Rattle.virtiofs_options.specs.declared.fault.Fault.{Fault}
-use Rattle.virtiofs_options.specs.declared.fault.Fault.TheVariants.{Unknown, Missing, Unwanted, NotShown, NotAlone}
+use Rattle.virtiofs_options.specs.declared.fault.Fault.TheVariants.{Unknown, Missing, Unwanted, NotShown, NotAlone, Whole, OlderUnknown, BeforeDashes, AfterDashes, Nothing}
 
 -- texts one after another
 abbrev pub joined : List (List ℕ) → List ℕ
@@ -25,10 +25,51 @@ unknown_sentence word known =
 abbrev pub not_shown_sentence : List ℕ → List ℕ
 not_shown_sentence value = codes "'--show' has no value " ++ shown value ++ codes ": it has 'ids' and 'names'\n"
 
+-- the sentence on a part of `-o` that is not known, with one that is
+abbrev pub older_sentence : List ℕ → List ℕ → List ℕ
+older_sentence text known =
+    joined (codes "unknown part of '-o' " ∷ shown text ∷ codes ": the nearest that is known is '" ∷ known ∷ codes "'\n" ∷ [])
+
+-- the sentence on a word that holds more than one
+abbrev pub whole_sentence : List ℕ → List ℕ
+whole_sentence word =
+    shown word ++ codes " is more than one word of a command line: remove the quotes around it\n"
+
+-- the sentence on a word of the daemon's that stands before the first `--`
+abbrev pub before_dashes_sentence : List ℕ → List ℕ
+before_dashes_sentence word =
+    joined (codes "unknown word " ∷ shown word ∷ codes ": put '--' before the command line of virtiofsd\n" ∷ [])
+
+-- the sentence on an option of the program's own that stands after the first `--`
+abbrev pub after_dashes_sentence : List ℕ → List ℕ
+after_dashes_sentence option =
+    joined (codes "'" ∷ option ∷ codes "' is an option of virtiofs_mapaudit: put it before the first '--'\n" ∷ [])
+
+-- the sentence on a guest for which there is nothing to audit
+abbrev pub nothing_sentence : ℕ → List ℕ
+nothing_sentence guest =
+    joined (codes "guest " ∷ decimal guest
+    ∷ codes ": nothing to audit: no word is 'virtiofsd', and none is an option for ids or names\n" ∷ [])
+
+-- the line on a word of a guest that the daemon does not know
+abbrev pub line_with : ℕ → List ℕ → List ℕ → List ℕ
+line_with guest what word =
+    joined (codes "guest " ∷ decimal guest ∷ codes ": unknown " ∷ what ∷ codes ": " ∷ shown word ∷ [])
+
+-- the line on a word that the daemon does not know: a part of `-o`, or an option
+abbrev pub unknown_line : ℕ → Bool → List ℕ → List ℕ
+unknown_line guest true word = line_with guest (codes "part of '-o'") word
+unknown_line guest false word = line_with guest (codes "option of virtiofsd") word
+
 -- the sentence on what is wrong with words
 abbrev pub IsSentence : Fault → List ℕ → Type 0
 IsSentence (Unknown word) text = (known : List ℕ) × (text ≡ unknown_sentence word.now known)
 IsSentence (Missing option) text = text ≡ codes "'" ++ option.now ++ codes "' lacks its value\n"
 IsSentence (Unwanted option) text = text ≡ codes "'" ++ option.now ++ codes "' has no value\n"
 IsSentence (NotShown value) text = text ≡ not_shown_sentence value.now
-IsSentence NotAlone text = text ≡ codes "'--mend' goes with neither '--json', '--quiet' nor '--show'\n"
+IsSentence (Whole word) text = text ≡ whole_sentence word.now
+IsSentence (OlderUnknown part) text = (known : List ℕ) × (text ≡ older_sentence part.now known)
+IsSentence (BeforeDashes word) text = text ≡ before_dashes_sentence word.now
+IsSentence (AfterDashes option) text = text ≡ after_dashes_sentence option.now
+IsSentence (Nothing guest) text = text ≡ nothing_sentence guest
+IsSentence NotAlone text = text ≡ codes "'--mend' goes with neither '--json', '--quiet', '--svg' nor '--show'\n"

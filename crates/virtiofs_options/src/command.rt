@@ -1,7 +1,7 @@
 //! Words, part by part, as the options that are known say which have a value.
-ghost use Rattle.std.specs.Prelude.{◌≡◌, ◌↔◌, ℕ, ◌∷◌, List, IsTrue, IfOk, IfErr, MatchOption, option_map};
+ghost use Rattle.std.specs.Prelude.{◌≡◌, ◌↔◌, ℕ, ◌∷◌, List, IsTrue, IsFalse, IfOk, IfErr, MatchOption, option_map};
 ghost use Rattle.virtiofs_options.specs.GuestOptions.{is_flag, value_in};
-ghost use Rattle.virtiofs_options.specs.Parts.{takes_of, IsOption, JoinsShort, JoinsLong, Names, StandsFirst, IsWrong};
+ghost use Rattle.virtiofs_options.specs.Parts.{takes_of, key_of, is_option, IsOption, JoinsShort, JoinsLong, Names, StandsFirst, IsWrong};
 
 use crate::fault::Fault;
 use crate::options::{Options, Takes};
@@ -15,6 +15,8 @@ pub(crate) enum Part<'a> {
     Flag(&'a str),
     /// An option and its value.
     Valued(&'a str, &'a str),
+    /// A word that looks like an option that is not known.
+    Stray(&'a str),
 }
 
 impl<'a> Part<'a> {
@@ -39,8 +41,18 @@ impl<'a> Part<'a> {
     }
 }
 
+/// The text before the first `=`, or all of it.
+pub(crate) fn key_of(text: &str) -> &str
+    ensures { result.now ≡ key_of text.now }
+{
+    match text.split_once('=') {
+        Some((key, _)) => key,
+        None => text,
+    }
+}
+
 /// Whether an option has a value, where it is known.
-fn takes(options: Options, name: &str) -> Option<Takes>
+pub(crate) fn takes(options: Options, name: &str) -> Option<Takes>
     ensures { result ≡ takes_of options name.now }
 {
     options
@@ -52,8 +64,8 @@ fn takes(options: Options, name: &str) -> Option<Takes>
 
 /// Whether a word looks like an option: it begins with `-`, and has more than that. Such a word is no
 /// value of the option before it.
-fn is_option(word: &str) -> bool
-    ensures { IsTrue result ↔ IsOption word.now }
+pub(crate) fn is_option(word: &str) -> bool
+    ensures { result ≡ is_option word.now }
 {
     word.starts_with('-') && word != "-"
 }
@@ -95,6 +107,18 @@ fn named(word: &str) -> (&str, Option<&str>)
     }
 }
 
+/// An option that is not known: a part where such options may stand, and else wrong.
+fn stray<'a>(options: Options, word: &'a str, name: &'a str) -> Result<(Part<'a>, usize), Fault<'a>>
+    ensures read { IfOk result (λ p. (p ≡ (Part.Stray word.entry, 1)) × IsTrue options.plain) }
+    ensures refused { IfErr result (λ fault. (fault ≡ Fault.Unknown name.entry)
+        × IsFalse options.plain) }
+{
+    if options.plain {
+        return Ok((Part::Stray(word), 1));
+    }
+    Err(Fault::Unknown(name))
+}
+
 /// The part that an option begins, which has no value in its own word, and how many words that has.
 /// `after` are the words after the first.
 fn apart<'a>(
@@ -108,7 +132,7 @@ fn apart<'a>(
     ensures refused { IfErr result (IsWrong options (name.entry ∷ after.now)) }
 {
     match takes(options, name) {
-        None => Err(Fault::Unknown(name)),
+        None => stray(options, name, name),
         Some(Takes::Nothing) => Ok((Part::Flag(name), 1)),
         Some(Takes::AfterEquals) => Err(Fault::Missing(name)),
         Some(Takes::Value) => match after.first() {
@@ -138,7 +162,7 @@ pub(crate) fn first_part<'a>(
         return apart(options, word, after);
     };
     match takes(options, name) {
-        None => Err(Fault::Unknown(name)),
+        None => stray(options, word, name),
         Some(Takes::Nothing) => Err(Fault::Unwanted(name)),
         Some(Takes::Value | Takes::AfterEquals) => Ok((Part::Valued(name, value), 1)),
     }

@@ -1,8 +1,9 @@
 //! What is wrong with words, and the sentence on it.
 ghost use Rattle.std.specs.Prelude.{◌≡◌, ℕ, List, IfOk, string_bytes, nat_lt, length, chars};
-ghost use Rattle.virtiofs_options.specs.Sentences.{front_of, shown, IsSentence, unknown_sentence, not_shown_sentence};
+ghost use Rattle.virtiofs_options.specs.Sentences.{front_of, shown, IsSentence, unknown_sentence, not_shown_sentence, older_sentence, whole_sentence, before_dashes_sentence, after_dashes_sentence, nothing_sentence};
 ghost use Rattle.virtiofs_options.specs.declared.fault.ReadError.TheVariants.{OutOfMemory, Wrong};
 
+use crate::command::key_of;
 use crate::nearest::nearest;
 use crate::options::Options;
 use std::alloc::{AllocError, AllocFailed, Global};
@@ -21,6 +22,16 @@ pub(crate) enum Fault<'a> {
     NotShown(&'a str),
     /// `--mend` stands beside an option that also says what is written.
     NotAlone,
+    /// The word holds a command line, or the value the options after it.
+    Whole(&'a str),
+    /// The part of `-o` is not known, and is a near miss of one for names.
+    OlderUnknown(&'a str),
+    /// The word belongs to a command line of the daemon, and stands before the first `--`.
+    BeforeDashes(&'a str),
+    /// The option is the program's own, and stands after the first `--`.
+    AfterDashes(&'a str),
+    /// There is nothing to audit for the guest of this number, counted from 1.
+    Nothing(usize),
 }
 
 /// Why words are not read.
@@ -59,7 +70,7 @@ impl<'a> From<Fault<'a>> for ReadError<'a> {
 const MOST_SHOWN: usize = 60;
 
 /// The first characters of a word, as many as a sentence quotes.
-fn front_of(alloc: Global, word: &str) -> Result<String, AllocError>
+pub(crate) fn front_of(alloc: Global, word: &str) -> Result<String, AllocError>
     ensures { IfOk result (λ front. string_bytes front ≡ front_of word.now) }
 {
     word.chars().take(MOST_SHOWN).collect(alloc)
@@ -74,7 +85,7 @@ fn is_cut(word: &str) -> bool
 
 /// A word as a sentence has it: the first characters, escaped, between quotes, and two dots where it
 /// has more.
-fn shown(alloc: Global, word: &str) -> Result<String, AllocError>
+pub(crate) fn shown(alloc: Global, word: &str) -> Result<String, AllocError>
     ensures { IfOk result (λ text. string_bytes text ≡ shown word.now) }
 {
     let front = front_of(alloc, word)?;
@@ -101,8 +112,62 @@ fn unknown_text(alloc: Global, word: &str, options: Options) -> Result<String, A
         × (string_bytes text ≡ unknown_sentence word.now known)) }
 {
     let front = front_of(alloc, word)?;
-    let known = nearest(alloc, front.as_str(), options)?;
+    let known = nearest(alloc, front.as_str(), options.known)?;
     told_with(alloc, word, known)
+}
+
+/// The sentence on a part of `-o` that is not known, with one that is.
+fn older_told_with(alloc: Global, text: &str, known: &str) -> Result<String, AllocError>
+    ensures { IfOk result (λ told. string_bytes told ≡ older_sentence text.now known.now) }
+{
+    let text = shown(alloc, text)?;
+    format!(in alloc; "unknown part of '-o' {text}: the nearest that is known is '{known}'\n")
+}
+
+/// The sentence on a part of `-o` that is not known. What it has before a `=` is compared.
+fn older_text(alloc: Global, text: &str, options: Options) -> Result<String, AllocError>
+    ensures { IfOk result (λ told. (known : List ℕ)
+        × (string_bytes told ≡ older_sentence text.now known)) }
+{
+    let front = front_of(alloc, key_of(text))?;
+    let known = nearest(alloc, front.as_str(), options.older)?;
+    older_told_with(alloc, text, known)
+}
+
+/// The sentence on a word that holds more than one.
+fn whole_text(alloc: Global, word: &str) -> Result<String, AllocError>
+    ensures { IfOk result (λ text. string_bytes text ≡ whole_sentence word.now) }
+{
+    let word = shown(alloc, word)?;
+    format!(in alloc;
+        "{word} is more than one word of a command line: remove the quotes around it\n"
+    )
+}
+
+/// The sentence on a word of the daemon's that stands before the first `--`.
+fn before_dashes_text(alloc: Global, word: &str) -> Result<String, AllocError>
+    ensures { IfOk result (λ text. string_bytes text ≡ before_dashes_sentence word.now) }
+{
+    let word = shown(alloc, word)?;
+    format!(in alloc; "unknown word {word}: put '--' before the command line of virtiofsd\n")
+}
+
+/// The sentence on an option of the program's own that stands after the first `--`.
+fn after_dashes_text(alloc: Global, option: &str) -> Result<String, AllocError>
+    ensures { IfOk result (λ text. string_bytes text ≡ after_dashes_sentence option.now) }
+{
+    format!(in alloc;
+        "'{option}' is an option of virtiofs_mapaudit: put it before the first '--'\n"
+    )
+}
+
+/// The sentence on a guest for which there is nothing to audit.
+fn nothing_text(alloc: Global, guest: usize) -> Result<String, AllocError>
+    ensures { IfOk result (λ text. string_bytes text ≡ nothing_sentence guest) }
+{
+    format!(in alloc;
+        "guest {guest}: nothing to audit: no word is 'virtiofsd', and none is an option for ids or names\n"
+    )
 }
 
 /// The sentence on a value of `--show` that names nothing to show.
@@ -128,7 +193,12 @@ pub(crate) fn fault_text(
         Fault::NotShown(value) => not_shown_text(alloc, value),
         Fault::NotAlone => String::from_str(
             alloc,
-            "'--mend' goes with neither '--json', '--quiet' nor '--show'\n",
+            "'--mend' goes with neither '--json', '--quiet', '--svg' nor '--show'\n",
         ),
+        Fault::Whole(word) => whole_text(alloc, word),
+        Fault::OlderUnknown(text) => older_text(alloc, text, options),
+        Fault::BeforeDashes(word) => before_dashes_text(alloc, word),
+        Fault::AfterDashes(option) => after_dashes_text(alloc, option),
+        Fault::Nothing(guest) => nothing_text(alloc, guest),
     }
 }

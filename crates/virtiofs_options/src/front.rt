@@ -14,6 +14,8 @@ pub struct Asked {
     pub json: bool,
     /// Not at all: the status alone tells.
     pub quiet: bool,
+    /// As a drawing. Then it does not count whether JSON is asked for.
+    pub svg: bool,
     /// Mended options alone. Then none of the others is asked for.
     pub mend: bool,
     /// What becomes of all ids.
@@ -67,11 +69,12 @@ pub(crate) fn asked_of<'a>(parts: &[Part<'a>]) -> Result<Asked, Fault<'a>>
     let asked = Asked {
         json: has_flag(parts, "--json"),
         quiet: has_flag(parts, "--quiet"),
+        svg: has_flag(parts, "--svg"),
         mend: has_flag(parts, "--mend"),
         ids: has_shown(parts, "ids"),
         names: has_shown(parts, "names"),
     };
-    if asked.mend && (asked.json || asked.quiet || asked.ids || asked.names) {
+    if asked.mend && (asked.json || asked.quiet || asked.svg || asked.ids || asked.names) {
         return Err(Fault::NotAlone);
     }
     Ok(asked)

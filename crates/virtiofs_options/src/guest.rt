@@ -1,7 +1,7 @@
 //! The options of the daemon of one guest, as texts.
 ghost use Rattle.std.specs.Prelude.{◌≡◌, ◌∷◌, [], OnOk, unwrap_or};
 ghost use Rattle.std.specs.Option.{option_or};
-ghost use Rattle.virtiofs_options.specs.GuestOptions.{Adds, HasNoOption, TakesIn};
+ghost use Rattle.virtiofs_options.specs.GuestOptions.{Adds, HasNoOption, TakesIn, has_any};
 
 use crate::command::Part;
 use crate::older::{Older, read_older};
@@ -40,6 +40,18 @@ impl<'a, A: Allocator + Copy> Guest<'a, A> {
         }
     }
 
+    /// Whether the daemon has one of the options.
+    pub(crate) fn has_any(&self) -> bool
+        ensures { result ≡ has_any self.now }
+    {
+        if self.xattrmap.is_some() || self.posix_acl {
+            return true;
+        }
+        let users = self.translate_uid.len() + self.uid_map.len();
+        let groups = self.translate_gid.len() + self.gid_map.len();
+        users > 0 || groups > 0
+    }
+
     /// Takes in an option of the daemon that has a value. Options that map nothing are passed over.
     fn take_value(&mut self, option: &'a str, value: &'a str) -> Result<(), AllocError>
         ensures { OnOk result (Adds self.old self.new (Part.Valued option.entry value.entry ∷ [])) }
@@ -69,7 +81,7 @@ impl<'a, A: Allocator + Copy> Guest<'a, A> {
         ensures { OnOk result (Adds self.old self.new (part.entry ∷ [])) }
     {
         match part {
-            Part::Plain(_) => Ok(()),
+            Part::Plain(_) | Part::Stray(_) => Ok(()),
             Part::Flag(option) => {
                 self.take_flag(option);
                 Ok(())

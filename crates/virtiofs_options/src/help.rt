@@ -84,11 +84,8 @@ fn command<'a>(alloc: Global) -> Result<Command<'a>, AllocError> {
         .arg(show(alloc))?
         .arg(flag(alloc, "json", "Write JSON"))?
         .arg(flag(alloc, "quiet", "Write nothing: the status tells"))?
-        .arg(flag(
-            alloc,
-            "mend",
-            "Write mended options alone, a line for each guest",
-        ))
+        .arg(flag(alloc, "mend", "Write mended options alone, each on a line"))?
+        .arg(flag(alloc, "svg", "Draw what becomes of all ids, as SVG"))
 }
 
 /// What the program says of itself, on demand.

@@ -1,19 +1,19 @@
 //! The known word that is nearest to one that is not known.
 
-use crate::options::Options;
+use crate::options::Takes;
 use std::alloc::{AllocError, Allocator};
 use strsim::levenshtein;
 
-/// The first of the options with the fewest edits between it and the word: characters put in, taken
-/// out or changed. The time is the product of the characters of the word and of all options.
+/// The first of the names with the fewest edits between it and the word: characters put in, taken
+/// out or changed. The time is the product of the characters of the word and of all names.
 pub(crate) fn nearest<A: Allocator + Copy>(
     alloc: A,
     word: &str,
-    options: Options,
+    known: &[(&'static str, Takes)],
 ) -> Result<&'static str, AllocError> {
     let mut best = "--help";
     let mut fewest = usize::MAX;
-    for (name, _) in options.known {
+    for (name, _) in known {
         let edits = levenshtein(alloc, word, name)?;
         if edits < fewest {
             best = name;

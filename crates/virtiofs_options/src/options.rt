@@ -18,24 +18,53 @@ use Takes::{AfterEquals, Nothing, Value};
 pub(crate) struct Options {
     /// The options.
     pub(crate) known: &'static [(&'static str, Takes)],
-    /// Whether also words that are no options.
+    /// Where the daemon's options may stand: the options that are the program's own.
+    pub(crate) own: &'static [(&'static str, Takes)],
+    /// Those of the options that concern ids or names.
+    pub(crate) counted: &'static [&'static str],
+    /// The parts of `-o`: a name, or the beginning of one that has a value.
+    pub(crate) older: &'static [(&'static str, Takes)],
+    /// Those of the parts of `-o` that concern names.
+    pub(crate) older_counted: &'static [&'static str],
+    /// Whether also words that are no options, and options that are not known.
     pub(crate) plain: bool,
 }
 
 /// What may stand before the first `--`.
 pub(crate) const OWN: Options = Options {
     known: &KNOWN,
+    own: &[],
+    counted: &COUNTED,
+    older: &[],
+    older_counted: &[],
     plain: false,
 };
 
 /// What may stand on a command line of the daemon.
 pub(crate) const OF_DAEMON: Options = Options {
     known: &KNOWN_BY_DAEMON,
+    own: &KNOWN,
+    counted: &COUNTED,
+    older: &KNOWN_OLDER,
+    older_counted: &COUNTED_OLDER,
     plain: true,
 };
 
+/// The options of the daemon that concern ids or names.
+const COUNTED: [&str; 6] = [
+    "--translate-uid",
+    "--translate-gid",
+    "--uid-map",
+    "--gid-map",
+    "--xattrmap",
+    "--posix-acl",
+];
+
+/// The parts of `-o` that concern names.
+const COUNTED_OLDER: [&str; 3] = ["xattrmap", "posix_acl", "no_posix_acl"];
+
 /// The options of the program, and those of the daemon that may stand beside them.
-const KNOWN: [(&str, Takes); 14] = [
+const KNOWN: [(&str, Takes); 15] = [
     ("--translate-uid", Value),
     ("--translate-gid", Value),
     ("--uid-map", Value),
@@ -45,6 +74,7 @@ const KNOWN: [(&str, Takes); 14] = [
     ("--json", Nothing),
     ("--quiet", Nothing),
     ("--mend", Nothing),
+    ("--svg", Nothing),
     ("--show", Value),
     ("--help", Nothing),
     ("-h", Nothing),
@@ -98,4 +128,31 @@ const KNOWN_BY_DAEMON: [(&str, Takes); 44] = [
     ("-f", Nothing),
     ("-h", Nothing),
     ("-V", Nothing),
+];
+
+/// The parts of `-o` of virtiofsd 1.13.2.
+const KNOWN_OLDER: [(&str, Takes); 23] = [
+    ("xattrmap=", Value),
+    ("posix_acl", Nothing),
+    ("no_posix_acl", Nothing),
+    ("source=", Value),
+    ("cache=", Value),
+    ("loglevel=", Value),
+    ("sandbox=", Value),
+    ("modcaps=", Value),
+    ("xattr", Nothing),
+    ("no_xattr", Nothing),
+    ("readdirplus", Nothing),
+    ("no_readdirplus", Nothing),
+    ("writeback", Nothing),
+    ("no_writeback", Nothing),
+    ("allow_direct_io", Nothing),
+    ("no_allow_direct_io", Nothing),
+    ("announce_submounts", Nothing),
+    ("killpriv_v2", Nothing),
+    ("no_killpriv_v2", Nothing),
+    ("security_label", Nothing),
+    ("no_security_label", Nothing),
+    ("no_posix_lock", Nothing),
+    ("no_flock", Nothing),
 ];

@@ -1,15 +1,21 @@
 //! The program's words: what is asked for, and the guests.
 
-ghost use Rattle.std.specs.Prelude.{◌≡◌, ◌<◌, length, IfOk, IfErr, IfSome};
+ghost use Rattle.std.specs.Prelude.{◌≡◌, ◌≤◌, length, IfOk, IfErr};
+ghost use Rattle.virtiofs_options.specs.Lines.{first_end};
 ghost use Rattle.virtiofs_options.specs.Parts.{WrongOnly};
-ghost use Rattle.virtiofs_options.specs.Words.{first_end, IsFront, HasFrontFault};
+ghost use Rattle.virtiofs_options.specs.Words.{IsFront, HasFrontFault, belongs, front_fault, start_after, IsAudit, AreWords};
 
-use crate::fault::{ReadError, fault_text};
+use crate::command::{is_option, takes};
+use crate::fault::{Fault, ReadError, fault_text};
 use crate::front::{Asked, asked_of, telling_of};
 use crate::guest::Guest;
+use crate::guests::{Guests, read_guests};
 use crate::help::{Telling, told};
+use crate::line::{first_daemon, first_end, line_of, tail_of};
 use crate::options::{OF_DAEMON, OWN, Options};
 use crate::parts::read_parts;
+use crate::unknown::UnknownWord;
+use crate::whole::is_line;
 use std::alloc::{AllocError, Global};
 
 /// What the words come to.
@@ -19,19 +25,13 @@ pub enum Words<'a> {
     Audit {
         asked: Asked,
         guests: Vec<Guest<'a, Global>>,
+        /// What the daemon does not know of their command lines.
+        unknown: Vec<UnknownWord<'a>, Global>,
     },
     /// A text that was asked for: the help or the version.
     Shown(String),
     /// Wrong words, and what is wrong with them.
     Wrong(String),
-}
-
-/// Where the first `--` stands, if there is one.
-fn first_end(words: &[&str]) -> Option<usize>
-    ensures first { result ≡ first_end words.now }
-    ensures within { IfSome result (λ place. place < length words.now) }
-{
-    words.iter().position(|word| *word == "--")
 }
 
 /// What the words before the first `--` come to.
@@ -62,28 +62,81 @@ fn read_front<'a>(
     Ok(Front::Audit(asked, guest))
 }
 
-/// Reads the command lines of the daemon: the first is that of the first guest, and each further
-/// one is that of a further guest.
-fn read_guests<'a>(
+/// Whether a word that is not known before the first `--` belongs to a command line of the daemon: it
+/// is an option of the daemon, or no option where a word is the daemon's.
+fn belongs(options: Options, words: &[&str], word: &str) -> bool
+    ensures { result ≡ belongs options words.now word.now }
+{
+    if is_option(word) {
+        return takes(options, word).is_some();
+    }
+    first_daemon(words).is_some()
+}
+
+/// What is told of a fault of the words before the first `--`, where these options are the daemon's.
+fn front_fault<'a>(options: Options, words: &[&str], fault: Fault<'a>) -> Fault<'a>
+    ensures { result ≡ front_fault options words.now fault.entry }
+{
+    match fault {
+        Fault::Unknown(word) if is_line(options, word) => Fault::Whole(word),
+        Fault::Unknown(word) if belongs(options, words, word) => Fault::BeforeDashes(word),
+        _ => fault,
+    }
+}
+
+/// Where the words after the first `--` begin. Without a `--`, there are none.
+fn rest_start(words: &[&str]) -> usize
+    ensures start { result ≡ start_after words.now (first_end words.now) }
+    ensures within { result ≤ length words.now }
+{
+    match first_end(words) {
+        Some(end) => end + 1,
+        None => words.len(),
+    }
+}
+
+/// What the words after the first `--` come to, where `first` has the options before it.
+fn audit_of<'a>(
     alloc: Global,
-    options: Options,
+    of_daemon: Options,
+    asked: Asked,
     words: &[&'a str],
     first: Guest<'a, Global>,
-) -> Result<Vec<Guest<'a, Global>>, ReadError<'a>> {
-    let mut guests = Vec::new(alloc);
-    let mut guest = first;
-    let mut rest = words;
-    while let Some(end) = first_end(rest) {
-        let parts = read_parts(alloc, options, &rest[..end])?;
-        guest.take_parts(parts.as_slice())?;
-        guests.push(guest)?;
-        rest = &rest[end + 1..];
-        guest = Guest::new(alloc);
+) -> Result<Words<'a>, AllocError>
+    ensures { IfOk result (IsAudit of_daemon asked first.entry words.now) }
+{
+    match read_guests(alloc, of_daemon, words, first) {
+        Ok(Guests { guests, unknown }) => Ok(Words::Audit {
+            asked,
+            guests,
+            unknown,
+        }),
+        Err(ReadError::Wrong(fault)) => Ok(Words::Wrong(fault_text(alloc, fault, of_daemon)?)),
+        Err(ReadError::OutOfMemory) => Err(AllocError),
     }
-    let parts = read_parts(alloc, options, rest)?;
-    guest.take_parts(parts.as_slice())?;
-    guests.push(guest)?;
-    Ok(guests)
+}
+
+/// What the program's words come to, where these options are its own, and those the daemon's.
+fn words_of<'a>(
+    alloc: Global,
+    own: Options,
+    of_daemon: Options,
+    words: &'a [&'a str],
+) -> Result<Words<'a>, AllocError>
+    ensures { IfOk result (AreWords own of_daemon words.now) }
+{
+    match read_front(alloc, own, line_of(words)) {
+        Ok(Front::Audit(asked, first)) => {
+            let rest = tail_of(words, rest_start(words));
+            audit_of(alloc, of_daemon, asked, rest, first)
+        }
+        Ok(Front::Tell(telling)) => Ok(Words::Shown(told(alloc, telling)?)),
+        Err(ReadError::Wrong(fault)) => {
+            let fault = front_fault(of_daemon, words, fault);
+            Ok(Words::Wrong(fault_text(alloc, fault, own)?))
+        }
+        Err(ReadError::OutOfMemory) => Err(AllocError),
+    }
 }
 
 /// Reads the program's words.
@@ -92,19 +145,5 @@ fn read_guests<'a>(
 ///
 /// `AllocError`: a request for memory was refused.
 pub fn read_words<'a>(alloc: Global, words: &'a [&'a str]) -> Result<Words<'a>, AllocError> {
-    let (front, rest) = match first_end(words) {
-        Some(end) => (&words[..end], &words[end + 1..]),
-        None => (words, &words[words.len()..]),
-    };
-    let (asked, first) = match read_front(alloc, OWN, front) {
-        Ok(Front::Audit(asked, first)) => (asked, first),
-        Ok(Front::Tell(telling)) => return Ok(Words::Shown(told(alloc, telling)?)),
-        Err(ReadError::Wrong(fault)) => return Ok(Words::Wrong(fault_text(alloc, fault, OWN)?)),
-        Err(ReadError::OutOfMemory) => return Err(AllocError),
-    };
-    match read_guests(alloc, OF_DAEMON, rest, first) {
-        Ok(guests) => Ok(Words::Audit { asked, guests }),
-        Err(ReadError::Wrong(fault)) => Ok(Words::Wrong(fault_text(alloc, fault, OF_DAEMON)?)),
-        Err(ReadError::OutOfMemory) => Err(AllocError),
-    }
+    words_of(alloc, OWN, OF_DAEMON, words)
 }

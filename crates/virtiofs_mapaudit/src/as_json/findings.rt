@@ -109,6 +109,8 @@ fn fault_value(alloc: Global, guest: usize, kind: IdKind, found: RangeFound) -> 
     match found.fault {
         RangeFault::Empty => range_value(alloc, guest, ids, number, "empty", None),
         RangeFault::Beyond => range_value(alloc, guest, ids, number, "beyond", None),
+        RangeFault::TooMany => range_value(alloc, guest, ids, number, "too_many", None),
+        RangeFault::PastPage => range_value(alloc, guest, ids, number, "past_page", None),
         RangeFault::MeetsInside(place) => {
             let other = number_at(place)?;
             range_value(alloc, guest, ids, number, "overlaps_inside", Some(other))

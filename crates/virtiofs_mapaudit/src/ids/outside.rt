@@ -37,7 +37,7 @@ fn moved(from: u32, to: u32, count: u32, span: Span) -> Option<Span>
 }
 
 /// What those ids of the span are that the range moves.
-fn moved_by(way: Way, range: &UidMap, span: Span) -> Option<Span>
+pub(crate) fn moved_by(way: Way, range: &UidMap, span: Span) -> Option<Span>
     ensures moves { (moved : ℕ) → HasIf result moved
         ↔ ((id : ℕ) × Has span id × MovesBy way range.now id moved) }
     ensures order { IfSome result (λ there. there.first ≤ there.last) }

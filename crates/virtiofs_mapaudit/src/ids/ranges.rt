@@ -1,12 +1,13 @@
 //! What is wrong with the ranges of a daemon's namespace.
-ghost use Rattle.std.specs.Prelude.{◌↔◌, IsTrue, MatchOption, Some};
+ghost use Rattle.std.specs.Prelude.{◌≡◌, ◌↔◌, ◌++◌, length, IfOk, IsTrue, MatchOption, OnOk, Some, string_bytes};
 ghost use Rattle.std.specs.Fmt.{DisplaysOnOk};
 ghost use Rattle.virtiofs_mapaudit.specs.RangeText.{place_text, range_text};
 ghost use Rattle.virtiofs_mapaudit.specs.RangeParts.{MeetsNone};
-ghost use Rattle.virtiofs_mapaudit.specs.Ranges.{MeetAt, IsBeyond, IsAtFault, FindsFault};
+ghost use Rattle.virtiofs_mapaudit.specs.Ranges.{MeetAt, IsBeyond, line_of, lines_of, IsAtFault, FindsFault};
 
 use super::kind::{IdKind, ranging};
 use crate::ordinal::Ordinal;
+use std::alloc::{AllocError, Allocator};
 use std::fmt;
 use virtiofs_map::idmap::UidMap;
 
@@ -17,6 +18,10 @@ pub(crate) enum RangeFault {
     Empty,
     /// It reaches past 4294967294, inside or outside.
     Beyond,
+    /// As many as Linux takes stand before it.
+    TooMany,
+    /// With its line the text of the ranges is longer than Linux takes.
+    PastPage,
     /// Inside the namespace it meets the earlier range of that place, counted from 0.
     MeetsInside(usize),
     /// Outside the namespace it meets that range.
@@ -67,8 +72,16 @@ fn meeting(before: &[UidMap], range: &UidMap) -> Option<RangeFault>
     None
 }
 
-/// What is wrong with a range, before which those others stand.
-fn fault_of(before: &[UidMap], range: &UidMap) -> Option<RangeFault>
+/// The most ranges that Linux takes.
+const MOST_RANGES: usize = 340;
+
+/// Linux takes a text of ranges that is shorter than a page.
+const PAGE: usize = 4096;
+
+/// What is wrong with a range, before which those others stand. The lines of all of them are
+/// `written` bytes.
+fn fault_of(before: &[UidMap], range: &UidMap, written: usize) -> Option<RangeFault>
+    requires { written ≡ length (lines_of before.now ++ line_of range.now) }
     ensures { MatchOption result
         ((fault : RangeFault) → ¬ IsAtFault before.now range.now fault)
         (IsAtFault before.now range.now) }
@@ -79,19 +92,39 @@ fn fault_of(before: &[UidMap], range: &UidMap) -> Option<RangeFault>
     if is_beyond(range) {
         return Some(RangeFault::Beyond);
     }
+    if before.len() >= MOST_RANGES {
+        return Some(RangeFault::TooMany);
+    }
+    if written >= PAGE {
+        return Some(RangeFault::PastPage);
+    }
     meeting(before, range)
 }
 
-/// The first range that is at fault.
-pub(crate) fn first_fault(ranges: &[UidMap]) -> Option<RangeFound>
-    ensures { FindsFault ranges.now result }
+/// Writes a range as a line of `/proc/PID/uid_map` at the end of a text.
+fn push_line<A: Allocator>(lines: &mut String<A>, range: &UidMap) -> Result<(), AllocError>
+    ensures { OnOk result (string_bytes lines.new ≡ string_bytes lines.old ++ line_of range.now) }
 {
+    let (inside, outside, count) = (range.inside_uid, range.outside_uid, range.count);
+    write!(lines, "{inside} {outside} {count}\n")
+}
+
+/// The first range that is at fault.
+pub(crate) fn first_fault<A: Allocator>(
+    alloc: A,
+    ranges: &[UidMap],
+) -> Result<Option<RangeFound>, AllocError>
+    ensures { IfOk result (FindsFault ranges.now) }
+{
+    let mut lines = String::new(alloc);
     for place in 0..ranges.len() {
-        if let Some(fault) = fault_of(&ranges[..place], &ranges[place]) {
-            return Some(RangeFound { place, fault });
+        let range = &ranges[place];
+        push_line(&mut lines, range)?;
+        if let Some(fault) = fault_of(&ranges[..place], range, lines.as_bytes().len()) {
+            return Ok(Some(RangeFound { place, fault }));
         }
     }
-    None
+    Ok(None)
 }
 
 /// An option of a guest by its place among those of its name, counted from 0. It is printed as `the
@@ -130,6 +163,13 @@ pub(crate) fn write_range<W: fmt::Write>(
     match found.fault {
         RangeFault::Empty => write!(f, "{range} has no id\n"),
         RangeFault::Beyond => write!(f, "{range} reaches past the greatest id, 4294967294\n"),
+        RangeFault::TooMany => write!(f, "{range} is one too many: Linux takes 340\n"),
+        RangeFault::PastPage => {
+            write!(
+                f,
+                "{range} is too much: Linux takes less than 4096 bytes of them\n"
+            )
+        }
         RangeFault::MeetsInside(place) => {
             let other = Place { place, option };
             write!(f, "{range} overlaps {other} inside the namespace\n")

@@ -12,7 +12,7 @@ use virtiofs_options::words::{Words, read_words};
 type Row = (&'static str, &'static str);
 
 static USERS: [Row; 17] = [
-    ("--json", "all keep their number"),
+    ("-- virtiofsd", "all keep their number"),
     (
         "--translate-uid map:0:100000:65536",
         "0 to 65535 are 100000 to 165535 on the host, the others keep their number",
@@ -75,7 +75,7 @@ static USERS: [Row; 17] = [
 
 /// Words with a space between each two, and what is said of names and of access control lists.
 static NAMES: [Row; 6] = [
-    ("--json", "all pass as they are"),
+    ("-- virtiofsd", "all pass as they are"),
     ("--xattrmap :ok:all:::", "1 rule"),
     (
         "--xattrmap :prefix:all:trusted.:user.virtiofs.::bad:all:::",

@@ -1,0 +1,19 @@
+use Rattle.std.proofs.Common.{lit<}
+use Rattle.std.proofs.lemmas.Iterator.Consumers.{YieldsList-at, YieldsList-end}
+use Rattle.std.proofs.lemmas.Iterator.Splits.{YieldsList-from_str_split}
+use Rattle.virtiofs_options.proofs.UnknownLemmas.{words-more}
+use Rattle.virtiofs_options.proofs.unknown.push_older.Goals as goal
+
+pub loop-word-preserved : goal.loop-word-preserved
+loop-word-preserved c =
+    words-more c.args.options c.args.guest _ _ _ c.loop-word.yielded c.in-Some.word c.loop-word.invariant
+    c.in_ok-push_older_word.ensures
+
+pub returns : goal.returns
+returns c =
+    let seen = YieldsList-end
+    (YieldsList-at c.into_iter-word-iterator.ensures.into_iter_gives
+    (YieldsList-from_str_split 44 c.args.value.now (lit< tt) c.split-word-items.ensures.text
+    c.split-word-items.ensures.has_more c.split-word-items.ensures.pattern))
+    c.loop-word.yielded _ c.loop-word.yielded_by _ _ c.in-None.is c.next.ensures.steps in
+    rw (← seen.0) c.loop-word.invariant

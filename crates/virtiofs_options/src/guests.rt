@@ -1,0 +1,126 @@
+//! The guests that command lines of the daemon make.
+ghost use Rattle.std.specs.Prelude.{◌≡◌, ◌<◌, ◌≤◌, ◌+◌, length, map, option_map, IfSome, IfOk, IfErr, OnOk};
+ghost use Rattle.virtiofs_options.specs.Guests.{start_of, lacking_fault, AddsLine, IsLineFault, AddsGuest, IsGuestFault, AreGuests, HasGuestFault};
+ghost use Rattle.virtiofs_options.specs.Parts.{WrongOnly};
+ghost use Rattle.virtiofs_options.specs.Unknown.{told};
+
+use crate::fault::{Fault, ReadError};
+use crate::guest::Guest;
+use crate::line::{after_line, beginning, line_of, tail_of};
+use crate::options::Options;
+use crate::parts::read_parts;
+use crate::unknown::{UnknownWord, check_parts, push_unknown};
+use crate::whole::is_line;
+use std::alloc::Global;
+
+/// Guests, and what the daemon does not know of their command lines.
+#[derive(Drop)]
+pub(crate) struct Guests<'a> {
+    /// The guests, in their order.
+    pub(crate) guests: Vec<Guest<'a, Global>>,
+    /// What is not known, in the order of the words.
+    pub(crate) unknown: Vec<UnknownWord<'a>, Global>,
+}
+
+/// Where the command line of a guest begins. One that has options already may lack a command line.
+fn start_of(options: Options, is_given: bool, words: &[&str]) -> Option<usize>
+    ensures first { result ≡ start_of options is_given words.now }
+    ensures within { IfSome result (λ start. start ≤ length words.now) }
+{
+    if let Some(start) = beginning(options, words) {
+        return Some(start);
+    }
+    if is_given && line_of(words).is_empty() {
+        return Some(0);
+    }
+    None
+}
+
+/// What is wrong with words in which no command line of the daemon begins.
+fn lacking_fault<'a>(options: Options, number: usize, words: &[&'a str]) -> Fault<'a>
+    ensures { result ≡ lacking_fault options number words.now }
+{
+    match words.iter().find(|word| is_line(options, word)) {
+        Some(word) => Fault::Whole(word),
+        None => Fault::Nothing(number),
+    }
+}
+
+/// Reads the words of the command line of a further guest, which has the options of `first` already.
+fn read_line<'a>(
+    alloc: Global,
+    options: Options,
+    line: &[&'a str],
+    first: Guest<'a, Global>,
+    read: &mut Guests<'a>,
+) -> Result<(), ReadError<'a>>
+    ensures read { OnOk result (AddsLine options first.entry line.now read.old read.new) }
+    ensures refused { IfErr result (WrongOnly (IsLineFault options line.now)) }
+{
+    let parts = read_parts(alloc, options, line)?;
+    check_parts(alloc, options, parts.as_slice())?;
+    let number = read.guests.len() + 1;
+    push_unknown(&mut read.unknown, options, number, parts.as_slice())?;
+    let mut guest = first;
+    guest.take_parts(parts.as_slice())?;
+    read.guests.push(guest)?;
+    Ok(())
+}
+
+/// Reads the command line of a further guest, which words begin with, and returns what is left of the
+/// words, if something is.
+fn add_guest<'w, 'a>(
+    alloc: Global,
+    options: Options,
+    words: &'w [&'a str],
+    first: Guest<'a, Global>,
+    read: &mut Guests<'a>,
+) -> Result<Option<&'w [&'a str]>, ReadError<'a>>
+    ensures read { IfOk result (λ left. AddsGuest options first.entry words.now read.old read.new
+        (option_map (λ it. it.now) left)) }
+    ensures shorter { IfOk result (λ left. IfSome left (λ it. length it.now < length words.now)) }
+    ensures refused { IfErr result (WrongOnly (IsGuestFault options
+        (length read.old.guests.items + 1) first.entry words.now)) }
+{
+    let Some(start) = start_of(options, first.has_any(), words) else {
+        let number = read.guests.len() + 1;
+        return Err(ReadError::Wrong(lacking_fault(options, number, words)));
+    };
+    let words = tail_of(words, start);
+    match read_line(alloc, options, line_of(words), first, read) {
+        Ok(()) => Ok(after_line(words)),
+        Err(error) => Err(error),
+    }
+}
+
+/// Reads the command lines of the daemon. The first is that of the guest which has the options of
+/// `first` already, and each further one is that of a further guest.
+///
+/// # Errors
+///
+/// What is wrong with the first command line that is wrong; or a request for memory was refused.
+pub(crate) fn read_guests<'a>(
+    alloc: Global,
+    options: Options,
+    words: &[&'a str],
+    first: Guest<'a, Global>,
+) -> Result<Guests<'a>, ReadError<'a>>
+    ensures read { IfOk result (λ read. AreGuests options first.entry words.now
+        read.guests.items (map told read.unknown.items)) }
+    ensures refused { IfErr result (WrongOnly (HasGuestFault options first.entry words.now)) }
+{
+    let mut read = Guests {
+        guests: Vec::new(alloc),
+        unknown: Vec::new(alloc),
+    };
+    let mut guest = first;
+    let mut left = Some(words);
+    while let Some(here) = left {
+        match add_guest(alloc, options, here, guest, &mut read) {
+            Ok(rest) => left = rest,
+            Err(error) => return Err(error),
+        }
+        guest = Guest::new(alloc);
+    }
+    Ok(read)
+}
