@@ -30,7 +30,9 @@ def program(rt, crate, words):
 
 def main(words):
     rt, tried = kit(), set()
-    by_rt, is_built = rt.Crate.ci, rt.Kept.is_built
+    # (older kits keep no crate from one run to the next)
+    kept = getattr(rt, "Kept", None)
+    by_rt, is_built = rt.Crate.ci, kept and kept.is_built
 
     def ci(crate, flags, tests):
         """Proves a crate as rt does, over a folder for kept work that was empty. What fails so is left to rt alone."""
@@ -51,7 +53,9 @@ def main(words):
             crate.build_static(["--jobs", "2"])
 
     rt.rtlib.VERDICT = re.compile(rt.rtlib.VERDICT.pattern.replace("statements=trusted", ALLOWED), re.M)
-    rt.Crate.ci, rt.Kept.is_built, rt.Crate.has_tests = ci, is_built_whole, lambda crate: False
+    rt.Crate.ci, rt.Crate.has_tests = ci, lambda crate: False
+    if kept:
+        kept.is_built = is_built_whole
     return rt.main(["ci", *words])
 
 
