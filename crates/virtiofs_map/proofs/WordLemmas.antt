@@ -1,7 +1,7 @@
 -- What the words of a map say of a number, by a search of its ranges.
 use Rattle.std.proofs.Common.{rules, [], ◌≡◌, inl, inr, ℕ, zero, suc, ◌+◌, ◌-◌, ◌/◌, ◌<◌, ◌≤◌, List, length, get_or}
 use Rattle.std.proofs.Common.{slice_index, AllPairs, All, Contains, Option, Some, None, slice_get, min, subst, refl}
-use Rattle.std.proofs.Common.{sym, ◌∙◌, arith, add-one}
+use Rattle.std.proofs.Common.{sym, ◌∙◌, arith}
 use Rattle.std.proofs.lemmas.Bool.{cases_order}
 use Rattle.std.proofs.lemmas.List.Elements.{All-contains, Contains-get_or}
 use Rattle.std.proofs.lemmas.Option.{same_Some, slice_get-get_or}
@@ -12,7 +12,7 @@ use Rattle.virtiofs_map.specs.Mapping.{first_of, count_of, EntryCovers, target_o
 use Rattle.virtiofs_map.specs.MappingLaws.{IsMappedBothWays}
 use Rattle.virtiofs_map.specs.RangeParts.{Precedes, HasNumbers, AreRanges}
 use Rattle.virtiofs_map.specs.Steps.{count_after, CountsBetween}
-use Rattle.virtiofs_map.specs.WordParts.{Table, IsAt, HasRanges, IsOfWords, table_in, before, Searches, SaysEntry}
+use Rattle.virtiofs_map.specs.WordParts.{Table, IsAt, HasRanges, IsOfWords, table_in, Searches, SaysEntry}
 use Rattle.virtiofs_map.specs.declared.cmdline.IdMap.{IdMap}
 use Rattle.virtiofs_map.specs.declared.soft_idmap.entry.Direction.{Direction}
 use Rattle.virtiofs_map.specs.declared.soft_idmap.entry.Direction.TheVariants.{GuestToHost, HostToGuest}
@@ -21,7 +21,7 @@ use Rattle.virtiofs_map.specs.declared.soft_idmap.entry.Entry.TheVariants.{Fail}
 use Rattle.virtiofs_map.specs.declared.soft_idmap.row.Answer.{Answer}
 use Rattle.virtiofs_map.specs.declared.soft_idmap.row.Answer.TheVariants as answers
 use Rattle.virtiofs_map.proofs.MappingLawLemmas.{HasOneValue-accepted, LeadsBack-mapped}
-use Rattle.virtiofs_map.proofs.SearchLemmas.{Searched-start, Searched-right, Searched-left, Searched-wider}
+use Rattle.virtiofs_map.proofs.SearchLemmas.{Searched-start, Searched-right, Searched-left}
 use Rattle.virtiofs_map.proofs.SearchLemmas.{Searched-finds}
 use Rattle.virtiofs_map.proofs.StoredLemmas.{Becomes-itself, Becomes-by_range}
 
@@ -31,85 +31,62 @@ no_range = Fail 0 0
 
 -- ---- the search
 
-before_next : (ranges : List Entry) (k : ℕ) → before ranges (k + 1) ≡ slice_get ranges k
-before_next ranges k = rw add-one refl
+pub Searches-start : (table : Table) (n place end : ℕ) → place ≡ 0 → end ≡ table.count → 1 ≤ end
+    → Searches table n place end
+Searches-start table n place end none whole some ranges are stand =
+    rw none (Searched-start ranges n end some (whole ∙ sym stand.counted))
 
-searches_right : (table : Table) (n low high middle : ℕ)
-    → Searches table n low high → high ≤ table.count → middle < high
+searches_right : (table : Table) (n place end middle : ℕ)
+    → Searches table n place end → end ≤ table.count → middle < end
     → slice_index table.words (table.firsts + middle) ≤ n
-    → Searches table n (middle + 1) high
-searches_right table n low high middle searches within below begins ranges are stand =
+    → Searches table n middle end
+searches_right table n place end middle searches within below begins ranges are stand =
     let counted : length ranges ≡ table.count = stand.counted in
     let range : Entry = get_or ranges middle no_range in
     let here : slice_get ranges middle ≡ Some range = slice_get-get_or ranges middle no_range (omega arith) in
     let at : IsAt table middle range = stand.each middle range here in
     let first : slice_index table.words (table.firsts + middle) ≡ first_of range = at.first in
-    rw (before_next ranges middle, here)
-    (Searched-right ranges n low high middle (before ranges low) range (searches ranges are stand) below here
-    (omega arith))
+    Searched-right ranges n place end middle range (searches ranges are stand) below here (omega arith)
 
-searches_left : (table : Table) (n low high middle wider : ℕ)
-    → Searches table n low high → high ≤ table.count → low ≤ middle → middle < high
-    → n < slice_index table.words (table.firsts + middle)
-    → middle ≤ wider → wider ≤ table.count → Searches table n low wider
-searches_left table n low high middle wider searches within from below begins more within' ranges are stand =
+searches_left : (table : Table) (n place end middle wider : ℕ)
+    → Searches table n place end → place < middle → n < slice_index table.words (table.firsts + middle)
+    → middle < table.count → middle ≤ wider → wider ≤ table.count → Searches table n place wider
+searches_left table n place end middle wider searches after begins below more within ranges are stand =
     let counted : length ranges ≡ table.count = stand.counted in
     let range : Entry = get_or ranges middle no_range in
     let here : slice_get ranges middle ≡ Some range = slice_get-get_or ranges middle no_range (omega arith) in
     let at : IsAt table middle range = stand.each middle range here in
     let first : slice_index table.words (table.firsts + middle) ≡ first_of range = at.first in
-    Searched-wider ranges n low middle wider (before ranges low)
-    (Searched-left ranges n low high middle (before ranges low) range are.ordered (searches ranges are stand) from
-    below here (omega arith)) more (omega arith)
-
-pub Searches-start : (table : Table) (n low high : ℕ) → low ≡ 0 → high ≡ table.count → Searches table n low high
-Searches-start table n low high none whole ranges are stand =
-    rw none (Searched-start ranges n high (whole ∙ sym stand.counted))
+    Searched-left ranges n place end middle wider range are.ordered (searches ranges are stand) after here
+    (omega arith) more (omega arith)
 
 -- a turn of the search leaves half, on one side or on the other
-pub Searches-turn : (table : Table) (n low size half middle next : ℕ)
-    → Searches table n low (low + size) → low + size ≤ table.count → 1 ≤ size → half ≡ size / 2
-    → middle ≡ low + (size - half) - 1
-    → (slice_index table.words (table.firsts + middle) ≤ n → next ≡ middle + 1)
-    → (n < slice_index table.words (table.firsts + middle) → next ≡ low)
-    → Searches table n next (next + half)
-Searches-turn table n low size half middle next searches within some halved is right left =
+pub Searches-turn : (table : Table) (n place size half middle next : ℕ)
+    → Searches table n place (place + size) → place + size ≤ table.count → 2 ≤ size → half ≡ size / 2
+    → middle ≡ place + half
+    → (slice_index table.words (table.firsts + middle) ≤ n → next ≡ middle)
+    → (n < slice_index table.words (table.firsts + middle) → next ≡ place)
+    → Searches table n next (next + (size - half))
+Searches-turn table n place size half middle next searches within some halved is right left =
     elim (cases_order (slice_index table.words (table.firsts + middle)) n) [
       | inl same ↦ go_right (omega arith)
       | inr (inl before) ↦ go_right (omega arith)
       | inr (inr after) ↦ go_left after
     ] where
-      go_right : slice_index table.words (table.firsts + middle) ≤ n → Searches table n next (next + half)
+      go_right : slice_index table.words (table.firsts + middle) ≤ n → Searches table n next (next + (size - half))
       go_right begins =
-          let moved : next ≡ middle + 1 = right begins in
-          let last : next + half ≡ low + size = omega arith in
-          rw (last, moved) (searches_right table n low (low + size) middle searches within (omega arith) begins)
+          let moved : next ≡ middle = right begins in
+          let last : next + (size - half) ≡ place + size = omega arith in
+          rw (last, moved) (searches_right table n place (place + size) middle searches within (omega arith) begins)
 
-      go_left : n < slice_index table.words (table.firsts + middle) → Searches table n next (next + half)
+      go_left : n < slice_index table.words (table.firsts + middle) → Searches table n next (next + (size - half))
       go_left begins =
-          let stays : next ≡ low = left begins in
+          let stays : next ≡ place = left begins in
           rw stays
-          (searches_left table n low (low + size) middle (low + half) searches within (omega arith) (omega arith)
-          begins (omega arith) (omega arith))
+          (searches_left table n place (place + size) middle (place + (size - half)) searches (omega arith) begins
+          (omega arith) (omega arith) (omega arith))
 
 -- ---- what is said
-
--- a range that covers the number is the one that was found
-found : (specs : List IdMap) (direction : Direction) (table : Table) (n below : ℕ)
-    (has : HasRanges specs direction table)
-    → Searches table n below below
-    → (range : Entry) → Contains has.ranges range → EntryCovers range n → before has.ranges below ≡ Some range
-found specs direction table n below has searches range stored covers =
-    Searched-finds has.ranges n below below (before has.ranges below) range has.ordered.ordered
-    (searches has.ranges has.ordered has.stand) (omega arith) stored covers
-
--- the range before is the one there
-before_is : (ranges : List Entry) (below : ℕ) (range other : Entry) → slice_get ranges (below - 1) ≡ Some range
-    → before ranges below ≡ Some other → range ≡ other
-before_is ranges zero range other here is = absurd (cc)
-before_is ranges (suc k) range other here is =
-    let same : suc k - 1 ≡ k = omega arith in
-    same_Some _ _ (sym (rw same at here) ∙ is)
 
 -- there is no range
 pub SaysIn-none : (specs : List IdMap) (direction : Direction) (table : Table) (n : ℕ)
@@ -152,30 +129,17 @@ says_by specs direction table n at answer has inside says alone =
       )
     ]
 
--- the last range that begins at or below the number decides, or the first one where there is none
-pub SaysIn-last : (specs : List IdMap) (direction : Direction) (table : Table) (n below : ℕ) (answer : Answer)
-    → HasRanges specs direction table → Searches table n below below → 1 ≤ table.count → below ≤ table.count
-    → ((range : Entry) → IsAt table (below - 1) range → HasNumbers range → HasTarget range → SaysEntry range n answer)
+-- the range decides at which the search ended
+pub SaysIn-last : (specs : List IdMap) (direction : Direction) (table : Table) (n place : ℕ) (answer : Answer)
+    → HasRanges specs direction table → Searches table n place (place + 1) → place < table.count
+    → ((range : Entry) → IsAt table place range → HasNumbers range → HasTarget range → SaysEntry range n answer)
     → SaysIn specs direction n answer
-SaysIn-last specs direction table n below answer has searches some within says =
-    says_by specs direction table n (below - 1) answer has (omega arith) says (λ range other here stored covers.
-    before_is has.ranges below range other here (found specs direction table n below has searches other stored covers))
-
--- a range alone decides
-pub SaysIn-only : (specs : List IdMap) (direction : Direction) (table : Table) (n : ℕ) (answer : Answer)
-    → HasRanges specs direction table → table.count ≡ 1
-    → ((range : Entry) → IsAt table 0 range → HasNumbers range → HasTarget range → SaysEntry range n answer)
-    → SaysIn specs direction n answer
-SaysIn-only specs direction table n answer has one says =
-    says_by specs direction table n 0 answer has (omega arith) says alone where
-      alone : (range other : Entry) → slice_get has.ranges 0 ≡ Some range → Contains has.ranges other
-          → EntryCovers other n → range ≡ other
-      alone range other here (k, below, there) covers =
-          let counted : length has.ranges ≡ table.count = has.stand.counted in
-          let first : k ≡ 0 = omega arith in
-          let same : slice_get has.ranges k ≡ Some (get_or has.ranges k other) =
-          slice_get-get_or has.ranges k other below in
-          same_Some _ _ (sym here ∙ rw first at same ∙ rw (← first, there) refl)
+SaysIn-last specs direction table n place answer has searches inside says =
+    says_by specs direction table n place answer has inside says (λ range other here stored covers.
+    same_Some _ _
+    (sym here
+    ∙ Searched-finds has.ranges n place other has.ordered.ordered (searches has.ranges has.ordered has.stand) stored
+    covers))
 
 -- ---- no specification
 
@@ -232,9 +196,15 @@ CountsBetween-none count before after none counted =
     record { steps = 0; at_least = omega arith; at_most = omega arith; counted = counted }
 
 pub CountsBetween-one : (count before after : ℕ) → count ≡ 1 → after ≡ count_after before 1
-    → CountsBetween (min 1 count) (binary_digits count) before after
+    → CountsBetween 1 (binary_digits count) before after
 CountsBetween-one count before after one counted =
     record { steps = 1; at_least = omega arith; at_most = rw (one, digits_of_one) (omega arith); counted = counted }
+
+-- one range or more
+pub CountsBetween-some : (count most before after : ℕ) → 1 ≤ count → CountsBetween 1 most before after
+    → CountsBetween (min 1 count) most before after
+CountsBetween-some count most before after some counts =
+    let least : min 1 count ≡ 1 = omega arith in rw least counts
 
 -- a range begins at its place or above it
 begins_above : (ranges : List Entry) (d : Entry) (k : ℕ) → All HasNumbers ranges → AllPairs Precedes ranges

@@ -1,6 +1,6 @@
 -- What the ranges of a map stand for, and how they are found. Only private functions cite these definitions.
-use Rattle.std.specs.Prelude.{◌≡◌, ◌≢◌, ◌⊎◌, ℕ, ◌+◌, ◌-◌, ◌^◌, ◌<◌, ◌≤◌, List, length, take, slice_index_or, All}
-use Rattle.std.specs.Prelude.{AllPairs, Contains, Option, Some, IfSome, MatchOption}
+use Rattle.std.specs.Prelude.{◌≡◌, ◌≢◌, ◌⊎◌, ℕ, ◌+◌, ◌^◌, ◌<◌, ◌≤◌, List, length, take, slice_index_or, All}
+use Rattle.std.specs.Prelude.{AllPairs, Contains, Some, IfSome}
 use Rattle.std.specs.List.Sorted.{IsNonDecreasingBy}
 use Rattle.virtiofs_map.specs.Mapping.{entry_of, first_of, count_of}
 use Rattle.virtiofs_map.specs.Build.{HasSource, HasTarget, Accepted}
@@ -41,24 +41,23 @@ pub record Stores (specs : List IdMap) (direction : Direction) (ranges : List En
 
 -- ---- a search
 
--- a search has narrowed its result to the positions from low to high: the range before low, which was found, begins
--- at or below n, and those from high on begin above n
-pub record Searched (ranges : List Entry) (n low high : ℕ) (found : Option Entry) : Type 0 where
-  pub order : low ≤ high
-  pub within : high ≤ length ranges
-  pub last : MatchOption found (low ≡ 0)
-      (λ range. (1 ≤ low) × (slice_index_or ranges (low - 1) range ≡ range) × (first_of range ≤ n))
-  pub above : (k : ℕ) (d : Entry) → high ≤ k → k < length ranges → n < first_of (slice_index_or ranges k d)
+-- a search has narrowed its result to the places from `place` up to `end`: the range at `place` begins at or below n,
+-- unless it is the first one, and those from `end` on begin above n
+pub record Searched (ranges : List Entry) (n place end : ℕ) : Type 0 where
+  pub order : place < end
+  pub within : end ≤ length ranges
+  pub begins : (d : Entry) → 1 ≤ place → first_of (slice_index_or ranges place d) ≤ n
+  pub above : (k : ℕ) (d : Entry) → end ≤ k → k < length ranges → n < first_of (slice_index_or ranges k d)
 
--- the ranges that are left are fewer than 2 to the power of the steps that are still allowed
+-- the ranges that are left beside one are fewer than 2 to the power of the steps that are still allowed
 pub record HasDigitsFor (left taken most : ℕ) : Type 0 where
   pub digits : ℕ
   pub room : left < 2 ^ digits
   pub spent : taken + digits ≤ most
 
--- a step was taken, or the search stands where it began
-abbrev pub HasBegun : ℕ → ℕ → ℕ → ℕ → Type 0
-HasBegun taken low high whole = (1 ≤ taken) ⊎ ((low ≡ 0) × (high ≡ whole))
+-- a step was taken, or more than one range is left, so that one will be taken
+abbrev pub HasBegun : ℕ → ℕ → Type 0
+HasBegun taken left = (1 ≤ taken) ⊎ (2 ≤ left)
 
 -- ---- a build
 

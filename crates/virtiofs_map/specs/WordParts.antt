@@ -1,7 +1,7 @@
 -- What the words of a map stand for, and how they are searched. Only private functions, the invariant of a map and
 -- `Image` cite these definitions.
-use Rattle.std.specs.Prelude.{◌≡◌, ◌⊎◌, ℕ, zero, suc, ◌+◌, ◌*◌, ◌<◌, ◌≤◌, List, length, slice_index, slice_get, Option}
-use Rattle.std.specs.Prelude.{Some, None}
+use Rattle.std.specs.Prelude.{◌≡◌, ◌⊎◌, ℕ, ◌+◌, ◌*◌, ◌<◌, ◌≤◌, List, length, slice_index, slice_get}
+use Rattle.std.specs.Prelude.{Some}
 use Rattle.virtiofs_map.specs.Build.{Accepted}
 use Rattle.virtiofs_map.specs.ImageAnswer.{SaysValue}
 use Rattle.virtiofs_map.specs.Mapping.{first_of, EntryCovers, target_of}
@@ -106,15 +106,10 @@ pub record IsOfWords (specs : List IdMap) (words : List ℕ) : Type 0 where
 
 -- ---- a search
 
--- the range before that place
-abbrev pub before : List Entry → ℕ → Option Entry
-before ranges zero = None
-before ranges (suc k) = slice_get ranges k
-
--- if the words are those of ranges in order, a search has narrowed its result to the positions from low to high
+-- if the words are those of ranges in order, a search has narrowed its result to the places from `place` up to `end`
 abbrev pub Searches : Table → ℕ → ℕ → ℕ → Type 0
-Searches table n low high =
-    (ranges : List Entry) → AreRanges ranges → Tabulates table ranges → Searched ranges n low high (before ranges low)
+Searches table n place end =
+    (ranges : List Entry) → AreRanges ranges → Tabulates table ranges → Searched ranges n place end
 
 -- ---- an answer
 

@@ -2,7 +2,7 @@
 //!
 //! The search takes as many turns for one number as for another, and no turn branches on what it
 //! read: a branch that is predicted wrongly costs more than a turn.
-ghost use Rattle.std.specs.Prelude.{◌≤◌, List, min};
+ghost use Rattle.std.specs.Prelude.{◌+◌, ◌<◌, ◌≤◌, List, min};
 ghost use Rattle.virtiofs_map.specs.ImageAnswer.{SaysIn};
 ghost use Rattle.virtiofs_map.specs.LookupSteps.{binary_digits};
 ghost use Rattle.virtiofs_map.specs.Steps.{CountsBetween};
@@ -14,32 +14,35 @@ use super::row::Answer;
 use super::words::{Last, Ranges};
 use crate::Steps;
 
-/// The last range that begins at or below a number: no other one can cover it.
+/// The place of the last range that begins at or below a number, or of the first range where none
+/// does: no other range can cover the number.
 ///
-/// Each reading of a range is a step, also where the last turn reads a range for the second time.
+/// Each reading of a range is a step. With one range there is nothing to search, and it is read.
 #[inline(always)]
 pub(crate) fn last_from(ranges: &Ranges<'_>, n: u32, steps: &mut Steps) -> Last
-    ensures within { result.end ≤ ranges.now.count }
-    ensures found { Searches ranges.now n result.end result.end }
-    ensures steps { CountsBetween (min 1 ranges.now.count) (binary_digits ranges.now.count)
-        steps.old steps.new }
+    requires { 1 ≤ ranges.now.count }
+    ensures within { result.place < ranges.now.count }
+    ensures found { Searches ranges.now n result.place (result.place + 1) }
+    ensures steps { CountsBetween 1 (binary_digits ranges.now.count) steps.old steps.new }
 {
-    let mut last = Last::none();
+    if ranges.len() == 1 {
+        let _ = ranges.read(0, steps);
+        return Last::first();
+    }
+    let mut last = Last::first();
     let mut size = ranges.len();
     let mut taken = Steps::new();
-    while size > 0 {
+    while size > 1 {
         let half = size / 2;
-        let range = ranges.read(last.end() + (size - half) - 1, &mut taken);
+        let range = ranges.read(last.place() + half, &mut taken);
         last = last.or(range, n);
-        size = half;
+        size -= half;
     }
     steps.add(&taken);
     last
 }
 
-/// What the ranges say of a number.
-///
-/// With no range the number stays itself. With one range there is nothing to search.
+/// What the ranges say of a number. With no range the number stays itself.
 #[inline(always)]
 pub(crate) fn look_up(ranges: &Ranges<'_>, n: u32, steps: &mut Steps) -> Answer
     ensures says { (specs : List Specification) (direction : Direction)
@@ -50,10 +53,6 @@ pub(crate) fn look_up(ranges: &Ranges<'_>, n: u32, steps: &mut Steps) -> Answer
     if ranges.len() == 0 {
         steps.add(&Steps::new());
         return Answer::Becomes(n);
-    }
-    if ranges.len() == 1 {
-        let only = ranges.read(0, steps).kept();
-        return ranges.say_by(only, n);
     }
     let last = last_from(ranges, n, steps);
     ranges.say_by(last, n)

@@ -15,21 +15,6 @@ use super::piece::{Outcome, Piece};
 use super::words::Ranges;
 use crate::Steps;
 
-/// The range before a place, where it covers the number.
-fn covering(ranges: &Ranges<'_>, end: usize, n: u32, steps: &mut Steps) -> Option<Entry>
-    requires { end ≤ ranges.now.count }
-    ensures some { IfSome result (λ range.
-        (1 ≤ end) × IsRead ranges.now (end - 1) range × EntryCovers range n) }
-    ensures none { IfNone result (1 ≤ end → (range : Entry)
-        → IsAt ranges.now (end - 1) range → ¬ EntryCovers range n) }
-{
-    if end == 0 {
-        return None;
-    }
-    let range = ranges.entry(end - 1, steps);
-    if range.covers(n) { Some(range) } else { None }
-}
-
 /// The numbers from one that the range covers to the last of the range.
 fn covered(range: Entry, n: u32) -> Piece
     requires covers { EntryCovers range n }
@@ -69,13 +54,20 @@ pub(crate) fn stretch(ranges: &Ranges<'_>, n: u32) -> Piece
     ensures stretch { (specs : List Specification) (direction : Direction)
         → HasRanges specs direction ranges.now → IsStretch specs direction result }
 {
+    if ranges.len() == 0 {
+        return kept(n, u32::MAX);
+    }
     let mut steps = Steps::new();
-    let end = last_from(ranges, n, &mut steps).end();
-    if let Some(range) = covering(ranges, end, n, &mut steps) {
+    let place = last_from(ranges, n, &mut steps).place();
+    let range = ranges.entry(place, &mut steps);
+    if range.covers(n) {
         return covered(range, n);
     }
-    if end < ranges.len() {
-        let next = ranges.entry(end, &mut steps).first();
+    if n < range.first() {
+        return kept(n, range.first() - 1);
+    }
+    if place + 1 < ranges.len() {
+        let next = ranges.entry(place + 1, &mut steps).first();
         return kept(n, next - 1);
     }
     kept(n, u32::MAX)

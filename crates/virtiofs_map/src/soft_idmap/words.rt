@@ -66,17 +66,18 @@ impl<'a> Model for Ranges<'a> {
     }) };
 }
 
-/// A range that was read: its first number, and how many ranges there are up to and with it.
+/// A range that was read: its place, and its first number.
 #[derive(Clone, Copy)]
 pub(crate) struct Range {
-    end: usize,
+    place: usize,
     first: u32,
 }
 
-/// The last of the ranges that were read and begin at or below a number, or none.
+/// The place of the last of the ranges that were read and begin at or below a number, or of the
+/// first range.
 #[derive(Clone, Copy)]
 pub(crate) struct Last {
-    end: usize,
+    place: usize,
 }
 
 impl<A: Allocator> Words<A> {
@@ -172,13 +173,13 @@ impl<'a> Ranges<'a> {
     /// Hands out a range, and counts a step.
     pub(crate) fn read(&self, at: usize, steps: &mut Steps) -> Range
         requires { at < self.now.count }
-        ensures end { result.end ≡ at + 1 }
+        ensures place { result.place ≡ at }
         ensures first { result.first ≡ slice_index self.now.words (self.now.firsts + at) }
         ensures counted { steps.new ≡ count_after steps.old 1 }
     {
         steps.tick();
         let first = self.words[self.firsts + at];
-        Range { end: at + 1, first }
+        Range { place: at, first }
     }
 
     /// The whole of a range, and counts a step.
@@ -196,17 +197,14 @@ impl<'a> Ranges<'a> {
         )
     }
 
-    /// What the last range makes of a number. Where there is no last range the first one is asked,
-    /// which does not cover the number then.
+    /// What the range at the place makes of a number.
     pub(crate) fn say_by(&self, last: Last, n: u32) -> Answer
-        requires some { 1 ≤ self.now.count }
-        requires within { last.end ≤ self.now.count }
-        ensures { (range : Entry) → IsAt self.now (last.end - 1) range
+        requires { last.place < self.now.count }
+        ensures { (range : Entry) → IsAt self.now last.place range
             → HasNumbers range → HasTarget range → SaysEntry range n result }
     {
-        let at = last.end.saturating_sub(1);
-        let row = self.rows + 3 * at;
-        let first = self.words[self.firsts + at];
+        let row = self.rows + 3 * last.place;
+        let first = self.words[self.firsts + last.place];
         say(
             first,
             self.words[row],
@@ -217,43 +215,34 @@ impl<'a> Ranges<'a> {
     }
 }
 
-impl Range {
-    /// This range as the last one.
-    pub(crate) fn kept(self) -> Last
-        ensures { result.end ≡ self.end }
-    {
-        Last { end: self.end }
-    }
-}
-
 impl Last {
-    /// No range.
-    pub(crate) fn none() -> Last
-        ensures { result.end ≡ 0 }
+    /// The place of the first range.
+    pub(crate) fn first() -> Last
+        ensures { result.place ≡ 0 }
     {
-        Last { end: 0 }
+        Last { place: 0 }
     }
 
-    /// How many ranges there are up to and with this one.
-    pub(crate) fn end(self) -> usize
-        ensures { result ≡ self.end }
+    /// The place.
+    pub(crate) fn place(self) -> usize
+        ensures { result ≡ self.place }
     {
-        self.end
+        self.place
     }
 
-    /// The later range if it begins at or below the number, else this one. It is chosen without a
-    /// branch.
+    /// The place of the later range if it begins at or below the number, else this one. It is chosen
+    /// without a branch.
     pub(crate) fn or(self, later: Range, n: u32) -> Last
-        requires later { self.end ≤ later.end }
-        requires near { later.end < self.end + 4294967296 }
-        ensures begins { later.first ≤ n → result.end ≡ later.end }
-        ensures above { n < later.first → result.end ≡ self.end }
-        ensures within { result.end ≤ later.end }
+        requires later { self.place ≤ later.place }
+        requires near { later.place < self.place + 4294967296 }
+        ensures begins { later.first ≤ n → result.place ≡ later.place }
+        ensures above { n < later.first → result.place ≡ self.place }
+        ensures within { result.place ≤ later.place }
     {
-        let begins = ones_if_below(u64::from(later.first), u64::from(n) + 1);
-        let step = later.end - self.end;
+        let above = ones_if_below(u64::from(n), u64::from(later.first));
+        let step = later.place - self.place;
         Last {
-            end: self.end + (step & begins as usize),
+            place: later.place - (step & above as usize),
         }
     }
 }

@@ -1,15 +1,15 @@
 -- What a range, or the want of one, says of the numbers from some number on.
-use Rattle.std.proofs.Common.{◌≡◌, ◌≢◌, inl, inr, ℕ, zero, suc, ◌+◌, ◌-◌, ◌<◌, ◌≤◌, List, length, get_or, AllPairs}
+use Rattle.std.proofs.Common.{◌≡◌, ◌≢◌, inl, inr, ℕ, ◌+◌, ◌-◌, ◌<◌, ◌≤◌, List, length, get_or, AllPairs}
 use Rattle.std.proofs.Common.{Contains, Some, slice_get, sym, ap, ◌∙◌, arith}
 use Rattle.std.proofs.lemmas.Bool.{cases_order}
 use Rattle.std.proofs.lemmas.List.Elements.{All-contains}
-use Rattle.std.proofs.lemmas.Option.{slice_get-get_or, slice_get_within, get_or_from_slice_get}
+use Rattle.std.proofs.lemmas.Option.{same_Some, slice_get-get_or, slice_get_within, get_or_from_slice_get}
 use Rattle.virtiofs_map.specs.Build.{HasTarget}
 use Rattle.virtiofs_map.specs.Mapping.{first_of, count_of, EntryCovers, target_of}
 use Rattle.virtiofs_map.specs.PieceParts.{IsMade, IsStretch}
 use Rattle.virtiofs_map.specs.Pieces.{value_in}
-use Rattle.virtiofs_map.specs.RangeParts.{Precedes, HasNumbers, Searched}
-use Rattle.virtiofs_map.specs.WordParts.{Table, IsAt, HasRanges, Searches, before}
+use Rattle.virtiofs_map.specs.RangeParts.{Precedes, HasNumbers}
+use Rattle.virtiofs_map.specs.WordParts.{Table, IsAt, HasRanges, Searches}
 use Rattle.virtiofs_map.specs.declared.cmdline.IdMap.{IdMap}
 use Rattle.virtiofs_map.specs.declared.soft_idmap.entry.Direction.{Direction}
 use Rattle.virtiofs_map.specs.declared.soft_idmap.entry.Entry.{Entry}
@@ -69,29 +69,22 @@ IsStretch-covered specs direction table n at range piece has here covers made =
 
 -- ---- numbers that no range covers
 
--- the first number of the range before a place is no greater, and it does not cover the number, so it covers no greater
--- one
-before_covers : (ranges : List Entry) (n end k j : ℕ) (range : Entry) → AllPairs Precedes ranges
-    → Searched ranges n end end (before ranges end)
-    → ((last : Entry) → slice_get ranges (end - 1) ≡ Some last → ¬ EntryCovers last n)
-    → n ≤ k → j < end → j < length ranges → get_or ranges j range ≡ range → ¬ EntryCovers range k
-before_covers ranges n zero k j range ordered searched beyond from below inside here covers = absurd (omega arith)
-before_covers ranges n (suc e) k j range ordered searched beyond from below inside here covers =
-    let within : suc e ≤ length ranges = searched.within in
-    let last : Entry = get_or ranges e range in
-    let there : slice_get ranges e ≡ Some last = slice_get-get_or ranges e range (omega arith) in
-    let found = rw there at searched.last in
-    let begins : first_of last ≤ n = found.2 in
-    let same : suc e - 1 ≡ e = omega arith in
-    let low : first_of range ≤ k = covers.0 in
+-- the range before a place ends at or below a number, so no range before that place covers a greater one
+before_covers : (ranges : List Entry) (n end k j : ℕ) (range : Entry) → AllPairs Precedes ranges → end ≤ length ranges
+    → ((last : Entry) → slice_get ranges (end - 1) ≡ Some last → first_of last + count_of last ≤ n)
+    → n ≤ k → j < end → get_or ranges j range ≡ range → ¬ EntryCovers range k
+before_covers ranges n end k j range ordered within ends from below here covers =
+    let last : Entry = get_or ranges (end - 1) range in
+    let ended : first_of last + count_of last ≤ n =
+    ends last (slice_get-get_or ranges (end - 1) range (omega arith)) in
     let high : k < first_of range + count_of range = covers.1 in
-    elim (cases_order j e) [
+    elim (cases_order j (end - 1)) [
       | inl at_last ↦
           let is : last ≡ range = ap (λ (i : ℕ). get_or ranges i range) (sym at_last) ∙ here in
-          let begins' : first_of range ≤ n = rw is at begins in
-          beyond range (rw same (there ∙ ap (λ (r : Entry). Some r) is)) (begins', omega arith)
+          let ended' : first_of range + count_of range ≤ n = rw is at ended in
+          absurd (omega arith)
       | inr (inl earlier) ↦
-          let precedes : Precedes (get_or ranges j range) last = ordered j e range earlier (omega arith) in
+          let precedes : Precedes (get_or ranges j range) last = ordered j (end - 1) range earlier (omega arith) in
           let precedes' : first_of range + count_of range ≤ first_of last = rw here at precedes in
           absurd (omega arith)
       | inr (inr later) ↦ absurd (omega arith)
@@ -120,46 +113,92 @@ after_covers ranges end k j range ordered above from inside here covers =
     ]
 
 pub IsStretch-kept : (specs : List IdMap) (direction : Direction) (table : Table) (n end : ℕ) (piece : Piece)
-    (has : HasRanges specs direction table) → Searches table n end end
-    → ((last : Entry) → slice_get has.ranges (end - 1) ≡ Some last → 1 ≤ end → ¬ EntryCovers last n)
+    (has : HasRanges specs direction table) → end ≤ table.count
+    → ((last : Entry) → 1 ≤ end → slice_get has.ranges (end - 1) ≡ Some last → first_of last + count_of last ≤ n)
     → ((next : Entry) → slice_get has.ranges end ≡ Some next → piece.last < first_of next)
     → piece.first ≡ n → n ≤ piece.last → piece.last ≤ 4294967295 → piece.becomes ≡ Kept
     → IsStretch specs direction piece
-IsStretch-kept specs direction table n end piece has searches beyond next first order within kept = record {
+IsStretch-kept specs direction table n end piece has inside ends next first order within kept = record {
   order = omega arith;
   within = within;
   named = rw kept tt;
   becomes = λ k from to. rw kept (Becomes-itself specs direction has.ranges k has.stores (uncovered k from to));
 } where
+  counted : length has.ranges ≡ table.count
+  counted = has.stand.counted
+
   uncovered : (k : ℕ) → piece.first ≤ k → k ≤ piece.last → (range : Entry) → Contains has.ranges range
       → ¬ EntryCovers range k
-  uncovered k from to range (j, inside, here) covers =
+  uncovered k from to range (j, below, here) covers =
       elim (cases_order j end) [
         | inl same ↦ at_end (omega arith)
-        | inr (inl below) ↦ before_covers has.ranges n end k j range has.ordered.ordered
-            (searches has.ranges has.ordered has.stand) (λ last is. beyond last is (omega arith)) (omega arith) below
-            inside here covers
+        | inr (inl before) ↦ before_covers has.ranges n end k j range has.ordered.ordered (omega (arith, counted))
+            (λ last is. ends last (omega arith) is) (omega arith) before here covers
         | inr (inr above) ↦ at_end (omega arith)
       ] where
         at_end : end ≤ j → ⊥
         at_end from' =
             after_covers has.ranges end k j range has.ordered.ordered
-            (λ other is. let above : piece.last < first_of other = next other is in omega arith) from' inside here
+            (λ other is. let above : piece.last < first_of other = next other is in omega arith) from' below here
             covers
 
--- the next range begins above the number
-pub next_above : (specs : List IdMap) (direction : Direction) (table : Table) (n end : ℕ) (range : Entry)
-    (has : HasRanges specs direction table) → Searches table n end end → slice_get has.ranges end ≡ Some range
-    → n < first_of range
-next_above specs direction table n end range has searches here =
-    let searched = searches has.ranges has.ordered has.stand in
-    rw (get_or_from_slice_get has.ranges end range range here) at (searched.above end range (omega arith)
-    (slice_get_within has.ranges end range here))
-
--- there is none past the last one
+-- there is no range from that place on
 pub no_next : (specs : List IdMap) (direction : Direction) (table : Table) (end : ℕ) (range : Entry)
     (has : HasRanges specs direction table) → table.count ≤ end → slice_get has.ranges end ≢ Some range
 no_next specs direction table end range has beyond here =
     let counted : length has.ranges ≡ table.count = has.stand.counted in
     let inside : end < length has.ranges = slice_get_within has.ranges end range here in
     omega arith
+
+-- no range covers a number below the first range
+pub IsStretch-below : (specs : List IdMap) (direction : Direction) (table : Table) (n place : ℕ) (range : Entry)
+    (piece : Piece) (has : HasRanges specs direction table) → Searches table n place (place + 1)
+    → slice_get has.ranges place ≡ Some range → n < first_of range → piece.last < first_of range
+    → piece.first ≡ n → n ≤ piece.last → piece.last ≤ 4294967295 → piece.becomes ≡ Kept
+    → IsStretch specs direction piece
+IsStretch-below specs direction table n place range piece has searches here above last first order within kept =
+    IsStretch-kept specs direction table n 0 piece has (omega arith) (λ before some is. absurd (omega arith))
+    (λ next is. rw (same_Some _ _ (sym (rw at_first at here) ∙ is)) at last) first order within kept where
+      at_first : place ≡ 0
+      at_first =
+          elim (cases_order place 0) [
+            | inl same ↦ same
+            | inr (inl before) ↦ absurd (omega arith)
+            | inr (inr after) ↦
+                let begins : first_of range ≤ n =
+                rw (get_or_from_slice_get has.ranges place range range here) at
+                ((searches has.ranges has.ordered has.stand).begins range (omega arith)) in
+                absurd (omega arith)
+          ]
+
+-- a range that begins at or below a number, and does not cover it, ends at or below it
+pub ends_before : (range : Entry) (n : ℕ) → first_of range ≤ n → (¬ EntryCovers range n)
+    → first_of range + count_of range ≤ n
+ends_before range n begins beyond =
+    elim (cases_order n (first_of range + count_of range)) [
+      | inl same ↦ omega arith
+      | inr (inl before) ↦ absurd (beyond (begins, before))
+      | inr (inr after) ↦ omega arith
+    ]
+
+-- nor one after the range at which the search ended, and below the next one
+pub IsStretch-after : (specs : List IdMap) (direction : Direction) (table : Table) (n place : ℕ) (range : Entry)
+    (piece : Piece) (has : HasRanges specs direction table) → place < table.count
+    → slice_get has.ranges place ≡ Some range → first_of range ≤ n → (¬ EntryCovers range n)
+    → ((next : Entry) → slice_get has.ranges (place + 1) ≡ Some next → piece.last < first_of next)
+    → piece.first ≡ n → n ≤ piece.last → piece.last ≤ 4294967295 → piece.becomes ≡ Kept
+    → IsStretch specs direction piece
+IsStretch-after specs direction table n place range piece has inside here begins beyond next first order within kept =
+    let back : place + 1 - 1 ≡ place = omega arith in
+    IsStretch-kept specs direction table n (place + 1) piece has (omega arith)
+    (λ last some is. rw (same_Some _ _ (sym here ∙ rw back at is)) at (ends_before range n begins beyond)) next first
+    order within kept
+
+-- the next range begins above the number
+pub next_above : (specs : List IdMap) (direction : Direction) (table : Table) (n place : ℕ) (range : Entry)
+    (has : HasRanges specs direction table) → Searches table n place (place + 1)
+    → slice_get has.ranges (place + 1) ≡ Some range → n < first_of range
+next_above specs direction table n place range has searches here =
+    let searched = searches has.ranges has.ordered has.stand in
+    rw (get_or_from_slice_get has.ranges (place + 1) range range here) at (searched.above (place + 1) range
+    (omega arith) (slice_get_within has.ranges (place + 1) range here))

@@ -1,27 +1,39 @@
-use Rattle.std.proofs.Common.{◌∙◌, ◌+◌, ◌-◌, ◌/◌, inl, inr, refl, arith}
+use Rattle.std.proofs.Common.{◌∙◌, ◌+◌, ◌/◌, inl, inr, refl, arith}
 use Rattle.virtiofs_map.proofs.SearchLemmas.{HasDigitsFor-start, HasDigitsFor-less}
-use Rattle.virtiofs_map.proofs.WordLemmas.{Searches-start, Searches-turn}
+use Rattle.virtiofs_map.proofs.WordLemmas.{Searches-start, Searches-turn, CountsBetween-one}
 use Rattle.virtiofs_map.proofs.soft_idmap.lookup.last_from.Goals as goal
+
+pub returns-then-len-eq1-clause-found : goal.returns-then-len-eq1-clause-found
+returns-then-len-eq1-clause-found c =
+    Searches-start c.args.ranges.now c.args.n _ _ c.first.ensures (omega (arith, c.first.ensures)) (omega arith)
+
+pub returns-then-len-eq1-clause-steps : goal.returns-then-len-eq1-clause-steps
+returns-then-len-eq1-clause-steps c = CountsBetween-one _ _ _ (omega arith) c.read.ensures.counted
 
 pub loop-size-init : goal.loop-size-init
 loop-size-init c = record {
+  some = omega arith;
   within = omega arith;
-  digits = HasDigitsFor-start _ _ _ c.len-size.ensures.len c.new-taken.ensures;
-  begun = inr (c.none-last.ensures, omega arith);
-  searched = Searches-start c.args.ranges.now c.args.n c.none-last.result.end _ c.none-last.ensures (omega arith);
+  digits = HasDigitsFor-start _ _ _ (omega arith) c.new-taken.ensures;
+  begun = inr (omega arith);
+  searched =
+      Searches-start c.args.ranges.now c.args.n c.first-last.result.place _ c.first-last.ensures (omega arith)
+      (omega arith);
 }
 
 pub loop-size-preserved : goal.loop-size-preserved
 loop-size-preserved c = record {
+  some = omega arith;
   within = omega arith;
   digits =
       HasDigitsFor-less _ _ _ _ _ c.loop-size.invariant.digits c.read-range.ensures.counted (omega arith) (omega arith);
   begun = inl (omega arith);
   searched =
       let half = c.loop-size.size / 2 in
-      let middle = c.end.result + (c.loop-size.size - half) - 1 in
-      Searches-turn c.args.ranges.now c.args.n c.loop-size.last.end c.loop-size.size half middle c.or-last.result.end
-      c.loop-size.invariant.searched c.loop-size.invariant.within (omega arith) refl (omega arith)
-      (λ begins. c.or-last.ensures.begins (rw c.read-range.ensures.first begins) ∙ c.read-range.ensures.end)
+      let middle = c.place.result + half in
+      Searches-turn c.args.ranges.now c.args.n c.loop-size.last.place c.loop-size.size half middle
+      c.or-last.result.place c.loop-size.invariant.searched c.loop-size.invariant.within (omega arith) refl
+      (omega (arith, c.place.ensures))
+      (λ begins. c.or-last.ensures.begins (rw c.read-range.ensures.first begins) ∙ c.read-range.ensures.place)
       (λ above. c.or-last.ensures.above (rw c.read-range.ensures.first above));
 }

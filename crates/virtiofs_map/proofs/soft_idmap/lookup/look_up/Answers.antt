@@ -1,5 +1,5 @@
 use Rattle.std.proofs.Common.{arith}
-use Rattle.virtiofs_map.proofs.WordLemmas.{SaysIn-none, SaysIn-only, SaysIn-last, CountsBetween-none, CountsBetween-one}
+use Rattle.virtiofs_map.proofs.WordLemmas.{SaysIn-none, SaysIn-last, CountsBetween-none, CountsBetween-some}
 use Rattle.virtiofs_map.proofs.soft_idmap.lookup.look_up.Goals as goal
 
 pub returns-then-len-eq0-clause-says : goal.returns-then-len-eq0-clause-says
@@ -9,15 +9,10 @@ returns-then-len-eq0-clause-says c =
 pub returns-then-len-eq0-clause-steps : goal.returns-then-len-eq0-clause-steps
 returns-then-len-eq0-clause-steps c = CountsBetween-none _ _ _ (omega arith) (rw c.new.ensures at c.add.ensures)
 
-pub returns-then-len-eq1-clause-says : goal.returns-then-len-eq1-clause-says
-returns-then-len-eq1-clause-says c = λ specs direction has.
-    SaysIn-only specs direction c.args.ranges.now c.args.n _ has (omega arith)
-    (rw (c.kept-only.ensures, c.read.ensures.end) at c.say_by.ensures)
-
-pub returns-then-len-eq1-clause-steps : goal.returns-then-len-eq1-clause-steps
-returns-then-len-eq1-clause-steps c = CountsBetween-one _ _ _ (omega arith) c.read.ensures.counted
-
 pub returns-clause-says : goal.returns-clause-says
 returns-clause-says c = λ specs direction has.
-    SaysIn-last specs direction c.args.ranges.now c.args.n c.last_from-last.result.end _ has
-    c.last_from-last.ensures.found (omega arith) c.last_from-last.ensures.within c.say_by-2.ensures
+    SaysIn-last specs direction c.args.ranges.now c.args.n c.last_from-last.result.place _ has
+    c.last_from-last.ensures.found c.last_from-last.ensures.within c.say_by.ensures
+
+pub returns-clause-steps : goal.returns-clause-steps
+returns-clause-steps c = CountsBetween-some _ _ _ _ (omega arith) c.last_from-last.ensures.steps

@@ -1,48 +1,80 @@
-use Rattle.std.proofs.Common.{◌≡◌, ◌<◌, ◌≤◌, ◌-◌, Some, slice_get, refl, sym, ◌∙◌, arith}
+use Rattle.std.proofs.Common.{◌≡◌, ◌+◌, ◌<◌, ◌≤◌, Some, slice_get, refl, sym, ◌∙◌, arith}
+use Rattle.std.proofs.lemmas.Bool.{false≢true}
 use Rattle.std.proofs.lemmas.Option.{same_Some}
 use Rattle.virtiofs_map.specs.Mapping.{first_of}
 use Rattle.virtiofs_map.specs.WordParts.{Searches}
 use Rattle.virtiofs_map.proofs.soft_idmap.stretches.StretchLemmas.{range_at, next_above, no_next, IsStretch-covered}
-use Rattle.virtiofs_map.proofs.soft_idmap.stretches.StretchLemmas.{IsStretch-kept}
+use Rattle.virtiofs_map.proofs.soft_idmap.stretches.StretchLemmas.{IsStretch-kept, IsStretch-below, IsStretch-after}
 use Rattle.virtiofs_map.proofs.soft_idmap.stretches.stretch.Goals as goal
 
-pub returns-in-Some-clause-stretch : goal.returns-in-Some-clause-stretch
-returns-in-Some-clause-stretch c = λ specs direction has.
-    let some : 1 ≤ c.end-end.result = c.in-Some.ensures.some.0 in
-    IsStretch-covered specs direction c.args.ranges.now c.args.n (c.end-end.result - 1) c.in-Some.range c.covered.result
-    has (range_at specs direction c.args.ranges.now (c.end-end.result - 1) c.in-Some.range has (omega arith)
-    c.in-Some.ensures.some.1) c.in-Some.ensures.some.2 c.covered.ensures
+pub returns-then-len-eq0-clause-stretch : goal.returns-then-len-eq0-clause-stretch
+returns-then-len-eq0-clause-stretch c = λ specs direction has.
+    rw c.kept.ensures (IsStretch-kept specs direction c.args.ranges.now c.args.n 0 _ has (omega arith)
+    (λ last some is. absurd (omega arith))
+    (λ next is. absurd (no_next specs direction c.args.ranges.now 0 next has (omega arith) is))
+    refl (omega arith) (omega arith) refl)
+
+pub returns-then-covers-clause-stretch : goal.returns-then-covers-clause-stretch
+returns-then-covers-clause-stretch c = λ specs direction has.
+    let here : slice_get has.ranges c.place-place.result ≡ Some c.entry-range.result =
+    range_at specs direction c.args.ranges.now c.place-place.result c.entry-range.result has (omega arith)
+    c.entry-range.ensures in
+    IsStretch-covered specs direction c.args.ranges.now c.args.n c.place-place.result c.entry-range.result
+    c.covered.result has here (c.if-covers.ensures.0 refl) c.covered.ensures
+
+pub returns-then-n-first-clause-stretch : goal.returns-then-n-first-clause-stretch
+returns-then-n-first-clause-stretch c = λ specs direction has.
+    let searches : Searches c.args.ranges.now c.args.n c.place-place.result (c.place-place.result + 1) =
+    rw c.place-place.ensures c.last_from.ensures.found in
+    let here : slice_get has.ranges c.place-place.result ≡ Some c.entry-range.result =
+    range_at specs direction c.args.ranges.now c.place-place.result c.entry-range.result has (omega arith)
+    c.entry-range.ensures in
+    let within : c.first-then-n-first.result < 4294967296 = c.first-then-n-first.type_inv in
+    rw c.kept-then-n-first.ensures
+    (IsStretch-below specs direction c.args.ranges.now c.args.n c.place-place.result c.entry-range.result _ has searches
+    here (omega arith) (omega arith) refl (omega arith) (omega arith) refl)
 
 pub overflow_sub-next : goal.overflow_sub-next
 overflow_sub-next c =
     let (specs, direction, has) = c.requires in
-    let searches : Searches c.args.ranges.now c.args.n c.end-end.result c.end-end.result =
-    rw c.end-end.ensures c.last_from.ensures.found in
+    let searches : Searches c.args.ranges.now c.args.n c.place-place.result (c.place-place.result + 1) =
+    rw c.place-place.ensures c.last_from.ensures.found in
     let above : c.args.n < first_of c.entry.result =
-    next_above specs direction c.args.ranges.now c.args.n c.end-end.result c.entry.result has searches
-    (range_at specs direction c.args.ranges.now c.end-end.result c.entry.result has (omega arith)
+    next_above specs direction c.args.ranges.now c.args.n c.place-place.result c.entry.result has searches
+    (range_at specs direction c.args.ranges.now (c.place-place.result + 1) c.entry.result has (omega arith)
     c.entry.ensures) in
     omega arith
 
-pub returns-then-end-len-clause-stretch : goal.returns-then-end-len-clause-stretch
-returns-then-end-len-clause-stretch c = λ specs direction has.
-    let searches : Searches c.args.ranges.now c.args.n c.end-end.result c.end-end.result =
-    rw c.end-end.ensures c.last_from.ensures.found in
-    let here : slice_get has.ranges c.end-end.result ≡ Some c.entry.result =
-    range_at specs direction c.args.ranges.now c.end-end.result c.entry.result has (omega arith) c.entry.ensures in
+pub returns-then-place-len-clause-stretch : goal.returns-then-place-len-clause-stretch
+returns-then-place-len-clause-stretch c = λ specs direction has.
+    let searches : Searches c.args.ranges.now c.args.n c.place-place.result (c.place-place.result + 1) =
+    rw c.place-place.ensures c.last_from.ensures.found in
+    let here : slice_get has.ranges c.place-place.result ≡ Some c.entry-range.result =
+    range_at specs direction c.args.ranges.now c.place-place.result c.entry-range.result has (omega arith)
+    c.entry-range.ensures in
+    let there : slice_get has.ranges (c.place-place.result + 1) ≡ Some c.entry.result =
+    range_at specs direction c.args.ranges.now (c.place-place.result + 1) c.entry.result has (omega arith)
+    c.entry.ensures in
     let above : c.args.n < first_of c.entry.result =
-    next_above specs direction c.args.ranges.now c.args.n c.end-end.result c.entry.result has searches here in
-    let range : c.first-next.result < 4294967296 = c.first-next.type_inv in
-    rw c.kept.ensures (IsStretch-kept specs direction c.args.ranges.now c.args.n c.end-end.result _ has searches
-    (λ last is some covers. c.in_default.ensures.none some last (has.stand.each (c.end-end.result - 1) last is) covers)
-    (λ next is. (let same : c.entry.result ≡ next = same_Some _ _ (sym here ∙ is) in rw (← same) (omega arith)))
+    next_above specs direction c.args.ranges.now c.args.n c.place-place.result c.entry.result has searches there in
+    let begins : first_of c.entry-range.result ≤ c.args.n = omega arith in
+    let within : c.first-next.result < 4294967296 = c.first-next.type_inv in
+    rw c.kept-then-place-len.ensures
+    (IsStretch-after specs direction c.args.ranges.now c.args.n c.place-place.result c.entry-range.result _ has
+    (omega arith) here begins
+    (λ covers. false≢true (c.if-covers.ensures.1 covers))
+    (λ next is. (let same : c.entry.result ≡ next = same_Some _ _ (sym there ∙ is) in rw (← same) (omega arith)))
     refl (omega arith) (omega arith) refl)
 
 pub returns-clause-stretch : goal.returns-clause-stretch
 returns-clause-stretch c = λ specs direction has.
-    let searches : Searches c.args.ranges.now c.args.n c.end-end.result c.end-end.result =
-    rw c.end-end.ensures c.last_from.ensures.found in
-    rw c.kept-2.ensures (IsStretch-kept specs direction c.args.ranges.now c.args.n c.end-end.result _ has searches
-    (λ last is some covers. c.in_default.ensures.none some last (has.stand.each (c.end-end.result - 1) last is) covers)
-    (λ next is. absurd (no_next specs direction c.args.ranges.now c.end-end.result next has (omega arith) is))
+    let here : slice_get has.ranges c.place-place.result ≡ Some c.entry-range.result =
+    range_at specs direction c.args.ranges.now c.place-place.result c.entry-range.result has (omega arith)
+    c.entry-range.ensures in
+    let begins : first_of c.entry-range.result ≤ c.args.n = omega arith in
+    rw c.kept-2.ensures
+    (IsStretch-after specs direction c.args.ranges.now c.args.n c.place-place.result c.entry-range.result _ has
+    (omega arith) here begins
+    (λ covers. false≢true (c.if-covers.ensures.1 covers))
+    (λ next is. absurd (no_next specs direction c.args.ranges.now (c.place-place.result + 1) next has (omega arith) is))
     refl (omega arith) (omega arith) refl)
