@@ -34,8 +34,14 @@ def of_rust(said):
     return f"{'writes to' if 'mut' in pointer[0] else 'leads to'} {word}" if pointer else word
 
 
+# A struct that the crate takes in the place of a slice.
+LENT = {"Words": ["leads to u32", "usize"]}
+
+
 def arguments_of_rust(said):
     """The arguments of C that one of Rust's comes to: none for the allocator, two for a slice, and one for an array."""
+    if lent := re.search(r": (\w+)<'_>$", said):
+        return LENT[lent[1]]
     return [] if said.endswith(": Global") else [of_rust(said), "usize"][: 1 + ("[" in said and ";" not in said)]
 
 

@@ -21,6 +21,7 @@ use crate::arrays::{ArrayError, Spec, read_all, tell};
 use crate::codes::{FORBIDDEN, NO_ID, NO_MAP, NO_ROOM, OK};
 use crate::fault::Fault;
 use crate::texts::{TextsError, read_all as read_texts, tell_of_texts};
+use crate::words::Words;
 use std::alloc::Global;
 use virtiofs_map::cmdline;
 use virtiofs_map::soft_idmap::image::{Answer, look_up, most_words, write_image};
@@ -170,45 +171,56 @@ pub extern "C" fn virtiofs_map_ids_make_texts(
 fn tell_answer(answer: Answer, id: u32, place: &mut u32) -> u32
     ensures { IsAnswerTold answer id place.old result place.new }
 {
-    match answer {
-        Answer::Becomes(value) if id == u32::MAX || value == u32::MAX => NO_ID,
-        Answer::Becomes(value) => {
-            *place = value;
-            OK
-        }
-        Answer::Fails => FORBIDDEN,
-        Answer::NoImage => NO_MAP,
+    let value = match answer {
+        Answer::Becomes(value) => value,
+        Answer::Fails => return FORBIDDEN,
+        Answer::NoImage => return NO_MAP,
+    };
+    if id == u32::MAX || value == u32::MAX {
+        return NO_ID;
     }
+    *place = value;
+    OK
 }
 
 /// The host's id for a guest's.
 #[unsafe(no_mangle)]
-pub extern "C" fn virtiofs_map_ids_guest(words: &[u32], guest: u32, host: &mut u32) -> u32
-    ensures answer { (specs : List Specification) → IsImage specs words.now
+pub extern "C" fn virtiofs_map_ids_guest(words: Words<'_>, guest: u32, host: &mut u32) -> u32
+    ensures answer { (specs : List Specification) → IsImage specs words.entry.lent.now
         → AnswersId specs GuestToHost guest host.old result host.new }
-    ensures exact { (specs : List Specification) (value : Option ℕ) → IsImage specs words.now
+    ensures exact { (specs : List Specification) (value : Option ℕ)
+        → IsImage specs words.entry.lent.now
         → Becomes specs GuestToHost guest value → TellsId guest value host.old result host.new }
-    ensures leads_back { (specs : List Specification) → IsImage specs words.now
+    ensures leads_back { (specs : List Specification) → IsImage specs words.entry.lent.now
         → LeadsBackIfMapped specs GuestToHost guest result host.new }
     ensures no_id { guest ≡ 4294967295 → result ≢ ok }
     ensures code { IsIdCode host.old result host.new }
-    ensures no_map { (¬ HasKind words.now) → result ≡ no_map }
+    ensures no_map { (¬ HasKind words.entry.lent.now) → result ≡ no_map }
 {
-    tell_answer(look_up(words, Direction::GuestToHost, guest), guest, host)
+    tell_answer(
+        look_up(words.lent, Direction::GuestToHost, guest),
+        guest,
+        host,
+    )
 }
 
 /// The guest's id for a host's.
 #[unsafe(no_mangle)]
-pub extern "C" fn virtiofs_map_ids_host(words: &[u32], host: u32, guest: &mut u32) -> u32
-    ensures answer { (specs : List Specification) → IsImage specs words.now
+pub extern "C" fn virtiofs_map_ids_host(words: Words<'_>, host: u32, guest: &mut u32) -> u32
+    ensures answer { (specs : List Specification) → IsImage specs words.entry.lent.now
         → AnswersId specs HostToGuest host guest.old result guest.new }
-    ensures exact { (specs : List Specification) (value : Option ℕ) → IsImage specs words.now
+    ensures exact { (specs : List Specification) (value : Option ℕ)
+        → IsImage specs words.entry.lent.now
         → Becomes specs HostToGuest host value → TellsId host value guest.old result guest.new }
-    ensures leads_back { (specs : List Specification) → IsImage specs words.now
+    ensures leads_back { (specs : List Specification) → IsImage specs words.entry.lent.now
         → LeadsBackIfMapped specs HostToGuest host result guest.new }
     ensures no_id { host ≡ 4294967295 → result ≢ ok }
     ensures code { IsIdCode guest.old result guest.new }
-    ensures no_map { (¬ HasKind words.now) → result ≡ no_map }
+    ensures no_map { (¬ HasKind words.entry.lent.now) → result ≡ no_map }
 {
-    tell_answer(look_up(words, Direction::HostToGuest, host), host, guest)
+    tell_answer(
+        look_up(words.lent, Direction::HostToGuest, host),
+        host,
+        guest,
+    )
 }

@@ -16,3 +16,4 @@ mod sentences;
 mod texts;
 mod values;
 mod version;
+mod words;

@@ -69,10 +69,7 @@ pub fn write_image<A: Allocator + Copy>(
 /// Any words may be passed. If they do not begin with the first word of an image of this version,
 /// or are too few for the ranges that they announce, the result is [`Answer::NoImage`]. It does not
 /// allocate.
-//
-// It stands alone in the machine code: where it is part of an export, the first instructions of a
-// call wait for the last ones of the call before.
-#[inline(never)]
+#[inline(always)]
 pub fn look_up(words: &[u32], direction: Direction, n: u32) -> Answer
     ensures says { (specs : List Specification) → IsImage specs words.now
         → SaysIn specs direction n result }
