@@ -117,7 +117,8 @@ impl<A: Allocator + Copy> XattrMap<A> {
         ensures memory { result ≡ Err (of_no_rule ErrorKind.OutOfMemory)
             → IsDecidedBy Prefix self.now name.entry.bytes.now }
     {
-        match self.deciding_type(Side::Client, name.bytes) {
+        let (found, _) = self.deciding_type(Side::Client, name.bytes);
+        match found {
             None => Err(Error::from(ErrorKind::UnterminatedMapping)),
             Some((RuleKind::Okay, _)) => Ok(AppliedRule::Pass(PassedName::Borrowed(name))),
             Some((RuleKind::Prefix, place)) => self.with_prepend(alloc, place, name),

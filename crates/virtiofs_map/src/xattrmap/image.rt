@@ -6,7 +6,8 @@
 //! rows of the rules, and the bytes of all patterns. The functions that read an image take any
 //! bytes, and read nothing outside them: bytes that do not begin as an image does are no map.
 
-ghost use Rattle.std.specs.Prelude.{◌≡◌, ◌↔◌, List, IfSome, IsSomeAnd, IsTrue, IsNone};
+ghost use Rattle.std.specs.List.{before_first};
+ghost use Rattle.std.specs.Prelude.{◌≡◌, ◌==◌, ◌↔◌, List, IfSome, IsSomeAnd, IsTrue, IsNone};
 ghost use Rattle.virtiofs_map.specs.Audit.{Terminated};
 ghost use Rattle.virtiofs_map.specs.NamesImage.{HasImage, IsImage, IsNoImage, Says, WritesImage};
 ghost use Rattle.virtiofs_map.specs.Rule.{MappingRule};
@@ -98,7 +99,7 @@ impl<A: Allocator> XattrMap<A> {
 }
 
 /// Looks up a name of that side in an image: what the first rule that fits it does. It does not
-/// allocate.
+/// allocate. No pattern holds a zero, so a name is decided as what stands before its first zero.
 ///
 /// The result is `NoMap` if the bytes do not begin as an image does. For other bytes that are no
 /// image, any result is possible; a prepend in it is then some part of these bytes.
@@ -107,9 +108,14 @@ pub fn decide<'m>(image: &'m [u8], side: Side, name: &[u8]) -> Decision<'m>
     ensures closed { IsNoImage image.now → result ≡ Decision.NoMap }
     ensures says { (rules : List MappingRule) → IsImage rules image.now
         → Says side rules name.now result }
+    ensures before_zero { (rules : List MappingRule) → IsImage rules image.now
+        → Says side rules (before_first (λ byte. byte == 0) name.now) result }
 {
     match Parts::of(image, side) {
-        Some(parts) => parts.decide(name),
+        Some(parts) => {
+            let (decision, _) = parts.decide(name);
+            decision
+        }
         None => Decision::NoMap,
     }
 }

@@ -151,7 +151,7 @@ impl<'m, 'a, A: Allocator> Iterator for ListedNames<'m, 'a, A> {
 
     fn next(&mut self) -> Option<Result<&'a [u8], Error<A>>> {
         'names: while !self.rest.is_empty() {
-            let (found, passed) = self.map.deciding_first(self.rest);
+            let (found, passed) = self.map.deciding_type(Side::Server, self.rest);
             let (name, rest) = cut_name(self.rest, passed);
             self.rest = rest;
             if name.is_empty() {

@@ -84,34 +84,25 @@ impl<A: Allocator> XattrMap<A> {
         self.rule((answer / 4) as usize)
     }
 
-    /// The type of the first rule that fits the name on that side, and the rule's place. The rule is
-    /// not read: its type is in the trie.
+    /// The type and the place of the first rule that fits the name on that side, and how many bytes
+    /// of the name were passed to find it. No zero is among these: the first zero, and what follows
+    /// it, makes no difference. The rule is not read: its type is in the trie.
     #[inline(always)]
-    pub(crate) fn deciding_type(&self, side: Side, name: &[u8]) -> Option<(RuleKind, usize)>
+    pub(crate) fn deciding_type(
+        &self,
+        side: Side,
+        name: &[u8],
+    ) -> (Option<(RuleKind, usize)>, usize)
         ensures kind { option_map (λ rule. rule.kind) (deciding side self.now name.now)
-            ≡ option_map (λ found. type_of found.0) result }
-        ensures place { IfSome result (λ found.
-            deciding side self.now name.now ≡ slice_get self.now found.1) }
-    {
-        let (answer, _) = look_up(self.patterns(side), name);
-        type_and_place(answer)
-    }
-
-    /// The type and the place of the rule that decides the first name of a list of the host, and so
-    /// many bytes of that name that were passed to find it. The name goes on to a zero or to the end
-    /// of the list.
-    #[inline(always)]
-    pub(crate) fn deciding_first(&self, list: &[u8]) -> (Option<(RuleKind, usize)>, usize)
-        ensures kind { option_map (λ rule. rule.kind)
-            (deciding Side.Server self.now (before_first (λ byte. byte == 0) list.now))
             ≡ option_map (λ found. type_of found.0) result.0 }
         ensures place { IfSome result.0 (λ found.
-            deciding Side.Server self.now (before_first (λ byte. byte == 0) list.now)
-            ≡ slice_get self.now found.1) }
-        ensures no_zero { All (λ byte. byte ≢ 0) (take result.1 list.now) }
-        ensures within { result.1 ≤ length list.now }
+            deciding side self.now name.now ≡ slice_get self.now found.1) }
+        ensures before_zero { deciding side self.now name.now
+            ≡ deciding side self.now (before_first (λ byte. byte == 0) name.now) }
+        ensures no_zero { All (λ byte. byte ≢ 0) (take result.1 name.now) }
+        ensures within { result.1 ≤ length name.now }
     {
-        let (answer, passed) = look_up(self.patterns(Side::Server), list);
+        let (answer, passed) = look_up(self.patterns(side), name);
         (type_and_place(answer), passed)
     }
 

@@ -77,7 +77,7 @@ pub fn write_list(image: &[u8], list: &[u8], out: &mut [u8]) -> ListWritten
     let mut rest = list;
     let mut end = 0;
     'names: while !rest.is_empty() {
-        let (decision, passed) = parts.decide_first(rest);
+        let (decision, passed) = parts.decide(rest);
         let (name, left) = cut_name(rest, passed);
         rest = left;
         if name.is_empty() {

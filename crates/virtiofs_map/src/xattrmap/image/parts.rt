@@ -68,28 +68,21 @@ impl<'m> Parts<'m> {
         }
     }
 
-    /// What the first rule that fits the name does.
+    /// What the first rule that fits the name does, and how many bytes of the name were passed to
+    /// find it. No zero is among these: the first zero, and what follows it, makes no difference.
     #[inline(always)]
-    pub(crate) fn decide(self, name: &[u8]) -> Decision<'m>
-        ensures { (side : Side) (rules : List MappingRule) → ArePartsOf side rules self.entry
-            → Says side rules name.now result }
-    {
-        let (answer, _) = look_up(Trie::new(self.rows, self.bytes), name);
-        self.say(answer)
-    }
-
-    /// What the rule does that decides the first name of a list, and so many bytes of that name that
-    /// were passed to find it. The name goes on to a zero or to the end of the list.
-    #[inline(always)]
-    pub(crate) fn decide_first(self, list: &[u8]) -> (Decision<'m>, usize)
+    pub(crate) fn decide(self, name: &[u8]) -> (Decision<'m>, usize)
         ensures says { (side : Side) (rules : List MappingRule) → ArePartsOf side rules self.entry
-            → Says side rules (before_first (λ byte. byte == 0) list.now) result.0 }
+            → Says side rules name.now result.0 }
+        ensures before_zero { (side : Side) (rules : List MappingRule)
+            → ArePartsOf side rules self.entry
+            → Says side rules (before_first (λ byte. byte == 0) name.now) result.0 }
         ensures no_zero { (side : Side) (rules : List MappingRule)
             → ArePartsOf side rules self.entry
-            → All (λ byte. byte ≢ 0) (take result.1 list.now) }
-        ensures within { result.1 ≤ length list.now }
+            → All (λ byte. byte ≢ 0) (take result.1 name.now) }
+        ensures within { result.1 ≤ length name.now }
     {
-        let (answer, passed) = look_up(Trie::new(self.rows, self.bytes), list);
+        let (answer, passed) = look_up(Trie::new(self.rows, self.bytes), name);
         (self.say(answer), passed)
     }
 

@@ -21,7 +21,7 @@ pub names-preserved-then-is_empty : goal.names-preserved-then-is_empty
 names-preserved-then-is_empty c = record {
   listed = λ map parts.
       (let name = c.cut_name.result.0.now in
-      let clear = c.decide_first-passed.ensures.no_zero Server map parts in
+      let clear = c.decide-passed.ensures.no_zero Server map parts in
       let cut : IsCut c.names.rest.now name c.cut_name.result.1.now =
       record { before = c.cut_name.ensures.name clear; after = c.cut_name.ensures.rest clear } in
       let unnamed : is_name name ≡ false = search rules in
@@ -43,14 +43,14 @@ pub names-preserved-in-Hidden : goal.names-preserved-in-Hidden
 names-preserved-in-Hidden c = record {
   listed = λ map parts.
       (let name = c.cut_name.result.0.now in
-      let clear = c.decide_first-passed.ensures.no_zero Server map parts in
+      let clear = c.decide-passed.ensures.no_zero Server map parts in
       let cut : IsCut c.names.rest.now name c.cut_name.result.1.now =
       record { before = c.cut_name.ensures.name clear; after = c.cut_name.ensures.rest clear } in
       let named : is_name name ≡ true = search rules in
       listed_hidden map c.args.list.now c.names.rest.now name c.cut_name.result.1.now c.names.end c.args.out.now _ cut
       (c.names.invariant.listed map parts) named
       (rw c.in-Hidden.is at c.seen_as.ensures.seen map
-      (said map name c.decide_first-passed.result.0 cut.before (c.decide_first-passed.ensures.says Server map parts))));
+      (said map name c.decide-passed.result.0 cut.before (c.decide-passed.ensures.before_zero Server map parts))));
   same = c.names.invariant.same;
   short = omega (arith, c.names.invariant.short, c.cut_name.ensures.within);
   shorter =
@@ -67,7 +67,7 @@ pub names-preserved : goal.names-preserved
 names-preserved c = record {
   listed = λ map parts.
       (let name = c.cut_name.result.0.now in
-      let clear = c.decide_first-passed.ensures.no_zero Server map parts in
+      let clear = c.decide-passed.ensures.no_zero Server map parts in
       let cut : IsCut c.names.rest.now name c.cut_name.result.1.now =
       record { before = c.cut_name.ensures.name clear; after = c.cut_name.ensures.rest clear } in
       let named : is_name name ≡ true = search rules in
@@ -75,7 +75,7 @@ names-preserved c = record {
       (c.names.invariant.listed map parts)
       c.in-Listed.shown.now c.put_name-end.result _ named
       (rw c.in-Listed.is at c.seen_as.ensures.seen map
-      (said map name c.decide_first-passed.result.0 cut.before (c.decide_first-passed.ensures.says Server map parts)))
+      (said map name c.decide-passed.result.0 cut.before (c.decide-passed.ensures.before_zero Server map parts)))
       c.put_name-end.ensures.behind c.put_name-end.ensures.holds);
   same = omega (arith, c.put_name-end.ensures.same, c.names.invariant.same);
   short =
@@ -92,22 +92,22 @@ pub returns-in-NoMap-clause-list : goal.returns-in-NoMap-clause-list
 returns-in-NoMap-clause-list c = λ map image.
     (let parts = c.in-Some.ensures.parts map image in
     let name = c.cut_name.result.0.now in
-    let before = c.cut_name.ensures.name (c.decide_first-passed.ensures.no_zero Server map parts) in
+    let before = c.cut_name.ensures.name (c.decide-passed.ensures.no_zero Server map parts) in
     rw c.in-NoMap.is at c.seen_as.ensures.seen map
-    (said map name c.decide_first-passed.result.0 before (c.decide_first-passed.ensures.says Server map parts)))
+    (said map name c.decide-passed.result.0 before (c.decide-passed.ensures.before_zero Server map parts)))
 
 pub returns-in-Undecided-clause-list : goal.returns-in-Undecided-clause-list
 returns-in-Undecided-clause-list c = λ map image.
     let parts = c.in-Some.ensures.parts map image in
     let name = c.cut_name.result.0.now in
-    let clear = c.decide_first-passed.ensures.no_zero Server map parts in
+    let clear = c.decide-passed.ensures.no_zero Server map parts in
     let cut : IsCut c.names.rest.now name c.cut_name.result.1.now =
     record { before = c.cut_name.ensures.name clear; after = c.cut_name.ensures.rest clear } in
     let named : is_name name ≡ true = search rules in
     listed_undecided map c.args.list.now c.names.rest.now name c.cut_name.result.1.now c.names.end c.args.out.now _ cut
     (c.names.invariant.listed map parts) named
     (rw c.in-Undecided.is at c.seen_as.ensures.seen map
-    (said map name c.decide_first-passed.result.0 cut.before (c.decide_first-passed.ensures.says Server map parts)))
+    (said map name c.decide-passed.result.0 cut.before (c.decide-passed.ensures.before_zero Server map parts)))
 
 pub returns-then-end-out-clause-list : goal.returns-then-end-out-clause-list
 returns-then-end-out-clause-list c = λ map image.

@@ -14,13 +14,14 @@ use Rattle.virtiofs_map.proofs.xattrmap.listed.ListedNamesIterator.next.Goals as
 pub listed_as-requires : goal.listed_as-requires
 listed_as-requires g c =
     let rules = c.names.self-inside.map.now in
-    let name = c.cut_name.ensures.name c.deciding_first-found.ensures.no_zero in
-    let found = c.deciding_first-found.ensures in
+    let name = c.cut_name.ensures.name c.deciding_type-found.ensures.no_zero in
+    let found = c.deciding_type-found.ensures in
+    let same = ap (deciding Server rules) name ∙ sym found.before_zero in
     record {
-      kind = ap (λ name. option_map (λ (rule : MappingRule). rule.kind) (deciding Server rules name)) name ∙ found.kind;
+      kind = ap (option_map (λ (rule : MappingRule). rule.kind)) same ∙ found.kind;
       place =
-          subst (λ name. IfSome c.deciding_first-found.result.0
-          (λ found. deciding Server rules name ≡ slice_get rules found.1)) (sym name) found.place;
+          subst (λ decides. IfSome c.deciding_type-found.result.0
+          (λ found. decides ≡ slice_get rules found.1)) (sym same) found.place;
     }
 
 pub names-preserved : goal.names-preserved
@@ -28,7 +29,7 @@ names-preserved g c =
     let by = c.names.self-inside.map.now in
     let name = c.cut_name.result.0.now in
     let rest = c.cut_name.result.1.now in
-    let clear = c.deciding_first-found.ensures.no_zero in
+    let clear = c.deciding_type-found.ensures.no_zero in
     let cut : IsCut c.names.self-inside.rest.now name rest =
     record { before = c.cut_name.ensures.name clear; after = c.cut_name.ensures.rest clear } in
     let named : is_name name ≡ true = search rules in
@@ -40,7 +41,7 @@ pub names-preserved-then-is_empty : goal.names-preserved-then-is_empty
 names-preserved-then-is_empty g c =
     let name = c.cut_name.result.0.now in
     let rest = c.cut_name.result.1.now in
-    let clear = c.deciding_first-found.ensures.no_zero in
+    let clear = c.deciding_type-found.ensures.no_zero in
     let cut : IsCut c.names.self-inside.rest.now name rest =
     record { before = c.cut_name.ensures.name clear; after = c.cut_name.ensures.rest clear } in
     let none : is_name name ≡ false = ap not (sym c.is_empty-in-names.ensures ∙ c.if-is_empty.true) in
@@ -53,7 +54,7 @@ returns-in-Ok-Some-clause-steps g c =
     let by = c.names.self-inside.map.now in
     let name = c.cut_name.result.0.now in
     let rest = c.cut_name.result.1.now in
-    let clear = c.deciding_first-found.ensures.no_zero in
+    let clear = c.deciding_type-found.ensures.no_zero in
     let cut : IsCut c.names.self-inside.rest.now name rest =
     record { before = c.cut_name.ensures.name clear; after = c.cut_name.ensures.rest clear } in
     let named : is_name name ≡ true = search rules in
@@ -71,7 +72,7 @@ returns-in-Err-clause-steps g c =
     let by = c.names.self-inside.map.now in
     let name = c.cut_name.result.0.now in
     let rest = c.cut_name.result.1.now in
-    let clear = c.deciding_first-found.ensures.no_zero in
+    let clear = c.deciding_type-found.ensures.no_zero in
     let cut : IsCut c.names.self-inside.rest.now name rest =
     record { before = c.cut_name.ensures.name clear; after = c.cut_name.ensures.rest clear } in
     let named : is_name name ≡ true = search rules in
