@@ -12,7 +12,7 @@ _virtiofs_mapaudit()
         --show) words="ids names" ;;
         *)
             words="--translate-uid --translate-gid --uid-map --gid-map --xattrmap --posix-acl"
-            words+=" --show --svg --json --quiet --mend --help --version"
+            words+=" --show --accept --svg --json --quiet --mend --help --version"
             for before in "${COMP_WORDS[@]:1:COMP_CWORD-1}"; do
                 [[ $before == -- ]] && words=${words%% --show*}
             done

@@ -5,7 +5,7 @@ usage: advice_by_trial.py [--guests N] PROGRAM..
 
 Guests are made at random from a fixed seed. If options are advised, the text, the JSON and `--mend` have the same ones, as a
 shell reads them. An audit of them refuses nothing and finds what was said to be left, of which no kind is new for a guest or
-a pair of guests, and fewer kinds than before. No id is left that does not round-trip or that the namespace lacks, but where
+a pair of guests, and fewer kinds than before; kinds that are accepted do not count. No id is left that does not round-trip or that the namespace lacks, but where
 access control lists are on and nothing is translated. The last line is 'N passed, N failed'.
 """
 import json
@@ -21,6 +21,8 @@ from tally import Tally
 SEED, TRIALS, SECONDS = 58, 3000, 60
 LOW, HIGH = list(range(0, 12)), [4294967290, 4294967293, 4294967294]
 SCOPES, TYPES = ("client", "server", "all"), ("ok", "bad", "prefix", "unsupported")
+KINDS = ("root", "not_back", "lacking", "range", "posix_acl", "no_rule", "not_listed", "listed_elsewhere", "idle_rule",
+         "id_of_both", "shown_to_other", "name_of_both")
 PIECES = ("", "", "user.", "user.a.", "trusted.", "security.", "system.", "u", "it's ", "é", "\x01")
 
 
@@ -63,6 +65,11 @@ def guests(random):
     return command_lines(made)
 
 
+def accepted(random):
+    """The words that accept some kinds of findings, or none."""
+    return [word for _ in range(random.choice((0, 0, 1, 2))) for word in ("--accept", random.choice(KINDS))]
+
+
 def answer(program, words):
     ended = subprocess.run([program, *words], capture_output=True, timeout=SECONDS)
     return ended.returncode, ended.stdout.decode()
@@ -75,8 +82,10 @@ def as_shell_reads(lines):
 
 
 def kinds(findings):
-    """What kinds are found, and of which guests. It makes a difference which guest sets a name, and whose ids they are."""
-    return {(it["kind"], it.get("ids"), it.get("guest"), tuple(it.get("guests", ()))) for it in findings}
+    """What kinds are found that count, and of which guests. It makes a difference which guest sets a name, and whose ids
+    they are."""
+    counting = [it for it in findings if not it["accepted"]]
+    return {(it["kind"], it.get("ids"), it.get("guest"), tuple(it.get("guests", ()))) for it in counting}
 
 
 def as_mend_says(text):
@@ -90,11 +99,13 @@ def as_mend_says(text):
     return [as_shell_reads(lines) for lines in guests]
 
 
-def fault(program, words):
-    """What is wrong with what a program advises for these words."""
-    status, told = answer(program, ["--json", *words])
-    told, (_, text) = json.loads(told), answer(program, words)
-    mend_status, mend = answer(program, ["--mend", *words])
+def fault(program, accepts, words):
+    """What is wrong with what a program advises for these words, where some kinds are accepted."""
+    status, told = answer(program, ["--json", *accepts, *words])
+    told, (_, text) = json.loads(told), answer(program, [*accepts, *words])
+    mend_status, mend = answer(program, ["--mend", *accepts, *words])
+    if any(it["accepted"] != (it["kind"] in accepts) for it in told["findings"]):
+        return f"not these kinds are accepted: {accepts}"
     advised, lines = told["advised"], text.partition("with these options ")[2].splitlines()[1:]
     if told["refused"]:
         return "advice beside a refusal" if advised or lines or mend or status != 1 else ""
@@ -107,25 +118,25 @@ def fault(program, words):
     mended = as_mend_says(mend)
     if shown != alike or mended != options:
         return f"text, JSON and --mend differ: {shown}, {options}, {mended}"
-    after_status, after = answer(program, ["--json", *command_lines(options)])
+    after_status, after = answer(program, ["--json", *accepts, *command_lines(options)])
     after, before, left = json.loads(after), kinds(told["findings"]), kinds(advised["findings"])
     if after["refused"] or after["findings"] != advised["findings"] or after_status != (5 if left else 0) != mend_status:
         return f"applied, they give {after}"
     if not left < before:
         return f"not less is found: {left} after {before}"
     kept = [number for number, one in enumerate(options, 1) if "--posix-acl" in one]
-    bad = [it for it in advised["findings"] if it["kind"] in ("not_back", "lacking") and it["guest"] not in kept]
+    bad = [it for it in advised["findings"] if it["kind"] in ("not_back", "lacking") and it["guest"] not in kept and not it["accepted"]]
     return f"ids are left: {bad}" if bad else ""
 
 
 def main(words):
     trials, words = (int(words[1]), words[2:]) if words[0] == "--guests" else (TRIALS, words)
     tally, made, programs = Tally(quietly=True), random.Random(SEED), [os.path.abspath(it) for it in words]
-    asked = [guests(made) for _ in range(trials)]
+    asked = [(accepted(made), guests(made)) for _ in range(trials)]
 
     def see(one):
         for program in programs:
-            tally.see(" ".join(one), fault(program, one))
+            tally.see(" ".join([*one[0], *one[1]]), fault(program, *one))
 
     with ThreadPoolExecutor(len(os.sched_getaffinity(0))) as threads:
         list(threads.map(see, asked))

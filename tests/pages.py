@@ -69,7 +69,7 @@ def commands(tally, file):
 
 def differs(command, wanted, environment):
     status, output = run(["bash", "-c", command], 600, env=environment, cwd=TOP)
-    is_right = status == (0 if wanted.endswith("nothing found\n") else 5) or not command.startswith("virtiofs_mapaudit ")
+    is_right = status == (0 if wanted.endswith(("nothing found\n", "nothing else found\n")) else 5) or not command.startswith("virtiofs_mapaudit ")
     return f"status {status}" if not is_right else output != wanted and f"{output}is not\n{wanted}"
 
 

@@ -1,6 +1,7 @@
 -- Drawings: where numbers stand, and what is told of guests beside them.
 use Rattle.std.proofs.Common.{◌≡◌, ◌↔◌, ℕ, ◌≤◌, ◌<◌, min, List, [], length, slice_index_or, arith, subst, sym, IsTrue}
 use Rattle.std.proofs.lemmas.List.{get_or_default}
+use Rattle.std.specs.Borrow.{Bor}
 use Rattle.std.specs.Global.{Global}
 use Rattle.std.specs.List.{AllZip}
 use Rattle.virtiofs_mapaudit.specs.Drawing.{Descend, StandsAt}
@@ -37,10 +38,10 @@ stands_at_first marks shown height number i y first same descends within before 
     stands_first marks height number i y first descends (rw same at within) before (rw same at from) (rw same at is)
 
 -- what is told beside a drawing is all of this
-pub says_drawn : (guests : List (Guest Global)) (said : Said) (sets : List (SetUp Global)) (report : Report Global)
-    → AllZip SetsUp guests sets → FindsReport sets report → (IsTrue said.is_found ↔ IsFound report)
-    → Adds (TellsGuests 1 guests) [] said.refusals.items → SaysDrawn guests said
-says_drawn guests said sets report sets_up finds found says =
+pub says_drawn : (accepted : List (Bor (List ℕ))) (guests : List (Guest Global)) (said : Said) (sets : List (SetUp Global)) (report : Report Global)
+    → AllZip SetsUp guests sets → FindsReport accepted sets report → (IsTrue said.is_found ↔ IsFound report)
+    → Adds (TellsGuests 1 guests) [] said.refusals.items → SaysDrawn accepted guests said
+says_drawn accepted guests said sets report sets_up finds found says =
     let told = subst (TellsGuests 1 guests) (sym says.added) says.is in
     record {
       sets = sets;

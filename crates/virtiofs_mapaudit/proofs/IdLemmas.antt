@@ -11,7 +11,7 @@ use Rattle.virtiofs_map.specs.declared.soft_idmap.entry.Direction.TheVariants.{G
 use Rattle.std.specs.Bool.{◌==◌}
 use Rattle.virtiofs_map.specs.declared.id_audit.spans.Span.{Span}
 use Rattle.virtiofs_map.specs.declared.idmap.UidMap.{UidMap}
-use Rattle.virtiofs_mapaudit.specs.IdFindings.{FindsAll}
+use Rattle.virtiofs_mapaudit.specs.IdFindings.{FindsAll, TellsHost, ActAsRoot}
 use Rattle.virtiofs_mapaudit.specs.Namespace.{StandsFor, IsRoot}
 use Rattle.virtiofs_mapaudit.specs.OutsideParts.{AreMoved}
 use Rattle.virtiofs_mapaudit.specs.declared.ids.outside.Way.TheVariants.{Inwards}
@@ -146,3 +146,13 @@ goes_here specs guest host there a b is is_too small becomes only = (
       record { is_id = small; becomes = subst (λ (n : ℕ). Becomes specs GuestToHost guest (Some n)) same becomes }),
   (λ goes. let same : there ≡ host = only host goes.becomes in grind (arith, nat_tests, same, is, is_too)),
 )
+
+-- ids that become some of which each is root outside the namespace, and no others are
+pub acting_here : {A E : Type 0} (r : Result (Option (IdsFound A)) E) (specs : List Specification) (ranges : List UidMap)
+    (root : List Span) → ((inside : ℕ) → Hold root inside ↔ IsRoot ranges inside)
+    → IfOk r (FindsAll (GoesInto specs (Hold root)) (TellsHost specs)) → IfOk r (ActAsRoot specs ranges)
+acting_here (Ok found) specs ranges root same all =
+    all_same (GoesInto specs (Hold root)) (GoesInto specs (IsRoot ranges)) (TellsHost specs) found
+    (into_same specs (Hold root) (IsRoot ranges) (λ host. (same host).0))
+    (into_same specs (IsRoot ranges) (Hold root) (λ host. (same host).1)) all
+acting_here (Err e) specs ranges root same all = tt

@@ -14,6 +14,7 @@ mod NoFloatLemmas
 mod ReportJsonLemmas
 mod SamePiecesLemmas
 mod SummaryLemmas
+mod AcceptLemmas
 mod AdviceLemmas
 mod AlikeLemmas
 mod DrawingLemmas

@@ -18,21 +18,22 @@ use Rattle.virtiofs_map.specs.declared.soft_idmap.entry.Direction.TheVariants.{G
 use Rattle.virtiofs_map.specs.declared.soft_idmap.piece.Outcome.TheVariants.{Kept, OneToOne, AllToOne, Forbidden}
 use Rattle.virtiofs_map.specs.declared.soft_idmap.piece.Outcome.{Outcome}
 use Rattle.virtiofs_map.specs.declared.soft_idmap.piece.Piece.{Piece}
-use Rattle.virtiofs_mapaudit.specs.FindingJson.{ids_word, finding_data, fault_data, span_data, ids_data}
+use Rattle.virtiofs_mapaudit.specs.FindingJson.{ids_word, finding_data, named_data, fault_data, span_data, ids_data, acting_data}
+use Rattle.virtiofs_mapaudit.specs.FindingKinds.{kind_of, name_of}
 use Rattle.virtiofs_mapaudit.specs.IdJson.{piece_data, outcome_data, namespace_data, id_table, IsIdTable}
 use Rattle.virtiofs_mapaudit.specs.NameJson.{name_data, answer_data, least_data, becomes_data, stands_data}
 use Rattle.virtiofs_mapaudit.specs.NameJson.{told_data, name_line, name_table}
 use Rattle.virtiofs_mapaudit.specs.NameTable.{shown}
 use Rattle.virtiofs_mapaudit.specs.RefusalText.{refusal_text}
 use Rattle.virtiofs_mapaudit.specs.declared.refusal.Refusal.{Refusal}
-use Rattle.virtiofs_mapaudit.specs.ReportJson.{IsTableIf, IsNamesOf, IsGuest, AreGuests, parts_data, guest_words, option_words, rules_words, acl_words, words_data, advised_data, report_data, IsJson}
+use Rattle.virtiofs_mapaudit.specs.ReportJson.{IsTableIf, IsNamesOf, IsGuest, AreGuests, part_data, parts_data, guest_words, option_words, rules_words, acl_words, words_data, advised_data, report_data, IsJson}
 use Rattle.virtiofs_mapaudit.specs.declared.advice.Advised.{Advised}
 use Rattle.virtiofs_mapaudit.specs.declared.audit.Part.{Part}
 use Rattle.virtiofs_mapaudit.specs.declared.audit.Report.{Report}
 use Rattle.virtiofs_mapaudit.specs.declared.finding.Finding.{Finding}
 use Rattle.virtiofs_mapaudit.specs.declared.finding.Finding.TheVariants as findings
 use Rattle.virtiofs_mapaudit.specs.declared.ids.found.IdFault.{IdFault}
-use Rattle.virtiofs_mapaudit.specs.declared.ids.found.IdFault.TheVariants.{NotBack, Root, Lacking}
+use Rattle.virtiofs_mapaudit.specs.declared.ids.found.IdFault.TheVariants.{NotBack, Lacking}
 use Rattle.virtiofs_mapaudit.specs.declared.ids.found.IdsFound.{IdsFound}
 use Rattle.virtiofs_mapaudit.specs.declared.ids.kind.IdKind.{IdKind}
 use Rattle.virtiofs_mapaudit.specs.declared.ids.ranges.RangeFault.{RangeFault}
@@ -122,37 +123,52 @@ id_table_none from_guest from_host ranges =
 spans_none : (ids : List Span) → HaveNone (map span_data ids)
 spans_none ids = have_none-map span_data (λ span. refl) ids
 
-ids_none : {A : Type 0} (guest : ℕ) (ids : List ℕ) (fault : IdFault) (it : IdsFound A)
-    → HasNone (ids_data guest ids fault it)
-ids_none guest ids NotBack it = rw (spans_none it.ids.items) refl
-ids_none guest ids Root it = rw (spans_none it.ids.items) refl
-ids_none guest ids Lacking it = rw (spans_none it.ids.items) refl
+ids_none : {A : Type 0} (accepted : Bool) (guest : ℕ) (what ids : List ℕ) (fault : IdFault) (it : IdsFound A)
+    → HasNone (ids_data accepted guest what ids fault it)
+ids_none accepted guest what ids NotBack it = rw (spans_none it.ids.items) refl
+ids_none accepted guest what ids Lacking it = rw (spans_none it.ids.items) refl
 
-fault_none : (guest : ℕ) (kind : IdKind) (place : ℕ) (fault : RangeFault) → HasNone (fault_data guest kind place fault)
-fault_none guest kind place Empty = refl
-fault_none guest kind place Beyond = refl
-fault_none guest kind place TooMany = refl
-fault_none guest kind place PastPage = refl
-fault_none guest kind place (MeetsInside other) = refl
-fault_none guest kind place (MeetsOutside other) = refl
+acting_none : {A : Type 0} (found : Option (IdsFound A)) → HasNone (acting_data found)
+acting_none None = refl
+acting_none (Some it) = rw (spans_none it.ids.items) refl
 
-finding_none : {A : Type 0} (guest : ℕ) (finding : Finding A) → HasNone (finding_data guest finding)
-finding_none guest findings.PosixAcl = refl
-finding_none guest (findings.Range kind range) = fault_none guest kind range.place range.fault
-finding_none guest (findings.Ids kind in_namespace fault it) = ids_none guest (ids_word kind) fault it
-finding_none guest findings.NoRule = refl
-finding_none guest (findings.NotListed least) = rw (least_none least) refl
-finding_none guest (findings.ListedElsewhere least) = rw (least_none least) refl
-finding_none guest (findings.IdleRule place) = refl
-finding_none guest (findings.IdsOfBoth first second kind it) = rw (spans_none it.ids.items) refl
-finding_none guest (findings.ShownToOther setter lister least) = rw (least_none least) refl
-finding_none guest (findings.NameOfBoth first second least) = rw (least_none least) refl
+fault_none : (accepted : Bool) (guest : ℕ) (what : List ℕ) (kind : IdKind) (place : ℕ) (fault : RangeFault) → HasNone (fault_data accepted guest what kind place fault)
+fault_none accepted guest what kind place Empty = refl
+fault_none accepted guest what kind place Beyond = refl
+fault_none accepted guest what kind place TooMany = refl
+fault_none accepted guest what kind place PastPage = refl
+fault_none accepted guest what kind place (MeetsInside other) = refl
+fault_none accepted guest what kind place (MeetsOutside other) = refl
+
+named_none : {A : Type 0} (accepted : Bool) (guest : ℕ) (what : List ℕ) (finding : Finding A)
+    → HasNone (named_data accepted guest what finding)
+named_none accepted guest what findings.PosixAcl = refl
+named_none accepted guest what (findings.Range kind range) =
+    fault_none accepted guest what kind range.place range.fault
+named_none accepted guest what (findings.Ids kind in_namespace fault it) =
+    ids_none accepted guest what (ids_word kind) fault it
+named_none accepted guest what (findings.Root users groups) = rw (acting_none users, acting_none groups) refl
+named_none accepted guest what findings.NoRule = refl
+named_none accepted guest what (findings.NotListed least) = rw (least_none least) refl
+named_none accepted guest what (findings.ListedElsewhere least) = rw (least_none least) refl
+named_none accepted guest what (findings.IdleRule place) = refl
+named_none accepted guest what (findings.IdsOfBoth first second kind it) = rw (spans_none it.ids.items) refl
+named_none accepted guest what (findings.ShownToOther setter lister least) = rw (least_none least) refl
+named_none accepted guest what (findings.NameOfBoth first second least) = rw (least_none least) refl
+
+finding_none : {A : Type 0} (accepted : Bool) (guest : ℕ) (finding : Finding A)
+    → HasNone (finding_data accepted guest finding)
+finding_none accepted guest finding = named_none accepted guest (name_of (kind_of finding)) finding
 
 parts_none : {A : Type 0} (parts : List (Part A)) → HaveNone (parts_data parts)
 parts_none [] = refl
 parts_none (part ∷ parts) =
-    have_none-append (map (finding_data part.first) part.found.items) _
-    (have_none-map (finding_data part.first) (finding_none part.first) part.found.items) (parts_none parts)
+    have_none-append (part_data part) (parts_data parts)
+    (have_none-append (map (finding_data false part.first) part.found.items)
+    (map (finding_data true part.first) part.accepted.items)
+    (have_none-map (finding_data false part.first) (finding_none false part.first) part.found.items)
+    (have_none-map (finding_data true part.first) (finding_none true part.first) part.accepted.items))
+    (parts_none parts)
 
 both_none : {A : Type 0} (guests pairs : List (Part A)) → HaveNone (parts_data guests ++ parts_data pairs)
 both_none guests pairs =

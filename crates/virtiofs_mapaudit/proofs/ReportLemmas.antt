@@ -8,22 +8,24 @@ use Rattle.std.proofs.lemmas.List.{take_all, length-take-le, length-append}
 use Rattle.std.proofs.lemmas.List.Elements.{All-append}
 use Rattle.std.proofs.lemmas.Option.{slice_get_read}
 use Rattle.std.proofs.lemmas.Slice.Zip.{AllZip-long}
+use Rattle.std.specs.Borrow.{Bor}
 use Rattle.std.specs.Global.{Global}
 use Rattle.std.specs.List.{AllZip}
 use Rattle.virtiofs_map.proofs.ForCallers.{AllZip-push}
 use Rattle.virtiofs_mapaudit.proofs.ListLemmas.{more_at, AnyHas-left, AnyHas-right, in_two, in_three}
-use Rattle.virtiofs_mapaudit.specs.AlikeGuests.{alike_to, is_first}
-use Rattle.virtiofs_mapaudit.specs.FindingText.{findings_text}
+use Rattle.virtiofs_mapaudit.specs.Accepted.{AreSorted}
+use Rattle.virtiofs_mapaudit.specs.AlikeGuests.{alike_to, likes_of, is_first}
+use Rattle.virtiofs_mapaudit.specs.FindingText.{found_text}
 use Rattle.virtiofs_mapaudit.specs.SummaryText.{SumsUp}
 use Rattle.virtiofs_mapaudit.specs.declared.alike.Alike.{Alike}
 use Rattle.virtiofs_mapaudit.specs.Lists.{Adds, listed}
 use Rattle.virtiofs_mapaudit.specs.IdFindings.{FindsIds}
 use Rattle.virtiofs_mapaudit.specs.PairFindings.{FindsPair}
 use Rattle.virtiofs_mapaudit.specs.Ranges.{FindsFault}
-use Rattle.virtiofs_mapaudit.specs.Report.{FindsGuest, FindsKind, ids_found, FindsReport, IsFound, IsPairOf, HasPair, AreNumbered}
+use Rattle.virtiofs_mapaudit.specs.Report.{FindsPart, FindsKind, ids_found, FindsReport, IsFound, HasAccepted, IsPairOf, HasPair, AreNumbered}
 use Rattle.virtiofs_mapaudit.specs.ReportJson.{IsJson}
 use Rattle.virtiofs_mapaudit.specs.ReportParts.{AddsPairs, AreCompared}
-use Rattle.virtiofs_mapaudit.specs.Said.{Says, SaysMended, IsBest, ShownIf, AreTables, SaysAlike, SaysAt, SaysFrom, SaysGuests, IsPlain}
+use Rattle.virtiofs_mapaudit.specs.Said.{Says, SaysMended, IsBest, ShownIf, AreTables, SaysAlike, SaysAt, SaysFrom, SaysGuests, IsPlain, parts_text, closing}
 use Rattle.virtiofs_mapaudit.specs.Guests.{SetsUp}
 use Rattle.virtiofs_mapaudit.proofs.RefusalLemmas.{told_where_refused}
 use Rattle.virtiofs_mapaudit.specs.Refusals.{TellsGuests}
@@ -40,6 +42,7 @@ use Rattle.virtiofs_mapaudit.specs.declared.finding.Finding.TheVariants.{Range}
 use Rattle.virtiofs_mapaudit.specs.declared.ids.found.IdFindings.{IdFindings}
 use Rattle.virtiofs_mapaudit.specs.declared.ids.kind.IdKind.{IdKind}
 use Rattle.virtiofs_mapaudit.specs.declared.ids.ranges.RangeFound.{RangeFound}
+use Rattle.virtiofs_mapaudit.specs.declared.refusal.Refusal.{Refusal}
 use Rattle.virtiofs_mapaudit.specs.declared.setup.IdSetUp.{IdSetUp}
 use Rattle.virtiofs_mapaudit.specs.declared.setup.SetUp.{SetUp}
 
@@ -56,7 +59,7 @@ says_at : {A : Type 0} (asked : Asked) (guests : List (Guest A)) (sets : List (S
     (place : ℕ) (guest : Guest A) (set : SetUp A) (part : Part A) (text : List ℕ)
     → IsAt guests sets parts place guest set part
     → ShownIf (is_first (alike_to guests guest) (place + 1))
-    (SaysAlike asked (alike_to guests guest) guest set part.found.items) text
+    (SaysAlike asked (alike_to guests guest) guest set part) text
     → SaysAt asked guests sets parts place text
 says_at asked guests sets parts place guest set part text (below, same, same_too, is, is_set, is_part) says = record {
   guest = guest;
@@ -72,7 +75,7 @@ says_at asked guests sets parts place guest set part text (below, same, same_too
 pub said_at : {A V E : Type 0} (r : Result V E) (asked : Asked) (guests : List (Guest A)) (sets : List (SetUp A))
     (parts : List (Part A)) (place : ℕ) (guest : Guest A) (set : SetUp A) (part : Part A) (old new : List ℕ)
     → IsAt guests sets parts place guest set part → is_first (alike_to guests guest) (place + 1) ≡ true
-    → OnOk r ((said : List ℕ) × SaysAlike asked (alike_to guests guest) guest set part.found.items said
+    → OnOk r ((said : List ℕ) × SaysAlike asked (alike_to guests guest) guest set part said
     × (new ≡ old ++ said)) → OnOk r ((said : List ℕ) × SaysAt asked guests sets parts place said × (new ≡ old ++ said))
 said_at (Ok done) asked guests sets parts place guest set part old new at first (said, says, added) =
     (said, says_at asked guests sets parts place guest set part said at (rw first says), added)
@@ -104,17 +107,17 @@ pub record AreWritten {A : Type 0} (asked : Asked) (guests : List (Guest A)) (se
 
 -- in three parts: what is set up, the tables, and what was found
 pub alike_said : {A V E : Type 0} (r : Result V E) (asked : Asked) (alike : Alike) (guest : Guest A) (set : SetUp A)
-    (found : List (Finding A)) (old one two new : List ℕ)
+    (part : Part A) (old one two new : List ℕ)
     → ((summary : List ℕ) × SumsUp alike guest set summary × (one ≡ old ++ summary))
     → ((tables : List ℕ) × AreTables asked set tables × (two ≡ one ++ tables))
-    → OnOk r (new ≡ two ++ findings_text found)
-    → OnOk r ((said : List ℕ) × SaysAlike asked alike guest set found said × (new ≡ old ++ said))
-alike_said (Ok done) asked alike guest set found old one two new (summary, sums, first) (tables, are, second) third = (
-  summary ++ tables ++ findings_text found,
+    → OnOk r (new ≡ two ++ found_text part)
+    → OnOk r ((said : List ℕ) × SaysAlike asked alike guest set part said × (new ≡ old ++ said))
+alike_said (Ok done) asked alike guest set part old one two new (summary, sums, first) (tables, are, second) third = (
+  summary ++ tables ++ found_text part,
   record { summary = summary; tables = tables; sums_up = sums; are_tables = are; whole = refl },
-  in_three old summary tables (findings_text found) one two new first second third,
+  in_three old summary tables (found_text part) one two new first second third,
 )
-alike_said (Err e) asked alike guest set found old one two new first second third = tt
+alike_said (Err e) asked alike guest set part old one two new first second third = tt
 
 -- none at first
 pub written_none : {A : Type 0} (asked : Asked) (guests : List (Guest A)) (sets : List (SetUp A)) (parts : List (Part A))
@@ -179,9 +182,9 @@ kind_found (Err e) kind set range ids in_namespace a b c finds_range finds_ids n
 -- ---- pairs
 
 -- none of no guests was compared
-pub adds_none : {A : Type 0} (sets : List (SetUp A)) (place : ℕ) (pairs : List (Part A))
-    → AddsPairs sets place 0 pairs pairs
-adds_none sets place pairs =
+pub adds_none : {A : Type 0} (accepted : List (Bor (List ℕ))) (sets : List (SetUp A)) (place : ℕ) (pairs : List (Part A))
+    → AddsPairs accepted sets place 0 pairs pairs
+adds_none accepted sets place pairs =
     record {
       more = [];
       added = sym (append-nil pairs);
@@ -189,18 +192,18 @@ adds_none sets place pairs =
       each =
           λ earlier below. absurd (omega (arith, below));
     } where
-      All-none : All (IsPairOf sets) []
+      All-none : All (IsPairOf accepted sets) []
       All-none = search rules
 
 -- one more guest was compared with that one
-pub adds_one : {A : Type 0} (sets : List (SetUp A)) (place count : ℕ) (before after next : List (Part A))
+pub adds_one : {A : Type 0} (accepted : List (Bor (List ℕ))) (sets : List (SetUp A)) (place count : ℕ) (before after next : List (Part A))
     (pair : Part A)
-    → AddsPairs sets place count before after → next ≡ after ++ pair ∷ [] → IsPairOf sets pair
-    → pair.first ≡ count + 1 → pair.second ≡ place + 1 → AddsPairs sets place (count + 1) before next
-adds_one sets place count before after next pair so_far pushed is first second = record {
+    → AddsPairs accepted sets place count before after → next ≡ after ++ pair ∷ [] → IsPairOf accepted sets pair
+    → pair.first ≡ count + 1 → pair.second ≡ place + 1 → AddsPairs accepted sets place (count + 1) before next
+adds_one accepted sets place count before after next pair so_far pushed is first second = record {
   more = so_far.more ++ pair ∷ [];
   added = pushed ∙ ap (λ x. x ++ pair ∷ []) so_far.added ∙ append_assoc before so_far.more (pair ∷ []);
-  pairs = All-append (IsPairOf sets) so_far.more (pair ∷ []) so_far.pairs (search (rules, is));
+  pairs = All-append (IsPairOf accepted sets) so_far.more (pair ∷ []) so_far.pairs (search (rules, is));
   each = λ earlier below. elim (cases_lt earlier count) [
     | inl before ↦ AnyHas-left _ so_far.more (pair ∷ []) (so_far.each earlier before)
     | inr last ↦ AnyHas-right _ so_far.more (pair ∷ []) (inl (omega (arith, below, last, first), second))
@@ -208,9 +211,9 @@ adds_one sets place count before after next pair so_far pushed is first second =
 }
 
 -- the guests so far and one more were compared
-pub compared_more : {A : Type 0} (sets : List (SetUp A)) (place : ℕ) (before after : List (Part A))
-    → AreCompared place before → AddsPairs sets place place before after → AreCompared (place + 1) after
-compared_more sets place before after so_far more one other order below = elim (cases_lt other place) [
+pub compared_more : {A : Type 0} (accepted : List (Bor (List ℕ))) (sets : List (SetUp A)) (place : ℕ) (before after : List (Part A))
+    → AreCompared place before → AddsPairs accepted sets place place before after → AreCompared (place + 1) after
+compared_more accepted sets place before after so_far more one other order below = elim (cases_lt other place) [
   | inl earlier ↦ rw more.added (AnyHas-left _ before more.more (so_far one other order earlier))
   | inr last ↦ rw more.added (AnyHas-right _ before more.more (with_last (omega (arith, below, last))))
 ] where
@@ -218,15 +221,16 @@ compared_more sets place before after so_far more one other order below = elim (
   with_last same = rw same (more.each one (omega (arith, order, same)))
 
 -- the guests at two places were compared
-pub compared_one : {A : Type 0} (sets : List (SetUp A)) (place earlier : ℕ) (one other : SetUp A)
-    (before after next : List (Part A)) (pair : Part A)
+pub compared_one : {A : Type 0} (accepted : List (Bor (List ℕ))) (sets : List (SetUp A)) (place earlier : ℕ) (one other : SetUp A)
+    (before after next : List (Part A)) (pair : Part A) (all : List (Finding A))
     → one ≡ get_or sets earlier one → other ≡ get_or sets place other → place < length sets → earlier < place
-    → AddsPairs sets place earlier before after → next ≡ after ++ pair ∷ []
-    → pair.first ≡ earlier + 1 → pair.second ≡ place + 1 → FindsPair pair.first pair.second one other pair.found.items
-    → AddsPairs sets place (earlier + 1) before next
-compared_one sets place earlier one other before after next pair is is_too below order so_far pushed first second
-    finds =
-    adds_one sets place earlier before after next pair so_far pushed (record {
+    → AddsPairs accepted sets place earlier before after → next ≡ after ++ pair ∷ []
+    → pair.first ≡ earlier + 1 → pair.second ≡ place + 1 → FindsPair pair.first pair.second one other all
+    → AreSorted accepted all pair.found.items pair.accepted.items
+    → AddsPairs accepted sets place (earlier + 1) before next
+compared_one accepted sets place earlier one other before after next pair all is is_too below order so_far pushed first second
+    finds sorted =
+    adds_one accepted sets place earlier before after next pair so_far pushed (record {
       first = one;
       second = other;
       place = earlier;
@@ -236,13 +240,15 @@ compared_one sets place earlier one other before after next pair is is_too below
       is_second = slice_get_read sets (length sets) place other refl below is_too;
       number = first;
       number_2 = second;
+      all = all;
       finds = finds;
+      sorted = sorted;
     }) first second
 
 -- all guests before that place were compared with it
-pub compared_all : {A : Type 0} (sets : List (SetUp A)) (place count : ℕ) (before after : List (Part A)) → place ≤ count
-    → AddsPairs sets place count before after → AddsPairs sets place place before after
-compared_all sets place count before after over so_far =
+pub compared_all : {A : Type 0} (accepted : List (Bor (List ℕ))) (sets : List (SetUp A)) (place count : ℕ) (before after : List (Part A)) → place ≤ count
+    → AddsPairs accepted sets place count before after → AddsPairs accepted sets place place before after
+compared_all accepted sets place count before after over so_far =
     record {
       more = so_far.more;
       added = so_far.added;
@@ -254,8 +260,8 @@ compared_all sets place count before after over so_far =
 -- ---- the report
 
 -- the part is of the guest by itself
-abbrev pub IsOf : {A : Type 0} → SetUp A → Part A → Type 0
-IsOf set part = FindsGuest set part.found
+abbrev pub IsOf : {A : Type 0} → List (Bor (List ℕ)) → SetUp A → Part A → Type 0
+IsOf accepted set part = FindsPart accepted set part
 
 -- one more number
 numbered_more : {A : Type 0} (number : ℕ) (parts : List (Part A)) (part : Part A) → AreNumbered number parts
@@ -265,16 +271,16 @@ numbered_more number (one ∷ parts) part (is, is_too, are) first second =
     (is, is_too, numbered_more (number + 1) parts part are (omega (arith, first)) (omega (arith, second)))
 
 -- the guests before that place were audited, and each two of them compared
-pub record AreAudited {A : Type 0} (sets : List (SetUp A)) (place : ℕ) (guests pairs : List (Part A)) : Type 0 where
-  pub each : AllZip IsOf (take place sets) guests
+pub record AreAudited {A : Type 0} (accepted : List (Bor (List ℕ))) (sets : List (SetUp A)) (place : ℕ) (guests pairs : List (Part A)) : Type 0 where
+  pub each : AllZip (IsOf accepted) (take place sets) guests
   pub numbers : AreNumbered 1 guests
-  pub all : All (IsPairOf sets) pairs
+  pub all : All (IsPairOf accepted sets) pairs
   pub compared : AreCompared place pairs
 
 -- none at first
-pub audited_none : {A : Type 0} (sets : List (SetUp A)) (guests pairs : List (Part A)) → guests ≡ [] → pairs ≡ []
-    → AreAudited sets 0 guests pairs
-audited_none sets guests pairs none none_too = rw (none, none_too) (record {
+pub audited_none : {A : Type 0} (accepted : List (Bor (List ℕ))) (sets : List (SetUp A)) (guests pairs : List (Part A)) → guests ≡ [] → pairs ≡ []
+    → AreAudited accepted sets 0 guests pairs
+audited_none accepted sets guests pairs none none_too = rw (none, none_too) (record {
   each = tt;
   numbers = tt;
   all = search rules;
@@ -282,24 +288,24 @@ audited_none sets guests pairs none none_too = rw (none, none_too) (record {
 })
 
 -- one more guest
-pub audited_more : {A : Type 0} (sets : List (SetUp A)) (place : ℕ) (set : SetUp A) (guests more pairs next : List (Part A))
-    (one : Part A) → set ≡ get_or sets place set → place < length sets → AreAudited sets place guests pairs
+pub audited_more : {A : Type 0} (accepted : List (Bor (List ℕ))) (sets : List (SetUp A)) (place : ℕ) (set : SetUp A) (guests more pairs next : List (Part A))
+    (one : Part A) → set ≡ get_or sets place set → place < length sets → AreAudited accepted sets place guests pairs
     → more ≡ guests ++ one ∷ [] → one.first ≡ place + 1 → one.second ≡ place + 1
-    → FindsGuest set one.found → AddsPairs sets place place pairs next → AreAudited sets (place + 1) more next
-audited_more sets place set guests more pairs next one is below so_far pushed first second finds adds =
+    → FindsPart accepted set one → AddsPairs accepted sets place place pairs next → AreAudited accepted sets (place + 1) more next
+audited_more accepted sets place set guests more pairs next one is below so_far pushed first second finds adds =
     let long : length guests ≡ place =
-    AllZip-long IsOf (take place sets) guests so_far.each ∙ length-take-le place sets (omega (arith, below)) in record {
-      each = rw (pushed, more_at sets place set is below) (AllZip-push IsOf (take place sets) guests set one so_far.each finds);
+    AllZip-long (IsOf accepted) (take place sets) guests so_far.each ∙ length-take-le place sets (omega (arith, below)) in record {
+      each = rw (pushed, more_at sets place set is below) (AllZip-push (IsOf accepted) (take place sets) guests set one so_far.each finds);
       numbers = rw pushed (numbered_more 1 guests one so_far.numbers (omega (arith, first, long)) (omega (arith, second, long)));
-      all = rw adds.added (All-append (IsPairOf sets) pairs adds.more so_far.all adds.pairs);
-      compared = compared_more sets place pairs next so_far.compared adds;
+      all = rw adds.added (All-append (IsPairOf accepted sets) pairs adds.more so_far.all adds.pairs);
+      compared = compared_more accepted sets place pairs next so_far.compared adds;
     }
 
 -- all guests
-pub audited_all : {A : Type 0} (sets : List (SetUp A)) (report : Report A) (place : ℕ) → length sets ≤ place
-    → AreAudited sets place report.guests.items report.pairs.items → FindsReport sets report
-audited_all sets report place over so_far = record {
-  guests = subst (λ xs. AllZip IsOf xs report.guests.items) (take_all place sets over) so_far.each;
+pub audited_all : {A : Type 0} (accepted : List (Bor (List ℕ))) (sets : List (SetUp A)) (report : Report A) (place : ℕ) → length sets ≤ place
+    → AreAudited accepted sets place report.guests.items report.pairs.items → FindsReport accepted sets report
+audited_all accepted sets report place over so_far = record {
+  guests = subst (λ xs. AllZip (IsOf accepted) xs report.guests.items) (take_all place sets over) so_far.each;
   numbers = so_far.numbers;
   pairs = so_far.all;
   each_two = λ one other order below. so_far.compared one other order (omega (arith, below, over));
@@ -307,19 +313,36 @@ audited_all sets report place over so_far = record {
 
 -- ---- what is said
 
+-- what is said of guests, between them, and at the end
+pub is_plain : {A : Type 0} (asked : Asked) (guests : List (Guest A)) (sets : List (SetUp A)) (report : Report A)
+    (is_found accepting : Bool) (refusals : List (Refusal A)) (advised : Option (Advised A)) (old one two new : List ℕ)
+    → old ≡ [] → ((said : List ℕ) × SaysGuests asked guests sets report.guests.items said × (one ≡ old ++ said))
+    → two ≡ one ++ parts_text (likes_of guests) report.pairs.items
+    → new ≡ two ++ closing is_found accepting refusals advised → (IsTrue accepting ↔ HasAccepted report)
+    → IsPlain asked guests sets report is_found refusals advised new
+is_plain asked guests sets report is_found accepting refusals advised old one two new empty (said, says, first) second
+    third accepts = record {
+      of_guests = said;
+      has_accepted = accepting;
+      says_guests = says;
+      accepting = accepts;
+      whole = in_three [] said (parts_text (likes_of guests) report.pairs.items)
+          (closing is_found accepting refusals advised) one two new (first ∙ ap (λ text. text ++ said) empty) second third;
+    }
+
 -- what is said is all of this
-pub says_all : (asked : Asked) (guests : List (Guest Global)) (said : Said) (sets : List (SetUp Global))
-    (report : Report Global) (advised : Option (Advised Global)) → AllZip SetsUp guests sets → FindsReport sets report
+pub says_all : (asked : Asked) (accepted : List (Bor (List ℕ))) (guests : List (Guest Global)) (said : Said) (sets : List (SetUp Global))
+    (report : Report Global) (advised : Option (Advised Global)) → AllZip SetsUp guests sets → FindsReport accepted sets report
     → (IsTrue said.is_found ↔ IsFound report)
     → Adds (TellsGuests 1 guests) [] said.refusals.items
-    → IfSome advised (IsAdvice report) → ((said.refusals.items ≢ []) → advised ≡ None)
+    → IfSome advised (IsAdvice accepted report) → ((said.refusals.items ≢ []) → advised ≡ None)
     → (IsTrue asked.quiet → string_bytes said.text ≡ [])
     → (IsFalse asked.quiet → IsFalse asked.json
     → IsPlain asked guests sets report said.is_found said.refusals.items advised (string_bytes said.text))
     → (IsFalse asked.quiet → IsTrue asked.json
     → IsJson asked sets report said.refusals.items advised (string_bytes said.text))
-    → Says asked guests said
-says_all asked guests said sets report advised sets_up finds found says advice none quiet plain json =
+    → Says asked accepted guests said
+says_all asked accepted guests said sets report advised sets_up finds found says advice none quiet plain json =
     let told = subst (TellsGuests 1 guests) (sym says.added) says.is in
     record {
       sets = sets;
@@ -338,13 +361,13 @@ says_all asked guests said sets report advised sets_up finds found says advice n
     }
 
 -- what is said of options alone
-pub says_mended : (guests : List (Guest Global)) (said : Said) (sets : List (SetUp Global)) (report : Report Global)
-    (best : List (Guest Global)) (left : Report Global) → AllZip SetsUp guests sets → FindsReport sets report
-    → Adds (TellsGuests 1 guests) [] said.refusals.items → IsBest guests report best left
+pub says_mended : (accepted : List (Bor (List ℕ))) (guests : List (Guest Global)) (said : Said) (sets : List (SetUp Global)) (report : Report Global)
+    (best : List (Guest Global)) (left : Report Global) → AllZip SetsUp guests sets → FindsReport accepted sets report
+    → Adds (TellsGuests 1 guests) [] said.refusals.items → IsBest accepted guests report best left
     → ((said.refusals.items ≢ []) → string_bytes said.text ≡ [])
     → (said.refusals.items ≡ [] → string_bytes said.text ≡ mend_text best)
-    → (said.refusals.items ≡ [] → IsTrue said.is_found ↔ IsFound left) → SaysMended guests said
-says_mended guests said sets report best left sets_up finds says is_best nothing text found =
+    → (said.refusals.items ≡ [] → IsTrue said.is_found ↔ IsFound left) → SaysMended accepted guests said
+says_mended accepted guests said sets report best left sets_up finds says is_best nothing text found =
     let told = subst (TellsGuests 1 guests) (sym says.added) says.is in
     record {
       sets = sets;

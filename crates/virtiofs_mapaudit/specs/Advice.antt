@@ -1,21 +1,21 @@
 -- Options that are advised in place of those of guests. They were tried: less is found with them.
-use Rattle.std.specs.Prelude.{◌≡◌, ◌≢◌, ◌⊎◌, ◌↔◌, ℕ, IsTrue, nat_lt, if◌then◌else◌, List, [], length}
+use Rattle.std.specs.Prelude.{◌≡◌, ◌≢◌, ◌⊎◌, ◌↔◌, ℕ, IsTrue, List, [], length}
 use Rattle.std.specs.List.{AllZip}
 use Rattle.virtiofs_map.specs.IdAudit.{IsAstray, GoesInto}
 use Rattle.virtiofs_map.specs.Mending.{Mends}
 use Rattle.virtiofs_map.specs.declared.cmdline.IdMap.{IdMap}
+use Rattle.std.specs.Borrow.{Bor}
+use Rattle.virtiofs_mapaudit.specs.FindingKinds.{kind_of}
 use Rattle.virtiofs_mapaudit.specs.Guests.{SetsUp}
 use Rattle.virtiofs_mapaudit.specs.Lists.{AnyHas, AnyTwoHave}
 use Rattle.virtiofs_mapaudit.specs.Namespace.{IsLacking}
 use Rattle.virtiofs_mapaudit.specs.Refusals.{TellsGuests}
-use Rattle.virtiofs_mapaudit.specs.Report.{FindsReport, IsFound}
+use Rattle.virtiofs_mapaudit.specs.Report.{FindsReport, IsFound, HasAccepted}
 use Rattle.virtiofs_mapaudit.specs.declared.advice.Advised.{Advised}
 use Rattle.virtiofs_mapaudit.specs.declared.advice.kinds.FindingKind.{FindingKind}
-use Rattle.virtiofs_mapaudit.specs.declared.advice.kinds.FindingKind.TheVariants as kinds
 use Rattle.virtiofs_mapaudit.specs.declared.audit.Part.{Part}
 use Rattle.virtiofs_mapaudit.specs.declared.audit.Report.{Report}
 use Rattle.virtiofs_mapaudit.specs.declared.finding.Finding.{Finding}
-use Rattle.virtiofs_mapaudit.specs.declared.finding.Finding.TheVariants as findings
 use Rattle.virtiofs_mapaudit.specs.declared.refusal.Refusal.{Refusal}
 use Rattle.virtiofs_mapaudit.specs.declared.setup.IdSetUp.{IdSetUp}
 use Rattle.virtiofs_mapaudit.specs.declared.setup.SetUp.{SetUp}
@@ -31,23 +31,6 @@ pub record AreMended {A : Type 0} (set : IdSetUp A) (specs : List IdMap) : Type 
   pub none_lacking : (guest : ℕ) → ¬ GoesInto specs (IsLacking set.ranges.items) guest
 
 -- ---- kinds of findings
-
--- names that one guest can set, and that lists of another show
-abbrev pub shown_kind : ℕ → ℕ → FindingKind
-shown_kind setter lister = if nat_lt setter lister then kinds.ShownToSecond else kinds.ShownToFirst
-
--- what a finding is about
-abbrev pub kind_of : {A : Type 0} → Finding A → FindingKind
-kind_of findings.PosixAcl = kinds.PosixAcl
-kind_of (findings.Range kind range) = kinds.Range kind
-kind_of (findings.Ids kind in_namespace fault found) = kinds.Ids kind fault
-kind_of findings.NoRule = kinds.NoRule
-kind_of (findings.NotListed least) = kinds.NotListed
-kind_of (findings.ListedElsewhere least) = kinds.ListedElsewhere
-kind_of (findings.IdleRule place) = kinds.IdleRule
-kind_of (findings.IdsOfBoth first second kind found) = kinds.IdsOfBoth kind
-kind_of (findings.ShownToOther setter lister least) = shown_kind setter lister
-kind_of (findings.NameOfBoth first second least) = kinds.NameOfBoth
 
 -- some finding is of that kind
 abbrev pub HasKind : {A : Type 0} → FindingKind → List (Finding A) → Type 0
@@ -83,16 +66,19 @@ IsBetter after before = (¬ FindsNew after before) × FindsNew before after
 
 -- ---- advice
 
--- an audit of guests: which of their texts are refused, and what is found
-pub record IsAudited {A : Type 0} (guests : List (Guest A)) (refusals : List (Refusal A)) (report : Report A) : Type
-    0 where
+-- an audit of guests: which of their texts are refused, and what is found, where findings of kinds with these names are
+-- accepted
+pub record IsAudited {A : Type 0} (accepted : List (Bor (List ℕ))) (guests : List (Guest A))
+    (refusals : List (Refusal A)) (report : Report A) : Type 0 where
   pub sets : List (SetUp A)
   pub sets_up : AllZip SetsUp guests sets
   pub refused : TellsGuests 1 guests refusals
-  pub finds : FindsReport sets report
+  pub finds : FindsReport accepted sets report
 
 -- with these options no text is refused, and less is found than before
-pub record IsAdvice {A : Type 0} (before : Report A) (advised : Advised A) : Type 0 where
-  pub audited : IsAudited advised.guests.items [] advised.after
+pub record IsAdvice {A : Type 0} (accepted : List (Bor (List ℕ))) (before : Report A) (advised : Advised A) : Type
+    0 where
+  pub audited : IsAudited accepted advised.guests.items [] advised.after
   pub better : IsBetter advised.after before
   pub left : IsTrue advised.is_left ↔ IsFound advised.after
+  pub accepting : IsTrue advised.has_accepted ↔ HasAccepted advised.after

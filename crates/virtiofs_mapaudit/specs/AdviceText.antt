@@ -45,15 +45,16 @@ left_text likes part =
 abbrev pub left_in_text : {A : Type 0} → List Alike → List (Part A) → List ℕ
 left_in_text likes parts = flat_map (left_text likes) parts
 
--- what stands above the options
-abbrev pub heading : Bool → List ℕ
-heading true = codes "with these options less is found:\n"
-heading false = codes "with these options nothing is found:\n"
+-- what stands above the options: what is left is accepted where something is
+abbrev pub heading : Bool → Bool → List ℕ
+heading true accepting = codes "with these options less is found:\n"
+heading false true = codes "with these options nothing else is found:\n"
+heading false false = codes "with these options nothing is found:\n"
 
 -- the options, and what is still found with them
 abbrev pub advised_text : {A : Type 0} → Advised A → List ℕ
 advised_text advised =
-    heading advised.is_left ++ lines_text advised.guests.items 1 advised.guests.items
+    heading advised.is_left advised.has_accepted ++ lines_text advised.guests.items 1 advised.guests.items
     ++ left_in_text (likes_of advised.guests.items) advised.after.guests.items
     ++ left_in_text (likes_of advised.guests.items) advised.after.pairs.items
 

@@ -1,5 +1,5 @@
 -- What is printed of a finding.
-use Rattle.std.specs.Prelude.{ℕ, ◌+◌, Bool, true, false, ◌||◌, if◌then◌else◌, List, [], ◌∷◌, ◌++◌, codes, flat_map}
+use Rattle.std.specs.Prelude.{ℕ, ◌+◌, Bool, true, false, ◌||◌, if◌then◌else◌, List, [], ◌∷◌, ◌++◌, codes, flat_map, Option, Some, None}
 use Rattle.std.specs.Fmt.{decimal}
 use Rattle.virtiofs_map.specs.Names.{begins}
 use Rattle.virtiofs_map.specs.declared.audit.answer.Audit.{Audit}
@@ -10,6 +10,7 @@ use Rattle.virtiofs_mapaudit.specs.ExtentText.{is_one, extent_text}
 use Rattle.virtiofs_mapaudit.specs.KindWords.{one_of}
 use Rattle.virtiofs_mapaudit.specs.RangeText.{range_text}
 use Rattle.virtiofs_output.specs.Written.{quoted}
+use Rattle.virtiofs_mapaudit.specs.declared.audit.Part.{Part}
 use Rattle.virtiofs_mapaudit.specs.declared.finding.Finding.{Finding}
 use Rattle.virtiofs_mapaudit.specs.declared.finding.Finding.TheVariants as findings
 use Rattle.virtiofs_mapaudit.specs.declared.ids.found.IdFault.{IdFault}
@@ -58,10 +59,29 @@ abbrev pub not_back_text : {A : Type 0} → List ℕ → List ℕ → IdsFound A
 not_back_text one there it =
     astray_text one it.ids.items ++ way_text one there it.guest it.host it.other it.is_shared
 
--- ids that act as root of the host
-abbrev pub root_text : {A : Type 0} → List ℕ → IdsFound A → List ℕ
-root_text one it =
-    joined (extent_text one it.ids.items ∷ codes " " ∷ verb it.ids.items (codes "acts") (codes "act") ∷ codes " as " ∷ one ∷ codes " 0 of the host, which is root's\n" ∷ [])
+-- ids of users, of groups, or of both
+abbrev pub either_text : {A : Type 0} → Option (IdsFound A) → Option (IdsFound A) → List ℕ
+either_text None None = []
+either_text None (Some groups) = extent_text (codes "group") groups.ids.items
+either_text (Some users) None = extent_text (codes "user") users.ids.items
+either_text (Some users) (Some groups) =
+    joined (extent_text (codes "user") users.ids.items ∷ codes " and " ∷ extent_text (codes "group") groups.ids.items ∷ [])
+
+-- they are a single id
+abbrev pub is_one_of : {A : Type 0} → Option (IdsFound A) → Option (IdsFound A) → Bool
+is_one_of None None = false
+is_one_of None (Some groups) = is_one groups.ids.items
+is_one_of (Some users) None = is_one users.ids.items
+is_one_of (Some users) (Some groups) = false
+
+-- that one id acts as root of the host, or that many do
+abbrev pub acting_text : Bool → List ℕ
+acting_text true = codes " acts as root of the host: what it creates is owned by root there\n"
+acting_text false = codes " act as root of the host: what they create is owned by root there\n"
+
+-- ids of users and of groups that act as root of the host
+abbrev pub root_text : {A : Type 0} → Option (IdsFound A) → Option (IdsFound A) → List ℕ
+root_text users groups = either_text users groups ++ acting_text (is_one_of users groups)
 
 -- with which ids calls fail
 abbrev pub failing_text : List ℕ → List Span → List ℕ
@@ -79,7 +99,6 @@ lacking_text one it = failing_text one it.ids.items ++ lack_text one it.guest it
 -- what is wrong with ids of a guest, whose daemon may run in a namespace
 abbrev pub ids_text : {A : Type 0} → IdKind → Bool → IdFault → IdsFound A → List ℕ
 ids_text kind in_namespace of_ids.NotBack it = not_back_text (one_of kind) (whereabouts in_namespace) it
-ids_text kind in_namespace of_ids.Root it = root_text (one_of kind) it
 ids_text kind in_namespace of_ids.Lacking it = lacking_text (one_of kind) it
 
 -- that two guests reach the same ids of the host, and by which ids the first one does
@@ -144,6 +163,7 @@ abbrev pub finding_text : {A : Type 0} → Finding A → List ℕ
 finding_text findings.PosixAcl = codes "--posix-acl does not go with --translate-uid or --translate-gid: the daemon does not start\n"
 finding_text (findings.Range kind range) = range_text kind range
 finding_text (findings.Ids kind in_namespace fault it) = ids_text kind in_namespace fault it
+finding_text (findings.Root users groups) = root_text users groups
 finding_text findings.NoRule = codes "some names have no rule: calls with them fail\n"
 finding_text (findings.NotListed least) = joined (codes "the guest can set the name " ∷ least_text least ∷ codes ", but lists do not show it\n" ∷ [])
 finding_text (findings.ListedElsewhere least) = joined (codes "lists show the host's attribute " ∷ least_text least ∷ codes " under a name by which the guest does not reach it\n" ∷ [])
@@ -155,3 +175,11 @@ finding_text (findings.NameOfBoth first second least) = reached_text first secon
 -- the findings, one below the other
 abbrev pub findings_text : {A : Type 0} → List (Finding A) → List ℕ
 findings_text found = flat_map finding_text found
+
+-- a finding that is accepted
+abbrev pub accepted_text : {A : Type 0} → Finding A → List ℕ
+accepted_text finding = codes "accepted: " ++ finding_text finding
+
+-- what is found of a guest or of two: what counts, and then what is accepted
+abbrev pub found_text : {A : Type 0} → Part A → List ℕ
+found_text part = findings_text part.found.items ++ flat_map accepted_text part.accepted.items

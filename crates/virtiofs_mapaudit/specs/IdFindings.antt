@@ -32,11 +32,14 @@ TellsHost specs it = GoesTo specs it.guest it.host
 abbrev pub IsAstrayBut : List IdMap → (ℕ → Type 0) → ℕ → Type 0
 IsAstrayBut specs besides guest = IsAstray specs guest × (¬ GoesInto specs besides guest)
 
+-- None, or all ids under these specifications that act as root of the host, in a namespace of these ranges
+abbrev pub ActAsRoot : {A : Type 0} → List IdMap → List UidMap → Option (IdsFound A) → Type 0
+ActAsRoot specs ranges = FindsAll (GoesInto specs (IsRoot ranges)) (TellsHost specs)
+
 -- of the ids under these specifications, in a namespace of these ranges: which do not round-trip, though the namespace
--- has what they become, which act as root of the host, and which become one that the namespace lacks
+-- has what they become, and which become one that the namespace lacks
 pub record FindsIds {A : Type 0} (specs : List IdMap) (ranges : List UidMap) (found : IdFindings A) : Type 0 where
   pub astray : FindsAll (IsAstrayBut specs (IsLacking ranges)) (TellsAstray specs) found.astray
-  pub root : FindsAll (GoesInto specs (IsRoot ranges)) (TellsHost specs) found.root
   pub lacking : FindsAll (GoesInto specs (IsLacking ranges)) (TellsHost specs) found.lacking
 
 -- some id of the guest is that id of the host, outside the namespace of these ranges

@@ -1,9 +1,11 @@
+pub mod Accepted
 pub mod Advice
 pub mod AdviceText
 pub mod AlikeGuests
 pub mod Drawing
 pub mod ExtentText
 pub mod FindingJson
+pub mod FindingKinds
 pub mod FindingText
 pub mod Guests
 pub mod IdFindings

@@ -52,9 +52,14 @@ AreGuests asked number (set ∷ sets) guests =
     (guest : Data) × (others : List Data) × IsGuest asked number set guest × AreGuests asked (number + 1) sets others
     × (guests ≡ guest ∷ others)
 
--- what was found, part by part
+-- what was found of a guest or of two: what counts, and then what is accepted
+abbrev pub part_data : {A : Type 0} → Part A → List Data
+part_data part =
+    map (finding_data false part.first) part.found.items ++ map (finding_data true part.first) part.accepted.items
+
+-- part by part
 abbrev pub parts_data : {A : Type 0} → List (Part A) → List Data
-parts_data parts = flat_map (λ part. map (finding_data part.first) part.found.items) parts
+parts_data parts = flat_map part_data parts
 
 -- an option and its value, as two words
 abbrev pub option_words : List ℕ → Bor (List ℕ) → List Data
@@ -97,7 +102,7 @@ report_data guests report refusals advised =
     (array (items_of (parts_data report.guests.items ++ parts_data report.pairs.items)))
     (member (codes "guests") (array (items_of guests))
     (member (codes "refused") (array (items_of (map string (map refusal_text refusals))))
-    (member (codes "schema") (count 3) no_members)))))
+    (member (codes "schema") (count 4) no_members)))))
 
 -- the text is that of the report, and a line feed
 pub record IsJson {A : Type 0} (asked : Asked) (sets : List (SetUp A)) (report : Report A) (refusals : List (Refusal A))

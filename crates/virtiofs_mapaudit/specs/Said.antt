@@ -2,16 +2,17 @@
 use Rattle.std.specs.Prelude.{◌≡◌, ◌≢◌, ◌⊎◌, ◌↔◌, ℕ, ◌+◌, Bool, true, false, IsTrue, IsFalse, ⊤, List, [], ◌∷◌, ◌++◌}
 use Rattle.std.specs.Prelude.{codes, flat_map, if◌then◌else◌, length, Option, Some, None, IfSome, slice_get, string_bytes}
 use Rattle.std.specs.Global.{Global}
+use Rattle.std.specs.Borrow.{Bor}
 use Rattle.std.specs.List.{AllZip}
 use Rattle.virtiofs_mapaudit.specs.Advice.{IsAudited, IsBetter, IsAdvice}
 use Rattle.virtiofs_mapaudit.specs.AdviceText.{advised_text, mend_text}
 use Rattle.virtiofs_mapaudit.specs.AlikeGuests.{alike_to, likes_of, is_first, is_told}
-use Rattle.virtiofs_mapaudit.specs.FindingText.{findings_text}
+use Rattle.virtiofs_mapaudit.specs.FindingText.{found_text}
 use Rattle.virtiofs_mapaudit.specs.Guests.{SetsUp}
 use Rattle.virtiofs_mapaudit.specs.IdTable.{ShowsIds}
 use Rattle.virtiofs_mapaudit.specs.NameTable.{ShowsNames}
 use Rattle.virtiofs_mapaudit.specs.Refusals.{IsSomeRefused, TellsGuests}
-use Rattle.virtiofs_mapaudit.specs.Report.{FindsReport, IsFound}
+use Rattle.virtiofs_mapaudit.specs.Report.{FindsReport, IsFound, HasAccepted}
 use Rattle.virtiofs_mapaudit.specs.ReportJson.{IsJson}
 use Rattle.virtiofs_mapaudit.specs.SummaryText.{SumsUp}
 use Rattle.virtiofs_mapaudit.specs.declared.advice.Advised.{Advised}
@@ -19,7 +20,6 @@ use Rattle.virtiofs_mapaudit.specs.declared.alike.Alike.{Alike}
 use Rattle.virtiofs_mapaudit.specs.declared.audit.Part.{Part}
 use Rattle.virtiofs_mapaudit.specs.declared.audit.Report.{Report}
 use Rattle.virtiofs_mapaudit.specs.declared.audit.Said.{Said}
-use Rattle.virtiofs_mapaudit.specs.declared.finding.Finding.{Finding}
 use Rattle.virtiofs_options.specs.declared.front.Asked.{Asked}
 use Rattle.virtiofs_options.specs.declared.guest.Guest.{Guest}
 use Rattle.virtiofs_mapaudit.specs.declared.ids.kind.IdKind.{IdKind}
@@ -64,12 +64,12 @@ pub record AreTables {A : Type 0} (asked : Asked) (set : SetUp A) (text : List �
 
 -- what is said of guests with the same options: what is set up, the tables that were asked for, and what was found
 pub record SaysAlike {A : Type 0} (asked : Asked) (alike : Alike) (guest : Guest A) (set : SetUp A)
-    (found : List (Finding A)) (text : List ℕ) : Type 0 where
+    (part : Part A) (text : List ℕ) : Type 0 where
   pub summary : List ℕ
   pub tables : List ℕ
   pub sums_up : SumsUp alike guest set summary
   pub are_tables : AreTables asked set tables
-  pub whole : text ≡ summary ++ tables ++ findings_text found
+  pub whole : text ≡ summary ++ tables ++ found_text part
 
 -- what is said of the guest at a place, which is counted from 0; nothing if an earlier one has the same options
 pub record SaysAt {A : Type 0} (asked : Asked) (guests : List (Guest A)) (sets : List (SetUp A)) (parts : List (Part A))
@@ -81,7 +81,7 @@ pub record SaysAt {A : Type 0} (asked : Asked) (guests : List (Guest A)) (sets :
   pub is_set : slice_get sets place ≡ Some set
   pub is_part : slice_get parts place ≡ Some part
   pub says : ShownIf (is_first (alike_to guests guest) (place + 1))
-      (SaysAlike asked (alike_to guests guest) guest set part.found.items) text
+      (SaysAlike asked (alike_to guests guest) guest set part) text
 
 -- these are said at the places from that one on
 abbrev pub SaysFrom : (ℕ → List ℕ → Type 0) → ℕ → List (List ℕ) → Type 0
@@ -98,16 +98,19 @@ pub record SaysGuests {A : Type 0} (asked : Asked) (guests : List (Guest A)) (se
 
 -- what was found in a part, if it is told
 abbrev pub part_text : {A : Type 0} → List Alike → Part A → List ℕ
-part_text likes part = if is_told likes part.first part.second then findings_text part.found.items else []
+part_text likes part = if is_told likes part.first part.second then found_text part else []
 
 -- what was found, part by part
 abbrev pub parts_text : {A : Type 0} → List Alike → List (Part A) → List ℕ
 parts_text likes parts = flat_map (part_text likes) parts
 
--- what is said where nothing was found: it is another sentence where something was refused
-abbrev pub nothing_found : Bool → List ℕ
-nothing_found true = codes "nothing found in what was not refused\n"
-nothing_found false = codes "nothing found\n"
+-- what is said where nothing was found that counts: it is another sentence where something was refused, and where
+-- something is accepted
+abbrev pub nothing_found : Bool → Bool → List ℕ
+nothing_found true false = codes "nothing found in what was not refused\n"
+nothing_found true true = codes "nothing else found in what was not refused\n"
+nothing_found false false = codes "nothing found\n"
+nothing_found false true = codes "nothing else found\n"
 
 -- what is said of what was found: nothing where a text is refused, and else what is advised
 abbrev pub something_found : {A : Type 0} → Option (Advised A) → List ℕ
@@ -115,30 +118,35 @@ something_found None = codes "no other options are known to mend this\n"
 something_found (Some advised) = advised_text advised
 
 -- what is said at the end
-abbrev pub closing : {A : Type 0} → Bool → List (Refusal A) → Option (Advised A) → List ℕ
-closing true [] advised = something_found advised
-closing true (refusal ∷ refusals) advised = []
-closing false [] advised = nothing_found false
-closing false (refusal ∷ refusals) advised = nothing_found true
+abbrev pub closing : {A : Type 0} → Bool → Bool → List (Refusal A) → Option (Advised A) → List ℕ
+closing true accepting [] advised = something_found advised
+closing true accepting (refusal ∷ refusals) advised = []
+closing false accepting [] advised = nothing_found false accepting
+closing false accepting (refusal ∷ refusals) advised = nothing_found true accepting
 
 -- the text is the whole one: guest by guest, then what was found between two guests, then what is said at the end
 pub record IsPlain {A : Type 0} (asked : Asked) (guests : List (Guest A)) (sets : List (SetUp A)) (report : Report A)
     (is_found : Bool) (refusals : List (Refusal A)) (advised : Option (Advised A)) (text : List ℕ) : Type 0 where
   pub of_guests : List ℕ
+  pub has_accepted : Bool
   pub says_guests : SaysGuests asked guests sets report.guests.items of_guests
-  pub whole : text ≡ of_guests ++ parts_text (likes_of guests) report.pairs.items ++ closing is_found refusals advised
+  pub accepting : IsTrue has_accepted ↔ HasAccepted report
+  pub whole : text ≡ of_guests ++ parts_text (likes_of guests) report.pairs.items
+      ++ closing is_found has_accepted refusals advised
 
--- what is written of the guests. With `quiet` the text is empty
-pub record Says (asked : Asked) (guests : List (Guest Global)) (said : Said) : Type 0 where
+-- what is written of the guests, where findings of kinds with these names are accepted: exactly the others count. With
+-- `quiet` the text is empty
+pub record Says (asked : Asked) (accepted : List (Bor (List ℕ))) (guests : List (Guest Global)) (said : Said) : Type
+    0 where
   pub sets : List (SetUp Global)
   pub report : Report Global
   pub advised : Option (Advised Global)
   pub sets_up : AllZip SetsUp guests sets
-  pub finds : FindsReport sets report
+  pub finds : FindsReport accepted sets report
   pub found : IsTrue said.is_found ↔ IsFound report
   pub refused : (said.refusals.items ≢ []) ↔ IsSomeRefused guests sets
   pub refusals : TellsGuests 1 guests said.refusals.items
-  pub advice : IfSome advised (IsAdvice report)
+  pub advice : IfSome advised (IsAdvice accepted report)
   pub none_advised : (said.refusals.items ≢ []) → advised ≡ None
   pub quiet : IsTrue asked.quiet → string_bytes said.text ≡ []
   pub plain : IsFalse asked.quiet → IsFalse asked.json
@@ -147,22 +155,22 @@ pub record Says (asked : Asked) (guests : List (Guest Global)) (said : Said) : T
       → IsJson asked sets report said.refusals.items advised (string_bytes said.text)
 
 -- the options that the guests have, and what is found with them; or options that are advised, and what is left then
-abbrev pub IsBest : List (Guest Global) → Report Global → List (Guest Global) → Report Global → Type 0
-IsBest guests report best left =
-    ((best ≡ guests) × (left ≡ report)) ⊎ (IsAudited best [] left × IsBetter left report)
+abbrev pub IsBest : List (Bor (List ℕ)) → List (Guest Global) → Report Global → List (Guest Global) → Report Global → Type 0
+IsBest accepted guests report best left =
+    ((best ≡ guests) × (left ≡ report)) ⊎ (IsAudited accepted best [] left × IsBetter left report)
 
 -- what is written of the guests where options alone are asked for: nothing where a text is refused, and else the best
 -- options; then what is found is what is found with these
-pub record SaysMended (guests : List (Guest Global)) (said : Said) : Type 0 where
+pub record SaysMended (accepted : List (Bor (List ℕ))) (guests : List (Guest Global)) (said : Said) : Type 0 where
   pub sets : List (SetUp Global)
   pub report : Report Global
   pub best : List (Guest Global)
   pub left : Report Global
   pub sets_up : AllZip SetsUp guests sets
-  pub finds : FindsReport sets report
+  pub finds : FindsReport accepted sets report
   pub refused : (said.refusals.items ≢ []) ↔ IsSomeRefused guests sets
   pub refusals : TellsGuests 1 guests said.refusals.items
   pub nothing : (said.refusals.items ≢ []) → string_bytes said.text ≡ []
-  pub is_best : IsBest guests report best left
+  pub is_best : IsBest accepted guests report best left
   pub text : said.refusals.items ≡ [] → string_bytes said.text ≡ mend_text best
   pub found : said.refusals.items ≡ [] → IsTrue said.is_found ↔ IsFound left

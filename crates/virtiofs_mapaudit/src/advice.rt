@@ -12,7 +12,7 @@ mod mended;
 pub(crate) mod options;
 pub(crate) mod text;
 
-use crate::audit::{Report, audit, has_found, set_up_all};
+use crate::audit::{Report, audit, has_accepted, has_found, set_up_all};
 use crate::setup::SetUp;
 use better::is_better;
 use mended::mended_options;
@@ -20,12 +20,13 @@ use options::{Options, guest_of};
 use std::alloc::{AllocError, Allocator};
 use virtiofs_options::guest::Guest;
 
-/// Options that are tried in place of those of each guest, if any are to be.
+/// Options that are tried in place of those of each guest, of whom that was found, if any are to be.
 pub(crate) fn options_of<'a, A: Allocator + Copy>(
     alloc: A,
     tries: bool,
     guests: &[Guest<'a, A>],
     sets: &[SetUp<A>],
+    report: &Report<A>,
 ) -> Result<Vec<Options<'a, A>, A>, AllocError>
     requires same { length sets.now ≡ length guests.now }
 {
@@ -34,7 +35,8 @@ pub(crate) fn options_of<'a, A: Allocator + Copy>(
         return Ok(all);
     }
     for place in 0..guests.len() {
-        all.push(mended_options(alloc, &guests[place], &sets[place])?)?;
+        let part = report.guests.as_slice().get(place);
+        all.push(mended_options(alloc, &guests[place], &sets[place], part)?)?;
     }
     Ok(all)
 }
@@ -58,31 +60,35 @@ pub(crate) struct Advised<'a, A: Allocator> {
     pub(crate) guests: Vec<Guest<'a, A>, A>,
     /// What is found.
     pub(crate) after: Report<A>,
-    /// Whether something is.
+    /// Whether something is that counts.
     pub(crate) is_left: bool,
+    /// Whether something is that is accepted.
+    pub(crate) has_accepted: bool,
 }
 
 /// Tries guests with other options, in place of those with which that was found before.
 pub(crate) fn tried<'a, A: Allocator + Copy>(
     alloc: A,
+    accepted: &[&str],
     guests: Vec<Guest<'a, A>, A>,
     before: &Report<A>,
 ) -> Result<Option<Advised<'a, A>>, AllocError>
-    ensures { IfOk result (λ advised. IfSome advised (IsAdvice before.now)) }
+    ensures { IfOk result (λ advised. IfSome advised (IsAdvice accepted.now before.now)) }
 {
     let mut refusals = Vec::new(alloc);
     let sets = set_up_all(alloc, &mut refusals, guests.as_slice())?;
     if !refusals.as_slice().is_empty() {
         return Ok(None);
     }
-    let after = audit(alloc, sets.as_slice())?;
+    let after = audit(alloc, accepted, sets.as_slice())?;
     if !is_better(&after, before) {
         return Ok(None);
     }
-    let is_left = has_found(&after);
+    let (is_left, has_accepted) = (has_found(&after), has_accepted(&after));
     Ok(Some(Advised {
         guests,
         after,
         is_left,
+        has_accepted,
     }))
 }

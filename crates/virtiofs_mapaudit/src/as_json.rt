@@ -2,7 +2,7 @@
 ghost use Rattle.std.specs.Prelude.{◌≡◌, ◌++◌, List, IfOk, OnOk, map, string_bytes};
 ghost use Rattle.serde_json.specs.Data.{Data, string};
 ghost use Rattle.serde_json.specs.View.{view};
-ghost use Rattle.virtiofs_mapaudit.specs.ReportJson.{IsTableIf, IsNamesOf, IsGuest, AreGuests, parts_data, report_data, IsJson};
+ghost use Rattle.virtiofs_mapaudit.specs.ReportJson.{IsTableIf, IsNamesOf, IsGuest, AreGuests, part_data, parts_data, report_data, IsJson};
 ghost use Rattle.virtiofs_mapaudit.specs.IdJson.{IsIdTable};
 ghost use Rattle.virtiofs_mapaudit.specs.RefusalText.{refusal_text};
 
@@ -76,6 +76,15 @@ fn guests_value(alloc: Global, asked: Asked, sets: &[SetUp<Global>]) -> BuiltLis
     Ok(list)
 }
 
+/// Adds what was found of a guest, or of two: what counts, and then what is accepted.
+fn push_part(alloc: Global, list: &mut Vec<Value>, part: &Part<Global>) -> Result<(), AllocError>
+    ensures { OnOk result
+        (map view list.new.items ≡ map view list.old.items ++ part_data part.now) }
+{
+    push_findings(alloc, list, false, part.first, part.found.as_slice())?;
+    push_findings(alloc, list, true, part.first, part.accepted.as_slice())
+}
+
 /// Adds what was found, part by part.
 fn push_parts(
     alloc: Global,
@@ -86,7 +95,7 @@ fn push_parts(
         (map view list.new.items ≡ map view list.old.items ++ parts_data parts.now) }
 {
     for part in parts {
-        push_findings(alloc, list, part.first, part.found.as_slice())?;
+        push_part(alloc, list, part)?;
     }
     Ok(())
 }
@@ -132,7 +141,7 @@ fn report_value(
     let findings = findings_value(alloc, report)?;
     let refused = refused_value(alloc, refusals)?;
     json!(in alloc; {
-        "schema": 3, "guests": guests, "findings": findings, "refused": refused,
+        "schema": 4, "guests": guests, "findings": findings, "refused": refused,
         "advised": advised
     })
 }

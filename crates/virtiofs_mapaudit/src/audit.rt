@@ -1,17 +1,18 @@
 //! The audit of all guests: what their options set up, what is found, and its text.
-ghost use Rattle.std.specs.Prelude.{◌≡◌, ◌≢◌, ◌<◌, ◌⊎◌, ◌↔◌, ◌++◌, ℕ, List, [], length, IfOk, IfSome, IsTrue, IsFalse, None, OnOk, string_bytes};
+ghost use Rattle.std.specs.Prelude.{◌≡◌, ◌≢◌, ◌<◌, ◌⊎◌, ◌↔◌, ◌++◌, ℕ, List, [], length, IfOk, IfSome, IsTrue, IsFalse, None, OnOk, flat_map, string_bytes};
 ghost use Rattle.std.specs.List.{AllZip};
 ghost use Rattle.virtiofs_mapaudit.specs.Advice.{IsAdvice};
 ghost use Rattle.virtiofs_mapaudit.specs.AlikeGuests.{is_first, alike_to, likes_of};
-ghost use Rattle.virtiofs_mapaudit.specs.FindingText.{findings_text};
+ghost use Rattle.virtiofs_mapaudit.specs.FindingText.{findings_text, accepted_text, found_text};
 ghost use Rattle.virtiofs_mapaudit.specs.Guests.{SetsUp};
 ghost use Rattle.virtiofs_mapaudit.specs.Lists.{Adds};
 ghost use Rattle.virtiofs_mapaudit.specs.Refusals.{TellsGuests};
-ghost use Rattle.virtiofs_mapaudit.specs.Report.{FindsReport, IsFound, IsFoundIn};
+ghost use Rattle.virtiofs_mapaudit.specs.Report.{FindsReport, IsFound, IsFoundIn, HasAccepted, HasAcceptedIn};
 ghost use Rattle.virtiofs_mapaudit.specs.ReportJson.{IsJson};
 ghost use Rattle.virtiofs_mapaudit.specs.ReportParts.{AddsPairs};
 ghost use Rattle.virtiofs_mapaudit.specs.Said.{Says, ShownIf, ShowsSet, ShowsKind, ShowsBothKinds, ShowsSomeNames, AreTables, SaysAlike, SaysAt, SaysGuests, part_text, parts_text, nothing_found, closing, IsPlain};
 
+use crate::accept::part_of;
 use crate::advice::text::push_advised;
 use crate::advice::{Advised, guests_of, options_of, tried};
 use crate::alike::{Alike, alike_to, is_first, is_told, likes_of};
@@ -36,8 +37,10 @@ pub(crate) struct Part<A: Allocator> {
     pub(crate) first: usize,
     /// The number of the second, which is the greater; of one guest, its number again.
     pub(crate) second: usize,
-    /// What is found.
+    /// What is found that counts.
     pub(crate) found: Vec<Finding<A>, A>,
+    /// What is found that is accepted.
+    pub(crate) accepted: Vec<Finding<A>, A>,
 }
 
 /// What is found of all guests.
@@ -56,51 +59,48 @@ pub(crate) struct Said {
     pub(crate) text: String,
     /// On standard error: guest by guest, the first fault of each option that is refused.
     pub(crate) refusals: Vec<Refusal<Global>>,
-    /// Whether anything was found.
+    /// Whether anything was found that counts.
     pub(crate) is_found: bool,
 }
 
 /// Compares a guest with each of those before it, and adds what is found.
 fn audit_pairs<A: Allocator + Copy>(
     alloc: A,
+    accepted: &[&str],
     sets: &[SetUp<A>],
     place: usize,
     pairs: &mut Vec<Part<A>, A>,
 ) -> Result<(), AllocError>
     requires { place < length sets.now }
-    ensures { OnOk result (AddsPairs sets.now place place pairs.old.items pairs.new.items) }
+    ensures { OnOk result (AddsPairs accepted.now sets.now place place
+        pairs.old.items pairs.new.items) }
 {
     for earlier in 0..place {
         let numbers = Numbers {
             first: earlier + 1,
             second: place + 1,
         };
-        let found = audit_pair(alloc, numbers, &sets[earlier], &sets[place])?;
-        pairs.push(Part {
-            first: numbers.first,
-            second: numbers.second,
-            found,
-        })?;
+        let all = audit_pair(alloc, numbers, &sets[earlier], &sets[place])?;
+        pairs.push(part_of(alloc, accepted, numbers.first, numbers.second, all)?)?;
     }
     Ok(())
 }
 
-/// What is found of guests by themselves and between each two.
+/// What is found of guests by themselves and between each two, where findings of kinds with these
+/// names are accepted.
 pub(crate) fn audit<A: Allocator + Copy>(
     alloc: A,
+    accepted: &[&str],
     sets: &[SetUp<A>],
 ) -> Result<Report<A>, AllocError>
-    ensures { IfOk result (FindsReport sets.now) }
+    ensures { IfOk result (FindsReport accepted.now sets.now) }
 {
     let mut guests = Vec::new(alloc);
     let mut pairs = Vec::new(alloc);
     for place in 0..sets.len() {
-        guests.push(Part {
-            first: place + 1,
-            second: place + 1,
-            found: audit_guest(alloc, &sets[place])?,
-        })?;
-        audit_pairs(alloc, sets, place, &mut pairs)?;
+        let (number, all) = (place + 1, audit_guest(alloc, &sets[place])?);
+        guests.push(part_of(alloc, accepted, number, number, all)?)?;
+        audit_pairs(alloc, accepted, sets, place, &mut pairs)?;
     }
     Ok(Report { guests, pairs })
 }
@@ -183,6 +183,28 @@ pub(crate) fn push_findings<A: Allocator>(
     Ok(())
 }
 
+/// Writes findings that are accepted at the end of a text.
+fn push_accepted<A: Allocator>(
+    text: &mut String<A>,
+    accepted: &[Finding<A>],
+) -> Result<(), AllocError>
+    ensures { OnOk result
+        (string_bytes text.new ≡ string_bytes text.old ++ flat_map accepted_text accepted.now) }
+{
+    for finding in accepted {
+        write!(text, "accepted: {finding}")?;
+    }
+    Ok(())
+}
+
+/// Writes what was found of a guest, or of two, at the end of a text.
+fn push_found<A: Allocator>(text: &mut String<A>, part: &Part<A>) -> Result<(), AllocError>
+    ensures { OnOk result (string_bytes text.new ≡ string_bytes text.old ++ found_text part.now) }
+{
+    push_findings(text, part.found.as_slice())?;
+    push_accepted(text, part.accepted.as_slice())
+}
+
 /// Writes what is said of guests with the same options at the end of a text: what is set up, the
 /// tables that were asked for, and what was found.
 fn push_alike<A: Allocator + Copy>(
@@ -192,14 +214,14 @@ fn push_alike<A: Allocator + Copy>(
     alike: Alike,
     guest: &Guest<'_, A>,
     set: &SetUp<A>,
-    found: &[Finding<A>],
+    part: &Part<A>,
 ) -> Result<(), AllocError>
-    ensures { OnOk result ((said : List ℕ) × SaysAlike asked alike guest.now set.now found.now said
+    ensures { OnOk result ((said : List ℕ) × SaysAlike asked alike guest.now set.now part.now said
         × (string_bytes text.new ≡ string_bytes text.old ++ said)) }
 {
     push_summary(text, alike, guest, set)?;
     push_tables(alloc, text, asked, set)?;
-    push_findings(text, found)
+    push_found(text, part)
 }
 
 /// Writes what is said of the guest at a place at the end of a text, unless an earlier one has the
@@ -222,8 +244,7 @@ fn push_at<A: Allocator + Copy>(
     let (guest, set, part) = (&guests[place], &sets[place], &parts[place]);
     let alike = alike_to(guests, guest);
     if is_first(alike, place + 1) {
-        let found = part.found.as_slice();
-        return push_alike(alloc, text, asked, alike, guest, set, found);
+        return push_alike(alloc, text, asked, alike, guest, set, part);
     }
     Ok(())
 }
@@ -258,7 +279,7 @@ fn push_part<A: Allocator>(
         (string_bytes text.new ≡ string_bytes text.old ++ part_text likes.now part.now) }
 {
     if is_told(likes, part.first, part.second) {
-        return push_findings(text, part.found.as_slice());
+        return push_found(text, part);
     }
     Ok(())
 }
@@ -283,15 +304,16 @@ fn push_closing<A: Allocator + Copy>(
     alloc: A,
     text: &mut String<A>,
     is_found: bool,
+    has_accepted: bool,
     refusals: &[Refusal<A>],
     advised: &Option<Advised<'_, A>>,
 ) -> Result<(), AllocError>
     ensures { OnOk result (string_bytes text.new
-        ≡ string_bytes text.old ++ closing is_found refusals.now advised.now) }
+        ≡ string_bytes text.old ++ closing is_found has_accepted refusals.now advised.now) }
 {
     let any_refused = !refusals.is_empty();
     if !is_found {
-        return text.push_str(nothing_found(any_refused));
+        return text.push_str(nothing_found(any_refused, has_accepted));
     }
     if any_refused {
         return Ok(());
@@ -302,17 +324,19 @@ fn push_closing<A: Allocator + Copy>(
     }
 }
 
-/// What is said where nothing was found.
-fn nothing_found(any_refused: bool) -> &'static str
-    ensures { result.now ≡ nothing_found any_refused }
+/// What is said where nothing was found that counts.
+fn nothing_found(any_refused: bool, has_accepted: bool) -> &'static str
+    ensures { result.now ≡ nothing_found any_refused has_accepted }
 {
-    if any_refused {
-        return "nothing found in what was not refused\n";
+    match (any_refused, has_accepted) {
+        (true, false) => "nothing found in what was not refused\n",
+        (true, true) => "nothing else found in what was not refused\n",
+        (false, false) => "nothing found\n",
+        (false, true) => "nothing else found\n",
     }
-    "nothing found\n"
 }
 
-/// Whether something is found in some part.
+/// Whether something is found in some part that counts.
 fn has_found_in<A: Allocator>(parts: &[Part<A>]) -> bool
     ensures { IsTrue result ↔ IsFoundIn parts.now }
 {
@@ -324,11 +348,30 @@ fn has_found_in<A: Allocator>(parts: &[Part<A>]) -> bool
     false
 }
 
-/// Whether something is found.
+/// Whether something is found that counts.
 pub(crate) fn has_found<A: Allocator>(report: &Report<A>) -> bool
     ensures { IsTrue result ↔ IsFound report.now }
 {
     has_found_in(report.guests.as_slice()) || has_found_in(report.pairs.as_slice())
+}
+
+/// Whether something is accepted in some part.
+fn has_accepted_in<A: Allocator>(parts: &[Part<A>]) -> bool
+    ensures { IsTrue result ↔ HasAcceptedIn parts.now }
+{
+    for part in parts {
+        if !part.accepted.as_slice().is_empty() {
+            return true;
+        }
+    }
+    false
+}
+
+/// Whether something is found that is accepted.
+pub(crate) fn has_accepted<A: Allocator>(report: &Report<A>) -> bool
+    ensures { IsTrue result ↔ HasAccepted report.now }
+{
+    has_accepted_in(report.guests.as_slice()) || has_accepted_in(report.pairs.as_slice())
 }
 
 /// What is said of the guests.
@@ -358,7 +401,8 @@ fn plain<A: Allocator + Copy>(
     )?;
     let likes = likes_of(alloc, guests)?;
     push_parts(&mut text, likes.as_slice(), report.pairs.as_slice())?;
-    push_closing(alloc, &mut text, is_found, refusals, advised)?;
+    let accepting = has_accepted(report);
+    push_closing(alloc, &mut text, is_found, accepting, refusals, advised)?;
     Ok(text)
 }
 
@@ -414,35 +458,37 @@ fn in_form(
 /// What is advised in place of the options with which that was found, if it is to be tried.
 fn advice<'a, A: Allocator + Copy>(
     alloc: A,
+    accepted: &[&str],
     tries: bool,
     others: Vec<Guest<'a, A>, A>,
     report: &Report<A>,
 ) -> Result<Option<Advised<'a, A>>, AllocError>
-    ensures tried { IfOk result (λ advised. IfSome advised (IsAdvice report.now)) }
+    ensures tried { IfOk result (λ advised. IfSome advised (IsAdvice accepted.now report.now)) }
     ensures untried { IsFalse tries → IfOk result (λ advised. advised ≡ None) }
 {
     if tries {
-        return tried(alloc, others, report);
+        return tried(alloc, accepted, others, report);
     }
     Ok(None)
 }
 
-/// What is to be written of the guests.
+/// What is to be written of the guests, where findings of kinds with these names are accepted.
 pub(crate) fn say(
     alloc: Global,
     asked: Asked,
+    accepted: &[&str],
     guests: &[Guest<'_, Global>],
 ) -> Result<Said, AllocError>
-    ensures { IfOk result (Says asked guests.now) }
+    ensures { IfOk result (Says asked accepted.now guests.now) }
 {
     let mut refusals = Vec::new(alloc);
     let sets = set_up_all(alloc, &mut refusals, guests)?;
-    let report = audit(alloc, sets.as_slice())?;
+    let report = audit(alloc, accepted, sets.as_slice())?;
     let is_found = has_found(&report);
     let tries = is_found && !asked.quiet && refusals.as_slice().is_empty();
-    let options = options_of(alloc, tries, guests, sets.as_slice())?;
+    let options = options_of(alloc, tries, guests, sets.as_slice(), &report)?;
     let others = guests_of(alloc, options.as_slice())?;
-    let advised = advice(alloc, tries, others, &report)?;
+    let advised = advice(alloc, accepted, tries, others, &report)?;
     let told = refusals.as_slice();
     let text = in_form(
         alloc,

@@ -1,7 +1,8 @@
 //! What is found: facts about the options that may be mistakes.
 ghost use Rattle.std.specs.Prelude.{◌≡◌, [], Some};
 ghost use Rattle.std.specs.Fmt.{DisplaysOnOk};
-ghost use Rattle.virtiofs_mapaudit.specs.FindingText.{whereabouts, shared_text, astray_text, becomes_text, back_text, way_text, not_back_text, root_text, failing_text, lack_text, lacking_text, ids_text, both_text, one_text, met_text, or_name, also, is_usual, least_text, idle_text, shown_text, reached_text, finding_text};
+ghost use Rattle.virtiofs_mapaudit.specs.ExtentText.{extent_text};
+ghost use Rattle.virtiofs_mapaudit.specs.FindingText.{whereabouts, shared_text, astray_text, becomes_text, back_text, way_text, not_back_text, either_text, is_one_of, acting_text, root_text, failing_text, lack_text, lacking_text, ids_text, both_text, one_text, met_text, or_name, also, is_usual, least_text, idle_text, shown_text, reached_text, finding_text};
 
 use crate::ids::extent::{Extent, is_one};
 use crate::ids::found::{IdFault, IdsFound};
@@ -37,6 +38,13 @@ pub(crate) enum Finding<A: Allocator> {
         fault: IdFault,
         /// The ids, and what the least of them becomes.
         found: IdsFound<A>,
+    },
+    /// Ids act as root of the host.
+    Root {
+        /// Those of users.
+        users: Option<IdsFound<A>>,
+        /// Those of groups.
+        groups: Option<IdsFound<A>>,
     },
     /// Some names are decided by no rule.
     NoRule,
@@ -175,22 +183,89 @@ fn write_not_back<W: fmt::Write, A: Allocator>(
     )
 }
 
-/// Writes that ids act as root of the host.
-fn write_root<W: fmt::Write, A: Allocator>(
+/// Writes ids of users, of groups, or of both.
+fn write_either<W: fmt::Write, A: Allocator>(
+    f: &mut fmt::Formatter<W>,
+    users: &Option<IdsFound<A>>,
+    groups: &Option<IdsFound<A>>,
+) -> fmt::Result
+    ensures { DisplaysOnOk W.write_str_gives f.old result
+        (Some (either_text users.now groups.now)) f.new }
+{
+    match (users, groups) {
+        (None, None) => Ok(()),
+        (None, Some(groups)) => write_extent(f, "group", groups),
+        (Some(users), None) => write_extent(f, "user", users),
+        (Some(users), Some(groups)) => write_extents(f, users, groups),
+    }
+}
+
+/// Writes ids of one kind.
+fn write_extent<W: fmt::Write, A: Allocator>(
     f: &mut fmt::Formatter<W>,
     one: &str,
     found: &IdsFound<A>,
 ) -> fmt::Result
     ensures { DisplaysOnOk W.write_str_gives f.old result
-        (Some (root_text one.now found.now)) f.new }
+        (Some (extent_text one.now found.now.ids.items)) f.new }
 {
     let ids = found.ids.as_slice();
     let extent = Extent { one, ids };
-    let acts = if is_one(ids) { "acts" } else { "act" };
-    write!(
-        f,
-        "{extent} {acts} as {one} 0 of the host, which is root's\n"
-    )
+    write!(f, "{extent}")
+}
+
+/// Writes ids of users, and ids of groups.
+fn write_extents<W: fmt::Write, A: Allocator>(
+    f: &mut fmt::Formatter<W>,
+    users: &IdsFound<A>,
+    groups: &IdsFound<A>,
+) -> fmt::Result
+    ensures { DisplaysOnOk W.write_str_gives f.old result
+        (Some (either_text (Some users.now) (Some groups.now))) f.new }
+{
+    let of_users = Extent {
+        one: "user",
+        ids: users.ids.as_slice(),
+    };
+    let of_groups = Extent {
+        one: "group",
+        ids: groups.ids.as_slice(),
+    };
+    write!(f, "{of_users} and {of_groups}")
+}
+
+/// Whether they are a single id.
+fn is_one_of<A: Allocator>(users: &Option<IdsFound<A>>, groups: &Option<IdsFound<A>>) -> bool
+    ensures { result ≡ is_one_of users.now groups.now }
+{
+    match (users, groups) {
+        (None, Some(groups)) => is_one(groups.ids.as_slice()),
+        (Some(users), None) => is_one(users.ids.as_slice()),
+        _ => false,
+    }
+}
+
+/// That one id acts as root of the host, or that many do.
+fn acting(is_one: bool) -> &'static str
+    ensures { result.now ≡ acting_text is_one }
+{
+    match is_one {
+        true => " acts as root of the host: what it creates is owned by root there\n",
+        false => " act as root of the host: what they create is owned by root there\n",
+    }
+}
+
+/// Writes that ids act as root of the host.
+fn write_root<W: fmt::Write, A: Allocator>(
+    f: &mut fmt::Formatter<W>,
+    users: &Option<IdsFound<A>>,
+    groups: &Option<IdsFound<A>>,
+) -> fmt::Result
+    ensures { DisplaysOnOk W.write_str_gives f.old result
+        (Some (root_text users.now groups.now)) f.new }
+{
+    write_either(f, users, groups)?;
+    f.write_str(acting(is_one_of(users, groups)))
 }
 
 /// Writes with which ids calls fail.
@@ -245,7 +320,6 @@ fn write_ids<W: fmt::Write, A: Allocator>(
     let (one, there) = (one_of(kind), whereabouts(in_namespace));
     match fault {
         IdFault::NotBack => write_not_back(f, one, there, found),
-        IdFault::Root => write_root(f, one, found),
         IdFault::Lacking => write_lacking(f, one, found),
     }
 }
@@ -411,6 +485,7 @@ impl<A: Allocator> fmt::Display for Finding<A> {
                 fault,
                 found,
             } => write_ids(f, *kind, *in_namespace, *fault, found),
+            Finding::Root { users, groups } => write_root(f, users, groups),
             Finding::NoRule => f.write_str(NO_RULE),
             Finding::NotListed(least) => write!(
                 f,

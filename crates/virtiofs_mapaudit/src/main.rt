@@ -3,6 +3,7 @@
 
 ghost use Rattle.std.specs.Prelude.{◌≡◌, ◌≢◌, ◌↔◌, [], IsTrue, IsFalse};
 
+mod accept;
 mod advice;
 mod alike;
 mod as_json;
@@ -20,6 +21,7 @@ mod setup;
 mod shell;
 mod summary;
 
+use crate::accept::no_kind;
 use crate::audit::{Said, say};
 use crate::mend::say_mended;
 use crate::picture::say_drawn;
@@ -92,11 +94,17 @@ fn run(rt: &HostRuntime) -> Result<Answered, AnswerFault> {
         }
         Words::Audit {
             asked,
+            values,
             guests,
             unknown,
         } => {
+            let accepted = values.accept.as_slice();
+            if let Some(text) = no_kind(rt.alloc(), accepted)? {
+                let _ = eprint!(rt; "virtiofs_mapaudit: {text}{USAGE}");
+                return Ok(Answered::WrongWords);
+            }
             let lines = unknown_lines(rt.alloc(), unknown.as_slice())?;
-            let answered = answer(rt, asked, guests.as_slice())?;
+            let answered = answer(rt, asked, accepted, guests.as_slice())?;
             if !asked.quiet {
                 for line in lines.as_slice() {
                     let _ = eprintln!(rt; "{line}");
@@ -111,14 +119,15 @@ fn run(rt: &HostRuntime) -> Result<Answered, AnswerFault> {
 fn answer(
     rt: &HostRuntime,
     asked: Asked,
+    accepted: &[&str],
     guests: &[Guest<'_, Global>],
 ) -> Result<Answered, AnswerFault> {
     let said = if asked.mend {
-        say_mended(rt.alloc(), guests)?
+        say_mended(rt.alloc(), accepted, guests)?
     } else if asked.svg && !asked.quiet {
-        say_drawn(rt.alloc(), guests)?
+        say_drawn(rt.alloc(), accepted, guests)?
     } else {
-        say(rt.alloc(), asked, guests)?
+        say(rt.alloc(), asked, accepted, guests)?
     };
     write_whole(rt, said.text.as_str())?;
     if !asked.quiet {

@@ -9,14 +9,19 @@ use std::alloc::{AllocError, Global};
 use virtiofs_options::guest::Guest;
 
 /// What is to be written of guests: the options that are advised, or else those that they have. What is
-/// found is what is found with the options that are written.
-pub(crate) fn say_mended(alloc: Global, guests: &[Guest<'_, Global>]) -> Result<Said, AllocError>
-    ensures { IfOk result (SaysMended guests.now) }
+/// found is what is found with the options that are written; findings of kinds with these names are
+/// accepted, and do not count.
+pub(crate) fn say_mended(
+    alloc: Global,
+    accepted: &[&str],
+    guests: &[Guest<'_, Global>],
+) -> Result<Said, AllocError>
+    ensures { IfOk result (SaysMended accepted.now guests.now) }
 {
     let mut refusals = Vec::new(alloc);
     let mut text = String::new(alloc);
     let sets = set_up_all(alloc, &mut refusals, guests)?;
-    let report = audit(alloc, sets.as_slice())?;
+    let report = audit(alloc, accepted, sets.as_slice())?;
     let is_found = has_found(&report);
     if !refusals.as_slice().is_empty() {
         return Ok(Said {
@@ -25,9 +30,9 @@ pub(crate) fn say_mended(alloc: Global, guests: &[Guest<'_, Global>]) -> Result<
             is_found,
         });
     }
-    let options = options_of(alloc, true, guests, sets.as_slice())?;
+    let options = options_of(alloc, true, guests, sets.as_slice(), &report)?;
     let others = guests_of(alloc, options.as_slice())?;
-    let Some(advised) = tried(alloc, others, &report)? else {
+    let Some(advised) = tried(alloc, accepted, others, &report)? else {
         push_mend(&mut text, guests)?;
         return Ok(Said {
             text,

@@ -17,7 +17,7 @@ use crate::alike::{alike_to, is_first, is_told, likes_of};
 use crate::audit::{Report, Said, audit, has_found, set_up_all};
 use crate::refusal::Refusal;
 use crate::setup::SetUp;
-use drawn::{push_findings, push_guest};
+use drawn::{push_found, push_guest};
 use legend::push_legend;
 use sheet::{MARGIN, Sheet, WIDTH};
 use std::alloc::{AllocError, Allocator, Global};
@@ -61,7 +61,7 @@ fn push_guests<A: Allocator + Copy>(
     for part in report.pairs.as_slice() {
         if is_told(likes.as_slice(), part.first, part.second) {
             sheet.skip(8);
-            push_findings(alloc, sheet, part.found.as_slice())?;
+            push_found(alloc, sheet, part)?;
         }
     }
     Ok(())
@@ -104,13 +104,18 @@ fn framed<A: Allocator + Copy>(alloc: A, sheet: &Sheet<A>) -> Result<String<A>, 
     Ok(text)
 }
 
-/// What is to be written of the guests where a drawing is asked for.
-pub(crate) fn say_drawn(alloc: Global, guests: &[Guest<'_, Global>]) -> Result<Said, AllocError>
-    ensures { IfOk result (SaysDrawn guests.now) }
+/// What is to be written of the guests where a drawing is asked for. Findings of kinds with these names
+/// are accepted.
+pub(crate) fn say_drawn(
+    alloc: Global,
+    accepted: &[&str],
+    guests: &[Guest<'_, Global>],
+) -> Result<Said, AllocError>
+    ensures { IfOk result (SaysDrawn accepted.now guests.now) }
 {
     let mut refusals = Vec::new(alloc);
     let sets = set_up_all(alloc, &mut refusals, guests)?;
-    let report = audit(alloc, sets.as_slice())?;
+    let report = audit(alloc, accepted, sets.as_slice())?;
     let is_found = has_found(&report);
     let sheet = drawing_of(alloc, guests, sets.as_slice(), &report, refusals.as_slice())?;
     let text = framed(alloc, &sheet)?;

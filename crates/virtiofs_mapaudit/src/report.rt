@@ -1,10 +1,10 @@
 //! What is found of one guest by itself.
 ghost use Rattle.std.specs.Prelude.{◌≡◌, ◌↔◌, ◌≢◌, ◌++◌, [], IsTrue, OnOk, IfOk};
 ghost use Rattle.virtiofs_mapaudit.specs.Lists.{listed, if_so, Adds};
-ghost use Rattle.virtiofs_mapaudit.specs.Report.{ids_found, FindsKind, FindsNamesOf, FindsIf, FindsGuest};
+ghost use Rattle.virtiofs_mapaudit.specs.Report.{ids_found, root_found, FindsKind, FindsRootOf, FindsRoot, FindsNamesOf, FindsIf, FindsGuest};
 
 use crate::finding::Finding;
-use crate::ids::audits::audit_ids;
+use crate::ids::audits::{acting_as_root, audit_ids};
 use crate::ids::found::{IdFault, IdFindings, IdsFound};
 use crate::ids::kind::IdKind;
 use crate::ids::ranges::{RangeFound, first_fault};
@@ -46,13 +46,8 @@ fn push_ids<A: Allocator>(
     ensures { OnOk result (found.new.items
         ≡ found.old.items ++ ids_found kind in_namespace ids) }
 {
-    let IdFindings {
-        astray,
-        root,
-        lacking,
-    } = ids;
+    let IdFindings { astray, lacking } = ids;
     push_fault(found, kind, in_namespace, IdFault::NotBack, astray)?;
-    push_fault(found, kind, in_namespace, IdFault::Root, root)?;
     push_fault(found, kind, in_namespace, IdFault::Lacking, lacking)
 }
 
@@ -110,6 +105,47 @@ fn push_some_kind<A: Allocator + Copy>(
     }
 }
 
+/// The ids of one kind that act as root of the host.
+fn root_of<A: Allocator + Copy>(
+    alloc: A,
+    set: &Option<IdSetUp<A>>,
+) -> Result<Option<IdsFound<A>>, AllocError>
+    ensures { IfOk result (FindsRootOf set.now) }
+{
+    match set {
+        Some(set) => acting_as_root(alloc, &set.map, set.ranges.as_slice()),
+        None => Ok(None),
+    }
+}
+
+/// Adds that users or groups act as root of the host, if some do.
+fn push_acting<A: Allocator>(
+    found: &mut Vec<Finding<A>, A>,
+    users: Option<IdsFound<A>>,
+    groups: Option<IdsFound<A>>,
+) -> Result<(), AllocError>
+    ensures { OnOk result (found.new.items ≡ found.old.items ++ root_found users groups) }
+{
+    if users.is_none() && groups.is_none() {
+        return Ok(());
+    }
+    found.push(Finding::Root { users, groups })?;
+    Ok(())
+}
+
+/// Adds whether users or groups act as root of the host.
+fn push_root<A: Allocator + Copy>(
+    alloc: A,
+    found: &mut Vec<Finding<A>, A>,
+    set: &SetUp<A>,
+) -> Result<(), AllocError>
+    ensures { OnOk result (Adds (FindsRoot set.now) found.old.items found.new.items) }
+{
+    let users = root_of(alloc, &set.users)?;
+    let groups = root_of(alloc, &set.groups)?;
+    push_acting(found, users, groups)
+}
+
 /// Adds what is found of names, where there are rules and they are not refused.
 fn push_some_names<A: Allocator + Copy>(
     alloc: A,
@@ -146,6 +182,7 @@ pub(crate) fn audit_guest<A: Allocator + Copy>(
     push_lists(&mut found, set.translates_lists)?;
     push_some_kind(alloc, &mut found, IdKind::Users, &set.users)?;
     push_some_kind(alloc, &mut found, IdKind::Groups, &set.groups)?;
+    push_root(alloc, &mut found, set)?;
     push_some_names(alloc, &mut found, &set.names)?;
     Ok(found)
 }

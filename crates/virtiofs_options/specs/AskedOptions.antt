@@ -10,6 +10,7 @@ use Rattle.virtiofs_options.specs.declared.fault.Fault.TheVariants.{Unknown, Mis
 use Rattle.virtiofs_options.specs.declared.front.Asked.{Asked}
 use Rattle.virtiofs_options.specs.declared.help.Telling.{Telling}
 use Rattle.virtiofs_options.specs.declared.help.Telling.TheVariants.{Help, Version}
+use Rattle.virtiofs_options.specs.declared.values.Values.{Values}
 
 -- a `--show` with this value is among the parts
 abbrev pub has_shown : List ℕ → List Part → Bool
@@ -29,6 +30,10 @@ pub record IsAsked (parts : List Part) (asked : Asked) : Type 0 where
   pub mend : asked.mend ≡ has_flag (codes "--mend") parts
   pub ids : asked.ids ≡ has_shown (codes "ids") parts
   pub names : asked.names ≡ has_shown (codes "names") parts
+
+-- the values of the program's own options that are among the parts
+pub record AreValues (parts : List Part) (values : Values) : Type 0 where
+  pub accept : values.accept.items ≡ values_of (codes "--accept") parts
 
 -- `--mend` stands beside an option that also says what is written
 abbrev pub mixes : List Part → Bool

@@ -2,7 +2,7 @@
 use Rattle.std.specs.Prelude.{◌≡◌, ◌⊎◌, ◌+◌, ℕ, List, Bool, false, Option, None, Some, is_some, map, drop, length, string_bytes, if◌then◌else◌}
 use Rattle.std.specs.Borrow.{Bor}
 use Rattle.std.specs.Global.{Global}
-use Rattle.virtiofs_options.specs.AskedOptions.{IsAsked, IsAskedWrongly, first_told, not_shown, mixes}
+use Rattle.virtiofs_options.specs.AskedOptions.{AreValues, IsAsked, IsAskedWrongly, first_told, not_shown, mixes}
 use Rattle.virtiofs_options.specs.GuestOptions.{HasNoOption, TakesIn}
 use Rattle.virtiofs_options.specs.Guests.{AreGuests, HasGuestFault}
 use Rattle.virtiofs_options.specs.Lines.{first_daemon, first_end, line_of}
@@ -17,6 +17,7 @@ use Rattle.virtiofs_options.specs.declared.guest.Guest.{Guest}
 use Rattle.virtiofs_options.specs.declared.options.Options.{Options}
 use Rattle.virtiofs_options.specs.declared.front.Asked.{Asked}
 use Rattle.virtiofs_options.specs.declared.help.Telling.{Telling}
+use Rattle.virtiofs_options.specs.declared.values.Values.{Values}
 use Rattle.virtiofs_options.specs.declared.words.Front.{Front}
 use Rattle.virtiofs_options.specs.declared.words.Front.TheVariants.{Tell, Audit}
 use Rattle.virtiofs_options.specs.declared.words.Words.{Words}
@@ -30,9 +31,9 @@ IsGuestOf {A} parts guest = (none : Guest A) × HasNoOption none × TakesIn none
 abbrev pub IsFront : Options → List (Bor (List ℕ)) → Front → Type 0
 IsFront options words (Tell telling) =
     (parts : List Part) × AreParts options words parts × (first_told parts ≡ Some telling)
-IsFront options words (Audit asked guest) =
+IsFront options words (Audit asked values guest) =
     (parts : List Part) × AreParts options words parts × (first_told parts ≡ None) × (not_shown parts ≡ None)
-    × (mixes parts ≡ false) × IsAsked parts asked × IsGuestOf parts guest
+    × (mixes parts ≡ false) × IsAsked parts asked × AreValues parts values × IsGuestOf parts guest
 
 -- what is wrong with these words: a word, or what they ask for
 abbrev pub HasFrontFault : Options → List (Bor (List ℕ)) → Fault → Type 0
@@ -71,22 +72,22 @@ abbrev pub rest_of : List (Bor (List ℕ)) → List (Bor (List ℕ))
 rest_of words = drop (start_after words (first_end words)) words
 
 -- what the words after the first `--` come to, where the first guest has the options before it
-abbrev pub IsAudit : Options → Asked → Guest Global → List (Bor (List ℕ)) → Words → Type 0
-IsAudit of_daemon asked first words (out.Audit asked_for guests unknown) =
-    (asked_for ≡ asked) × AreGuests of_daemon first words guests.items (map told unknown.items)
-IsAudit of_daemon asked first words (out.Shown text) = ⊥
-IsAudit of_daemon asked first words (out.Wrong text) =
+abbrev pub IsAudit : Options → Asked → Values → Guest Global → List (Bor (List ℕ)) → Words → Type 0
+IsAudit of_daemon asked values first words (out.Audit asked_for all guests unknown) =
+    (asked_for ≡ asked) × (all ≡ values) × AreGuests of_daemon first words guests.items (map told unknown.items)
+IsAudit of_daemon asked values first words (out.Shown text) = ⊥
+IsAudit of_daemon asked values first words (out.Wrong text) =
     (fault : Fault) × HasGuestFault of_daemon first words fault × IsSentence fault (string_bytes text)
 
 -- the help or the version
 abbrev pub IsShown : Words → Type 0
-IsShown (out.Audit asked guests unknown) = ⊥
+IsShown (out.Audit asked values guests unknown) = ⊥
 IsShown (out.Shown text) = Unit {0}
 IsShown (out.Wrong text) = ⊥
 
 -- the sentence on a fault
 abbrev pub IsWrong : Fault → Words → Type 0
-IsWrong fault (out.Audit asked guests unknown) = ⊥
+IsWrong fault (out.Audit asked values guests unknown) = ⊥
 IsWrong fault (out.Shown text) = ⊥
 IsWrong fault (out.Wrong text) = IsSentence fault (string_bytes text)
 
@@ -94,8 +95,9 @@ IsWrong fault (out.Wrong text) = IsSentence fault (string_bytes text)
 -- wrong before the first `--`
 abbrev pub AreWords : Options → Options → List (Bor (List ℕ)) → Words → Type 0
 AreWords own of_daemon words result =
-    ((asked : Asked) × (first : Guest Global) × IsFront own (line_of words) (Audit asked first)
-    × IsAudit of_daemon asked first (rest_of words) result)
+    ((asked : Asked) × (values : Values) × (first : Guest Global)
+    × IsFront own (line_of words) (Audit asked values first)
+    × IsAudit of_daemon asked values first (rest_of words) result)
     ⊎ (IsShown result × ((telling : Telling) × IsFront own (line_of words) (Tell telling)))
     ⊎ ((fault : Fault) × HasFrontFault own (line_of words) fault
     × IsWrong (front_fault of_daemon words fault) result)

@@ -85,7 +85,11 @@ fn is_cut(word: &str) -> bool
 
 /// A word as a sentence has it: the first characters, escaped, between quotes, and two dots where it
 /// has more.
-pub(crate) fn shown(alloc: Global, word: &str) -> Result<String, AllocError>
+///
+/// # Errors
+///
+/// `AllocError`: a request for memory was refused.
+pub fn shown(alloc: Global, word: &str) -> Result<String, AllocError>
     ensures { IfOk result (λ text. string_bytes text ≡ shown word.now) }
 {
     let front = front_of(alloc, word)?;

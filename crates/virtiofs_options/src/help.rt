@@ -3,7 +3,7 @@
 use clap::{Arg, ArgAction, Command};
 use std::alloc::{AllocError, Global};
 
-/// An option of the daemon that has a value.
+/// An option that has a value.
 fn valued<'a>(alloc: Global, name: &'a str, value: &'a str, help: &'a str) -> Arg<'a> {
     Arg::new(alloc, name)
         .long(name)
@@ -82,6 +82,12 @@ fn show<'a>(alloc: Global) -> Arg<'a> {
 fn command<'a>(alloc: Global) -> Result<Command<'a>, AllocError> {
     of_daemon(alloc, program(alloc))?
         .arg(show(alloc))?
+        .arg(valued(
+            alloc,
+            "accept",
+            "KIND",
+            "Findings of this kind, named as in JSON, do not count for the status",
+        ))?
         .arg(flag(alloc, "json", "Write JSON"))?
         .arg(flag(alloc, "quiet", "Write nothing: the status tells"))?
         .arg(flag(alloc, "mend", "Write mended options alone, each on a line"))?

@@ -7,7 +7,7 @@
 #![tactic(auto)]
 
 mod command;
-mod fault;
+pub mod fault;
 pub mod front;
 pub mod guest;
 mod guests;
@@ -18,5 +18,6 @@ mod older;
 mod options;
 mod parts;
 pub mod unknown;
+pub mod values;
 mod whole;
 pub mod words;

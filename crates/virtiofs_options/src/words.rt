@@ -15,6 +15,7 @@ use crate::line::{first_daemon, first_end, line_of, tail_of};
 use crate::options::{OF_DAEMON, OWN, Options};
 use crate::parts::read_parts;
 use crate::unknown::UnknownWord;
+use crate::values::{Values, values_of};
 use crate::whole::is_line;
 use std::alloc::{AllocError, Global};
 
@@ -24,6 +25,8 @@ pub enum Words<'a> {
     /// An audit of guests.
     Audit {
         asked: Asked,
+        /// The values of the program's own options.
+        values: Values<'a>,
         guests: Vec<Guest<'a, Global>>,
         /// What the daemon does not know of their command lines.
         unknown: Vec<UnknownWord<'a>, Global>,
@@ -39,8 +42,8 @@ pub enum Words<'a> {
 enum Front<'a> {
     /// The program is to tell of itself.
     Tell(Telling),
-    /// What is asked for, and what the first guest is.
-    Audit(Asked, Guest<'a, Global>),
+    /// What is asked for, with the values of the program's own options, and what the first guest is.
+    Audit(Asked, Values<'a>, Guest<'a, Global>),
 }
 
 /// Reads the words before the first `--`.
@@ -57,9 +60,10 @@ fn read_front<'a>(
         return Ok(Front::Tell(telling));
     }
     let asked = asked_of(parts.as_slice())?;
+    let values = values_of(alloc, parts.as_slice())?;
     let mut guest = Guest::new(alloc);
     guest.take_parts(parts.as_slice())?;
-    Ok(Front::Audit(asked, guest))
+    Ok(Front::Audit(asked, values, guest))
 }
 
 /// Whether a word that is not known before the first `--` belongs to a command line of the daemon: it
@@ -100,14 +104,16 @@ fn audit_of<'a>(
     alloc: Global,
     of_daemon: Options,
     asked: Asked,
+    values: Values<'a>,
     words: &[&'a str],
     first: Guest<'a, Global>,
 ) -> Result<Words<'a>, AllocError>
-    ensures { IfOk result (IsAudit of_daemon asked first.entry words.now) }
+    ensures { IfOk result (IsAudit of_daemon asked values.entry first.entry words.now) }
 {
     match read_guests(alloc, of_daemon, words, first) {
         Ok(Guests { guests, unknown }) => Ok(Words::Audit {
             asked,
+            values,
             guests,
             unknown,
         }),
@@ -126,9 +132,9 @@ fn words_of<'a>(
     ensures { IfOk result (AreWords own of_daemon words.now) }
 {
     match read_front(alloc, own, line_of(words)) {
-        Ok(Front::Audit(asked, first)) => {
+        Ok(Front::Audit(asked, values, first)) => {
             let rest = tail_of(words, rest_start(words));
-            audit_of(alloc, of_daemon, asked, rest, first)
+            audit_of(alloc, of_daemon, asked, values, rest, first)
         }
         Ok(Front::Tell(telling)) => Ok(Words::Shown(told(alloc, telling)?)),
         Err(ReadError::Wrong(fault)) => {

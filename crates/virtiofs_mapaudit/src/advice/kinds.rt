@@ -1,6 +1,7 @@
 //! Kinds of findings.
 ghost use Rattle.std.specs.Prelude.{◌≡◌, ◌↔◌, IsTrue};
-ghost use Rattle.virtiofs_mapaudit.specs.Advice.{shown_kind, kind_of, HasKind, HasNew, FindsLess};
+ghost use Rattle.virtiofs_mapaudit.specs.Advice.{HasKind, HasNew, FindsLess};
+ghost use Rattle.virtiofs_mapaudit.specs.FindingKinds.{shown_kind, kind_of, fault_name, name_of};
 
 use crate::finding::Finding;
 use crate::ids::found::IdFault;
@@ -16,6 +17,8 @@ pub(crate) enum FindingKind {
     Range(IdKind),
     /// Ids with a fault.
     Ids(IdKind, IdFault),
+    /// Ids that act as root of the host.
+    Root,
     /// Names without a rule.
     NoRule,
     /// Names that the guest can set, and that are not listed back.
@@ -45,13 +48,14 @@ fn shown_kind(setter: usize, lister: usize) -> FindingKind
 }
 
 /// The kind of a finding.
-fn kind_of<A: Allocator>(finding: &Finding<A>) -> FindingKind
+pub(crate) fn kind_of<A: Allocator>(finding: &Finding<A>) -> FindingKind
     ensures { result ≡ kind_of finding.now }
 {
     match finding {
         Finding::PosixAcl => FindingKind::PosixAcl,
         Finding::Range { kind, .. } => FindingKind::Range(*kind),
         Finding::Ids { kind, fault, .. } => FindingKind::Ids(*kind, *fault),
+        Finding::Root { .. } => FindingKind::Root,
         Finding::NoRule => FindingKind::NoRule,
         Finding::NotListed(_) => FindingKind::NotListed,
         Finding::ListedElsewhere(_) => FindingKind::ListedElsewhere,
@@ -59,6 +63,36 @@ fn kind_of<A: Allocator>(finding: &Finding<A>) -> FindingKind
         Finding::IdsOfBoth { kind, .. } => FindingKind::IdsOfBoth(*kind),
         Finding::ShownToOther { setter, lister, .. } => shown_kind(*setter, *lister),
         Finding::NameOfBoth { .. } => FindingKind::NameOfBoth,
+    }
+}
+
+/// The name of what may be wrong with ids.
+fn fault_name(fault: IdFault) -> &'static str
+    ensures { result.now ≡ fault_name fault }
+{
+    match fault {
+        IdFault::NotBack => "not_back",
+        IdFault::Lacking => "lacking",
+    }
+}
+
+/// The name of a kind, as JSON and `--accept` have it. It does not tell users from groups, nor one
+/// guest from another.
+pub(crate) fn name_of(kind: FindingKind) -> &'static str
+    ensures { result.now ≡ name_of kind }
+{
+    match kind {
+        FindingKind::PosixAcl => "posix_acl",
+        FindingKind::Range(_) => "range",
+        FindingKind::Ids(_, fault) => fault_name(fault),
+        FindingKind::Root => "root",
+        FindingKind::NoRule => "no_rule",
+        FindingKind::NotListed => "not_listed",
+        FindingKind::ListedElsewhere => "listed_elsewhere",
+        FindingKind::IdleRule => "idle_rule",
+        FindingKind::IdsOfBoth(_) => "id_of_both",
+        FindingKind::ShownToSecond | FindingKind::ShownToFirst => "shown_to_other",
+        FindingKind::NameOfBoth => "name_of_both",
     }
 }
 

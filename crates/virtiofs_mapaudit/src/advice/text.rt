@@ -112,13 +112,14 @@ fn push_left_in<A: Allocator>(
 }
 
 /// What stands above options that are advised.
-fn heading(is_found: bool) -> &'static str
-    ensures { result.now ≡ heading is_found }
+fn heading(is_found: bool, has_accepted: bool) -> &'static str
+    ensures { result.now ≡ heading is_found has_accepted }
 {
-    if is_found {
-        return "with these options less is found:\n";
+    match (is_found, has_accepted) {
+        (true, _) => "with these options less is found:\n",
+        (false, true) => "with these options nothing else is found:\n",
+        (false, false) => "with these options nothing is found:\n",
     }
-    "with these options nothing is found:\n"
 }
 
 /// Writes options that are advised, and what is still found with them, at the end of a text.
@@ -130,7 +131,7 @@ pub(crate) fn push_advised<A: Allocator + Copy>(
     ensures { OnOk result
         (string_bytes text.new ≡ string_bytes text.old ++ advised_text advised.now) }
 {
-    text.push_str(heading(advised.is_left))?;
+    text.push_str(heading(advised.is_left, advised.has_accepted))?;
     push_lines(text, advised.guests.as_slice())?;
     let likes = likes_of(alloc, advised.guests.as_slice())?;
     push_left_in(text, likes.as_slice(), advised.after.guests.as_slice())?;

@@ -2,10 +2,12 @@
 ghost use Rattle.std.specs.Prelude.{◌≡◌, ◌+◌, ◌++◌, IfOk, OnOk, map};
 ghost use Rattle.serde_json.specs.View.{view};
 ghost use Rattle.virtiofs_mapaudit.specs.NameJson.{least_data};
-ghost use Rattle.virtiofs_mapaudit.specs.FindingJson.{ids_word, span_data, alone_data, not_back_data, ids_data, range_data, fault_data, idle_data, names_data, between_data, met_data, finding_data};
+ghost use Rattle.virtiofs_mapaudit.specs.FindingKinds.{kind_of, name_of};
+ghost use Rattle.virtiofs_mapaudit.specs.FindingJson.{ids_word, span_data, alone_data, not_back_data, ids_data, acting_data, root_data, range_data, fault_data, idle_data, names_data, between_data, met_data, plain_data, named_data, finding_data};
 
 use super::names::least_value;
 use super::{Built, BuiltList};
+use crate::advice::kinds::{kind_of, name_of};
 use crate::finding::Finding;
 use crate::ids::found::{IdFault, IdsFound};
 use crate::ids::kind::IdKind;
@@ -52,166 +54,307 @@ fn spans_value(alloc: Global, spans: &[Span]) -> BuiltList
 }
 
 /// Ids of which no second id is told.
-fn alone(alloc: Global, guest: usize, what: &str, ids: &str, it: &IdsFound<Global>) -> Built
-    ensures { IfOk result (λ value. view value ≡ alone_data guest what.now ids.now it.now) }
+fn alone(
+    alloc: Global,
+    accepted: bool,
+    guest: usize,
+    what: &str,
+    ids: &str,
+    it: &IdsFound<Global>,
+) -> Built
+    ensures { IfOk result (λ value.
+        view value ≡ alone_data accepted guest what.now ids.now it.now) }
 {
     let spans = spans_value(alloc, it.ids.as_slice())?;
     json!(in alloc; {
-        "guest": guest, "kind": what, "ids": ids, "id": it.guest, "host": it.host, "spans": spans
+        "accepted": accepted, "guest": guest, "kind": what, "ids": ids, "id": it.guest,
+        "host": it.host, "spans": spans
     })
 }
 
 /// Ids that do not round-trip.
-fn not_back_value(alloc: Global, guest: usize, ids: &str, it: &IdsFound<Global>) -> Built
-    ensures { IfOk result (λ value. view value ≡ not_back_data guest ids.now it.now) }
+fn not_back_value(
+    alloc: Global,
+    accepted: bool,
+    guest: usize,
+    what: &str,
+    ids: &str,
+    it: &IdsFound<Global>,
+) -> Built
+    ensures { IfOk result (λ value.
+        view value ≡ not_back_data accepted guest what.now ids.now it.now) }
 {
     let spans = spans_value(alloc, it.ids.as_slice())?;
     json!(in alloc; {
-        "guest": guest, "kind": "not_back", "ids": ids, "id": it.guest, "host": it.host,
-        "back": it.other, "shared": it.is_shared, "spans": spans
+        "accepted": accepted, "guest": guest, "kind": what, "ids": ids, "id": it.guest,
+        "host": it.host, "back": it.other, "shared": it.is_shared, "spans": spans
     })
 }
 
 /// What is wrong with ids.
-fn ids_value(alloc: Global, guest: usize, ids: &str, fault: IdFault, it: &IdsFound<Global>) -> Built
-    ensures { IfOk result (λ value. view value ≡ ids_data guest ids.now fault it.now) }
+fn ids_value(
+    alloc: Global,
+    accepted: bool,
+    guest: usize,
+    what: &str,
+    ids: &str,
+    fault: IdFault,
+    it: &IdsFound<Global>,
+) -> Built
+    ensures { IfOk result (λ value.
+        view value ≡ ids_data accepted guest what.now ids.now fault it.now) }
 {
     match fault {
-        IdFault::NotBack => not_back_value(alloc, guest, ids, it),
-        IdFault::Root => alone(alloc, guest, "root", ids, it),
-        IdFault::Lacking => alone(alloc, guest, "lacking", ids, it),
+        IdFault::NotBack => not_back_value(alloc, accepted, guest, what, ids, it),
+        IdFault::Lacking => alone(alloc, accepted, guest, what, ids, it),
     }
+}
+
+/// Ids of one kind that act as root of the host, or null.
+fn acting_value(alloc: Global, found: &Option<IdsFound<Global>>) -> Built
+    ensures { IfOk result (λ value. view value ≡ acting_data found.now) }
+{
+    let Some(it) = found else {
+        return Ok(Value::Null);
+    };
+    let spans = spans_value(alloc, it.ids.as_slice())?;
+    json!(in alloc; {"id": it.guest, "host": it.host, "spans": spans})
+}
+
+/// Ids of users and of groups that act as root of the host.
+fn root_value(
+    alloc: Global,
+    accepted: bool,
+    guest: usize,
+    what: &str,
+    users: &Option<IdsFound<Global>>,
+    groups: &Option<IdsFound<Global>>,
+) -> Built
+    ensures { IfOk result (λ value.
+        view value ≡ root_data accepted guest what.now users.now groups.now) }
+{
+    let of_users = acting_value(alloc, users)?;
+    let of_groups = acting_value(alloc, groups)?;
+    json!(in alloc; {
+        "accepted": accepted, "guest": guest, "kind": what, "users": of_users, "groups": of_groups
+    })
 }
 
 /// A range that is at fault, and the number of the earlier one that it overlaps.
 fn range_value(
     alloc: Global,
+    accepted: bool,
     guest: usize,
+    what: &str,
     ids: &str,
     number: usize,
     fault: &str,
     other: Option<usize>,
 ) -> Built
-    ensures { IfOk result (λ value. view value ≡ range_data guest ids.now number fault.now other) }
+    ensures { IfOk result (λ value.
+        view value ≡ range_data accepted guest what.now ids.now number fault.now other) }
 {
     json!(in alloc; {
-        "guest": guest, "kind": "range", "ids": ids, "range": number, "fault": fault,
-        "other": other
+        "accepted": accepted, "guest": guest, "kind": what, "ids": ids, "range": number,
+        "fault": fault, "other": other
     })
 }
 
 /// What is wrong with a range.
-fn fault_value(alloc: Global, guest: usize, kind: IdKind, found: RangeFound) -> Built
-    ensures { IfOk result (λ value. view value ≡ fault_data guest kind found.place found.fault) }
+fn fault_value(
+    alloc: Global,
+    accepted: bool,
+    guest: usize,
+    what: &str,
+    kind: IdKind,
+    found: RangeFound,
+) -> Built
+    ensures { IfOk result (λ value.
+        view value ≡ fault_data accepted guest what.now kind found.place found.fault) }
 {
     let ids = word(kind);
     let number = number_at(found.place)?;
     match found.fault {
-        RangeFault::Empty => range_value(alloc, guest, ids, number, "empty", None),
-        RangeFault::Beyond => range_value(alloc, guest, ids, number, "beyond", None),
-        RangeFault::TooMany => range_value(alloc, guest, ids, number, "too_many", None),
-        RangeFault::PastPage => range_value(alloc, guest, ids, number, "past_page", None),
+        RangeFault::Empty => range_value(alloc, accepted, guest, what, ids, number, "empty", None),
+        RangeFault::Beyond => range_value(
+            alloc, accepted, guest, what, ids, number, "beyond", None,
+        ),
+        RangeFault::TooMany => range_value(
+            alloc, accepted, guest, what, ids, number, "too_many", None,
+        ),
+        RangeFault::PastPage => range_value(
+            alloc,
+            accepted,
+            guest,
+            what,
+            ids,
+            number,
+            "past_page",
+            None,
+        ),
         RangeFault::MeetsInside(place) => {
             let other = number_at(place)?;
-            range_value(alloc, guest, ids, number, "overlaps_inside", Some(other))
+            range_value(
+                alloc,
+                accepted,
+                guest,
+                what,
+                ids,
+                number,
+                "overlaps_inside",
+                Some(other),
+            )
         }
         RangeFault::MeetsOutside(place) => {
             let other = number_at(place)?;
-            range_value(alloc, guest, ids, number, "overlaps_outside", Some(other))
+            range_value(
+                alloc,
+                accepted,
+                guest,
+                what,
+                ids,
+                number,
+                "overlaps_outside",
+                Some(other),
+            )
         }
     }
 }
 
 /// A rule that decides no name.
-fn idle_value(alloc: Global, guest: usize, place: usize) -> Built
-    ensures { IfOk result (λ value. view value ≡ idle_data guest (place + 1)) }
+fn idle_value(alloc: Global, accepted: bool, guest: usize, what: &str, place: usize) -> Built
+    ensures { IfOk result (λ value.
+        view value ≡ idle_data accepted guest what.now (place + 1)) }
 {
     let rule = number_at(place)?;
-    json!(in alloc; {"guest": guest, "kind": "idle_rule", "rule": rule})
+    json!(in alloc; {"accepted": accepted, "guest": guest, "kind": what, "rule": rule})
 }
 
 /// Names of a guest.
-fn names_value(alloc: Global, guest: usize, what: &str, least: &LeastName<Global>) -> Built
-    ensures { IfOk result (λ value. view value ≡ names_data guest what.now (least_data least.now)) }
+fn names_value(
+    alloc: Global,
+    accepted: bool,
+    guest: usize,
+    what: &str,
+    least: &LeastName<Global>,
+) -> Built
+    ensures { IfOk result (λ value.
+        view value ≡ names_data accepted guest what.now (least_data least.now)) }
 {
     let least = least_value(alloc, least)?;
-    json!(in alloc; {"guest": guest, "kind": what, "least": least})
+    json!(in alloc; {"accepted": accepted, "guest": guest, "kind": what, "least": least})
 }
 
 /// Names of two guests. They are told by those of the first.
 fn names_between(
     alloc: Global,
+    accepted: bool,
+    what: &str,
     first: usize,
     second: usize,
-    what: &str,
     least: &LeastName<Global>,
 ) -> Built
     ensures { IfOk result (λ value.
-        view value ≡ between_data first second what.now (least_data least.now)) }
+        view value ≡ between_data accepted what.now first second (least_data least.now)) }
 {
     let least = least_value(alloc, least)?;
-    json!(in alloc; {"guests": [first, second], "kind": what, "least": least})
-}
-
-/// Ids of the host that two guests reach.
-fn met_value(alloc: Global, first: usize, second: usize, ids: &str, it: &IdsFound<Global>) -> Built
-    ensures { IfOk result (λ value. view value ≡ met_data first second ids.now it.now) }
-{
-    let spans = spans_value(alloc, it.ids.as_slice())?;
     json!(in alloc; {
-        "guests": [first, second], "kind": "id_of_both", "ids": ids, "id": it.guest,
-        "other": it.other, "host": it.host, "spans": spans
+        "accepted": accepted, "guests": [first, second], "kind": what, "least": least
     })
 }
 
-/// A finding; one of a single guest is that of the guest of this number.
-fn finding_value(alloc: Global, guest: usize, finding: &Finding<Global>) -> Built
-    ensures { IfOk result (λ value. view value ≡ finding_data guest finding.now) }
+/// Ids of the host that two guests reach.
+fn met_value(
+    alloc: Global,
+    accepted: bool,
+    what: &str,
+    first: usize,
+    second: usize,
+    ids: &str,
+    it: &IdsFound<Global>,
+) -> Built
+    ensures { IfOk result (λ value.
+        view value ≡ met_data accepted what.now first second ids.now it.now) }
+{
+    let spans = spans_value(alloc, it.ids.as_slice())?;
+    json!(in alloc; {
+        "accepted": accepted, "guests": [first, second], "kind": what, "ids": ids,
+        "id": it.guest, "other": it.other, "host": it.host, "spans": spans
+    })
+}
+
+/// A finding that has no members of its own.
+fn plain_value(alloc: Global, accepted: bool, guest: usize, what: &str) -> Built
+    ensures { IfOk result (λ value. view value ≡ plain_data accepted guest what.now) }
+{
+    json!(in alloc; {"accepted": accepted, "guest": guest, "kind": what})
+}
+
+/// A finding with the name of its kind; one of a single guest is that of the guest of this number.
+fn named_value(
+    alloc: Global,
+    accepted: bool,
+    guest: usize,
+    what: &str,
+    finding: &Finding<Global>,
+) -> Built
+    ensures { IfOk result (λ value. view value ≡ named_data accepted guest what.now finding.now) }
 {
     match finding {
-        Finding::PosixAcl => json!(in alloc; {"guest": guest, "kind": "posix_acl"}),
-        Finding::Range { kind, range } => fault_value(alloc, guest, *kind, *range),
+        Finding::PosixAcl | Finding::NoRule => plain_value(alloc, accepted, guest, what),
+        Finding::Range { kind, range } => fault_value(alloc, accepted, guest, what, *kind, *range),
         Finding::Ids {
             kind,
             fault,
             found,
             ..
-        } => ids_value(alloc, guest, word(*kind), *fault, found),
-        Finding::NoRule => json!(in alloc; {"guest": guest, "kind": "no_rule"}),
-        Finding::NotListed(least) => names_value(alloc, guest, "not_listed", least),
-        Finding::ListedElsewhere(least) => names_value(alloc, guest, "listed_elsewhere", least),
-        Finding::IdleRule(place) => idle_value(alloc, guest, *place),
+        } => ids_value(alloc, accepted, guest, what, word(*kind), *fault, found),
+        Finding::Root { users, groups } => {
+            root_value(alloc, accepted, guest, what, users, groups)
+        }
+        Finding::NotListed(least) | Finding::ListedElsewhere(least) => {
+            names_value(alloc, accepted, guest, what, least)
+        }
+        Finding::IdleRule(place) => idle_value(alloc, accepted, guest, what, *place),
         Finding::IdsOfBoth {
             first,
             second,
             kind,
             found,
-        } => { met_value(alloc, *first, *second, word(*kind), found) }
+        } => met_value(alloc, accepted, what, *first, *second, word(*kind), found),
         Finding::ShownToOther {
             setter,
             lister,
             least,
-        } => { names_between(alloc, *setter, *lister, "shown_to_other", least) }
+        } => names_between(alloc, accepted, what, *setter, *lister, least),
         Finding::NameOfBoth {
             first,
             second,
             least,
-        } => { names_between(alloc, *first, *second, "name_of_both", least) }
+        } => names_between(alloc, accepted, what, *first, *second, least),
     }
+}
+
+/// A finding; one of a single guest is that of the guest of this number.
+fn finding_value(alloc: Global, accepted: bool, guest: usize, finding: &Finding<Global>) -> Built
+    ensures { IfOk result (λ value. view value ≡ finding_data accepted guest finding.now) }
+{
+    named_value(alloc, accepted, guest, name_of(kind_of(finding)), finding)
 }
 
 /// Adds findings at the end of a list; one of a single guest is that of the guest of this number.
 pub(super) fn push_findings(
     alloc: Global,
     list: &mut Vec<Value>,
+    accepted: bool,
     guest: usize,
     found: &[Finding<Global>],
 ) -> Result<(), AllocError>
     ensures { OnOk result (map view list.new.items
-        ≡ map view list.old.items ++ map (finding_data guest) found.now) }
+        ≡ map view list.old.items ++ map (finding_data accepted guest) found.now) }
 {
     for finding in found {
-        list.push(finding_value(alloc, guest, finding)?)?;
+        list.push(finding_value(alloc, accepted, guest, finding)?)?;
     }
     Ok(())
 }

@@ -1,7 +1,7 @@
 //! What is decided of all ids of a guest.
 ghost use Rattle.std.specs.Prelude.{◌≡◌, ◌↔◌, ℕ, IfOk, IsTrue};
 ghost use Rattle.virtiofs_map.specs.IdAudit.{GoesTo, GoesInto, Hold};
-ghost use Rattle.virtiofs_mapaudit.specs.IdFindings.{FindsAll, IsAstrayBut, TellsAstray, TellsHost, FindsIds};
+ghost use Rattle.virtiofs_mapaudit.specs.IdFindings.{FindsAll, IsAstrayBut, TellsAstray, TellsHost, FindsIds, ActAsRoot};
 ghost use Rattle.virtiofs_mapaudit.specs.Namespace.{IsRoot};
 
 use super::found::{IdFindings, IdsFound};
@@ -92,6 +92,19 @@ fn root_ids<A: Allocator + Copy>(alloc: A, ranges: &[UidMap]) -> Result<Vec<Span
     moved_all(alloc, Way::Inwards, ranges, &root)
 }
 
+/// The ids of a guest that act as root of the host, whose daemon runs in a namespace of these
+/// ranges.
+pub(crate) fn acting_as_root<A: Allocator + Copy>(
+    alloc: A,
+    map: &Ids<A>,
+    ranges: &[UidMap],
+) -> Result<Option<IdsFound<A>>, AllocError>
+    ensures { IfOk result (ActAsRoot map.now ranges.now) }
+{
+    let root = root_ids(alloc, ranges)?;
+    ids_to(alloc, map, root.as_slice())
+}
+
 /// What is wrong with the ids of a guest, whose daemon runs in a namespace of these ranges.
 pub(crate) fn audit_ids<A: Allocator + Copy>(
     alloc: A,
@@ -101,10 +114,8 @@ pub(crate) fn audit_ids<A: Allocator + Copy>(
     ensures { IfOk result (FindsIds map.now ranges.now) }
 {
     let lacking = lacking_ids(alloc, ranges)?;
-    let root = root_ids(alloc, ranges)?;
     Ok(IdFindings {
         astray: astray_of(alloc, map, lacking.as_slice())?,
-        root: ids_to(alloc, map, root.as_slice())?,
         lacking: ids_to(alloc, map, lacking.as_slice())?,
     })
 }

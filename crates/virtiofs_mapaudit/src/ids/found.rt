@@ -9,8 +9,6 @@ pub(crate) enum IdFault {
     /// They do not round-trip: each becomes an id of the host that leads back to another id of the
     /// guest.
     NotBack,
-    /// They act as root of the host.
-    Root,
     /// They become ids that the namespace of the daemon lacks.
     Lacking,
 }
@@ -36,8 +34,6 @@ pub(crate) struct IdsFound<A: Allocator> {
 pub(crate) struct IdFindings<A: Allocator> {
     /// The ids that do not round-trip, but for those that the namespace of the daemon lacks.
     pub(crate) astray: Option<IdsFound<A>>,
-    /// The ids that act as root of the host.
-    pub(crate) root: Option<IdsFound<A>>,
     /// The ids that become one which the namespace of the daemon lacks.
     pub(crate) lacking: Option<IdsFound<A>>,
 }

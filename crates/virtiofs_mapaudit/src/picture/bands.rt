@@ -88,6 +88,27 @@ pub(super) fn images(piece: Piece, ids: Span) -> Option<Span> {
     }
 }
 
+/// The ids of a kind that a finding of one guest is about.
+fn marked_by<A: Allocator>(kind: IdKind, finding: &Finding<A>) -> Option<Marked<'_>> {
+    let (found, leads_back) = match finding {
+        Finding::Ids {
+            kind: theirs,
+            fault,
+            found,
+            ..
+        } if *theirs == kind => (found, *fault != IdFault::NotBack),
+        Finding::Root { users, groups } => match kind {
+            IdKind::Users => (users.as_ref()?, true),
+            IdKind::Groups => (groups.as_ref()?, true),
+        },
+        _ => return None,
+    };
+    Some(Marked {
+        ids: found.ids.as_slice(),
+        leads_back,
+    })
+}
+
 /// What is found of the ids of a kind.
 fn marked_of<'a, A: Allocator + Copy>(
     alloc: A,
@@ -96,19 +117,8 @@ fn marked_of<'a, A: Allocator + Copy>(
 ) -> Result<Vec<Marked<'a>, A>, AllocError> {
     let mut all = Vec::new(alloc);
     for finding in part.found.as_slice() {
-        if let Finding::Ids {
-            kind: theirs,
-            fault,
-            found,
-            ..
-        } = finding
-        {
-            if *theirs == kind {
-                all.push(Marked {
-                    ids: found.ids.as_slice(),
-                    leads_back: *fault != IdFault::NotBack,
-                })?;
-            }
+        if let Some(marked) = marked_by(kind, finding) {
+            all.push(marked)?;
         }
     }
     Ok(all)

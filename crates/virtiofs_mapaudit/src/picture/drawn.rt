@@ -103,23 +103,35 @@ fn push_kind<A: Allocator + Copy>(
     Ok(height.saturating_add(LINE))
 }
 
-/// Writes what was found, a paragraph for each.
-pub(super) fn push_findings<A: Allocator + Copy>(
+/// Writes findings, a paragraph for each, which begins with a text.
+fn push_findings<A: Allocator + Copy>(
     alloc: A,
     sheet: &mut Sheet<A>,
+    look: &str,
+    before: &str,
     found: &[Finding<A>],
 ) -> Result<(), AllocError> {
     for finding in found.iter().take(MOST_FINDINGS) {
-        let line = format!(in alloc; "{finding}")?;
-        sheet.push_words(alloc, RED, line.as_str().trim_end())?;
+        let line = format!(in alloc; "{before}{finding}")?;
+        sheet.push_words(alloc, look, line.as_str().trim_end())?;
         sheet.skip(3);
     }
     if found.len() > MOST_FINDINGS {
         let more = found.len() - MOST_FINDINGS;
-        let line = format!(in alloc; "and {more} more findings")?;
-        sheet.push_words(alloc, RED, line.as_str())?;
+        let line = format!(in alloc; "{before}and {more} more findings")?;
+        sheet.push_words(alloc, look, line.as_str())?;
     }
     Ok(())
+}
+
+/// Writes what was found of a guest, or of two: what counts, and what is accepted.
+pub(super) fn push_found<A: Allocator + Copy>(
+    alloc: A,
+    sheet: &mut Sheet<A>,
+    part: &Part<A>,
+) -> Result<(), AllocError> {
+    push_findings(alloc, sheet, RED, "", part.found.as_slice())?;
+    push_findings(alloc, sheet, GREY, "accepted: ", part.accepted.as_slice())
 }
 
 /// Writes which values of a guest are refused, and why.
@@ -183,6 +195,6 @@ pub(super) fn push_guest<A: Allocator + Copy>(
     let groups = push_kind(alloc, sheet, IdKind::Groups, GROUPS, &set.groups, part)?;
     sheet.skip(users.max(groups).saturating_add(2 * LINE));
     push_refusals(alloc, sheet, number, refusals)?;
-    push_findings(alloc, sheet, part.found.as_slice())?;
+    push_found(alloc, sheet, part)?;
     sheet.text.push_str("</g>\n")
 }

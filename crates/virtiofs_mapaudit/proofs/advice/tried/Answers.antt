@@ -14,4 +14,5 @@ returns g c = record {
   };
   better = c.if-not-is_better.ensures.0 refl;
   left = c.has_found-is_left.ensures;
+  accepting = c.has_accepted-has_accepted.ensures;
 }

@@ -3,5 +3,5 @@ use Rattle.virtiofs_mapaudit.proofs.audit.push_alike.Goals as goal
 
 pub returns : goal.returns
 returns g c =
-    alike_said c.push_findings.result c.args.asked c.args.alike c.args.guest.now c.args.set.now c.args.found.now _ _ _ _
-    c.in_ok-push_summary.ensures c.in_ok-push_tables.ensures c.push_findings.ensures
+    alike_said c.push_found.result c.args.asked c.args.alike c.args.guest.now c.args.set.now c.args.part.now _ _ _ _
+    c.in_ok-push_summary.ensures c.in_ok-push_tables.ensures c.push_found.ensures

@@ -8,7 +8,7 @@ returns-then-is_first g c =
     c.index-guests-place.result c.index-sets-place.result c.index-parts-place.result _ _
     (c.requires.below, c.requires.same, c.requires.same_2, c.index-guests-place.is, c.index-sets-place.is, c.index-parts-place.is)
     (rw (← c.alike_to-alike.ensures) (sym c.is_first.ensures ∙ c.if-is_first.true))
-    (rw (c.alike_to-alike.ensures, c.as_slice-found.ensures.value) at c.push_alike.ensures)
+    (rw c.alike_to-alike.ensures at c.push_alike.ensures)
 
 pub returns : goal.returns
 returns g c =

@@ -20,12 +20,12 @@ in_form-requires-clause-same c =
 pub in_form-requires-clause-same_2 : goal.in_form-requires-clause-same_2
 in_form-requires-clause-same_2 c =
     let finds = rw c.as_slice.ensures.value at c.in_ok-report.ensures in
-    AllZip-long IsOf c.in_ok-sets.sets.items c.in_ok-report.report.guests.items finds.guests
+    AllZip-long (IsOf c.args.accepted.now) c.in_ok-sets.sets.items c.in_ok-report.report.guests.items finds.guests
     ∙ AllZip-long SetsUp c.args.guests.now c.in_ok-sets.sets.items c.in_ok-sets.ensures.sets_up
 
 pub returns : goal.returns
 returns c =
-    says_all c.args.asked c.args.guests.now _ c.in_ok-sets.sets.items c.in_ok-report.report c.in_ok-advised.advised
+    says_all c.args.asked c.args.accepted.now c.args.guests.now _ c.in_ok-sets.sets.items c.in_ok-report.report c.in_ok-advised.advised
     c.in_ok-sets.ensures.sets_up (rw c.as_slice.ensures.value at c.in_ok-report.ensures)
     c.has_found-is_found.ensures
     (rw c.new-refusals.ensures.items at c.in_ok-sets.ensures.says) c.in_ok-advised.ensures.tried

@@ -8,7 +8,7 @@ use Rattle.virtiofs_mapaudit.proofs.mend.say_mended.Goals as goal
 pub returns-then-not-is_empty : goal.returns-then-not-is_empty
 returns-then-not-is_empty c =
     let some = is_some _ (rw c.as_slice-2.ensures.value at c.if-not-is_empty.ensures) in
-    says_mended c.args.guests.now _ c.in_ok-sets.sets.items c.in_ok-report.report c.args.guests.now c.in_ok-report.report
+    says_mended c.args.accepted.now c.args.guests.now _ c.in_ok-sets.sets.items c.in_ok-report.report c.args.guests.now c.in_ok-report.report
     c.in_ok-sets.ensures.sets_up (rw c.as_slice.ensures.value at c.in_ok-report.ensures)
     (rw c.new-refusals.ensures.items at c.in_ok-sets.ensures.says) (inl (refl, refl)) (λ _. search rules)
     (λ none. absurd (some none)) (λ none. absurd (some none))
@@ -22,7 +22,7 @@ options_of-requires c = record {
 pub returns-in_default : goal.returns-in_default
 returns-in_default c =
     let empty = is_empty_here _ _ (rw c.as_slice-2.ensures.value at c.if-not-is_empty.ensures) refl in
-    says_mended c.args.guests.now _ c.in_ok-sets.sets.items c.in_ok-report.report c.args.guests.now c.in_ok-report.report
+    says_mended c.args.accepted.now c.args.guests.now _ c.in_ok-sets.sets.items c.in_ok-report.report c.args.guests.now c.in_ok-report.report
     c.in_ok-sets.ensures.sets_up (rw c.as_slice.ensures.value at c.in_ok-report.ensures)
     (rw c.new-refusals.ensures.items at c.in_ok-sets.ensures.says) (inl (refl, refl)) (λ some. absurd (some empty))
     (λ _. rw c.new-text.ensures.bytes at c.in_ok-push_mend.ensures) (λ _. c.has_found-is_found.ensures)
@@ -31,7 +31,7 @@ pub returns : goal.returns
 returns c =
     let empty = is_empty_here _ _ (rw c.as_slice-2.ensures.value at c.if-not-is_empty.ensures) refl in
     let advice = rw c.in-Some.is at c.in_ok-advised.ensures in
-    says_mended c.args.guests.now _ c.in_ok-sets.sets.items c.in_ok-report.report c.in-Some.advised.guests.items
+    says_mended c.args.accepted.now c.args.guests.now _ c.in_ok-sets.sets.items c.in_ok-report.report c.in-Some.advised.guests.items
     c.in-Some.advised.after
     c.in_ok-sets.ensures.sets_up (rw c.as_slice.ensures.value at c.in_ok-report.ensures)
     (rw c.new-refusals.ensures.items at c.in_ok-sets.ensures.says) (inr (advice.audited, advice.better))

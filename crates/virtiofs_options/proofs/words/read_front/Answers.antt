@@ -9,5 +9,6 @@ returns-clause-read c = (
   search rules,
   search rules,
   search rules,
+  search rules,
   (c.new-guest.result, c.new-guest.ensures, search rules),
 )

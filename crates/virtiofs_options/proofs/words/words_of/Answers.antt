@@ -8,7 +8,7 @@ use Rattle.virtiofs_options.proofs.words.words_of.Goals as goal
 
 pub returns-in-Ok-Audit : goal.returns-in-Ok-Audit
 returns-in-Ok-Audit c =
-    audit-words c.args.own c.args.of_daemon c.args.words.now _ _ c.in-Ok-Audit.asked c.in-Ok-Audit.first
+    audit-words c.args.own c.args.of_daemon c.args.words.now _ _ c.in-Ok-Audit.asked c.in-Ok-Audit.values c.in-Ok-Audit.first
     c.audit_of.result
     (subst (IsFront c.args.own c.line_of.result.now) c.in-Ok-Audit.field-0-is c.in-Ok-Audit.ensures.read) c.line_of.ensures
     (c.tail_of-rest.ensures ∙ ap (λ (start : ℕ). drop start c.args.words.now) c.rest_start.ensures.start)

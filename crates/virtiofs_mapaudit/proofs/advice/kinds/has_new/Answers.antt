@@ -2,7 +2,8 @@ use Rattle.std.proofs.Common.{rules, sym, ◌∙◌}
 use Rattle.std.proofs.lemmas.Bool.{true≢false}
 use Rattle.std.proofs.lemmas.List.{take_all}
 use Rattle.virtiofs_mapaudit.proofs.ListLemmas.{AnyHas-at, AnyHas-none}
-use Rattle.virtiofs_mapaudit.specs.Advice.{kind_of, HasKind}
+use Rattle.virtiofs_mapaudit.specs.Advice.{HasKind}
+use Rattle.virtiofs_mapaudit.specs.FindingKinds.{kind_of}
 use Rattle.virtiofs_mapaudit.proofs.advice.kinds.has_new.Goals as goal
 
 pub loop-finding-preserved : goal.loop-finding-preserved

@@ -6,4 +6,4 @@ use Rattle.virtiofs_mapaudit.proofs.as_json.findings.push_findings.Given as goal
 -- the findings so far were added
 abbrev pub invariant-loop-finding : goal.invariant-loop-finding
 invariant-loop-finding l =
-    map view l.list.items ≡ map view l.fn.list.items ++ map (finding_data l.guest) (take l.finding-index l.found)
+    map view l.list.items ≡ map view l.fn.list.items ++ map (finding_data l.accepted l.guest) (take l.finding-index l.found)
