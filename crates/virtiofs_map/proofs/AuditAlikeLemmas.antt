@@ -1,21 +1,23 @@
 -- Names that fare alike: the longest of some patterns that begins a name is begun by the same patterns as the name.
 use Rattle.std.proofs.Common.{◌≡◌, zero, suc, ◌≢◌, ℕ, ◌+◌, ◌<◌, ◌≤◌, Bool, true, false, ◌&&◌, cond, eqb, List, [], ◌∷◌}
 use Rattle.std.proofs.Common.{◌++◌, map, length, drop, Option, Some, None, ◌⊎◌, inl, inr, refl, sym, ap, ◌∙◌, subst}
-use Rattle.std.proofs.Common.{arith}
+use Rattle.std.proofs.Common.{append-nil, arith}
 use Rattle.std.specs.List.{AllByRecursion, cons_option, flat_map, find, range_with_len}
 use Rattle.std.specs.Option.{option_map_or, option_and_then}
 use Rattle.std.proofs.lemmas.Bool.{and_parts, and_from, cond_both, cases_Bool, cases_lt, false≢true, true≢false}
 use Rattle.std.proofs.lemmas.Bool.{eqb-true, eq-eqb}
 use Rattle.std.proofs.lemmas.List.{append_assoc}
-use Rattle.virtiofs_map.specs.AuditParts.{front_of, front, host_pattern, rest_after, rest_of, rests, guest_names_of}
-use Rattle.virtiofs_map.specs.AuditParts.{guest_names, whole_of, wholes, host_names_of, host_names, one_byte}
+use Rattle.virtiofs_map.specs.AuditParts.{front, rest_after, rest_of, rests, guest_names_of}
+use Rattle.virtiofs_map.specs.GatheredParts.{front_by, front_of, host_pattern}
+use Rattle.virtiofs_map.specs.AuditParts.{guest_names, whole_of, wholes, live_wholes, host_names_of, host_names}
+use Rattle.virtiofs_map.specs.AuditParts.{is_cut, cuts, one_byte}
 use Rattle.virtiofs_map.specs.AuditParts.{one_byte_names}
 use Rattle.virtiofs_map.specs.FirstRule.{acts}
 use Rattle.virtiofs_map.specs.Names.{begins, fits, deciding}
-use Rattle.virtiofs_map.specs.Rule.{MappingRule}
+use Rattle.virtiofs_map.specs.Rule.{RuleType, Prefix, Okay, Bad, Unsupported, MappingRule}
 use Rattle.virtiofs_map.specs.declared.xattrmap.scopes.Side.{Side}
 use Rattle.virtiofs_map.specs.declared.xattrmap.scopes.Side.TheVariants.{Client, Server}
-use Rattle.virtiofs_map.proofs.BeginsLemmas.{begins_split, begins_from, begins-append}
+use Rattle.virtiofs_map.proofs.BeginsLemmas.{begins_split, begins_from, begins-append, deciding_fits}
 use Rattle.virtiofs_map.proofs.FirstRuleLemmas.{deciding-find}
 
 -- ---- fronts of a name
@@ -392,17 +394,50 @@ server_alike others host other all =
 
 -- ---- the same for names of the host
 
-prepends_same : (others rules : List MappingRule) (host c : List ℕ) → begins c host ≡ true
-    → AllByRecursion (Meets host c) (host_names others rules)
+-- what the server's rules take off a host name, they take off it alone too
+front_is_cut : (rules : List MappingRule) (host cut : List ℕ) → front Server rules host ≡ Some cut
+    → is_cut rules cut ≡ true
+front_is_cut rules host [] e = refl
+front_is_cut rules host (x ∷ xs) e =
+    let (rule, decides, puts) = decided (deciding Server rules host) (x ∷ xs) e in
+    let fit = and_parts rule.server (begins rule.prepend host)
+    (deciding_fits Server rules host rule (sym decides)) in
+    let is = prepend_is rule.kind rule.prepend x xs puts in
+    let begun = subst (λ p. begins p host ≡ true) is fit.1 in
+    let itself = begins_from (x ∷ xs) (x ∷ xs) [] (sym (append-nil (x ∷ xs))) in
+    let alone = subst (λ p. begins p (x ∷ xs) ≡ true) (sym is) itself
+    in
+    let same =
+    decides_front Server rules (x ∷ xs) host rule begun decides
+    (and_from rule.server (begins rule.prepend (x ∷ xs)) fit.0 alone) in
+    ap (λ o. cuts (x ∷ xs) (option_and_then front_of o)) same ∙ ap (cuts (x ∷ xs)) puts
+    ∙ eq-eqb (length (x ∷ xs)) (length (x ∷ xs)) refl
+  where
+    decided : (o : Option MappingRule) (cut : List ℕ) → option_and_then front_of o ≡ Some cut
+        → (rule : MappingRule) × (o ≡ Some rule) × (front_of rule ≡ Some cut)
+    decided None cut e = absurd (cc)
+    decided (Some rule) cut e = (rule, refl, e)
+
+    prepend_is : (kind : RuleType) (prepend : List ℕ) (x : ℕ) (xs : List ℕ) → front_by kind prepend ≡ Some (x ∷ xs)
+        → prepend ≡ x ∷ xs
+    prepend_is Okay prepend x xs e = absurd (cc)
+    prepend_is Prefix prepend x xs e = cc
+    prepend_is Bad prepend x xs e = absurd (cc)
+    prepend_is Unsupported prepend x xs e = absurd (cc)
+
+prepends_same : (every others rules : List MappingRule) (host c : List ℕ) → begins c host ≡ true
+    → AllByRecursion (Meets host c) (flat_map (host_names_of every others) rules)
     → AllByRecursion (λ rule. fits Server host rule ≡ fits Server c rule) rules
-prepends_same others [] host c f all = tt
-prepends_same others (rule ∷ rules) host c f all = (
-  prepend rule.server (all_first (Meets host c) (host_names_of others rule) (host_names others rules) all),
-  prepends_same others rules host c f
-      (all_second (Meets host c) (host_names_of others rule) (host_names others rules) all),
+prepends_same every others [] host c f all = tt
+prepends_same every others (rule ∷ rules) host c f all = (
+  prepend rule.server
+      (all_first (Meets host c) (host_names_of every others rule) (flat_map (host_names_of every others) rules) all),
+  prepends_same every others rules host c f
+      (all_second (Meets host c) (host_names_of every others rule) (flat_map (host_names_of every others) rules) all),
 ) where
   prepend : (b : Bool)
-      → AllByRecursion (Meets host c) (cond b (rule.prepend ∷ option_map_or (wholes others) (front_of rule) []) [])
+      → AllByRecursion (Meets host c)
+      (cond b (rule.prepend ∷ option_map_or (live_wholes every others) (front_of rule) []) [])
       → (b && begins rule.prepend host) ≡ (b && begins rule.prepend c)
   prepend true met = met_same host c rule.prepend f met.0
   prepend false met = refl
@@ -436,12 +471,15 @@ pub listed_alike : (rules others : List MappingRule) (tried : List (List ℕ)) (
 listed_alike rules others tried host c stands = record {
   server = deciding-find Server rules host
       ∙ find_same (fits Server host) (fits Server c) rules
-      (prepends_same others rules host c stands.is_front stands.met) ∙ sym (deciding-find Server rules c);
+      (prepends_same rules others rules host c stands.is_front stands.met) ∙ sym (deciding-find Server rules c);
   client = λ cut name rest e split other.
       (let decides = ap (option_and_then front_of) (sym (deciding-find Server rules host)) ∙ e in
-      let met =
-      of_found (Meets host c) (fits Server host) (λ rule. rule.server) (λ rule. rule.prepend) (wholes others)
-      (λ rule b. (and_parts rule.server (begins rule.prepend host) b).0) rules cut stands.met decides in
+      let led =
+      of_found (Meets host c) (fits Server host) (λ rule. rule.server) (λ rule. rule.prepend)
+      (live_wholes rules others) (λ rule b. (and_parts rule.server (begins rule.prepend host) b).0) rules cut
+      stands.met decides in
+      let met : AllByRecursion (Meets host c) (wholes others cut) =
+      subst (λ b. AllByRecursion (Meets host c) (cond b (wholes others cut) [])) (front_is_cut rules host cut e) led in
       let front : begins (cut ++ rest) (cut ++ name) ≡ true =
       subst (λ n. begins (cut ++ rest) n ≡ true) split (subst (λ p. begins p host ≡ true) other stands.is_front) in
       let over =

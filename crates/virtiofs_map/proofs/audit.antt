@@ -1,8 +1,12 @@
 mod AuditCountLemmas
+mod AuditCutLemmas
+mod AuditGatheredLemmas
 mod AuditLeastLemmas
-mod AuditLoopLemmas
 mod AuditLostLemmas
+mod AuditOrderLemmas
 mod AuditPassLemmas
+mod AuditReachLemmas
 mod AuditSeenLemmas
 mod AuditSharedLemmas
 mod AuditStrayLemmas
+mod AuditTriedLemmas

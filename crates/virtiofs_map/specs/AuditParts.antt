@@ -1,17 +1,19 @@
 -- What the private functions of an audit say: what is asked about a name, which names are tried, and what was found.
 -- Only they cite these definitions.
-use Rattle.std.specs.Prelude.{◌≡◌, All, option_to_list, ℕ, Bool, true, false, ◌&&◌, not, ◌==◌, nat_eq, nat_lt}
-use Rattle.std.specs.Prelude.{if◌then◌else◌, List, [], ◌∷◌, ◌++◌, map, length, drop, Option, Some, None, is_none}
-use Rattle.std.specs.Prelude.{option_map, option_and_then}
+use Rattle.std.specs.Prelude.{◌≡◌, All, Contains, option_to_list, ℕ, ◌+◌, ◌*◌, ◌≤◌, Bool, true, false, ◌&&◌}
+use Rattle.std.specs.Prelude.{not, ◌==◌, nat_eq, nat_lt, if◌then◌else◌, List, [], ◌∷◌, ◌++◌, map, length, drop, Option}
+use Rattle.std.specs.Prelude.{Some, None, is_none, option_and_then, count_by}
 use Rattle.std.specs.Cmp.Lexicographic.{pointwise, slice_cmp}
 use Rattle.std.specs.List.{list_all, list_any, filter_map, flat_map, range_with_len}
 use Rattle.std.specs.Option.{option_map_or}
 use Rattle.std.specs.Ordering.{nat_cmp, is_lt}
+use Rattle.virtiofs_map.specs.Audit.{IsBefore}
 use Rattle.virtiofs_map.specs.FirstRule.{acts}
+use Rattle.virtiofs_map.specs.GatheredParts.{front_of, host_pattern}
 use Rattle.virtiofs_map.specs.MapRule.{IsName}
 use Rattle.virtiofs_map.specs.Names.{begins, deciding}
-use Rattle.virtiofs_map.specs.Rule.{RuleType, Prefix, Okay, Bad, Unsupported, MappingRule}
-use Rattle.virtiofs_map.specs.Steps.{count_after}
+use Rattle.virtiofs_map.specs.Rule.{MappingRule}
+use Rattle.virtiofs_map.specs.Steps.{count_after, CountsBetween}
 use Rattle.virtiofs_map.specs.declared.audit.answer.Audit.{Audit}
 use Rattle.virtiofs_map.specs.declared.audit.answer.Audit.TheVariants.{Yes, No}
 use Rattle.virtiofs_map.specs.declared.audit.questions.Asked.{Asked}
@@ -21,16 +23,6 @@ use Rattle.virtiofs_map.specs.declared.xattrmap.scopes.Side.{Side}
 use Rattle.virtiofs_map.specs.declared.xattrmap.scopes.Side.TheVariants.{Client, Server}
 
 -- ---- how a rule lets a name through
-
--- what a rule puts before a guest's name to make the host's name; none if the rule lets no name through
-abbrev pub front_by : RuleType → List ℕ → Option (List ℕ)
-front_by Okay prepend = Some []
-front_by Prefix prepend = Some prepend
-front_by Bad prepend = None
-front_by Unsupported prepend = None
-
-abbrev pub front_of : MappingRule → Option (List ℕ)
-front_of rule = front_by rule.kind rule.prepend
 
 -- the same for the first rule that fits the name on that side
 abbrev pub front : Side → List MappingRule → List ℕ → Option (List ℕ)
@@ -79,6 +71,10 @@ abbrev pub is_stray : List MappingRule → List ℕ → Bool
 is_stray rules host =
     some_byte host && option_map_or (λ cut. not (adds cut (front Client rules (drop (length cut) host))))
     (front Server rules host) false
+
+-- what is left of the host name after `added` is a name before which the guest rule puts that
+abbrev pub passes_with : List MappingRule → List ℕ → List ℕ → Bool
+passes_with rules host added = begins added host && adds added (front Client rules (drop (length added) host))
 
 -- a name that starts with the rule's key passes and becomes the host name, with what the rule puts before it
 abbrev pub passes_as : List MappingRule → List ℕ → MappingRule → Bool
@@ -129,32 +125,42 @@ is_first (Some found) name = is_lt (slice_cmp nat_cmp name found)
 -- what is found after one more name
 abbrev pub try_one : (List ℕ → Bool) → TriedSoFar → List ℕ → TriedSoFar
 try_one bad tried name = record {
-  least = if bad name && is_first tried.least name then Some name else tried.least;
+  least = if is_first tried.least name && bad name then Some name else tried.least;
   count = count_after tried.count 1;
 }
-
--- what is found after these names
-abbrev pub after : (List ℕ → Bool) → TriedSoFar → List (List ℕ) → TriedSoFar
-after bad tried [] = tried
-after bad tried (name ∷ names) = after bad (try_one bad tried name) names
 
 -- the name of a `No`
 abbrev pub told : {A : Type 0} → Audit A → Option (List ℕ)
 told Yes = None
 told (No name) = Some name
 
+-- the name is not bad, or a bad name was found that it does not come before
+abbrev pub Handled : (List ℕ → Bool) → Option (List ℕ) → List ℕ → Type 0
+Handled bad least name =
+    bad name ≡ true → (found : List ℕ) × (least ≡ Some found) × (¬ IsBefore name found)
+
+-- the name that was found is bad
+abbrev pub FoundBad : (List ℕ → Bool) → Option (List ℕ) → Type 0
+FoundBad bad least = (found : List ℕ) → least ≡ Some found → bad found ≡ true
+
+-- no name of the set comes before what is found now, nor does one that did not come before what was found
+pub record Finds (bad : List ℕ → Bool) (names : List ℕ → Type 0) (old new : TriedSoFar) : Type 0 where
+  pub handled : (name : List ℕ) → names name → Handled bad new.least name
+  pub kept : (name : List ℕ) → Handled bad old.least name → Handled bad new.least name
+  pub found_bad : FoundBad bad old.least → FoundBad bad new.least
+
+-- the same, and at most so many names were tried
+pub record Tries (bad : List ℕ → Bool) (names : List ℕ → Type 0) (most : ℕ) (old new : TriedSoFar) : Type 0 where
+  pub finds : Finds bad names old new
+  pub counts : old.count ≤ 18446744073709551615 → CountsBetween 0 most old.count new.count
+
 -- the answer tells the least bad name of these, and that is a name
 pub record FindsLeast {A : Type 0} (bad : List ℕ → Bool) (tried : List (List ℕ)) (answer : Audit A) : Type 0 where
-  pub found : told answer ≡ (after bad none_tried tried).least
+  pub handled : (name : List ℕ) → Contains tried name → Handled bad (told answer) name
+  pub found_bad : FoundBad bad (told answer)
   pub is_name : All IsName (option_to_list (told answer))
 
 -- ---- which names are tried
-
--- the beginning that a rule fixes for host names. On the server's side: the prepend of the rule. On the client's
--- side: what the rule puts before a name, followed by its key (none if the rule lets no name through).
-abbrev pub host_pattern : Side → MappingRule → Option (List ℕ)
-host_pattern Client rule = option_map (λ added. added ++ rule.key) (front_of rule)
-host_pattern Server rule = Some rule.prepend
 
 -- the rest of the pattern after `added`, if the pattern starts with it
 abbrev pub rest_after : List ℕ → List ℕ → Option (List ℕ)
@@ -177,6 +183,35 @@ guest_names_of side others rule =
 abbrev pub guest_names : Side → List MappingRule → List MappingRule → List (List ℕ)
 guest_names side others rules = flat_map (guest_names_of side others) rules
 
+-- what is left of one of the patterns after `added`
+abbrev pub IsRestOf : List (List ℕ) → List ℕ → List ℕ → Type 0
+IsRestOf patterns added name =
+    (pattern : List ℕ) × Contains patterns pattern × (rest_after added pattern ≡ Some name)
+
+-- the same after one of these
+abbrev pub IsRest : List (List ℕ) → List (List ℕ) → List ℕ → Type 0
+IsRest fronts patterns name = (added : List ℕ) × Contains fronts added × IsRestOf patterns added name
+
+-- the most names of the guest that are tried
+abbrev pub most_guest_names : Side → List MappingRule → List MappingRule → ℕ
+most_guest_names side others rules =
+    255 + count_by (λ rule. rule.client) rules + count_by (λ rule. rule.client) rules * count_by
+    (λ rule. acts side rule) others
+
+-- the server's rules take that off a name, from one that begins with it
+abbrev pub is_cut : List MappingRule → List ℕ → Bool
+is_cut rules [] = true
+is_cut rules (byte ∷ cut) = cuts (byte ∷ cut) (front Server rules (byte ∷ cut))
+
+-- one of the keys after `cut`
+abbrev pub IsWholeOf : List ℕ → List (List ℕ) → List ℕ → Type 0
+IsWholeOf cut keys name = (key : List ℕ) × Contains keys key × (name ≡ cut ++ key)
+
+-- the same after one of these that the server's rules take off a name
+abbrev pub IsWhole : List MappingRule → List (List ℕ) → List (List ℕ) → List ℕ → Type 0
+IsWhole rules cuts keys name =
+    (cut : List ℕ) × Contains cuts cut × (is_cut rules cut ≡ true) × IsWholeOf cut keys name
+
 -- the part that was removed, followed by the key of a rule for the client
 abbrev pub whole_of : List ℕ → MappingRule → Option (List ℕ)
 whole_of cut rule = if rule.client then Some (cut ++ rule.key) else None
@@ -184,14 +219,18 @@ whole_of cut rule = if rule.client then Some (cut ++ rule.key) else None
 abbrev pub wholes : List MappingRule → List ℕ → List (List ℕ)
 wholes rules cut = filter_map (whole_of cut) rules
 
+-- the same, if the server's rules take that off a name
+abbrev pub live_wholes : List MappingRule → List MappingRule → List ℕ → List (List ℕ)
+live_wholes rules others cut = if is_cut rules cut then wholes others cut else []
+
 -- the prepend of a rule for the server; and, for each rule of the other map for the client, the part that the
 -- server's rule removes followed by that rule's key
-abbrev pub host_names_of : List MappingRule → MappingRule → List (List ℕ)
-host_names_of others rule =
-    if rule.server then rule.prepend ∷ option_map_or (wholes others) (front_of rule) [] else []
+abbrev pub host_names_of : List MappingRule → List MappingRule → MappingRule → List (List ℕ)
+host_names_of all others rule =
+    if rule.server then rule.prepend ∷ option_map_or (live_wholes all others) (front_of rule) [] else []
 
 abbrev pub host_names : List MappingRule → List MappingRule → List (List ℕ)
-host_names others rules = flat_map (host_names_of others) rules
+host_names others rules = flat_map (host_names_of rules others) rules
 
 abbrev pub one_byte : ℕ → List ℕ
 one_byte byte = byte ∷ []

@@ -14,6 +14,7 @@ pub mod Capability
 pub mod CapabilityParts
 pub mod ExtentParts
 pub mod FirstRule
+pub mod GatheredParts
 pub mod GrowthParts
 pub mod IdAudit
 pub mod IdAuditParts

@@ -42,8 +42,11 @@ mod added;
 mod answer;
 mod candidates;
 mod deciding;
+mod gathered;
 mod least;
+mod ordered;
 mod questions;
+mod reach;
 mod terminated;
 
 use crate::steps::Steps;
@@ -52,14 +55,15 @@ pub use answer::Audit;
 use candidates::{least_guest_name, least_host_name, try_guest_names};
 use least::Tried;
 use questions::{Asked, Question};
+use reach::Reach;
 use std::alloc::{AllocError, Allocator};
 
 /// Whether each non-empty name that passes is listed back: if the host's list has only the host
 /// name of that name, the guest's list has only that name. `No` has the least non-empty name that
 /// passes and is not listed back.
 ///
-/// Memory: space for the longest name of the host that is looked up, and for a few names that are
-/// not listed back.
+/// Memory: space for the keys and the prepends of the rules, for the longest name of the host that is
+/// looked up, and for a few names that are not listed back.
 ///
 /// # Errors
 ///
@@ -109,8 +113,8 @@ pub fn audit_counted<A: Allocator + Copy>(
 /// The answer for (first, second) says nothing about the answer for (second, first): call this
 /// again with the maps exchanged.
 ///
-/// Memory: space for the longest name of the host that is looked up, and for a few names of the
-/// first guest that the second map does not hide.
+/// Memory: space for the keys and the prepends of the rules, for the longest name of the host that is
+/// looked up, and for a few names of the first guest that the second map does not hide.
 ///
 /// # Errors
 ///
@@ -136,9 +140,9 @@ pub fn keeps_apart<A: Allocator + Copy>(
 /// The answer is `Yes` for (first, second) if and only if it is `Yes` for (second, first). It says
 /// nothing about lists, which may show a guest names that it does not reach: see [`keeps_apart`].
 ///
-/// Memory: space for the longest name of the host that is looked up, for the longest prepend + key
-/// of a rule of the second map, and for a few names of the first guest that pass as what both guests
-/// reach.
+/// Memory: space for the keys and the prepends of the rules, and twice for the prepends of the second
+/// map, for the longest name of the host that is looked up, and for a few names of the first guest
+/// that pass as what both guests reach.
 ///
 /// # Errors
 ///
@@ -159,8 +163,8 @@ pub fn shares_no_name<A: Allocator + Copy>(
 /// For each non-empty host name H that is listed to the guest under a name N: does N pass as H?
 /// `No` has the least non-empty host name for which it does not.
 ///
-/// Memory: space for the longest name of the host that is tried, and for a few names for which the
-/// answer is no.
+/// Memory: space for the keys and the prepends of the rules, for the longest name of the host that is
+/// tried, and for a few names for which the answer is no.
 ///
 /// # Errors
 ///
@@ -234,8 +238,9 @@ pub fn shares_no_name_within<A: Allocator + Copy>(
 ) -> Result<Audit<A>, AllocError>
     ensures { IfOk result (AnswersLeast (Within beginning.entry.bytes.now (IsShared r.now q.now))) }
 {
+    let reach = Reach::new(alloc, q)?;
     let question = Question {
-        asked: Asked::Shared(r, q),
+        asked: Asked::Shared(r, &reach),
         beginning,
     };
     least_guest_name(alloc, &question, r, q, Side::Client)

@@ -62,6 +62,7 @@ use rules::Rules;
 pub use scopes::Side;
 use std::alloc::{AllocError, Allocator, Global};
 use std::marker::Model;
+pub(crate) use trie::shared_length;
 use trie::trie_rows;
 
 /// A map of attribute names: its rules, in order. In contracts it is the list of its rules, where

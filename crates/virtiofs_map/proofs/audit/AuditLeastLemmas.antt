@@ -1,8 +1,8 @@
 -- The least bad name of those tried is the least of all, where each bad name has a bad front that is tried.
-use Rattle.std.proofs.Common.{◌≡◌, ◌↔◌, ℕ, ◌≤◌, Bool, true, false, ◌&&◌, cond, List, [], ◌∷◌, ◌++◌, length, Option}
-use Rattle.std.proofs.Common.{Some, None, Result, Ok, Err, inl, inr, refl, sym, ap, ◌∙◌, subst, arith}
+use Rattle.std.proofs.Common.{◌≡◌, ◌↔◌, ◌⊎◌, ℕ, zero, suc, ◌+◌, ◌≤◌, Bool, true, false, ◌&&◌, cond, List, [], ◌∷◌}
+use Rattle.std.proofs.Common.{◌++◌, Option, Some, None, Result, Ok, Err, inl, inr, refl, sym, subst, arith}
 use Rattle.std.specs.Cmp.Lexicographic.{slice_cmp}
-use Rattle.std.specs.List.{All, AllByRecursion}
+use Rattle.std.specs.List.{All, Contains}
 use Rattle.std.specs.Option.{option_to_list}
 use Rattle.std.specs.Ordering.{nat_cmp, is_lt, ordering_then}
 use Rattle.std.specs.Result.{IfOk, OnOk}
@@ -12,13 +12,13 @@ use Rattle.std.proofs.lemmas.Bool.{and_parts, cases_Bool, cond_both, false≢tru
 use Rattle.std.proofs.lemmas.Cmp.{nat_list_cmp_total, tied_itself}
 use Rattle.std.proofs.lemmas.List.Elements.{All-head}
 use Rattle.virtiofs_map.specs.Audit.{IsBefore, AnswersLeast, Within}
-use Rattle.virtiofs_map.specs.AuditParts.{TriedSoFar, none_tried, within, is_first, try_one, after, told, FindsLeast}
+use Rattle.virtiofs_map.specs.AuditParts.{TriedSoFar, none_tried, within, is_first, try_one, told, Handled, FoundBad}
+use Rattle.virtiofs_map.specs.AuditParts.{Finds, Tries, FindsLeast}
 use Rattle.virtiofs_map.specs.MapRule.{IsName}
 use Rattle.virtiofs_map.specs.Names.{begins}
-use Rattle.virtiofs_map.specs.Steps.{count_after}
 use Rattle.virtiofs_map.specs.declared.audit.answer.Audit.{Audit}
 use Rattle.virtiofs_map.specs.declared.audit.answer.Audit.TheVariants.{Yes, No}
-use Rattle.virtiofs_map.proofs.AuditAlikeLemmas.{Member, all_member}
+use Rattle.virtiofs_map.proofs.AuditAlikeLemmas.{Member}
 use Rattle.virtiofs_map.proofs.BeginsLemmas.{begins_split}
 
 -- ---- byte order
@@ -42,12 +42,12 @@ front_before : (p name other : List ℕ) → begins p name ≡ true → IsBefore
 front_before p name other b e =
     before_by p _ other (subst (λ n. IsBefore n other) (begins_split p name b) e)
 
-is_lt-true : (o : Ordering) → is_lt o ≡ true → o ≡ Less
+pub is_lt-true : (o : Ordering) → is_lt o ≡ true → o ≡ Less
 is_lt-true Less e = refl
 is_lt-true Equal e = absurd (false≢true e)
 is_lt-true Greater e = absurd (false≢true e)
 
-is_lt-false : (o : Ordering) → is_lt o ≡ false → o ≡ Less → ⊥
+pub is_lt-false : (o : Ordering) → is_lt o ≡ false → o ≡ Less → ⊥
 is_lt-false Less e k = true≢false e
 is_lt-false Equal e k = cc
 is_lt-false Greater e k = cc
@@ -60,16 +60,7 @@ not_before_itself name e = let same = tied_itself nat_list_cmp_total name in cc
 
 -- ---- the least bad name so far
 
--- a name that was tried is not bad, or a bad name was found that it does not come before
-abbrev pub Handled : (List ℕ → Bool) → Option (List ℕ) → List ℕ → Type 0
-Handled bad least name =
-    bad name ≡ true → (found : List ℕ) × (least ≡ Some found) × (¬ IsBefore name found)
-
--- the name that was found is bad
-abbrev pub FoundBad : (List ℕ → Bool) → Option (List ℕ) → Type 0
-FoundBad bad least = (found : List ℕ) → least ≡ Some found → bad found ≡ true
-
-not_first : (least : Option (List ℕ)) (name : List ℕ) → is_first least name ≡ false
+pub not_first : (least : Option (List ℕ)) (name : List ℕ) → is_first least name ≡ false
     → (found : List ℕ) × (least ≡ Some found) × (¬ IsBefore name found)
 not_first None name e = absurd (true≢false e)
 not_first (Some found) name e =
@@ -80,63 +71,150 @@ first_lower : (found name other : List ℕ) → is_first (Some found) name ≡ t
 first_lower found name other e fails before =
     fails (before_trans other name found before (is_lt-true (slice_cmp nat_cmp name found) e))
 
+-- ---- one name
+
 handled_one : (bad : List ℕ → Bool) (least : Option (List ℕ)) (name : List ℕ)
-    → Handled bad (cond (bad name && is_first least name) (Some name) least) name
+    → Handled bad (cond (is_first least name && bad name) (Some name) least) name
 handled_one bad least name is =
     elim (cases_Bool (is_first least name)) [
-      | inl first ↦ rw (is, first) (name, refl, not_before_itself name)
-      | inr fails ↦ rw (is, fails) (not_first least name fails)
+      | inl first ↦ rw (first, is) (name, refl, not_before_itself name)
+      | inr fails ↦ rw fails (not_first least name fails)
     ]
 
 handled_still : (bad : List ℕ → Bool) (least : Option (List ℕ)) (name other : List ℕ) → Handled bad least other
-    → Handled bad (cond (bad name && is_first least name) (Some name) least) other
+    → Handled bad (cond (is_first least name && bad name) (Some name) least) other
 handled_still bad least name other handled is =
     let (found, e, fails) = handled is in
-    cond_both (bad name && is_first least name) (Some name) least
+    cond_both (is_first least name && bad name) (Some name) least
     (λ o. (f : List ℕ) × (o ≡ Some f) × (¬ IsBefore other f))
     (λ b. (
       name,
       refl,
       first_lower found name other
-          (subst (λ o. is_first o name ≡ true) e (and_parts (bad name) (is_first least name) b).1) fails,
+          (subst (λ o. is_first o name ≡ true) e (and_parts (is_first least name) (bad name) b).0) fails,
     ))
     (λ _. (found, e, fails))
 
 found_bad_one : (bad : List ℕ → Bool) (least : Option (List ℕ)) (name : List ℕ) → FoundBad bad least
-    → FoundBad bad (cond (bad name && is_first least name) (Some name) least)
+    → FoundBad bad (cond (is_first least name && bad name) (Some name) least)
 found_bad_one bad least name before =
-    cond_both (bad name && is_first least name) (Some name) least (FoundBad bad)
+    cond_both (is_first least name && bad name) (Some name) least (FoundBad bad)
     (λ b found e. let same : name ≡ found = cc in
-    subst (λ n. bad n ≡ true) same (and_parts (bad name) (is_first least name) b).0) (λ _. before)
+    subst (λ n. bad n ≡ true) same (and_parts (is_first least name) (bad name) b).1) (λ _. before)
 
--- ---- after many names
+finds_one : (bad : List ℕ → Bool) (old : TriedSoFar) (name : List ℕ)
+    → Finds bad (λ tried. tried ≡ name) old (try_one bad old name)
+finds_one bad old name = record {
+  handled = λ tried is.
+      subst (Handled bad (try_one bad old name).least) (sym is) (handled_one bad old.least name);
+  kept = λ tried before. handled_still bad old.least name tried before;
+  found_bad = λ before. found_bad_one bad old.least name before;
+}
 
-pub after-append : (bad : List ℕ → Bool) (tried : TriedSoFar) (names more : List (List ℕ))
-    → after bad tried (names ++ more) ≡ after bad (after bad tried names) more
-after-append bad tried [] more = refl
-after-append bad tried (name ∷ names) more = after-append bad (try_one bad tried name) names more
+-- ---- many names
 
-still_handled : (bad : List ℕ → Bool) (tried : TriedSoFar) (names : List (List ℕ)) (other : List ℕ)
-    → Handled bad tried.least other → Handled bad (after bad tried names).least other
-still_handled bad tried [] other handled = handled
-still_handled bad tried (name ∷ names) other handled =
-    still_handled bad (try_one bad tried name) names other (handled_still bad tried.least name other handled)
+pub finds_nothing : (bad : List ℕ → Bool) (names : List ℕ → Type 0) (tried : TriedSoFar)
+    → ((name : List ℕ) → names name → Handled bad tried.least name) → Finds bad names tried tried
+finds_nothing bad names tried handled = record { handled = handled; kept = λ name h. h; found_bad = λ f. f }
 
-all_handled : (bad : List ℕ → Bool) (tried : TriedSoFar) (names : List (List ℕ))
-    → AllByRecursion (Handled bad (after bad tried names).least) names
-all_handled bad tried [] = tt
-all_handled bad tried (name ∷ names) = (
-  still_handled bad (try_one bad tried name) names name (handled_one bad tried.least name),
-  all_handled bad (try_one bad tried name) names,
-)
+pub finds_join : (bad : List ℕ → Bool) (names others all : List ℕ → Type 0) (a b c : TriedSoFar)
+    → Finds bad names a b → Finds bad others b c → ((name : List ℕ) → all name → names name ⊎ others name)
+    → Finds bad all a c
+finds_join bad names others all a b c first then cover = record {
+  handled = λ name is. elim (cover name is) [
+    | inl one ↦ then.kept name (first.handled name one)
+    | inr other ↦ then.handled name other
+  ];
+  kept = λ name h. then.kept name (first.kept name h);
+  found_bad = λ f. then.found_bad (first.found_bad f);
+}
 
-found_bad : (bad : List ℕ → Bool) (tried : TriedSoFar) (names : List (List ℕ)) → FoundBad bad tried.least
-    → FoundBad bad (after bad tried names).least
-found_bad bad tried [] before = before
-found_bad bad tried (name ∷ names) before =
-    found_bad bad (try_one bad tried name) names (found_bad_one bad tried.least name before)
+pub tries_nothing : (bad : List ℕ → Bool) (names : List ℕ → Type 0) (most : ℕ) (tried : TriedSoFar)
+    → ((name : List ℕ) → names name → Handled bad tried.least name) → Tries bad names most tried tried
+tries_nothing bad names most tried handled = record {
+  finds = finds_nothing bad names tried handled;
+  counts = λ small. record { steps = 0; at_least = omega arith; at_most = omega arith; counted = omega arith };
+}
+
+pub tries_join : (bad : List ℕ → Bool) (names others all : List ℕ → Type 0) (m n most : ℕ) (a b c : TriedSoFar)
+    → Tries bad names m a b → Tries bad others n b c → ((name : List ℕ) → all name → names name ⊎ others name)
+    → m + n ≤ most → Tries bad all most a c
+tries_join bad names others all m n most a b c first then cover l = record {
+  finds = finds_join bad names others all a b c first.finds then.finds cover;
+  counts = λ small.
+      (let one = first.counts small in
+      let e = one.counted in
+      let two = then.counts (omega arith) in
+      let k = two.counted in
+      let p = one.at_most in
+      let q = two.at_most in
+      record { steps = one.steps + two.steps; at_least = omega arith; at_most = omega arith; counted = omega arith });
+}
+
+-- one name more
+pub finds_more : (bad : List ℕ → Bool) (names all : List ℕ → Type 0) (a b c : TriedSoFar) (name : List ℕ)
+    → Finds bad names a b → c ≡ try_one bad b name → ((tried : List ℕ) → all tried → names tried ⊎ (tried ≡ name))
+    → Finds bad all a c
+finds_more bad names all a b c name first e cover =
+    subst (Finds bad all a) (sym e)
+    (finds_join bad names (λ tried. tried ≡ name) all a b (try_one bad b name) first (finds_one bad b name) cover)
+
+pub tries_more : (bad : List ℕ → Bool) (names all : List ℕ → Type 0) (m : ℕ) (a b c : TriedSoFar) (name : List ℕ)
+    → Tries bad names m a b → c ≡ try_one bad b name → ((tried : List ℕ) → all tried → names tried ⊎ (tried ≡ name))
+    → Tries bad all (m + 1) a c
+tries_more bad names all m a b c name first e cover =
+    tries_join bad names (λ tried. tried ≡ name) all m 1 (m + 1) a b c first
+    (subst (Tries bad (λ tried. tried ≡ name) 1 b) (sym e) (record {
+      finds = finds_one bad b name;
+      counts = λ _. record { steps = 1; at_least = omega arith; at_most = omega arith; counted = refl };
+    })) cover (omega arith)
+
+-- fewer names
+pub finds_fewer : (bad : List ℕ → Bool) (names all : List ℕ → Type 0) (a b : TriedSoFar) → Finds bad names a b
+    → ((name : List ℕ) → all name → names name) → Finds bad all a b
+finds_fewer bad names all a b first cover =
+    record { handled = λ name is. first.handled name (cover name is); kept = first.kept; found_bad = first.found_bad }
+
+pub tries_fewer : (bad : List ℕ → Bool) (names all : List ℕ → Type 0) (m most : ℕ) (a b : TriedSoFar)
+    → Tries bad names m a b → ((name : List ℕ) → all name → names name) → m ≤ most → Tries bad all most a b
+tries_fewer bad names all m most a b first cover l = record {
+  finds = finds_fewer bad names all a b first.finds cover;
+  counts = λ small.
+      (let one = first.counts small in
+      let p = one.at_most in
+      record { steps = one.steps; at_least = omega arith; at_most = omega arith; counted = one.counted });
+}
 
 -- ---- the answer
+
+pub member_contains : {X : Type 0} (x : X) (xs : List X) → Member x xs → Contains xs x
+member_contains x [] m = absurd m
+member_contains x (y ∷ ys) (inl same) = (0, omega arith, sym same)
+member_contains x (y ∷ ys) (inr m) = let (k, l, e) = member_contains x ys m in (suc k, omega arith, e)
+
+first_or_others : (first : List ℕ) (names : List (List ℕ)) (name : List ℕ) → Contains (first ∷ names) name
+    → (name ≡ first) ⊎ Contains names name
+first_or_others first names name (zero, l, e) = inl (sym e)
+first_or_others first names name (suc k, l, e) = inr (k, omega arith, e)
+
+-- one name before the others
+pub finds_first : (bad : List ℕ → Bool) (first : List ℕ) (names : List (List ℕ)) (mid end : TriedSoFar)
+    → mid ≡ try_one bad none_tried first → Finds bad (Contains names) mid end
+    → Finds bad (Contains (first ∷ names)) none_tried end
+finds_first bad first names mid end e then =
+    finds_join bad (λ tried. tried ≡ first) (Contains names) (Contains (first ∷ names)) none_tried mid end
+    (subst (Finds bad (λ tried. tried ≡ first) none_tried) (sym e) (finds_one bad none_tried first)) then
+    (λ name among. first_or_others first names name among)
+
+-- where nothing was found before
+pub finds_from_none : {A : Type 0} (bad : List ℕ → Bool) (tried : List (List ℕ)) (end : TriedSoFar) (answer : Audit A)
+    → Finds bad (Contains tried) none_tried end → told answer ≡ end.least → All IsName (option_to_list end.least)
+    → FindsLeast bad tried answer
+finds_from_none bad tried end answer finds e named = record {
+  handled = λ name among. subst (λ o. Handled bad o name) (sym e) (finds.handled name among);
+  found_bad = subst (FoundBad bad) (sym e) (finds.found_bad (λ found k. absurd (cc)));
+  is_name = subst (λ o. All IsName (option_to_list o)) (sym e) named;
+}
 
 -- a bad front of the name is tried
 pub record HasBadFront (bad : List ℕ → Bool) (tried : List (List ℕ)) (name : List ℕ) : Type 0 where
@@ -162,41 +240,24 @@ decide_within beginning Bad test tried only fronts = record {
   fronts = λ name bad. fronts name bad.is_bad bad.front;
 }
 
-handled_name : (bad : List ℕ → Bool) (tried : List (List ℕ)) (name : List ℕ) → HasBadFront bad tried name
-    → (found : List ℕ) × ((after bad none_tried tried).least ≡ Some found) × (¬ IsBefore name found)
-handled_name bad tried name front =
-    let least = (after bad none_tried tried).least in
-    let (found, e, fails) =
-    all_member (Handled bad least) front.by tried (all_handled bad none_tried tried) front.is_tried front.is_bad in
+handled_name : {A : Type 0} (bad : List ℕ → Bool) (tried : List (List ℕ)) (answer : Audit A) (name : List ℕ)
+    → FindsLeast bad tried answer → HasBadFront bad tried name
+    → (found : List ℕ) × (told answer ≡ Some found) × (¬ IsBefore name found)
+handled_name bad tried answer name finds front =
+    let (found, e, fails) = finds.handled front.by (member_contains front.by tried front.is_tried) front.is_bad in
     (found, e, λ before. fails (front_before front.by name found front.is_front before))
-
-pub answers_least : {A : Type 0} (Bad : List ℕ → Type 0) (bad : List ℕ → Bool) (tried : List (List ℕ))
-    (answer : Audit A) → Decide Bad bad tried → told answer ≡ (after bad none_tried tried).least
-    → All IsName (option_to_list (told answer)) → AnswersLeast Bad answer
-answers_least Bad bad tried Yes decide e named = λ name is.
-    (let (found, k, fails) = handled_name bad tried name (decide.fronts name is) in
-    absurd (let both = e ∙ k in cc))
-answers_least Bad bad tried (No name) decide e named = record {
-  is_bad =
-      decide.only name (All-head IsName name [] named)
-      (found_bad bad none_tried tried (λ found k. absurd (cc)) name (sym e));
-  none_before = λ other is before.
-      (let (found, k, fails) = handled_name bad tried other (decide.fronts other is) in
-      let same : name ≡ found = (let both = e ∙ k in cc) in
-      fails (subst (λ n. IsBefore other n) same before));
-}
-
--- the same of what was found after these names
-pub found_least : {A : Type 0} (Bad : List ℕ → Type 0) (bad : List ℕ → Bool) (tried : List (List ℕ)) (answer : Audit A)
-    (end : TriedSoFar) → Decide Bad bad tried → end ≡ after bad none_tried tried → told answer ≡ end.least
-    → All IsName (option_to_list end.least) → AnswersLeast Bad answer
-found_least Bad bad tried answer end decide is e named =
-    answers_least Bad bad tried answer decide (e ∙ ap (λ t. t.least) is)
-    (subst (λ o. All IsName (option_to_list o)) (sym e) named)
 
 pub finds_least : {A : Type 0} (Bad : List ℕ → Type 0) (bad : List ℕ → Bool) (tried : List (List ℕ))
     → Decide Bad bad tried → (answer : Audit A) → FindsLeast bad tried answer → AnswersLeast Bad answer
-finds_least Bad bad tried decide answer finds = answers_least Bad bad tried answer decide finds.found finds.is_name
+finds_least Bad bad tried decide Yes finds = λ name is.
+    (let (found, k, fails) = handled_name bad tried Yes name finds (decide.fronts name is) in absurd (cc))
+finds_least Bad bad tried decide (No name) finds = record {
+  is_bad = decide.only name (All-head IsName name [] finds.is_name) (finds.found_bad name refl);
+  none_before = λ other is before.
+      (let (found, k, fails) = handled_name bad tried (No name) other finds (decide.fronts other is) in
+      let same : name ≡ found = cc in
+      fails (subst (λ n. IsBefore other n) same before));
+}
 
 -- Yes where no name is bad, and only there
 pub yes_where_none : {A : Type 0} (Bad : List ℕ → Type 0) (Holds : Type 0) (answer : Audit A) → AnswersLeast Bad answer
@@ -223,11 +284,3 @@ pub if_ok_given : {X Y : Type 0} (r : Result X Y) (G : Type 0) (P Q : X → Type
     → (G → (x : X) → P x → Q x) → IfOk r P → IfOk r Q
 if_ok_given (Ok x) G P Q given f p = f given x p
 if_ok_given (Err e) G P Q given f p = tt
-
--- ---- the count
-
-pub count_of : (bad : List ℕ → Bool) (tried : TriedSoFar) (names : List (List ℕ)) → tried.count ≤ 18446744073709551615
-    → (after bad tried names).count ≡ count_after tried.count (length names)
-count_of bad tried [] l = omega arith
-count_of bad tried (name ∷ names) l =
-    count_of bad (try_one bad tried name) names (omega arith) ∙ omega arith

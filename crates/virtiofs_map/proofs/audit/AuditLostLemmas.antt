@@ -8,7 +8,8 @@ use Rattle.std.proofs.lemmas.Bool.{eqb-true, eq-eqb, ne_eqb, false_from_ne_true}
 use Rattle.std.proofs.lemmas.List.{length-append, length-drop, drop_at}
 use Rattle.std.proofs.lemmas.List.Elements.{All-append, All-head}
 use Rattle.virtiofs_map.specs.Audit.{Within, Sound, IsLost}
-use Rattle.virtiofs_map.specs.AuditParts.{front_of, front, some_byte, cuts, is_lost, within, guest_names}
+use Rattle.virtiofs_map.specs.AuditParts.{front, some_byte, cuts, is_lost, within, guest_names}
+use Rattle.virtiofs_map.specs.GatheredParts.{front_of}
 use Rattle.virtiofs_map.specs.MapRule.{IsName}
 use Rattle.virtiofs_map.specs.Names.{begins, HostAnswer, IsListed, IsHidden, IsUndecided, host_answer, server_answer}
 use Rattle.virtiofs_map.specs.Names.{ListsBack}

@@ -8,7 +8,8 @@ use Rattle.std.proofs.lemmas.Bool.{and_parts, and_from, false≢true, lt-ltb, lt
 use Rattle.std.proofs.lemmas.List.{append_assoc}
 use Rattle.std.proofs.lemmas.List.Elements.{All-head, All-tail, All-nil, All-cons}
 use Rattle.virtiofs_map.specs.Audit.{Within}
-use Rattle.virtiofs_map.specs.AuditParts.{front_of, front, some_byte, all_bytes, passes_where, within, guest_names}
+use Rattle.virtiofs_map.specs.AuditParts.{front, some_byte, all_bytes, passes_where, within, guest_names}
+use Rattle.virtiofs_map.specs.GatheredParts.{front_of}
 use Rattle.virtiofs_map.specs.AuditParts.{one_byte_names}
 use Rattle.virtiofs_map.specs.MapRule.{IsName}
 use Rattle.virtiofs_map.specs.Names.{begins}

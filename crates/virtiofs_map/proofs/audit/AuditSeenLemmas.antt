@@ -8,7 +8,8 @@ use Rattle.std.proofs.lemmas.List.{length-append}
 use Rattle.std.proofs.lemmas.List.Elements.{All-nil, All-cons, All-append, All-weaker}
 use Rattle.std.proofs.lemmas.List.Splits.{slice_split_at}
 use Rattle.virtiofs_map.specs.Audit.{Within, Reached, Apart, IsSeen, Leaves, IsList, Isolated}
-use Rattle.virtiofs_map.specs.AuditParts.{front_of, is_hidden, is_seen, within, guest_names, one_byte_names}
+use Rattle.virtiofs_map.specs.AuditParts.{is_hidden, is_seen, within, guest_names, one_byte_names}
+use Rattle.virtiofs_map.specs.GatheredParts.{front_of}
 use Rattle.virtiofs_map.specs.MapRule.{IsName}
 use Rattle.virtiofs_map.specs.Names.{HostAnswer, IsListed, IsHidden, IsUndecided, host_answer, is_decided, listed_name}
 use Rattle.virtiofs_map.specs.Names.{names, as_list, server_answer}

@@ -8,7 +8,8 @@ use Rattle.std.proofs.lemmas.Bool.{and_parts, and_from, cases_Bool, cond_both, f
 use Rattle.std.proofs.lemmas.List.{append_assoc, drop_at}
 use Rattle.std.proofs.lemmas.List.Elements.{All-drop}
 use Rattle.virtiofs_map.specs.Audit.{Within, Reached, SharesNoName, IsShared}
-use Rattle.virtiofs_map.specs.AuditParts.{front_of, front, adds, passes_as, is_reached, is_shared, within, guest_names}
+use Rattle.virtiofs_map.specs.AuditParts.{front, adds, passes_as, is_reached, is_shared, within, guest_names}
+use Rattle.virtiofs_map.specs.GatheredParts.{front_of}
 use Rattle.virtiofs_map.specs.AuditParts.{one_byte_names}
 use Rattle.virtiofs_map.specs.MapRule.{IsName}
 use Rattle.virtiofs_map.specs.Names.{begins, fits, deciding, Passes}
@@ -40,7 +41,7 @@ rule_of : (o : Option MappingRule) (added : List ℕ) → option_and_then front_
 rule_of None added e = absurd (cc)
 rule_of (Some rule) added e = (rule, refl, e)
 
-leads_from : (rules : List MappingRule) (name added host : List ℕ) → front Client rules name ≡ Some added
+pub leads_from : (rules : List MappingRule) (name added host : List ℕ) → front Client rules name ≡ Some added
     → host ≡ added ++ name → LeadsTo rules host
 leads_from rules name added host e is =
     let (rule, decides, puts) = rule_of (deciding Client rules name) added e in
@@ -67,24 +68,24 @@ found_member p (y ∷ ys) x e =
     cond_both (p y) (Some y) (find p ys) (λ o. o ≡ Some x → Member x (y ∷ ys))
     (λ _ k. inl (let same : x ≡ y = cc in same)) (λ _ k. inr (found_member p ys x k)) e
 
-rule_member : (rules : List MappingRule) (host : List ℕ) (leads : LeadsTo rules host) → Member leads.rule rules
+pub rule_member : (rules : List MappingRule) (host : List ℕ) (leads : LeadsTo rules host) → Member leads.rule rules
 rule_member rules host leads =
     found_member (fits Client leads.name) rules leads.rule (sym (deciding-find Client rules leads.name) ∙ leads.decides)
 
 -- the rule acts for the client, and its key begins the name
-rule_fits : (rules : List MappingRule) (host : List ℕ) (leads : LeadsTo rules host)
+pub rule_fits : (rules : List MappingRule) (host : List ℕ) (leads : LeadsTo rules host)
     → (leads.rule.client ≡ true) × (begins leads.rule.key leads.name ≡ true)
 rule_fits rules host leads =
     and_parts leads.rule.client (begins leads.rule.key leads.name)
     (deciding_fits Client rules leads.name leads.rule (sym leads.decides))
 
 -- what is left of the host name is the name
-rest_is : (rules : List MappingRule) (host : List ℕ) (leads : LeadsTo rules host)
+pub rest_is : (rules : List MappingRule) (host : List ℕ) (leads : LeadsTo rules host)
     → drop (length leads.added) host ≡ leads.name
 rest_is rules host leads =
     ap (drop (length leads.added)) leads.host_is ∙ drop_at leads.added leads.name (length leads.added) refl
 
-front_is : (rules : List MappingRule) (host : List ℕ) (leads : LeadsTo rules host)
+pub front_is : (rules : List MappingRule) (host : List ℕ) (leads : LeadsTo rules host)
     → front Client rules leads.name ≡ Some leads.added
 front_is rules host leads = ap (option_and_then front_of) leads.decides ∙ leads.puts
 
@@ -133,11 +134,11 @@ passes_leads rules host rule e =
     let more = and_parts (begins rule.key rest) (adds added (front Client rules rest)) parts.1 in
     leads_from rules rest added host (adds_is added (front Client rules rest) more.1) (begins_split added host parts.0)
 
-leads_test : (rules : List MappingRule) (host : List ℕ) → LeadsTo rules host → is_reached rules host ≡ true
+pub leads_test : (rules : List MappingRule) (host : List ℕ) → LeadsTo rules host → is_reached rules host ≡ true
 leads_test rules host leads =
     any_member (passes_as rules host) leads.rule rules (rule_member rules host leads) (leads_passes rules host leads)
 
-test_leads : (rules : List MappingRule) (host : List ℕ) → is_reached rules host ≡ true → LeadsTo rules host
+pub test_leads : (rules : List MappingRule) (host : List ℕ) → is_reached rules host ≡ true → LeadsTo rules host
 test_leads rules host e =
     let (rule, passes) = any_some (passes_as rules host) rules e in passes_leads rules host rule passes
 

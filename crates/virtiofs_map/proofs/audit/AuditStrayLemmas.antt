@@ -10,7 +10,8 @@ use Rattle.std.proofs.lemmas.Bool.{false_from_ne_true, eq-eqb, eqb-true}
 use Rattle.std.proofs.lemmas.List.{length-append}
 use Rattle.std.proofs.lemmas.List.Elements.{All-head}
 use Rattle.virtiofs_map.specs.Audit.{Within, OpensListed, IsStray}
-use Rattle.virtiofs_map.specs.AuditParts.{front_of, front, some_byte, adds, is_stray, within, host_names}
+use Rattle.virtiofs_map.specs.AuditParts.{front, some_byte, adds, is_stray, within, host_names}
+use Rattle.virtiofs_map.specs.GatheredParts.{front_of}
 use Rattle.virtiofs_map.specs.AuditParts.{one_byte_names}
 use Rattle.virtiofs_map.specs.MapRule.{IsName}
 use Rattle.virtiofs_map.specs.Names.{begins, Passes, client_answer}

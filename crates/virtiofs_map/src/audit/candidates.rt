@@ -7,18 +7,21 @@
 //!
 //! A rule has a pattern for names of the host on each side. What it lists or hides begins with its
 //! prepend. What passes by it begins with what it puts before a name, and then its key.
+//!
+//! The patterns that begin with a prepend stand together in the order of their bytes. So no more
+//! names are tried than the patterns have bytes, and rules that put the same before a name are one.
 
-ghost use Rattle.std.specs.List.{cons_option};
-ghost use Rattle.std.specs.Prelude.{◌≡◌, ◌≢◌, ◌++◌, [], ◌∷◌, All, IfOk, OnOk};
-ghost use Rattle.virtiofs_map.specs.AuditParts.{bad, after, FindsLeast, rest_after, rest_of, guest_names_of};
-ghost use Rattle.virtiofs_map.specs.AuditParts.{guest_names, host_names_of, host_names, one_byte_names};
+ghost use Rattle.std.specs.Prelude.{◌≢◌, ◌<◌, ◌*◌, ◌++◌, ◌∷◌, All, Contains, IfOk, OnOk, length};
+ghost use Rattle.virtiofs_map.specs.AuditParts.{bad, Finds, FindsLeast, Tries, IsRestOf, IsRest};
+ghost use Rattle.virtiofs_map.specs.AuditParts.{guest_names, most_guest_names, host_names, IsWholeOf, IsWhole};
+ghost use Rattle.virtiofs_map.specs.AuditParts.{one_byte_names};
 ghost use Rattle.virtiofs_map.specs.Rule.{HasNoZero};
-ghost use Rattle.virtiofs_map.specs.RuleParts.{rule_meant};
 
 use crate::audit::answer::Audit;
+use crate::audit::gathered::{Part, gathered};
 use crate::audit::least::Tried;
-use crate::audit::questions::{Question, put_together};
-use crate::xattrmap::rules::RuleRef;
+use crate::audit::ordered::Ordered;
+use crate::audit::questions::{Question, is_cut};
 use crate::xattrmap::{Side, XattrMap, XattrName};
 use std::alloc::{AllocError, Allocator};
 
@@ -53,97 +56,85 @@ pub(crate) fn try_guest_names<A: Allocator + Copy>(
     side: Side,
     tried: &mut Tried<A>,
 ) -> Result<(), AllocError>
-    ensures tried { OnOk result (tried.new ≡ after (bad question.now) tried.old
-        (guest_names side other.now map.now ++ one_byte_names)) }
-    ensures no_zero { All HasNoZero map.now }
+    ensures tried { OnOk result (Tries (bad question.now)
+        (Contains (guest_names side other.now map.now ++ one_byte_names))
+        (most_guest_names side other.now map.now) tried.old tried.new) }
+    ensures counted { OnOk result (0 < tried.new.count) }
+    ensures no_zero { OnOk result (All HasNoZero map.now) }
 {
-    for place in 0..map.len() {
-        let Some(rule) = map.rule(place) else {
-            continue;
-        };
-        try_guest_names_of(alloc, question, rule, other, side, tried)?;
-    }
+    let keys = gathered(alloc, map, Part::Key)?;
+    let fronts = gathered(alloc, map, Part::Front(Side::Client))?;
+    let patterns = gathered(alloc, other, Part::Host(side))?;
+    try_all(alloc, question, &keys, tried)?;
+    try_rests(alloc, question, &fronts, &patterns, tried)?;
     try_one_byte_names(alloc, question, tried)
 }
 
-/// Tries the key of a rule for the client, and what is left of each pattern for names of the host
-/// that begins with what the rule puts before a name.
-fn try_guest_names_of<A: Allocator + Copy>(
+/// Tries names.
+fn try_all<A: Allocator + Copy>(
     alloc: A,
     question: &Question<'_, A>,
-    rule: RuleRef<'_>,
-    other: &XattrMap<A>,
-    side: Side,
+    names: &Ordered<A>,
     tried: &mut Tried<A>,
 ) -> Result<(), AllocError>
-    requires { HasNoZero (rule_meant rule) }
-    ensures { OnOk result (tried.new ≡ after (bad question.now) tried.old
-        (guest_names_of side other.now (rule_meant rule.entry))) }
+    ensures { OnOk result
+        (Tries (bad question.now) (Contains names.now) (length names.now) tried.old tried.new) }
 {
-    if !rule.scope.has(Side::Client) {
-        return Ok(());
-    }
-    let key = XattrName { bytes: rule.key };
-    tried.try_name(alloc, question, key)?;
-    let Some(added) = rule.front() else {
-        return Ok(());
-    };
-    for place in 0..other.len() {
-        let Some(each) = other.rule(place) else {
+    for place in 0..names.len() {
+        let Some(name) = names.get(place) else {
             continue;
         };
-        try_rest_of(alloc, question, each, side, added, tried)?;
+        tried.try_name(alloc, question, name)?;
     }
     Ok(())
 }
 
-/// Tries what is left of the rule's pattern for names of the host after a front, where the pattern
-/// begins with it and the rule acts on the side.
-fn try_rest_of<A: Allocator + Copy>(
+/// Tries what is left of each pattern that begins with one of the fronts, after that front.
+fn try_rests<A: Allocator + Copy>(
     alloc: A,
     question: &Question<'_, A>,
-    rule: RuleRef<'_>,
-    side: Side,
-    added: &[u8],
+    fronts: &Ordered<A>,
+    patterns: &Ordered<A>,
     tried: &mut Tried<A>,
 ) -> Result<(), AllocError>
-    requires { HasNoZero (rule_meant rule) }
-    ensures { OnOk result (tried.new ≡ after (bad question.now) tried.old
-        (cons_option (rest_of side added.now (rule_meant rule.entry)) [])) }
+    ensures { OnOk result (Tries (bad question.now) (IsRest fronts.now patterns.now)
+        (length fronts.now * length patterns.now) tried.old tried.new) }
 {
-    if !rule.acts_on(side) {
-        return Ok(());
-    }
-    match side {
-        Side::Server => try_rest(alloc, question, rule.prepend, added, tried),
-        Side::Client => {
-            let Some(before) = rule.front() else {
-                return Ok(());
-            };
-            let mut whole = Vec::new(alloc);
-            put_together(&mut whole, before, rule.key)?;
-            try_rest(alloc, question, whole.as_slice(), added, tried)
+    for place in 0..fronts.len() {
+        if fronts.is_repeated(place) {
+            continue;
         }
+        let Some(added) = fronts.get(place) else {
+            continue;
+        };
+        try_rests_of(alloc, question, patterns, added.bytes, tried)?;
     }
+    Ok(())
 }
 
-/// Tries what is left of a pattern after a front, where the pattern begins with it.
-fn try_rest<A: Allocator + Copy>(
+/// Tries what is left of each pattern that begins with a front, after it.
+fn try_rests_of<A: Allocator + Copy>(
     alloc: A,
     question: &Question<'_, A>,
-    pattern: &[u8],
+    patterns: &Ordered<A>,
     added: &[u8],
     tried: &mut Tried<A>,
 ) -> Result<(), AllocError>
-    requires { All (λ byte. byte ≢ 0) pattern.now }
-    ensures { OnOk result (tried.new ≡ after (bad question.now) tried.old
-        (cons_option (rest_after added.now pattern.now) [])) }
+    ensures { OnOk result (Tries (bad question.now) (IsRestOf patterns.now added.now)
+        (length patterns.now) tried.old tried.new) }
 {
-    if !pattern.starts_with(added) {
-        return Ok(());
+    let start = patterns.count_before(added);
+    for place in start..patterns.len() {
+        let Some(pattern) = patterns.get(place) else {
+            continue;
+        };
+        if !pattern.bytes.starts_with(added) {
+            return Ok(());
+        }
+        let bytes = &pattern.bytes[added.len()..];
+        tried.try_name(alloc, question, XattrName { bytes })?;
     }
-    let bytes = &pattern[added.len()..];
-    tried.try_name(alloc, question, XattrName { bytes })
+    Ok(())
 }
 
 /// The least bad name of the host, among those that the question is about.
@@ -168,52 +159,69 @@ fn try_host_names<A: Allocator + Copy>(
     map: &XattrMap<A>,
     tried: &mut Tried<A>,
 ) -> Result<(), AllocError>
-    ensures { OnOk result (tried.new ≡ after (bad question.now) tried.old
-        (host_names map.now map.now ++ one_byte_names)) }
+    ensures { OnOk result (Finds (bad question.now)
+        (Contains (host_names map.now map.now ++ one_byte_names)) tried.old tried.new) }
 {
-    for place in 0..map.len() {
-        let Some(rule) = map.rule(place) else {
-            continue;
-        };
-        try_host_names_of(alloc, question, rule, map, tried)?;
-    }
+    let prepends = gathered(alloc, map, Part::Host(Side::Server))?;
+    let cuts = gathered(alloc, map, Part::Front(Side::Server))?;
+    let keys = gathered(alloc, map, Part::Key)?;
+    try_all(alloc, question, &prepends, tried)?;
+    try_wholes(alloc, question, map, &cuts, &keys, tried)?;
     try_one_byte_names(alloc, question, tried)
 }
 
-/// Tries the prepend of a rule for the server, and each key after what the rule takes off a name.
-fn try_host_names_of<A: Allocator + Copy>(
+/// Tries each key after each of the cuts, where the rules of the server take that cut off a name.
+fn try_wholes<A: Allocator + Copy>(
     alloc: A,
     question: &Question<'_, A>,
-    rule: RuleRef<'_>,
     map: &XattrMap<A>,
+    cuts: &Ordered<A>,
+    keys: &Ordered<A>,
     tried: &mut Tried<A>,
 ) -> Result<(), AllocError>
-    requires { HasNoZero (rule_meant rule) }
-    ensures { OnOk result (tried.new ≡ after (bad question.now) tried.old
-        (host_names_of map.now (rule_meant rule.entry))) }
+    ensures { OnOk result
+        (Finds (bad question.now) (IsWhole map.now cuts.now keys.now) tried.old tried.new) }
 {
-    if !rule.scope.has(Side::Server) {
-        return Ok(());
-    }
-    let prepend = XattrName {
-        bytes: rule.prepend,
-    };
-    tried.try_name(alloc, question, prepend)?;
-    let Some(cut) = rule.front() else {
-        return Ok(());
-    };
-    let mut whole = Vec::new(alloc);
-    for place in 0..map.len() {
-        let Some(each) = map.rule(place) else {
+    for place in 0..cuts.len() {
+        if cuts.is_repeated(place) {
+            continue;
+        }
+        let Some(cut) = cuts.get(place) else {
             continue;
         };
-        if each.scope.has(Side::Client) {
-            put_together(&mut whole, cut, each.key)?;
-            let name = XattrName {
-                bytes: whole.as_slice(),
-            };
-            tried.try_name(alloc, question, name)?;
+        if !is_cut(map, cut.bytes) {
+            continue;
         }
+        if !question.may_begin_with(cut.bytes) {
+            continue;
+        }
+        try_wholes_of(alloc, question, cut.bytes, keys, tried)?;
+    }
+    Ok(())
+}
+
+/// Tries each key after a cut, as long as these names come before the least bad one.
+fn try_wholes_of<A: Allocator + Copy>(
+    alloc: A,
+    question: &Question<'_, A>,
+    cut: &[u8],
+    keys: &Ordered<A>,
+    tried: &mut Tried<A>,
+) -> Result<(), AllocError>
+    requires { All (λ byte. byte ≢ 0) cut.now }
+    ensures { OnOk result
+        (Finds (bad question.now) (IsWholeOf cut.now keys.now) tried.old tried.new) }
+{
+    for place in 0..keys.len() {
+        let Some(key) = keys.get(place) else {
+            continue;
+        };
+        let whole = key.prefixed_with(alloc, XattrName { bytes: cut })?;
+        let name = whole.as_name();
+        if !tried.is_first(name) {
+            return Ok(());
+        }
+        tried.try_name(alloc, question, name)?;
     }
     Ok(())
 }
@@ -224,7 +232,9 @@ fn try_one_byte_names<A: Allocator + Copy>(
     question: &Question<'_, A>,
     tried: &mut Tried<A>,
 ) -> Result<(), AllocError>
-    ensures { OnOk result (tried.new ≡ after (bad question.now) tried.old one_byte_names) }
+    ensures tried { OnOk result
+        (Tries (bad question.now) (Contains one_byte_names) 255 tried.old tried.new) }
+    ensures counted { OnOk result (0 < tried.new.count) }
 {
     for byte in 1..=u8::MAX {
         let name = XattrName { bytes: &[byte] };

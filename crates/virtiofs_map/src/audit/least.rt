@@ -55,14 +55,14 @@ impl<A: Allocator + Copy> Tried<A> {
             (self.new ≡ try_one (bad question.now) self.old name.entry.bytes.now) }
     {
         self.steps.tick();
-        if question.is_bad(&mut self.room, name.bytes)? && self.is_first(name) {
+        if self.is_first(name) && question.is_bad(&mut self.room, name.bytes)? {
             self.least = Some(XattrNameBuf::copy_of(alloc, name.bytes)?);
         }
         Ok(())
     }
 
     /// Whether the name comes before the least bad name so far.
-    fn is_first(&self, name: XattrName<'_>) -> bool
+    pub(crate) fn is_first(&self, name: XattrName<'_>) -> bool
         ensures { result ≡ is_first self.now.least name.entry.bytes.now }
     {
         match &self.least {

@@ -1,10 +1,12 @@
 //! What an audit asks of a name.
 
-ghost use Rattle.std.specs.Prelude.{◌≡◌, ◌++◌, Some, None, MatchOption, IfOk, OnOk};
-ghost use Rattle.virtiofs_map.specs.AuditParts.{front_of, front, is_lost, is_hidden, is_seen, passes_as, is_reached};
-ghost use Rattle.virtiofs_map.specs.AuditParts.{is_shared, is_stray};
+ghost use Rattle.std.specs.Prelude.{◌≡◌, ◌++◌, false, ℕ, List, Some, None, MatchOption, IfOk, OnOk, IsFalse};
+ghost use Rattle.virtiofs_map.specs.AuditParts.{front, is_lost, is_hidden, is_seen, is_shared, is_cut};
+ghost use Rattle.virtiofs_map.specs.GatheredParts.{front_of};
+ghost use Rattle.virtiofs_map.specs.AuditParts.{is_stray};
 ghost use Rattle.virtiofs_map.specs.RuleParts.{rule_meant};
 
+use crate::audit::reach::Reach;
 use crate::xattrmap::rules::{RuleKind, RuleRef};
 use crate::xattrmap::{Side, XattrMap, XattrName};
 use std::alloc::{AllocError, Allocator};
@@ -17,8 +19,8 @@ pub(crate) enum Asked<'m, A: Allocator> {
     Lost(&'m XattrMap<A>),
     /// Does the name pass by the first map as a name that the second does not hide?
     Seen(&'m XattrMap<A>, &'m XattrMap<A>),
-    /// Does the name pass by the first map as a name that some name passes as by the second?
-    Shared(&'m XattrMap<A>, &'m XattrMap<A>),
+    /// Does the name pass by the first map as a name that the second reaches?
+    Shared(&'m XattrMap<A>, &'m Reach<'m, A>),
     /// Is this name of the host listed under a name that does not pass as it?
     Stray(&'m XattrMap<A>),
 }
@@ -59,6 +61,18 @@ impl<A: Allocator> Question<'_, A> {
         }
         self.asked.holds_of(room, name)
     }
+
+    /// Whether a name that begins with these bytes may be one that the question is about.
+    pub(crate) fn may_begin_with(&self, bytes: &[u8]) -> bool
+        ensures { IsFalse result → (rest : List ℕ)
+            → bad self.now (bytes.now ++ rest) ≡ false }
+    {
+        let beginning = self.beginning.bytes;
+        if bytes.starts_with(beginning) {
+            return true;
+        }
+        beginning.starts_with(bytes)
+    }
 }
 
 impl<'m> RuleRef<'m> {
@@ -77,7 +91,11 @@ impl<'m> RuleRef<'m> {
 
 /// What a host's name has before the guest's by the first rule that fits the name on that side;
 /// `None` where that rule lets no name through, or no rule fits.
-fn front<'m, A: Allocator>(map: &'m XattrMap<A>, side: Side, name: &[u8]) -> Option<&'m [u8]>
+pub(crate) fn front<'m, A: Allocator>(
+    map: &'m XattrMap<A>,
+    side: Side,
+    name: &[u8],
+) -> Option<&'m [u8]>
     ensures { MatchOption result (front side map.now name.now ≡ None)
         (λ found. front side map.now name.now ≡ Some found.now) }
 {
@@ -148,50 +166,10 @@ fn is_seen<A: Allocator>(
     Ok(!host.is_empty() && !is_hidden(other, host))
 }
 
-/// Whether a name that begins with the rule's key passes as the name of the host, with what the rule
-/// puts before it.
-fn passes_as<A: Allocator>(map: &XattrMap<A>, rule: RuleRef<'_>, host: &[u8]) -> bool
-    ensures { result ≡ passes_as map.now host.now (rule_meant rule.entry) }
-{
-    if !rule.scope.has(Side::Client) {
-        return false;
-    }
-    let Some(added) = rule.front() else {
-        return false;
-    };
-    if !host.starts_with(added) {
-        return false;
-    }
-    let name = &host[added.len()..];
-    if !name.starts_with(rule.key) {
-        return false;
-    }
-    let Some(found) = front(map, Side::Client, name) else {
-        return false;
-    };
-    found == added
-}
-
-/// Whether some name passes as the name of the host.
-fn is_reached<A: Allocator>(map: &XattrMap<A>, host: &[u8]) -> bool
-    ensures { result ≡ is_reached map.now host.now }
-{
-    for place in 0..map.len() {
-        let Some(rule) = map.rule(place) else {
-            continue;
-        };
-        if passes_as(map, rule, host) {
-            return true;
-        }
-    }
-    false
-}
-
-/// Whether the name passes by the first map as a name, not empty, that some name passes as by the
-/// second.
+/// Whether the name passes by the first map as a name, not empty, that the second reaches.
 fn is_shared<A: Allocator>(
     map: &XattrMap<A>,
-    other: &XattrMap<A>,
+    other: &Reach<'_, A>,
     room: &mut Vec<u8, A>,
     name: &[u8],
 ) -> Result<bool, AllocError>
@@ -202,7 +180,20 @@ fn is_shared<A: Allocator>(
     };
     put_together(room, added, name)?;
     let host = room.as_slice();
-    Ok(!host.is_empty() && is_reached(other, host))
+    Ok(!host.is_empty() && other.reaches(host))
+}
+
+/// Whether the server's rules take that off a name of the host, from one that begins with it.
+pub(crate) fn is_cut<A: Allocator>(map: &XattrMap<A>, cut: &[u8]) -> bool
+    ensures { result ≡ is_cut map.now cut.now }
+{
+    if cut.is_empty() {
+        return true;
+    }
+    let Some(found) = front(map, Side::Server, cut) else {
+        return false;
+    };
+    found.len() == cut.len()
 }
 
 /// Whether the name of the host, not empty, is listed under a name that does not pass as it.

@@ -19,6 +19,7 @@ use crate::xattrmap::rules::Rules;
 use crate::xattrmap::scopes::Side;
 use branch::Branch;
 pub(crate) use branch::NO_ANSWER;
+pub(crate) use fronts::shared_length;
 use growth::grow;
 use patterns::patterns_of;
 pub(crate) use reading::Trie;

@@ -1,33 +1,39 @@
-use Rattle.std.proofs.Common.{◌≡◌, [], ◌++◌, ap, ◌∙◌}
+use Rattle.std.proofs.Common.{[], ◌++◌, Contains, ap, ◌∙◌, subst}
 use Rattle.virtiofs_map.specs.Audit.{AnswersLeast, Within, Sound, IsLost}
-use Rattle.virtiofs_map.specs.AuditParts.{none_tried, is_lost, within, guest_names, one_byte_names, after}
+use Rattle.virtiofs_map.specs.AuditParts.{TriedSoFar, none_tried, Tries, is_lost, within, guest_names, most_guest_names}
+use Rattle.virtiofs_map.specs.AuditParts.{one_byte_names}
 use Rattle.virtiofs_map.specs.Steps.{count_after}
 use Rattle.virtiofs_map.specs.declared.xattrmap.scopes.Side.TheVariants.{Server}
 use Rattle.virtiofs_map.proofs.AuditAlikeLemmas.{cover_all}
 use Rattle.virtiofs_map.proofs.audit.AuditCountLemmas.{counts_between}
-use Rattle.virtiofs_map.proofs.audit.AuditLeastLemmas.{found_least, answers_all, yes_where_none}
+use Rattle.virtiofs_map.proofs.audit.AuditLeastLemmas.{finds_from_none, finds_least, answers_all, yes_where_none}
 use Rattle.virtiofs_map.proofs.audit.AuditLostLemmas.{lost_decide, sound_where_none, none_where_sound}
 use Rattle.virtiofs_map.proofs.audit.audit_counted.Goals as goal
 
 pub returns : goal.returns
 returns g c =
     let map = c.args.map.now in
-    let no_zero = c.try_guest_names.ensures.no_zero in
+    let no_zero = c.in_ok-try_guest_names.ensures.no_zero in
     let lost = within [] (is_lost map) in
     let patterns = guest_names Server map map in
     let names = patterns ++ one_byte_names in
-    let end : c.try_guest_names.new.tried ≡ after lost none_tried names = c.in_ok-try_guest_names.ensures.tried
-    ∙ ap (λ t. after lost t names) c.new-tried.ensures in
-    let least : AnswersLeast (Within [] (IsLost map)) c.into_answer.result = found_least
-    (Within [] (IsLost map)) lost names c.into_answer.result c.try_guest_names.new.tried
-    (lost_decide map no_zero [] names (cover_all patterns)) end c.into_answer.ensures.found c.into_answer.ensures.name
-    in
+    let end : TriedSoFar = c.try_guest_names.new.tried in
+    let tries : Tries lost (Contains names) (most_guest_names Server map map) none_tried end =
+    subst (λ t. Tries lost (Contains names) (most_guest_names Server map map) t end) c.new-tried.ensures
+    c.in_ok-try_guest_names.ensures.tried in
+    let finds =
+    finds_from_none lost names end c.into_answer.result tries.finds c.into_answer.ensures.found
+    c.into_answer.ensures.name in
+    let least : AnswersLeast (Within [] (IsLost map)) c.into_answer.result =
+    finds_least (Within [] (IsLost map)) lost names (lost_decide map no_zero [] names (cover_all patterns))
+    c.into_answer.result finds in
     let answer = answers_all (IsLost map) c.into_answer.result least in
     record {
       answer = answer;
       uncounted = tt;
       sound = yes_where_none (IsLost map) (Sound map) c.into_answer.result answer (sound_where_none map no_zero)
           (none_where_sound map);
-      counted = counts_between map lost c.args.steps.now c.add.new.self
-          (c.add.ensures ∙ ap (count_after c.args.steps.now) (c.steps.ensures ∙ ap (λ t. t.count) end));
+      counted = counts_between map lost (Contains names) end c.args.steps.now c.add.new.self tries
+          c.in_ok-try_guest_names.ensures.counted
+          (c.add.ensures ∙ ap (count_after c.args.steps.now) c.steps.ensures);
     }

@@ -1,24 +1,30 @@
-use Rattle.std.proofs.Common.{sym, ap, ◌∙◌, arith}
+use Rattle.std.proofs.Common.{Contains, ℕ, List, ◌+◌, ◌*◌, length, ◌++◌, ◌⊎◌, arith}
 use Rattle.std.proofs.lemmas.Result.{on_ok_weaker}
-use Rattle.virtiofs_map.specs.AuditParts.{bad, after, guest_names_of, guest_names, one_byte_names}
-use Rattle.virtiofs_map.specs.RuleParts.{rule_meant}
-use Rattle.virtiofs_map.proofs.audit.AuditLeastLemmas.{after-append}
-use Rattle.virtiofs_map.proofs.audit.AuditLoopLemmas.{flat_more, flat_all}
+use Rattle.virtiofs_map.specs.AuditParts.{bad, IsRest, guest_names, most_guest_names, one_byte_names}
+use Rattle.virtiofs_map.proofs.audit.AuditCountLemmas.{few_guest_names}
+use Rattle.virtiofs_map.proofs.audit.AuditGatheredLemmas.{guest_cover}
+use Rattle.virtiofs_map.proofs.audit.AuditLeastLemmas.{tries_join}
 use Rattle.virtiofs_map.proofs.audit.candidates.try_guest_names.Goals as goal
-
-pub loop-place-preserved : goal.loop-place-preserved
-loop-place-preserved g c =
-    flat_more (bad c.args.question.now) c.loop-place.tried c.try_guest_names_of.new.tried _
-    (guest_names_of c.args.side c.args.other.now) c.args.map.now c.loop-place.place (rule_meant c.in-Some.rule)
-    c.in-Some.ensures.here c.in_ok-try_guest_names_of.ensures c.loop-place.invariant
 
 pub returns-clause-tried : goal.returns-clause-tried
 returns-clause-tried g c =
     let b = bad c.args.question.now in
+    let map = c.args.map.now in
     let other = c.args.other.now in
-    let walked =
-    flat_all b c.loop-place.tried _ (guest_names_of c.args.side other) c.args.map.now c.loop-place.place
-    (omega (arith, c.len-place-end.ensures.count, c.loop-place-test.false)) c.loop-place.invariant in
-    let end = ap (λ t. after b t one_byte_names) walked
-    ∙ sym (after-append b c.args.tried.now (guest_names c.args.side other c.args.map.now) one_byte_names) in
-    on_ok_weaker c.try_one_byte_names.result (λ e. e ∙ end) c.try_one_byte_names.ensures
+    let side = c.args.side in
+    let keys = c.in_ok-keys.keys in
+    let fronts = c.in_ok-fronts.fronts in
+    let patterns = c.in_ok-patterns.patterns in
+    let both = λ (name : List ℕ). Contains keys name ⊎ IsRest fronts patterns name in
+    let first =
+    tries_join b (Contains keys) (IsRest fronts patterns) both (length keys) (length fronts * length patterns)
+    (length keys + length fronts * length patterns) c.args.tried.now c.try_all.new.tried c.try_rests.new.tried
+    c.in_ok-try_all.ensures c.in_ok-try_rests.ensures (λ name one. one) (omega arith) in
+    on_ok_weaker c.try_one_byte_names.result
+    (λ last. tries_join b both (Contains one_byte_names) (Contains (guest_names side other map ++ one_byte_names))
+    (length keys + length fronts * length patterns) 255 (most_guest_names side other map) c.args.tried.now
+    c.try_rests.new.tried c.try_one_byte_names.new.tried first last
+    (guest_cover side other map keys fronts patterns c.in_ok-keys.ensures.parts c.in_ok-fronts.ensures.parts
+    c.in_ok-patterns.ensures.parts)
+    (few_guest_names side other map keys fronts patterns c.in_ok-keys.ensures.parts c.in_ok-fronts.ensures.parts
+    c.in_ok-patterns.ensures.parts)) c.try_one_byte_names.ensures.tried

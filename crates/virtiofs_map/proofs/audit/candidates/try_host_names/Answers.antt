@@ -1,24 +1,24 @@
-use Rattle.std.proofs.Common.{sym, ap, ◌∙◌, arith}
+use Rattle.std.proofs.Common.{Contains, ℕ, List, ◌++◌, ◌⊎◌}
 use Rattle.std.proofs.lemmas.Result.{on_ok_weaker}
-use Rattle.virtiofs_map.specs.AuditParts.{bad, after, host_names_of, host_names, one_byte_names}
-use Rattle.virtiofs_map.specs.RuleParts.{rule_meant}
-use Rattle.virtiofs_map.proofs.audit.AuditLeastLemmas.{after-append}
-use Rattle.virtiofs_map.proofs.audit.AuditLoopLemmas.{flat_more, flat_all}
+use Rattle.virtiofs_map.specs.AuditParts.{bad, IsWhole, host_names, one_byte_names}
+use Rattle.virtiofs_map.proofs.audit.AuditGatheredLemmas.{host_cover}
+use Rattle.virtiofs_map.proofs.audit.AuditLeastLemmas.{finds_join}
 use Rattle.virtiofs_map.proofs.audit.candidates.try_host_names.Goals as goal
-
-pub loop-place-preserved : goal.loop-place-preserved
-loop-place-preserved g c =
-    flat_more (bad c.args.question.now) c.loop-place.tried c.try_host_names_of.new.tried _
-    (host_names_of c.args.map.now) c.args.map.now c.loop-place.place (rule_meant c.in-Some.rule)
-    c.in-Some.ensures.here c.in_ok-try_host_names_of.ensures c.loop-place.invariant
 
 pub returns : goal.returns
 returns g c =
     let b = bad c.args.question.now in
     let map = c.args.map.now in
-    let walked =
-    flat_all b c.loop-place.tried _ (host_names_of map) map c.loop-place.place
-    (omega (arith, c.len-place-end.ensures.count, c.loop-place-test.false)) c.loop-place.invariant in
-    let end = ap (λ t. after b t one_byte_names) walked
-    ∙ sym (after-append b c.args.tried.now (host_names map map) one_byte_names) in
-    on_ok_weaker c.try_one_byte_names.result (λ e. e ∙ end) c.try_one_byte_names.ensures
+    let prepends = c.in_ok-prepends.prepends in
+    let cuts = c.in_ok-cuts.cuts in
+    let keys = c.in_ok-keys.keys in
+    let both = λ (name : List ℕ). Contains prepends name ⊎ IsWhole map cuts keys name in
+    let first =
+    finds_join b (Contains prepends) (IsWhole map cuts keys) both c.args.tried.now c.try_all.new.tried
+    c.try_wholes.new.tried c.in_ok-try_all.ensures.finds c.in_ok-try_wholes.ensures (λ name one. one) in
+    on_ok_weaker c.try_one_byte_names.result
+    (λ last. finds_join b both (Contains one_byte_names) (Contains (host_names map map ++ one_byte_names))
+    c.args.tried.now c.try_wholes.new.tried c.try_one_byte_names.new.tried first last.finds
+    (host_cover map prepends cuts keys c.in_ok-prepends.ensures.parts c.in_ok-cuts.ensures.parts
+    c.in_ok-keys.ensures.parts))
+    c.try_one_byte_names.ensures.tried

@@ -11,4 +11,4 @@ returns-then-not-is_empty g c =
     let bytes : all_bytes host ≡ true = ap all_bytes is
     ∙ all_bytes_below c.put_together.new.room.items c.type_inv.room in
     where_result (is_reached c.args.other.now) c.args.map.now c.args.name.now c.in-Some.added.now host
-    c.is_reached.result c.in-Some.ensures (is ∙ c.in_ok-put_together.ensures) some bytes c.is_reached.ensures
+    c.reaches.result c.in-Some.ensures (is ∙ c.in_ok-put_together.ensures) some bytes c.reaches.ensures

@@ -1,0 +1,241 @@
+-- Each name that an audit has to try is made of what was gathered from the rules.
+use Rattle.std.proofs.Common.{◌≡◌, ◌⊎◌, ℕ, zero, suc, ◌+◌, Bool, true, false, cond, List, [], ◌∷◌, ◌++◌, drop}
+use Rattle.std.proofs.Common.{Contains, Option, Some, None, inl, inr, refl, sym, ap, ◌∙◌, append_assoc, append-nil}
+use Rattle.std.proofs.Common.{arith}
+use Rattle.std.specs.List.{cons_option, filter_map, flat_map, slice_get}
+use Rattle.std.specs.List.Sorted.{IsPermutation}
+use Rattle.std.specs.Option.{option_map_or, option_and_then}
+use Rattle.std.proofs.lemmas.List.{at_drop_more}
+use Rattle.std.proofs.lemmas.List.Elements.{Contains-append_right, Contains-append_cases}
+use Rattle.std.proofs.lemmas.List.Sorted.{Contains-permutation}
+use Rattle.std.proofs.lemmas.Option.{slice_get_within, get_or_from_slice_get}
+use Rattle.virtiofs_map.specs.AuditParts.{rest_after, rest_of, rests, guest_names, wholes, live_wholes}
+use Rattle.virtiofs_map.specs.AuditParts.{host_names, whole_of, is_cut, IsRest, IsWhole, one_byte_names}
+use Rattle.virtiofs_map.specs.FirstRule.{acts}
+use Rattle.virtiofs_map.specs.GatheredParts.{front_of, host_pattern, part_of}
+use Rattle.virtiofs_map.specs.Rule.{MappingRule}
+use Rattle.virtiofs_map.specs.declared.audit.gathered.Part.TheVariants.{Key, Front, Host}
+use Rattle.virtiofs_map.specs.declared.xattrmap.scopes.Side.{Side}
+use Rattle.virtiofs_map.specs.declared.xattrmap.scopes.Side.TheVariants.{Client, Server}
+use Rattle.virtiofs_map.proofs.AuditAlikeLemmas.{Member}
+
+-- ---- gathering
+
+push_option : {X : Type 0} (xs ys : List X) (o : Option X) → (xs ++ cons_option o []) ++ ys ≡ xs ++ cons_option o ys
+push_option xs ys None = append_assoc xs [] ys
+push_option xs ys (Some x) = append_assoc xs (x ∷ []) ys
+
+-- the part of one rule more
+gathered_more : (f : MappingRule → Option (List ℕ)) (rules : List MappingRule) (i : ℕ) (rule : MappingRule)
+    (names end : List (List ℕ)) (found : Option (List ℕ)) → Some rule ≡ slice_get rules i
+    → names ++ filter_map f (drop i rules) ≡ end → found ≡ f rule
+    → (names ++ cons_option found []) ++ filter_map f (drop (i + 1) rules) ≡ end
+gathered_more f rules i rule names end found here h e =
+    let rest = filter_map f (drop (i + 1) rules) in
+    let is = sym (get_or_from_slice_get rules i rule rule (sym here)) in
+    let l = slice_get_within rules i rule (sym here) in
+    push_option names rest found ∙ ap (λ o. names ++ cons_option o rest) e
+    ∙ ap (λ r. names ++ cons_option (f r) rest) is
+    ∙ sym (at_drop_more (λ ys. names ++ filter_map f ys) rules i rule l) ∙ h
+
+pub gathered_some : (f : MappingRule → Option (List ℕ)) (rules : List MappingRule) (i : ℕ) (rule : MappingRule)
+    (names new end : List (List ℕ)) (found : Option (List ℕ)) (name : List ℕ) → Some rule ≡ slice_get rules i
+    → names ++ filter_map f (drop i rules) ≡ end → found ≡ f rule → found ≡ Some name → new ≡ names ++ name ∷ []
+    → new ++ filter_map f (drop (i + 1) rules) ≡ end
+gathered_some f rules i rule names new end found name here h e some pushed =
+    ap (λ xs. xs ++ filter_map f (drop (i + 1) rules)) pushed
+    ∙ gathered_more f rules i rule names end (Some name) here h (sym some ∙ e)
+
+pub gathered_none : (f : MappingRule → Option (List ℕ)) (rules : List MappingRule) (i : ℕ) (rule : MappingRule)
+    (names end : List (List ℕ)) (found : Option (List ℕ)) → Some rule ≡ slice_get rules i
+    → names ++ filter_map f (drop i rules) ≡ end → found ≡ f rule → found ≡ None
+    → names ++ filter_map f (drop (i + 1) rules) ≡ end
+gathered_none f rules i rule names end found here h e none =
+    ap (λ xs. xs ++ filter_map f (drop (i + 1) rules)) (sym (append-nil names))
+    ∙ gathered_more f rules i rule names end None here h (sym none ∙ e)
+
+-- ---- elements of a list
+
+pub contains_none : {X : Type 0} (x : X) → ¬ Contains [] x
+contains_none x (k, l, e) = omega arith
+
+contains_one : {X : Type 0} (y x : X) → Contains (y ∷ []) x → y ≡ x
+contains_one y x (zero, l, e) = e
+contains_one y x (suc k, l, e) = absurd (omega arith)
+
+contains_first : {X : Type 0} (o : Option X) (xs : List X) (x : X) → o ≡ Some x → Contains (cons_option o xs) x
+contains_first None xs x e = absurd (cc)
+contains_first (Some y) xs x e = (0, omega arith, (let same : y ≡ x = cc in same))
+
+contains_later : {X : Type 0} (o : Option X) (xs : List X) (x : X) → Contains xs x → Contains (cons_option o xs) x
+contains_later None xs x c = c
+contains_later (Some y) xs x c = Contains-append_right (y ∷ []) xs x c
+
+contains_option : {X : Type 0} (o : Option X) (xs : List X) (x : X) → Contains (cons_option o xs) x
+    → (o ≡ Some x) ⊎ Contains xs x
+contains_option None xs x c = inr c
+contains_option (Some y) xs x c = elim (Contains-append_cases (y ∷ []) xs x c) [
+  | inl one ↦ inl (ap Some (contains_one y x one))
+  | inr other ↦ inr other
+]
+
+-- what is gathered from a rule of the list
+pub gathered_member : (f : MappingRule → Option (List ℕ)) (rule : MappingRule) (rules : List MappingRule)
+    (name : List ℕ) → Member rule rules → f rule ≡ Some name → Contains (filter_map f rules) name
+gathered_member f rule [] name m e = absurd m
+gathered_member f rule (one ∷ rules) name (inl same) e =
+    contains_first (f one) (filter_map f rules) name (ap f (sym same) ∙ e)
+gathered_member f rule (one ∷ rules) name (inr m) e =
+    contains_later (f one) (filter_map f rules) name (gathered_member f rule rules name m e)
+
+-- ---- the pattern of a rule, or what its front leads to
+
+abbrev Parts : (MappingRule → Bool) → (MappingRule → List ℕ) → (List ℕ → List (List ℕ)) → List MappingRule → List ℕ
+    → Type 0
+Parts on pattern more rules name =
+    Contains (filter_map (λ rule. cond (on rule) (Some (pattern rule)) None) rules) name
+    ⊎ ((added : List ℕ) × Contains (filter_map (λ rule. cond (on rule) (front_of rule) None) rules) added
+    × Contains (more added) name)
+
+one_rule : (more : List ℕ → List (List ℕ)) (on : Bool) (pattern : List ℕ) (o : Option (List ℕ)) (name : List ℕ)
+    → Contains (cond on (pattern ∷ option_map_or more o []) []) name
+    → (cond on (Some pattern) None ≡ Some name)
+    ⊎ ((added : List ℕ) × (cond on o None ≡ Some added) × Contains (more added) name)
+one_rule more true pattern None name c = inl (ap Some (contains_one pattern name c))
+one_rule more true pattern (Some added) name c =
+    elim (Contains-append_cases (pattern ∷ []) (more added) name c) [
+      | inl one ↦ inl (ap Some (contains_one pattern name one))
+      | inr other ↦ inr (added, refl, other)
+    ]
+one_rule more false pattern o name c = absurd (contains_none name c)
+
+parts_of : (on : MappingRule → Bool) (pattern : MappingRule → List ℕ) (more : List ℕ → List (List ℕ))
+    (rules : List MappingRule) (name : List ℕ)
+    → Contains (flat_map (λ rule. cond (on rule) (pattern rule ∷ option_map_or more (front_of rule) []) []) rules) name
+    → Parts on pattern more rules name
+parts_of on pattern more [] name c = absurd (contains_none name c)
+parts_of on pattern more (rule ∷ rules) name c =
+    let names : MappingRule → List (List ℕ) =
+    λ rule. cond (on rule) (pattern rule ∷ option_map_or more (front_of rule) []) [] in
+    let keys = filter_map (λ rule. cond (on rule) (Some (pattern rule)) None) rules in
+    let fronts = filter_map (λ rule. cond (on rule) (front_of rule) None) rules in
+    elim (Contains-append_cases (names rule) (flat_map names rules) name c) [
+      | inl mine ↦ elim (one_rule more (on rule) (pattern rule) (front_of rule) name mine) [
+        | inl key ↦ inl (contains_first (cond (on rule) (Some (pattern rule)) None) keys name key)
+        | inr led ↦ inr
+            (led.0, contains_first (cond (on rule) (front_of rule) None) fronts led.0 led.1, led.2)
+      ]
+      | inr others ↦ elim (parts_of on pattern more rules name others) [
+        | inl key ↦ inl (contains_later (cond (on rule) (Some (pattern rule)) None) keys name key)
+        | inr led ↦ inr
+            (led.0, contains_later (cond (on rule) (front_of rule) None) fronts led.0 led.1, led.2)
+      ]
+    ]
+
+-- ---- names of the guest
+
+rest_where : (added : List ℕ) (on : Bool) (o : Option (List ℕ)) (name : List ℕ)
+    → cond on (option_and_then (rest_after added) o) None ≡ Some name
+    → (pattern : List ℕ) × (cond on o None ≡ Some pattern) × (rest_after added pattern ≡ Some name)
+rest_where added true None name e = absurd (cc)
+rest_where added true (Some pattern) name e = (pattern, refl, e)
+rest_where added false o name e = absurd (cc)
+
+rests_parts : (side : Side) (others : List MappingRule) (added name : List ℕ) → Contains (rests side others added) name
+    → (pattern : List ℕ) × Contains (filter_map (part_of (Host side)) others) pattern
+    × (rest_after added pattern ≡ Some name)
+rests_parts side [] added name c = absurd (contains_none name c)
+rests_parts side (rule ∷ others) added name c =
+    elim (contains_option (rest_of side added rule) (rests side others added) name c) [
+      | inl mine ↦
+          (let (pattern, is, rest) = rest_where added (acts side rule) (host_pattern side rule) name mine in (
+            pattern,
+            contains_first (part_of (Host side) rule) (filter_map (part_of (Host side)) others) pattern is,
+            rest,
+          ))
+      | inr more ↦
+          (let (pattern, among, rest) = rests_parts side others added name more in (
+            pattern,
+            contains_later (part_of (Host side) rule) (filter_map (part_of (Host side)) others) pattern among,
+            rest,
+          ))
+    ]
+
+pub guest_cover : (side : Side) (others rules : List MappingRule) (keys fronts patterns : List (List ℕ))
+    → IsPermutation (filter_map (part_of Key) rules) keys
+    → IsPermutation (filter_map (part_of (Front Client)) rules) fronts
+    → IsPermutation (filter_map (part_of (Host side)) others) patterns
+    → (name : List ℕ) → Contains (guest_names side others rules ++ one_byte_names) name
+    → (Contains keys name ⊎ IsRest fronts patterns name) ⊎ Contains one_byte_names name
+guest_cover side others rules keys fronts patterns are_keys are_fronts are_patterns name c =
+    elim (Contains-append_cases (guest_names side others rules) one_byte_names name c) [
+      | inr byte ↦ inr byte
+      | inl one ↦ inl
+          (elim
+          (parts_of (λ rule. rule.client) (λ rule. rule.key) (rests side others) rules name one) [
+            | inl key ↦ inl (Contains-permutation (filter_map (part_of Key) rules) keys name are_keys key)
+            | inr led ↦ inr
+                (let (pattern, among, rest) = rests_parts side others led.0 name led.2 in (
+                  led.0,
+                  Contains-permutation (filter_map (part_of (Front Client)) rules) fronts led.0 are_fronts led.1,
+                  (
+                    pattern,
+                    Contains-permutation (filter_map (part_of (Host side)) others) patterns pattern are_patterns among,
+                    rest,
+                  ),
+                ))
+          ])
+    ]
+
+-- ---- names of the host
+
+live : (on : Bool) (names : List (List ℕ)) (name : List ℕ) → Contains (cond on names []) name
+    → (on ≡ true) × Contains names name
+live true names name c = (refl, c)
+live false names name c = absurd (contains_none name c)
+
+whole_where : (cut : List ℕ) (on : Bool) (key name : List ℕ) → cond on (Some (cut ++ key)) None ≡ Some name
+    → (cond on (Some key) None ≡ Some key) × (name ≡ cut ++ key)
+whole_where cut true key name e = (refl, cc)
+whole_where cut false key name e = absurd (cc)
+
+wholes_parts : (others : List MappingRule) (cut name : List ℕ) → Contains (wholes others cut) name
+    → (key : List ℕ) × Contains (filter_map (part_of Key) others) key × (name ≡ cut ++ key)
+wholes_parts [] cut name c = absurd (contains_none name c)
+wholes_parts (rule ∷ others) cut name c =
+    elim (contains_option (whole_of cut rule) (wholes others cut) name c) [
+      | inl mine ↦
+          (let (is, whole) = whole_where cut rule.client rule.key name mine in (
+            rule.key,
+            contains_first (part_of Key rule) (filter_map (part_of Key) others) rule.key is,
+            whole,
+          ))
+      | inr more ↦
+          (let (key, among, whole) = wholes_parts others cut name more in
+          (key, contains_later (part_of Key rule) (filter_map (part_of Key) others) key among, whole))
+    ]
+
+pub host_cover : (rules : List MappingRule) (prepends cuts keys : List (List ℕ))
+    → IsPermutation (filter_map (part_of (Host Server)) rules) prepends
+    → IsPermutation (filter_map (part_of (Front Server)) rules) cuts
+    → IsPermutation (filter_map (part_of Key) rules) keys
+    → (name : List ℕ) → Contains (host_names rules rules ++ one_byte_names) name
+    → (Contains prepends name ⊎ IsWhole rules cuts keys name) ⊎ Contains one_byte_names name
+host_cover rules prepends cuts keys are_prepends are_cuts are_keys name c =
+    elim (Contains-append_cases (host_names rules rules) one_byte_names name c) [
+      | inr byte ↦ inr byte
+      | inl one ↦ inl
+          (elim
+          (parts_of (λ rule. rule.server) (λ rule. rule.prepend) (live_wholes rules rules) rules name one) [
+            | inl prepend ↦ inl
+                (Contains-permutation (filter_map (part_of (Host Server)) rules) prepends name are_prepends prepend)
+            | inr led ↦ inr
+                (let (on, whole) = live (is_cut rules led.0) (wholes rules led.0) name led.2 in
+                let (key, among, is) = wholes_parts rules led.0 name whole in (
+                  led.0,
+                  Contains-permutation (filter_map (part_of (Front Server)) rules) cuts led.0 are_cuts led.1,
+                  on,
+                  (key, Contains-permutation (filter_map (part_of Key) rules) keys key are_keys among, is),
+                ))
+          ])
+    ]

@@ -1,0 +1,258 @@
+-- Whether a map reaches a name of the host: it is enough to try what rules put before names, where it begins that name.
+use Rattle.std.proofs.Common.{◌≡◌, ℕ, zero, suc, ◌+◌, ◌-◌, ◌<◌, ◌≤◌, Bool, true, false, cond, eqb, List, [], ◌∷◌}
+use Rattle.std.proofs.Common.{length, take, drop, Contains, Option, Some, None, inl, inr, refl, sym, ap, subst}
+use Rattle.std.proofs.Common.{◌∙◌, arith}
+use Rattle.std.specs.Cmp.Lexicographic.{slice_cmp}
+use Rattle.std.specs.List.{filter_map}
+use Rattle.std.specs.List.Sorted.{IsPermutation}
+use Rattle.std.specs.Ordering.{nat_cmp, ordering_then}
+use Rattle.std.specs.declared.cmp.Ordering.TheVariants.{Less}
+use Rattle.std.proofs.lemmas.Bool.{and_parts, and_from, cases_Bool, cases_lt, eq-eqb, eqb-true, false≢true, true≢false}
+use Rattle.std.proofs.lemmas.List.Sorted.{Contains-permutation}
+use Rattle.std.proofs.lemmas.List.Sums.{common_prefix_len-le}
+use Rattle.virtiofs_map.specs.Audit.{IsBefore}
+use Rattle.virtiofs_map.specs.AuditParts.{front, adds, passes_with, is_reached}
+use Rattle.virtiofs_map.specs.FirstRule.{shared}
+use Rattle.virtiofs_map.specs.GatheredParts.{front_of, part_of, IsLast}
+use Rattle.virtiofs_map.specs.Names.{begins}
+use Rattle.virtiofs_map.specs.Rule.{MappingRule}
+use Rattle.virtiofs_map.specs.declared.audit.gathered.Part.TheVariants.{Front}
+use Rattle.virtiofs_map.specs.declared.xattrmap.scopes.Side.TheVariants.{Client}
+use Rattle.virtiofs_map.proofs.AuditAlikeLemmas.{shorter_begins}
+use Rattle.virtiofs_map.proofs.BeginsLemmas.{begins_split, begins_length, begins-append}
+use Rattle.virtiofs_map.proofs.audit.AuditGatheredLemmas.{gathered_member}
+use Rattle.virtiofs_map.proofs.audit.AuditOrderLemmas.{level, between, front_not_before}
+use Rattle.virtiofs_map.proofs.audit.AuditSharedLemmas.{LeadsTo, leads_from, leads_test, test_leads, rule_member}
+use Rattle.virtiofs_map.proofs.audit.AuditSharedLemmas.{rule_fits, rest_is, front_is}
+use Rattle.virtiofs_map.proofs.audit.AuditStrayLemmas.{adds_is, bytes_same}
+
+-- ---- what two rows share
+
+pub shared_within : (one other : List ℕ) → (shared one other ≤ length one) × (shared one other ≤ length other)
+shared_within one other = common_prefix_len-le eqb one other
+
+-- at least what begins both of them
+front_shared : (p one other : List ℕ) → begins p one ≡ true → begins p other ≡ true → length p ≤ shared one other
+front_shared [] one other b d = omega arith
+front_shared (x ∷ p) [] other b d = absurd (false≢true b)
+front_shared (x ∷ p) (y ∷ one) [] b d = absurd (false≢true d)
+front_shared (x ∷ p) (y ∷ one) (z ∷ other) b d =
+    let first = and_parts (eqb x y) (begins p one) b in
+    let second = and_parts (eqb x z) (begins p other) d in
+    let same : y ≡ z = sym (eqb-true x y first.0) ∙ eqb-true x z second.0 in
+    let is = ap (λ b. cond b (1 + shared one other) 0) (eq-eqb y z same) in
+    omega (arith, front_shared p one other first.1 second.1, is)
+
+shared_head : (y x : ℕ) (n more : ℕ) → cond (eqb y x) (1 + n) 0 ≡ suc more → (y ≡ x) × (n ≡ more)
+shared_head y x n more e =
+    elim (cases_Bool (eqb y x)) [
+      | inl same ↦
+          (let is : 1 + n ≡ suc more = subst (λ b. cond b (1 + n) 0 ≡ suc more) same e in
+          (eqb-true y x same, omega arith))
+      | inr other ↦ absurd
+          (let is : 0 ≡ suc more = subst (λ b. cond b (1 + n) 0 ≡ suc more) other e in omega arith)
+    ]
+
+-- a row that is the beginning of a longer one comes before it
+shared_before : (last rest : List ℕ) → shared last rest ≡ length rest → length rest < length last
+    → IsBefore rest last
+shared_before [] rest e l = absurd (omega arith)
+shared_before (y ∷ last) [] e l = refl
+shared_before (y ∷ last) (x ∷ rest) e l =
+    let (same, more) = shared_head y x (shared last rest) (length rest) e in
+    let less = level y (slice_cmp nat_cmp rest last) ∙ shared_before last rest more (omega arith) in
+    subst (λ (a : ℕ). ordering_then (nat_cmp a y) (slice_cmp nat_cmp rest last) ≡ Less) same less
+
+-- where the last name up to a row does not begin it, it shares less than the row
+pub shares_less : (names : List (List ℕ)) (rest last : List ℕ) → IsLast names rest last
+    → shared last rest < length last → shared last rest < length rest
+shares_less names rest last is l =
+    let within = (shared_within last rest).1 in
+    elim (cases_lt (shared last rest) (length rest)) [
+      | inl less ↦ less
+      | inr over ↦ absurd (is.up_to (shared_before last rest (omega arith) (omega arith)))
+    ]
+
+-- what begins both, and is as long as one of them, is that one
+same_front : (p name : List ℕ) → begins p name ≡ true → length p ≡ length name → p ≡ name
+same_front [] [] b e = refl
+same_front [] (y ∷ name) b e = absurd (omega arith)
+same_front (x ∷ p) [] b e = absurd (false≢true b)
+same_front (x ∷ p) (y ∷ name) b e =
+    let parts = and_parts (eqb x y) (begins p name) b in
+    let head = eqb-true x y parts.0 in
+    let tail = same_front p name parts.1 (omega arith) in
+    cc
+
+-- ---- the fronts that are left
+
+-- the rest begins the host name, and of the fronts that are longer none leads to it
+pub record IsLeft (rules : List MappingRule) (fronts : List (List ℕ)) (host rest : List ℕ) : Type 0 where
+  pub begun : begins rest host ≡ true
+  pub others : (added : List ℕ) → Contains fronts added → length rest < length added
+      → passes_with rules host added ≡ false
+
+passes_begins : (rules : List MappingRule) (host added : List ℕ) → passes_with rules host added ≡ true
+    → begins added host ≡ true
+passes_begins rules host added e =
+    (and_parts (begins added host) (adds added (front Client rules (drop (length added) host))) e).0
+
+false_where : (b : Bool) → (b ≡ true → ⊥) → b ≡ false
+false_where true f = absurd (f refl)
+false_where false f = refl
+
+begins_itself : (name : List ℕ) → begins name name ≡ true
+begins_itself [] = refl
+begins_itself (x ∷ name) = and_from (eqb x x) (begins name name) (eq-eqb x x refl) (begins_itself name)
+
+pub left_first : (rules : List MappingRule) (fronts : List (List ℕ)) (host : List ℕ) → IsLeft rules fronts host host
+left_first rules fronts host = record {
+  begun = begins_itself host;
+  others = λ added among l.
+      false_where (passes_with rules host added)
+      (λ e. let within = begins_length added host (passes_begins rules host added e) in omega arith);
+}
+
+-- a front that leads to the host name and is no longer than the rest begins the last one up to the rest
+leads_last : (rules : List MappingRule) (fronts : List (List ℕ)) (host rest last added : List ℕ)
+    → IsLeft rules fronts host rest → IsLast fronts rest last → Contains fronts added
+    → passes_with rules host added ≡ true
+    → (begins added rest ≡ true) × (begins added last ≡ true)
+leads_last rules fronts host rest last added left is among e =
+    elim (cases_lt (length rest) (length added)) [
+      | inl longer ↦ absurd (true≢false (sym e ∙ left.others added among longer))
+      | inr within ↦
+          (let begun = shorter_begins added rest host (passes_begins rules host added e) left.begun within in
+          let low = is.latest added among (front_not_before added rest begun) in
+          (begun, between added last rest begun low is.up_to))
+    ]
+
+-- none is longer than what the last one shares with the rest
+leads_shared : (rules : List MappingRule) (fronts : List (List ℕ)) (host rest last added : List ℕ)
+    → IsLeft rules fronts host rest → IsLast fronts rest last → Contains fronts added
+    → passes_with rules host added ≡ true → length added ≤ shared last rest
+leads_shared rules fronts host rest last added left is among e =
+    let (one, other) = leads_last rules fronts host rest last added left is among e in
+    front_shared added last rest other one
+
+begins_take : (k : ℕ) (rest host : List ℕ) → begins rest host ≡ true → begins (take k rest) host ≡ true
+begins_take zero rest host b = refl
+begins_take (suc k) [] host b = refl
+begins_take (suc k) (x ∷ rest) [] b = absurd (false≢true b)
+begins_take (suc k) (x ∷ rest) (y ∷ host) b =
+    let parts = and_parts (eqb x y) (begins rest host) b in
+    and_from (eqb x y) (begins (take k rest) host) parts.0 (begins_take k rest host parts.1)
+
+pub take_within : (k : ℕ) (rest : List ℕ) → k ≤ length rest → length (take k rest) ≡ k
+take_within zero rest l = refl
+take_within (suc k) [] l = absurd (omega arith)
+take_within (suc k) (x ∷ rest) l = let e = take_within k rest (omega arith) in omega arith
+
+-- the last one does not begin the rest
+pub left_shared : (rules : List MappingRule) (fronts : List (List ℕ)) (host rest last less : List ℕ) (count : ℕ)
+    → IsLeft rules fronts host rest → IsLast fronts rest last → count ≡ shared last rest → less ≡ take count rest
+    → IsLeft rules fronts host less
+left_shared rules fronts host rest last less count left is e at =
+    subst (IsLeft rules fronts host) (sym at) (record {
+      begun = begins_take count rest host left.begun;
+      others = λ added among l.
+          false_where (passes_with rules host added)
+          (λ holds.
+          (let most = leads_shared rules fronts host rest last added left is among holds in
+          let size = take_within count rest (let w = (shared_within last rest).1 in omega arith) in omega arith));
+    })
+
+-- the last one begins the rest, and does not lead to the host name
+pub left_shorter : (rules : List MappingRule) (fronts : List (List ℕ)) (host rest last less : List ℕ) (count : ℕ)
+    → IsLeft rules fronts host rest → IsLast fronts rest last → count ≡ shared last rest → length last ≤ count
+    → passes_with rules host last ≡ false → 0 < count → less ≡ take (count - 1) rest
+    → IsLeft rules fronts host less
+left_shorter rules fronts host rest last less count left is e whole fails some at =
+    subst (IsLeft rules fronts host) (sym at) (record {
+      begun = begins_take (count - 1) rest host left.begun;
+      others = λ added among l.
+          false_where (passes_with rules host added)
+          (λ holds. shorter_fails rules fronts host rest last added left is among holds fails
+          (let size = take_within (count - 1) rest (let w = (shared_within last rest).1 in omega arith) in
+          omega arith));
+    }) where
+      shorter_fails : (rules : List MappingRule) (fronts : List (List ℕ)) (host rest last added : List ℕ)
+          → IsLeft rules fronts host rest → IsLast fronts rest last → Contains fronts added
+          → passes_with rules host added ≡ true → passes_with rules host last ≡ false
+          → length last ≤ length added → ⊥
+      shorter_fails rules fronts host rest last added left is among holds fails l =
+          let (one, other) = leads_last rules fronts host rest last added left is among holds in
+          let within = begins_length added last other in
+          let same = same_front added last other (omega arith) in
+          true≢false (sym (subst (λ a. passes_with rules host a ≡ true) same holds) ∙ fails)
+
+-- ---- the answer
+
+pub reached_where : (rules : List MappingRule) (host added : List ℕ) → passes_with rules host added ≡ true
+    → is_reached rules host ≡ true
+reached_where rules host added e =
+    let rest = drop (length added) host in
+    let parts = and_parts (begins added host) (adds added (front Client rules rest)) e in
+    leads_test rules host
+    (leads_from rules rest added host (adds_is added (front Client rules rest) parts.1)
+    (begins_split added host parts.0))
+
+leads_with : (rules : List MappingRule) (host : List ℕ) (leads : LeadsTo rules host)
+    → passes_with rules host leads.added ≡ true
+leads_with rules host leads =
+    and_from (begins leads.added host) (adds leads.added (front Client rules (drop (length leads.added) host)))
+    (ap (begins leads.added) leads.host_is ∙ begins-append leads.added leads.name)
+    (ap (λ n. adds leads.added (front Client rules n)) (rest_is rules host leads)
+    ∙ ap (adds leads.added) (front_is rules host leads) ∙ bytes_same leads.added)
+
+front_where : (on : Bool) (o : Option (List ℕ)) (added : List ℕ) → on ≡ true → o ≡ Some added
+    → cond on o None ≡ Some added
+front_where true o added e p = p
+front_where false o added e p = absurd (false≢true e)
+
+-- where no front leads to the host name, nothing does
+pub not_reached : (rules : List MappingRule) (fronts : List (List ℕ)) (host : List ℕ)
+    → IsPermutation (filter_map (part_of (Front Client)) rules) fronts
+    → ((added : List ℕ) → Contains fronts added → passes_with rules host added ≡ true → ⊥)
+    → is_reached rules host ≡ false
+not_reached rules fronts host are none =
+    false_where (is_reached rules host)
+    (λ e.
+    (let leads = test_leads rules host e in
+    let fit = rule_fits rules host leads in
+    let among =
+    gathered_member (part_of (Front Client)) leads.rule rules leads.added (rule_member rules host leads)
+    (front_where leads.rule.client (front_of leads.rule) leads.added fit.0 leads.puts) in
+    none leads.added
+    (Contains-permutation (filter_map (part_of (Front Client)) rules) fronts leads.added are among)
+    (leads_with rules host leads)))
+
+-- all of them come after the rest
+pub not_reached_past : (rules : List MappingRule) (fronts : List (List ℕ)) (host rest : List ℕ)
+    → IsPermutation (filter_map (part_of (Front Client)) rules) fronts → IsLeft rules fronts host rest
+    → ((added : List ℕ) → Contains fronts added → IsBefore rest added) → is_reached rules host ≡ false
+not_reached_past rules fronts host rest are left past =
+    not_reached rules fronts host are
+    (λ added among e. elim (cases_lt (length rest) (length added)) [
+      | inl longer ↦ true≢false (sym e ∙ left.others added among longer)
+      | inr within ↦
+          front_not_before added rest
+          (shorter_begins added rest host (passes_begins rules host added e) left.begun within) (past added among)
+    ])
+
+-- the last one up to the rest is empty, and does not lead to the host name
+pub not_reached_empty : (rules : List MappingRule) (fronts : List (List ℕ)) (host rest last : List ℕ)
+    → IsPermutation (filter_map (part_of (Front Client)) rules) fronts → IsLeft rules fronts host rest
+    → IsLast fronts rest last → shared last rest ≡ 0 → length last ≤ shared last rest
+    → passes_with rules host last ≡ false → is_reached rules host ≡ false
+not_reached_empty rules fronts host rest last are left is none whole fails =
+    not_reached rules fronts host are
+    (λ added among e.
+    (let most = leads_shared rules fronts host rest last added left is among e in
+    let empty : last ≡ [] = no_bytes last (omega arith) in
+    let same : added ≡ [] = no_bytes added (omega arith) in
+    let as_last : added ≡ last = same ∙ sym empty in
+    true≢false (sym (subst (λ a. passes_with rules host a ≡ true) as_last e) ∙ fails))) where
+      no_bytes : (name : List ℕ) → length name ≡ 0 → name ≡ []
+      no_bytes [] e = refl
+      no_bytes (x ∷ name) e = absurd (omega arith)

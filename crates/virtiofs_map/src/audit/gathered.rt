@@ -1,0 +1,95 @@
+//! What the rules of a map have of one kind, such as their keys, in the order of the bytes.
+
+ghost use Rattle.std.specs.List.Sorted.{IsPermutation};
+ghost use Rattle.std.specs.List.{filter_map};
+ghost use Rattle.std.specs.Option.{option_map};
+ghost use Rattle.std.specs.Prelude.{◌≡◌, All, IfOk, OnOk};
+ghost use Rattle.virtiofs_map.specs.GatheredParts.{part_of, host_pattern};
+ghost use Rattle.virtiofs_map.specs.Rule.{HasNoZero};
+ghost use Rattle.virtiofs_map.specs.RuleParts.{rule_meant};
+
+use crate::audit::ordered::Ordered;
+use crate::xattrmap::rules::RuleRef;
+use crate::xattrmap::{Side, XattrMap, XattrName, XattrNameBuf};
+use std::alloc::{AllocError, Allocator};
+
+/// What an audit takes from a rule.
+#[derive(Clone, Copy)]
+pub(crate) enum Part {
+    /// The key of a rule for the client.
+    Key,
+    /// What a rule for that side puts before a name or takes off it.
+    Front(Side),
+    /// What a name of the host begins with by a rule for that side.
+    Host(Side),
+}
+
+/// What a name of the host begins with: for the server the prepend, and for the client what the rule
+/// puts before a name, and then its key. `None` where the rule lets no name of the client through.
+fn host_pattern<A: Allocator + Copy>(
+    alloc: A,
+    rule: RuleRef<'_>,
+    side: Side,
+) -> Result<Option<XattrNameBuf<A>>, AllocError>
+    requires { HasNoZero (rule_meant rule) }
+    ensures { IfOk result (λ found. found ≡ host_pattern side (rule_meant rule.entry)) }
+{
+    let added = match side {
+        Side::Server => return Ok(Some(XattrNameBuf::copy_of(alloc, rule.prepend)?)),
+        Side::Client => rule.front(),
+    };
+    let Some(bytes) = added else {
+        return Ok(None);
+    };
+    let key = XattrName { bytes: rule.key };
+    Ok(Some(key.prefixed_with(alloc, XattrName { bytes })?))
+}
+
+/// That part of a rule, where it has one.
+fn part_of<A: Allocator + Copy>(
+    alloc: A,
+    rule: RuleRef<'_>,
+    part: Part,
+) -> Result<Option<XattrNameBuf<A>>, AllocError>
+    requires { HasNoZero (rule_meant rule) }
+    ensures { IfOk result (λ found. found ≡ part_of part (rule_meant rule.entry)) }
+{
+    let side = match part {
+        Part::Key => Side::Client,
+        Part::Front(side) | Part::Host(side) => side,
+    };
+    if !rule.acts_on(side) {
+        return Ok(None);
+    }
+    let found = match part {
+        Part::Key => Some(rule.key),
+        Part::Front(_) => rule.front(),
+        Part::Host(side) => return host_pattern(alloc, rule, side),
+    };
+    let Some(bytes) = found else {
+        return Ok(None);
+    };
+    Ok(Some(XattrNameBuf::copy_of(alloc, bytes)?))
+}
+
+/// That part of each rule which has one, in the order of the bytes.
+pub(crate) fn gathered<A: Allocator + Copy>(
+    alloc: A,
+    map: &XattrMap<A>,
+    part: Part,
+) -> Result<Ordered<A>, AllocError>
+    ensures parts { IfOk result (IsPermutation (filter_map (part_of part) map.now)) }
+    ensures no_zero { OnOk result (All HasNoZero map.now) }
+{
+    let mut names = Vec::new(alloc);
+    for place in 0..map.len() {
+        let Some(rule) = map.rule(place) else {
+            continue;
+        };
+        let Some(name) = part_of(alloc, rule, part)? else {
+            continue;
+        };
+        names.push(name)?;
+    }
+    Ok(Ordered::new(names))
+}

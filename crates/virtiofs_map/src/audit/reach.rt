@@ -1,0 +1,96 @@
+//! Which names of the host a guest reaches.
+
+ghost use Rattle.std.specs.List.{filter_map};
+ghost use Rattle.std.specs.List.Sorted.{IsPermutation};
+ghost use Rattle.std.specs.Prelude.{◌≡◌, IfOk};
+ghost use Rattle.virtiofs_map.specs.AuditParts.{is_reached, passes_with};
+ghost use Rattle.virtiofs_map.specs.GatheredParts.{part_of};
+ghost use Rattle.virtiofs_map.specs.declared.audit.gathered.Part.TheVariants.{Front};
+ghost use Rattle.virtiofs_map.specs.declared.xattrmap.scopes.Side.TheVariants.{Client};
+
+use crate::audit::gathered::{Part, gathered};
+use crate::audit::ordered::Ordered;
+use crate::audit::questions::front;
+use crate::xattrmap::{Side, XattrMap, shared_length};
+use std::alloc::{AllocError, Allocator};
+use std::marker::Model;
+
+/// A map, and what its rules for the client put before names.
+#[derive(Drop)]
+pub(crate) struct Reach<'m, A: Allocator> {
+    map: &'m XattrMap<A>,
+    fronts: Ordered<A>,
+}
+
+impl<'m, A: Allocator> Model for Reach<'m, A> {
+    ghost use Rattle.std.specs.List.{filter_map};
+    ghost use Rattle.std.specs.List.Sorted.{IsPermutation};
+    ghost use Rattle.std.specs.Prelude.{List};
+    ghost use Rattle.virtiofs_map.specs.GatheredParts.{part_of};
+    ghost use Rattle.virtiofs_map.specs.Rule.{MappingRule};
+    ghost use Rattle.virtiofs_map.specs.declared.audit.gathered.Part.TheVariants.{Front};
+    ghost use Rattle.virtiofs_map.specs.declared.xattrmap.scopes.Side.TheVariants.{Client};
+
+    ghost Value = { List MappingRule };
+
+    ghost view = { λ reach. reach.map.now };
+
+    ghost invariant = { λ reach.
+        IsPermutation (filter_map (part_of (Front Client)) reach.map.now) reach.fronts };
+}
+
+/// Whether what is left of the name of the host after that front is a name before which that is put.
+fn passes_with<A: Allocator>(map: &XattrMap<A>, host: &[u8], added: &[u8]) -> bool
+    ensures { result ≡ passes_with map.now host.now added.now }
+{
+    let Some(name) = host.strip_prefix(added) else {
+        return false;
+    };
+    front(map, Side::Client, name) == Some(added)
+}
+
+/// Whether some name passes as the name of the host, where the fronts are what rules for the client
+/// put before names.
+///
+/// What is put before such a name begins the name of the host. So of the fronts that begin it each is
+/// tried, the longest first.
+fn is_reached<A: Allocator>(map: &XattrMap<A>, fronts: &Ordered<A>, host: &[u8]) -> bool
+    requires { IsPermutation (filter_map (part_of (Front Client)) map.now) fronts.now }
+    ensures { result ≡ is_reached map.now host.now }
+{
+    let mut rest = host;
+    while let Some(last) = fronts.last_up_to(rest) {
+        let count = shared_length(last.bytes, rest);
+        if count < last.bytes.len() {
+            rest = &rest[..count];
+            continue;
+        }
+        if passes_with(map, host, last.bytes) {
+            return true;
+        }
+        if count == 0 {
+            return false;
+        }
+        rest = &rest[..count - 1];
+    }
+    false
+}
+
+impl<'m, A: Allocator + Copy> Reach<'m, A> {
+    /// What the map reaches.
+    pub(crate) fn new(alloc: A, map: &'m XattrMap<A>) -> Result<Reach<'m, A>, AllocError>
+        ensures { IfOk result (λ reach. reach ≡ map.now) }
+    {
+        let fronts = gathered(alloc, map, Part::Front(Side::Client))?;
+        Ok(Reach { map, fronts })
+    }
+}
+
+impl<A: Allocator> Reach<'_, A> {
+    /// Whether some name passes as the name of the host.
+    pub(crate) fn reaches(&self, host: &[u8]) -> bool
+        ensures { result ≡ is_reached self.now host.now }
+    {
+        is_reached(self.map, &self.fronts, host)
+    }
+}
