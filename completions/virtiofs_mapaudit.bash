@@ -8,11 +8,17 @@ _virtiofs_mapaudit()
     [[ $option == = ]] && option=${COMP_WORDS[COMP_CWORD-2]}
     case $option in
         --translate-uid | --translate-gid) words="map: guest: host: squash-guest: squash-host: forbid-guest:" ;;
-        --uid-map | --gid-map | --xattrmap) words="" ;;
+        --uid-map | --gid-map | --xattrmap | --pid | --run-as | --subuid | --subgid) words="" ;;
+        --accept)
+            words="root not_back lacking kept range other_ranges posix_acl no_rule not_listed listed_elsewhere idle_rule"
+            words+=" acl_renamed id_of_both shown_to_other name_of_both"
+            ;;
         --show) words="ids names" ;;
+        --explain) words="user= host-user= group= host-group= name= host-name=" ;;
         *)
             words="--translate-uid --translate-gid --uid-map --gid-map --xattrmap --posix-acl"
-            words+=" --show --accept --svg --json --quiet --mend --help --version"
+            words+=" --show --accept --explain --pid --run-as --subuid --subgid --svg --isolated --json --quiet --mend"
+            words+=" --help --version"
             for before in "${COMP_WORDS[@]:1:COMP_CWORD-1}"; do
                 [[ $before == -- ]] && words=${words%% --show*}
             done
@@ -20,7 +26,7 @@ _virtiofs_mapaudit()
     esac
     mapfile -t COMPREPLY < <(compgen -W "$words" -- "$word")
     # (no blank goes between such a word and its numbers)
-    [[ ${#COMPREPLY[@]} == 1 && ${COMPREPLY[0]} == *: ]] && compopt -o nospace
+    [[ ${#COMPREPLY[@]} == 1 && ${COMPREPLY[0]} == *[:=] ]] && compopt -o nospace
     return 0
 }
 complete -F _virtiofs_mapaudit virtiofs_mapaudit

@@ -575,9 +575,8 @@ static inline enum virtiofs_code virtiofs_names_server(struct virtiofs_names map
  * `map` rule that does not list it.
  *
  * The time of `.._audit`, `.._audit_listed`, `.._keeps_apart` and `.._shares_no_name` grows with
- * the square of the number of rules. For 6,400 rules it is of the order of seconds: we measured
- * 1.5, and up to 8 on a busy machine. So call these when a map is made, and not while a
- * guest waits.
+ * the number of rules, for some rules with its square: for 6,400 of these it may take seconds.
+ * So call these when a map is made, and not while a guest waits.
  */
 
 /* Does every name of the guest, and every name in a list of the host, have a rule? If so,

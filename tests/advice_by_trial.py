@@ -5,8 +5,9 @@ usage: advice_by_trial.py [--guests N] PROGRAM..
 
 Guests are made at random from a fixed seed. If options are advised, the text, the JSON and `--mend` have the same ones, as a
 shell reads them. An audit of them refuses nothing and finds what was said to be left, of which no kind is new for a guest or
-a pair of guests, and fewer kinds than before; kinds that are accepted do not count. No id is left that does not round-trip or that the namespace lacks, but where
-access control lists are on and nothing is translated. The last line is 'N passed, N failed'.
+a pair of guests, and fewer kinds than before; kinds that are accepted do not count. No id is left that does not round-trip,
+that the namespace lacks, or that keeps its number under `--isolated`, but where access control lists are on and nothing is
+translated. The last line is 'N passed, N failed'.
 """
 import json
 import os
@@ -18,16 +19,16 @@ from concurrent.futures import ThreadPoolExecutor
 sys.dont_write_bytecode = True
 from tally import Tally
 
-SEED, TRIALS, SECONDS = 58, 3000, 60
+SEED, TRIALS, SECONDS, ISOLATED = 58, 3000, 60, "--isolated"
 LOW, HIGH = list(range(0, 12)), [4294967290, 4294967293, 4294967294]
 SCOPES, TYPES = ("client", "server", "all"), ("ok", "bad", "prefix", "unsupported")
-KINDS = ("root", "not_back", "lacking", "range", "posix_acl", "no_rule", "not_listed", "listed_elsewhere", "idle_rule",
-         "id_of_both", "shown_to_other", "name_of_both")
+KINDS = ("root", "not_back", "lacking", "kept", "range", "other_ranges", "posix_acl", "no_rule", "not_listed",
+         "listed_elsewhere", "idle_rule", "acl_renamed", "id_of_both", "shown_to_other", "name_of_both")
 PIECES = ("", "", "user.", "user.a.", "trusted.", "security.", "system.", "u", "it's ", "é", "\x01")
 
 
 def specification(random):
-    first, to, count = random.choice(LOW + HIGH), random.choice(LOW + HIGH), random.choice((1, 1, 2, 3, 5, 9, 4294967295))
+    first, to, count = random.choice(LOW + HIGH), random.choice(LOW + HIGH + [4294967295]), random.choice((1, 1, 2, 3, 5, 9, 4294967295))
     word = random.choice(("map", "map", "guest", "host", "squash-guest", "squash-host", "forbid-guest"))
     return f"{word}:{first}:{count}" if word == "forbid-guest" else f"{word}:{first}:{to}:{count}"
 
@@ -46,7 +47,7 @@ def guest(random):
         for _ in range(random.choice((0, 0, 0, 1, 2))):
             yield from (option, f":{random.choice(LOW)}:{random.choice(LOW)}:{random.choice((0, 1, 4, 9, 65536))}:")
     if random.random() < 0.5:
-        last = random.choice((["/map//user.g./"], ["/map/user./v./"], [rule(random)], ["/bad/all///"], ["/ok/all///"]))
+        last = random.choice((["/map//user.g./"], ["/map/system./user.v./"], ["/map/user./v./"], [rule(random)], ["/bad/all///"], ["/ok/all///"]))
         yield from ("--xattrmap", " ".join([rule(random) for _ in range(random.choice((0, 1, 2, 3)))] + last))
     if random.random() < 0.2:
         yield "--posix-acl"
@@ -58,11 +59,11 @@ def command_lines(guests):
 
 
 def guests(random):
-    """The words of one to three guests, of which some have the same options."""
+    """The words of one to three guests, of which some have the same options. Half of the time they are isolated."""
     made = [list(guest(random))]
     for _ in range(random.choice((0, 0, 1, 2))):
         made.append(random.choice(made) if random.random() < 0.3 else list(guest(random)))
-    return command_lines(made)
+    return [*random.choice(([], [ISOLATED])), *command_lines(made)]
 
 
 def accepted(random):
@@ -118,14 +119,16 @@ def fault(program, accepts, words):
     mended = as_mend_says(mend)
     if shown != alike or mended != options:
         return f"text, JSON and --mend differ: {shown}, {options}, {mended}"
-    after_status, after = answer(program, ["--json", *accepts, *command_lines(options)])
+    isolated = [ISOLATED] if words[0] == ISOLATED else []
+    after_status, after = answer(program, ["--json", *isolated, *accepts, *command_lines(options)])
     after, before, left = json.loads(after), kinds(told["findings"]), kinds(advised["findings"])
     if after["refused"] or after["findings"] != advised["findings"] or after_status != (5 if left else 0) != mend_status:
         return f"applied, they give {after}"
     if not left < before:
         return f"not less is found: {left} after {before}"
     kept = [number for number, one in enumerate(options, 1) if "--posix-acl" in one]
-    bad = [it for it in advised["findings"] if it["kind"] in ("not_back", "lacking") and it["guest"] not in kept and not it["accepted"]]
+    bad = [it for it in advised["findings"]
+           if it["kind"] in ("not_back", "lacking", "kept") and it["guest"] not in kept and not it["accepted"]]
     return f"ids are left: {bad}" if bad else ""
 
 

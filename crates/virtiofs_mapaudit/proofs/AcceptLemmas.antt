@@ -10,7 +10,7 @@ use Rattle.virtiofs_mapaudit.specs.FindingKinds.{name_of}
 use Rattle.virtiofs_mapaudit.specs.declared.advice.kinds.FindingKind.{FindingKind}
 use Rattle.virtiofs_mapaudit.specs.declared.advice.kinds.FindingKind.TheVariants as kinds
 use Rattle.virtiofs_mapaudit.specs.declared.finding.Finding.{Finding}
-use Rattle.virtiofs_mapaudit.specs.declared.ids.found.IdFault.TheVariants.{NotBack, Lacking}
+use Rattle.virtiofs_mapaudit.specs.declared.ids.found.IdFault.TheVariants.{NotBack, Lacking, Kept}
 use Rattle.virtiofs_mapaudit.specs.declared.ids.kind.IdKind.TheVariants.{Users}
 
 -- ---- names of kinds
@@ -18,21 +18,24 @@ use Rattle.virtiofs_mapaudit.specs.declared.ids.kind.IdKind.TheVariants.{Users}
 -- one kind of each name
 abbrev pub of_each_name : List FindingKind
 of_each_name =
-    kinds.Root ∷ kinds.Ids Users NotBack ∷ kinds.Ids Users Lacking ∷ kinds.Range Users ∷ kinds.PosixAcl ∷ kinds.NoRule
-    ∷ kinds.NotListed ∷ kinds.ListedElsewhere ∷ kinds.IdleRule ∷ kinds.IdsOfBoth Users ∷ kinds.ShownToSecond
-    ∷ kinds.NameOfBoth ∷ []
+    kinds.Root ∷ kinds.Ids Users NotBack ∷ kinds.Ids Users Lacking ∷ kinds.Ids Users Kept ∷ kinds.Range Users
+    ∷ kinds.OtherRanges Users ∷ kinds.PosixAcl ∷ kinds.NoRule ∷ kinds.NotListed ∷ kinds.ListedElsewhere ∷ kinds.IdleRule
+    ∷ kinds.AclRenamed ∷ kinds.IdsOfBoth Users ∷ kinds.ShownToSecond ∷ kinds.NameOfBoth ∷ []
 
 -- each name is among theirs
 has_each : (kind : FindingKind) → has_name of_each_name (name_of kind) ≡ true
 has_each kinds.PosixAcl = refl
 has_each (kinds.Range kind) = refl
+has_each (kinds.OtherRanges kind) = refl
 has_each (kinds.Ids kind NotBack) = refl
 has_each (kinds.Ids kind Lacking) = refl
+has_each (kinds.Ids kind Kept) = refl
 has_each kinds.Root = refl
 has_each kinds.NoRule = refl
 has_each kinds.NotListed = refl
 has_each kinds.ListedElsewhere = refl
 has_each kinds.IdleRule = refl
+has_each kinds.AclRenamed = refl
 has_each (kinds.IdsOfBoth kind) = refl
 has_each kinds.ShownToSecond = refl
 has_each kinds.ShownToFirst = refl

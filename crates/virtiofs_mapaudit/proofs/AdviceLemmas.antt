@@ -6,6 +6,7 @@ use Rattle.virtiofs_map.specs.IdAudit.{Hold}
 use Rattle.virtiofs_map.specs.Mending.{IsBad, Mends}
 use Rattle.virtiofs_map.specs.declared.cmdline.IdMap.{IdMap}
 use Rattle.virtiofs_map.specs.declared.id_audit.spans.Span.{Span}
+use Rattle.virtiofs_map.specs.declared.idmap.UidMap.{UidMap}
 use Rattle.virtiofs_mapaudit.specs.Advice.{AreMended}
 use Rattle.virtiofs_mapaudit.specs.AdviceText.{guest_line, lines_text, part_line, still_text}
 use Rattle.virtiofs_mapaudit.specs.FindingText.{findings_text}
@@ -16,7 +17,6 @@ use Rattle.virtiofs_mapaudit.specs.Namespace.{IsLacking}
 use Rattle.virtiofs_mapaudit.specs.Refusals.{TellsGuests}
 use Rattle.virtiofs_mapaudit.specs.declared.refusal.Refusal.{Refusal}
 use Rattle.virtiofs_mapaudit.proofs.ListLemmas.{more_at}
-use Rattle.virtiofs_mapaudit.specs.declared.setup.IdSetUp.{IdSetUp}
 use Rattle.virtiofs_options.specs.declared.guest.Guest.{Guest}
 
 -- the line of one more guest
@@ -59,26 +59,26 @@ bad_same specs P Q to guest bad =
     record { host = bad.host; goes = bad.goes; why = elim bad.why [ inl astray ↦ inl astray | inr is ↦ inr (to bad.host is) ] }
 
 -- what mends ids where those of some spans are bad mends them where the namespace lacks these
-pub are_mended : {A : Type 0} (set : IdSetUp A) (lacking : List Span) (specs : List IdMap)
-    → ((inside : ℕ) → Hold lacking inside ↔ IsLacking set.ranges.items inside) → Mends set.map (Hold lacking) specs
-    → ((guest : ℕ) → ¬ IsBad specs (Hold lacking) guest) → AreMended set specs
-are_mended set lacking specs same mends none =
-    let to : (host : ℕ) → Hold lacking host → IsLacking set.ranges.items host = λ host. (same host).0 in
-    let from : (host : ℕ) → IsLacking set.ranges.items host → Hold lacking host = λ host. (same host).1 in record {
+pub are_mended : (specs : List IdMap) (ranges : List UidMap) (lacking : List Span) (mended : List IdMap)
+    → ((inside : ℕ) → Hold lacking inside ↔ IsLacking ranges inside) → Mends specs (Hold lacking) mended
+    → ((guest : ℕ) → ¬ IsBad mended (Hold lacking) guest) → AreMended specs ranges mended
+are_mended specs ranges lacking mended same mends none =
+    let to : (host : ℕ) → Hold lacking host → IsLacking ranges host = λ host. (same host).0 in
+    let from : (host : ℕ) → IsLacking ranges host → Hold lacking host = λ host. (same host).1 in record {
       mends = record {
         accepted = mends.accepted;
         forbids = λ guest. (
           (λ is. elim ((mends.forbids guest).0 is) [
             | inl before ↦ inl before
-            | inr bad ↦ inr (bad_same set.map (Hold lacking) (IsLacking set.ranges.items) to guest bad)
+            | inr bad ↦ inr (bad_same specs (Hold lacking) (IsLacking ranges) to guest bad)
           ]),
           (λ is. elim is [
             | inl before ↦ (mends.forbids guest).1 (inl before)
-            | inr bad ↦ (mends.forbids guest).1 (inr (bad_same set.map (IsLacking set.ranges.items) (Hold lacking) from guest bad))
+            | inr bad ↦ (mends.forbids guest).1 (inr (bad_same specs (IsLacking ranges) (Hold lacking) from guest bad))
           ]),
         );
         keeps = λ guest value not. mends.keeps guest value
-            (λ bad. not (bad_same set.map (Hold lacking) (IsLacking set.ranges.items) to guest bad));
+            (λ bad. not (bad_same specs (Hold lacking) (IsLacking ranges) to guest bad));
         leaves = mends.leaves;
       };
       none_astray = λ guest astray.
@@ -87,13 +87,13 @@ are_mended set lacking specs same mends none =
           none guest (record { host = into.host; goes = into.goes; why = inr (from into.host into.is_one) });
     }
 
-pub mended_made : {A E : Type 0} (r : Result (Vec IdMap A) E) (set : IdSetUp A) (lacking : List Span)
-    → ((inside : ℕ) → Hold lacking inside ↔ IsLacking set.ranges.items inside)
-    → IfOk r (λ mended. Mends set.map (Hold lacking) mended.items)
+pub mended_made : {A E : Type 0} (r : Result (Vec IdMap A) E) (specs : List IdMap) (ranges : List UidMap)
+    (lacking : List Span) → ((inside : ℕ) → Hold lacking inside ↔ IsLacking ranges inside)
+    → IfOk r (λ mended. Mends specs (Hold lacking) mended.items)
     → IfOk r (λ mended. (guest : ℕ) → ¬ IsBad mended.items (Hold lacking) guest)
-    → IfOk r (λ mended. AreMended set mended.items)
-mended_made (Ok made) set lacking same mends none = are_mended set lacking made.items same mends none
-mended_made (Err e) set lacking same mends none = tt
+    → IfOk r (λ mended. AreMended specs ranges mended.items)
+mended_made (Ok made) specs ranges lacking same mends none = are_mended specs ranges lacking made.items same mends none
+mended_made (Err e) specs ranges lacking same mends none = tt
 
 -- ---- what is still found of a part
 

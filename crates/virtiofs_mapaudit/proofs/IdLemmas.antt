@@ -111,7 +111,7 @@ all_same bad other Tells (Some found) to from all = record {
 -- ---- ids inside a namespace that are one id outside it
 
 -- one span has the ids that it has
-hold_one : (span : Span) (id : ℕ) → Hold (span ∷ []) id → Has span id
+pub hold_one : (span : Span) (id : ℕ) → Hold (span ∷ []) id → Has span id
 hold_one span id (one, (k, inside, here), has) = elim (cases_eq k 0) [
   | inl zero ↦ (let same : get_or (span ∷ []) 0 one ≡ one = subst (λ (i : ℕ). get_or (span ∷ []) i one ≡ one) zero here in
       subst (λ (s : Span). Has s id) (sym same) has)

@@ -1,4 +1,6 @@
+mod AclNameLemmas
 mod IdLemmas
+mod KeptLemmas
 mod ListLemmas
 mod ReportLemmas
 mod NameLemmas
@@ -18,3 +20,8 @@ mod AcceptLemmas
 mod AdviceLemmas
 mod AlikeLemmas
 mod DrawingLemmas
+mod ExplainLemmas
+mod ExplainNameLemmas
+mod ExplainQuestionLemmas
+mod ExplainRuleLemmas
+mod ExplainSaidLemmas

@@ -108,6 +108,12 @@ is_not_empty xs false some e = refl
 pub in_two : {T : Type 0} (old x y one new : List T) → one ≡ old ++ x → new ≡ one ++ y → new ≡ old ++ (x ++ y)
 in_two old x y one new first second = second ∙ ap (λ xs. xs ++ y) first ∙ append_assoc old x y
 
+-- the same, if the second is added
+pub on_two : {T V E : Type 0} (r : Result V E) (old x y one new : List T) → one ≡ old ++ x → OnOk r (new ≡ one ++ y)
+    → OnOk r (new ≡ old ++ (x ++ y))
+on_two (Ok value) old x y one new first second = in_two old x y one new first second
+on_two (Err error) old x y one new first second = tt
+
 -- in three parts
 pub in_three : {T : Type 0} (old x y z one two new : List T) → one ≡ old ++ x → two ≡ one ++ y → new ≡ two ++ z
     → new ≡ old ++ (x ++ y ++ z)

@@ -1,6 +1,6 @@
 -- Names that are reported, and the rules that decide none.
 use Rattle.std.proofs.Common.{◌≡◌, ◌↔◌, ◌∙◌, ℕ, ◌+◌, ◌<◌, Bool, true, false, cond, ltb, Some, None, IsTrue, List, []}
-use Rattle.std.proofs.Common.{◌∷◌, ◌++◌, ◌≤◌, length, map, Contains, inl, inr, refl, sym, ap, subst, arith, rules, append_assoc, Result, Ok, Err, OnOk}
+use Rattle.std.proofs.Common.{◌∷◌, not, ◌++◌, ◌≤◌, length, map, Contains, inl, inr, refl, sym, ap, subst, arith, rules, append_assoc, Result, Ok, Err, OnOk}
 use Rattle.std.proofs.lemmas.List.{map-append}
 use Rattle.std.proofs.lemmas.Bool.{cases_eq, ltb-true, true≢false}
 use Rattle.std.proofs.lemmas.List.Elements.{Contains-append_left, Contains-append_right, Contains-push, Contains-push_cases, All-append}
@@ -153,6 +153,11 @@ from_one rules written place not_last = (
 -- a test that fails
 pub decides_not : {P : Type 0} (test : Bool) → IsTrue test ↔ P → test ≡ false → ¬ P
 decides_not test says fails holds = true≢false (sym (says.1 holds) ∙ fails)
+
+-- what denies a test
+pub denied : {P : Type 0} (test : Bool) → IsTrue test ↔ P → IsTrue (not test) ↔ (¬ P)
+denied true says = ((λ is. absurd (true≢false (sym is))), (λ fails. absurd (fails (says.0 refl))))
+denied false says = ((λ is holds. true≢false (sym (says.1 holds))), (λ fails. refl))
 
 -- ---- the parts of what is found
 

@@ -1,13 +1,19 @@
 -- Which ids the ranges of a namespace have.
 use Rattle.std.proofs.Common.{◌≡◌, ◌≢◌, ◌↔◌, inl, inr, ℕ, ◌+◌, ◌<◌, ◌≤◌, List, [], ◌∷◌, ◌++◌, length, take, get_or}
-use Rattle.std.proofs.Common.{Contains, subst, refl, sym, arith, rules}
+use Rattle.std.proofs.Common.{Contains, Vec, Result, Ok, Err, IfOk, subst, refl, sym, arith, rules}
 use Rattle.std.proofs.lemmas.Bool.{cases_lt}
 use Rattle.std.proofs.lemmas.List.{take_more, take_all}
 use Rattle.std.proofs.lemmas.List.Elements.{Contains-append_left, Contains-get_or, Contains-push, Contains-push_cases}
 use Rattle.virtiofs_map.specs.IdAudit.{Hold, Has as Has_id}
 use Rattle.virtiofs_map.specs.declared.id_audit.spans.Span.{Span}
 use Rattle.virtiofs_map.specs.declared.idmap.UidMap.{UidMap}
-use Rattle.virtiofs_mapaudit.specs.Namespace.{Has, HasSome, IsLacking}
+use Rattle.virtiofs_mapaudit.proofs.IdLemmas.{hold_one}
+use Rattle.virtiofs_mapaudit.proofs.OutsideLemmas.{hold_push}
+use Rattle.std.proofs.Common.{ap, ◌∙◌, Bool, IsTrue, not, Option, Some, MatchOption}
+use Rattle.virtiofs_process.specs.declared.runner.Bounds.{Bounds}
+use Rattle.virtiofs_mapaudit.proofs.NameLemmas.{denied}
+use Rattle.virtiofs_mapaudit.specs.Namespace.{Has, HasSome, HasNone, IsLacking}
+use Rattle.virtiofs_mapaudit.specs.Ranges.{shown_of, AreSame, Differ}
 
 -- no range has the id if none of the first ones has, and they are all
 pub none_has : (ranges : List UidMap) (i n : ℕ) → length ranges ≤ i → ¬ HasSome (take i ranges) n → ¬ HasSome ranges n
@@ -82,19 +88,59 @@ lacks_more ranges first last ids span is_first is_last bound order none so_far i
   )
 
 -- all ids were passed
-pub lacks_all : (ranges : List UidMap) (next : ℕ) (ids : List Span) → ranges ≢ [] → 4294967295 < next
-    → LacksBelow ranges next ids → (inside : ℕ) → Hold ids inside ↔ IsLacking ranges inside
-lacks_all [] next ids some passed so_far inside = absurd (some refl)
-lacks_all (range ∷ ranges) next ids some passed so_far inside = (
+pub lacks_all : (ranges : List UidMap) (next : ℕ) (ids : List Span) → 4294967295 < next → LacksBelow ranges next ids
+    → (inside : ℕ) → Hold ids inside ↔ HasNone ranges inside
+lacks_all ranges next ids passed so_far inside = (
   (λ held. let at = (so_far inside).0 held in (at.1, at.2)),
   (λ (is_id, none). (so_far inside).1 (omega (arith, is_id, passed), is_id, none)),
 )
 
--- without ranges none is lacking
-pub lacks_nothing : (ranges : List UidMap) (ids : List Span) → ranges ≡ [] → ids ≡ [] → (inside : ℕ)
-    → Hold ids inside ↔ IsLacking ranges inside
-lacks_nothing [] [] none empty inside = ((λ (span, listed, has). not_in_none span listed), λ lacks. absurd lacks) where
-  not_in_none : (span : Span) → ¬ Contains [] span
-  not_in_none span = search rules
-lacks_nothing (range ∷ ranges) ids none empty inside = absurd (cc)
-lacks_nothing [] (span ∷ ids) none empty inside = absurd (cc)
+-- ---- the ids that a namespace lacks
+
+-- without ranges, 4294967295 alone
+lacks_alone : (ranges : List UidMap) (ids : List Span) (span : Span) → ranges ≡ [] → span.first ≡ 4294967295
+    → span.last ≡ 4294967295 → ids ≡ span ∷ [] → (inside : ℕ) → Hold ids inside ↔ IsLacking ranges inside
+lacks_alone [] ids span none first last are inside = rw are (
+  (λ held. let has = hold_one span inside held in omega (arith, first, last, has.0, has.1)),
+  (λ same. (span, (0, omega arith, refl), (omega (arith, first, same), omega (arith, last, same)))),
+)
+lacks_alone (range ∷ ranges) ids span none first last are inside = absurd (cc)
+
+pub lacks_no_id : {A E : Type 0} (r : Result (Vec Span A) E) (ranges : List UidMap) (span : Span) → ranges ≡ []
+    → span.first ≡ 4294967295 → span.last ≡ 4294967295 → IfOk r (λ ids. ids.items ≡ span ∷ [])
+    → IfOk r (λ ids. (inside : ℕ) → Hold ids.items inside ↔ IsLacking ranges inside)
+lacks_no_id (Ok ids) ranges span none first last are = lacks_alone ranges ids.items span none first last are
+lacks_no_id (Err e) ranges span none first last are = tt
+
+-- with ranges, those that none of them has too
+pub lacks_both : (ranges : List UidMap) (ids more : List Span) (span : Span) → ranges ≢ [] → span.first ≡ 4294967295
+    → span.last ≡ 4294967295 → ((inside : ℕ) → Hold ids inside ↔ HasNone ranges inside) → more ≡ ids ++ span ∷ []
+    → (inside : ℕ) → Hold more inside ↔ IsLacking ranges inside
+lacks_both [] ids more span some first last none are inside = absurd (some refl)
+lacks_both (range ∷ ranges) ids more span some first last none are inside = rw are (
+  (λ held. elim ((hold_push ids span inside).0 held) [
+    | inl old ↦ inr ((none inside).0 old)
+    | inr has ↦ inl (omega (arith, first, last, has.0, has.1))
+  ]),
+  (λ lacks. (hold_push ids span inside).1 (elim lacks [
+    | inl same ↦ inr (omega (arith, first, same), omega (arith, last, same))
+    | inr no_range ↦ inl ((none inside).1 no_range)
+  ])),
+)
+
+-- ---- the ranges of the namespace that a daemon runs in
+
+-- one more range is copied
+pub copied_more : (ranges : List UidMap) (i : ℕ) (d one : UidMap) (old new : List UidMap) → i < length ranges
+    → old ≡ take i ranges → one ≡ get_or ranges i d → new ≡ old ++ one ∷ [] → new ≡ take (i + 1) ranges
+copied_more ranges i d one old new below so_far is pushed =
+    pushed ∙ ap (λ (all : List UidMap). all ++ one ∷ []) so_far
+    ∙ ap (λ (it : UidMap). take i ranges ++ it ∷ []) is ∙ sym (take_more ranges i d below)
+
+-- the kernel shows other ranges exactly if they are not the same
+pub differ_by : {A : Type 0} (bounds : Option (Bounds A)) (written shown : List UidMap) (same : Bool) → written ≢ []
+    → shown_of bounds ≡ Some shown → (IsTrue same ↔ AreSame shown written) → IsTrue (not same) ↔ Differ bounds written
+differ_by bounds [] shown same some is says = absurd (some refl)
+differ_by bounds (range ∷ written) shown same some is says =
+    subst (λ it. IsTrue (not same) ↔ MatchOption it ⊥ (λ one. ¬ AreSame one (range ∷ written))) (sym is)
+    (denied same says)

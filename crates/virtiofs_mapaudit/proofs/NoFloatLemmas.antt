@@ -34,10 +34,11 @@ use Rattle.virtiofs_mapaudit.specs.declared.finding.Finding.{Finding}
 use Rattle.virtiofs_mapaudit.specs.declared.finding.Finding.TheVariants as findings
 use Rattle.virtiofs_mapaudit.specs.declared.ids.found.IdFault.{IdFault}
 use Rattle.virtiofs_mapaudit.specs.declared.ids.found.IdFault.TheVariants.{NotBack, Lacking}
+use Rattle.virtiofs_mapaudit.specs.declared.ids.found.IdFault.TheVariants as faults
 use Rattle.virtiofs_mapaudit.specs.declared.ids.found.IdsFound.{IdsFound}
 use Rattle.virtiofs_mapaudit.specs.declared.ids.kind.IdKind.{IdKind}
 use Rattle.virtiofs_mapaudit.specs.declared.ids.ranges.RangeFault.{RangeFault}
-use Rattle.virtiofs_mapaudit.specs.declared.ids.ranges.RangeFault.TheVariants.{Empty, Beyond, TooMany, PastPage, MeetsInside, MeetsOutside}
+use Rattle.virtiofs_mapaudit.specs.declared.ids.ranges.RangeFault.TheVariants.{Empty, Beyond, TooMany, PastPage, NotGiven, MeetsInside, MeetsOutside}
 use Rattle.virtiofs_mapaudit.specs.declared.names.found.LeastName.{LeastName}
 use Rattle.virtiofs_mapaudit.specs.declared.setup.SetUp.{SetUp}
 use Rattle.virtiofs_options.specs.declared.front.Asked.{Asked}
@@ -127,6 +128,7 @@ ids_none : {A : Type 0} (accepted : Bool) (guest : ℕ) (what ids : List ℕ) (f
     → HasNone (ids_data accepted guest what ids fault it)
 ids_none accepted guest what ids NotBack it = rw (spans_none it.ids.items) refl
 ids_none accepted guest what ids Lacking it = rw (spans_none it.ids.items) refl
+ids_none accepted guest what ids faults.Kept it = rw (spans_none it.ids.items) refl
 
 acting_none : {A : Type 0} (found : Option (IdsFound A)) → HasNone (acting_data found)
 acting_none None = refl
@@ -137,6 +139,7 @@ fault_none accepted guest what kind place Empty = refl
 fault_none accepted guest what kind place Beyond = refl
 fault_none accepted guest what kind place TooMany = refl
 fault_none accepted guest what kind place PastPage = refl
+fault_none accepted guest what kind place NotGiven = refl
 fault_none accepted guest what kind place (MeetsInside other) = refl
 fault_none accepted guest what kind place (MeetsOutside other) = refl
 
@@ -145,6 +148,7 @@ named_none : {A : Type 0} (accepted : Bool) (guest : ℕ) (what : List ℕ) (fin
 named_none accepted guest what findings.PosixAcl = refl
 named_none accepted guest what (findings.Range kind range) =
     fault_none accepted guest what kind range.place range.fault
+named_none accepted guest what (findings.OtherRanges kind) = refl
 named_none accepted guest what (findings.Ids kind in_namespace fault it) =
     ids_none accepted guest what (ids_word kind) fault it
 named_none accepted guest what (findings.Root users groups) = rw (acting_none users, acting_none groups) refl
@@ -152,6 +156,7 @@ named_none accepted guest what findings.NoRule = refl
 named_none accepted guest what (findings.NotListed least) = rw (least_none least) refl
 named_none accepted guest what (findings.ListedElsewhere least) = rw (least_none least) refl
 named_none accepted guest what (findings.IdleRule place) = refl
+named_none accepted guest what (findings.AclRenamed name host) = rw (name_none host.items) refl
 named_none accepted guest what (findings.IdsOfBoth first second kind it) = rw (spans_none it.ids.items) refl
 named_none accepted guest what (findings.ShownToOther setter lister least) = rw (least_none least) refl
 named_none accepted guest what (findings.NameOfBoth first second least) = rw (least_none least) refl

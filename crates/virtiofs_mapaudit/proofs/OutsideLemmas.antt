@@ -125,7 +125,7 @@ id_goes way range one there id first last order each =
 -- ---- spans, one by one
 
 -- one more span
-hold_push : (spans : List Span) (span : Span) (id : ℕ) → Hold (spans ++ span ∷ []) id ↔ (Hold spans id ⊎ Has span id)
+pub hold_push : (spans : List Span) (span : Span) (id : ℕ) → Hold (spans ++ span ∷ []) id ↔ (Hold spans id ⊎ Has span id)
 hold_push spans span id = (
   (λ (other, listed, has). elim (Contains-push_cases spans span other listed) [
     | inl before ↦ inl (other, before, has)

@@ -7,10 +7,16 @@ use Rattle.std.proofs.lemmas.Grind.{flat_map-append}
 use Rattle.std.proofs.lemmas.List.{take_more}
 use Rattle.std.proofs.lemmas.Option.{slice_get_past, slice_get-get_or, none-some, same_Some}
 use Rattle.virtiofs_map.specs.declared.idmap.UidMap.{UidMap}
-use Rattle.virtiofs_mapaudit.specs.Ranges.{MeetInside, MeetOutside, MeetsOneAt, IsBeyond, line_of, lines_of, IsAtFault, HasFaultAt}
-use Rattle.virtiofs_mapaudit.specs.RangeParts.{MeetsNone}
+use Rattle.std.proofs.Common.{Bool, Vec, IsTrue, not, ◌↔◌, option_map}
+use Rattle.std.specs.Borrow.{Bor}
+use Rattle.virtiofs_process.specs.Allowed.{IsAllowed}
+use Rattle.virtiofs_process.specs.declared.runner.Bounds.{Bounds}
+use Rattle.virtiofs_process.specs.declared.subordinate.SubIds.{SubIds}
+use Rattle.virtiofs_mapaudit.proofs.NameLemmas.{denied}
+use Rattle.virtiofs_mapaudit.specs.Ranges.{MeetInside, MeetOutside, MeetsOneAt, IsBeyond, line_of, lines_of, IsRefused, IsAtFault, HasFaultAt}
+use Rattle.virtiofs_mapaudit.specs.RangeParts.{MeetsNone, MeetsAs}
 use Rattle.virtiofs_mapaudit.specs.declared.ids.ranges.RangeFault.{RangeFault}
-use Rattle.virtiofs_mapaudit.specs.declared.ids.ranges.RangeFault.TheVariants.{Empty, Beyond, TooMany, PastPage, MeetsInside, MeetsOutside}
+use Rattle.virtiofs_mapaudit.specs.declared.ids.ranges.RangeFault.TheVariants.{Empty, Beyond, TooMany, PastPage, NotGiven, MeetsInside, MeetsOutside}
 
 -- ---- ranges that meet
 
@@ -56,19 +62,29 @@ all_unmet before range place past so_far k = elim (cases_lt k place) [
 -- ---- ranges at fault
 
 -- a range with ids, none of them too great, that meets no other
-pub none_wrong : (r : Option RangeFault) (before : List UidMap) (range : UidMap) → range.count ≢ 0 → ¬ IsBeyond range
-    → ¬ 340 ≤ length before → ¬ 4096 ≤ length (lines_of before ++ line_of range)
-    → MatchOption r (MeetsNone before range) (IsAtFault before range)
-    → MatchOption r ((fault : RangeFault) → ¬ IsAtFault before range fault) (IsAtFault before range)
-none_wrong None before range some within few short meets = not where
-  not : (fault : RangeFault) → ¬ IsAtFault before range fault
+pub none_wrong : {A : Type 0} (r : Option RangeFault) (bounds : Option (Bounds A)) (before : List UidMap) (range : UidMap)
+    → range.count ≢ 0 → ¬ IsBeyond range
+    → ¬ 340 ≤ length before → ¬ 4096 ≤ length (lines_of before ++ line_of range) → ¬ IsRefused bounds range
+    → MatchOption r (MeetsNone before range) (MeetsAs before range)
+    → MatchOption r ((fault : RangeFault) → ¬ IsAtFault bounds before range fault) (IsAtFault bounds before range)
+none_wrong None bounds before range some within few short given meets = not where
+  not : (fault : RangeFault) → ¬ IsAtFault bounds before range fault
   not Empty at = some at
   not Beyond at = within at
   not TooMany at = few at
   not PastPage at = short at
+  not NotGiven at = given at
   not (MeetsInside place) at = (meets place).0 at
   not (MeetsOutside place) at = (meets place).1 at
-none_wrong (Some fault) before range some within few short at = at
+none_wrong (Some fault) bounds before range some within few short given at = is fault at where
+  is : (fault : RangeFault) → MeetsAs before range fault → IsAtFault bounds before range fault
+  is (MeetsInside place) at = at
+  is (MeetsOutside place) at = at
+  is Empty at = absurd at
+  is Beyond at = absurd at
+  is TooMany at = absurd at
+  is PastPage at = absurd at
+  is NotGiven at = absurd at
 
 -- one more line
 pub lines_more : (ranges : List UidMap) (d : UidMap) (place : ℕ) (old new : List ℕ) → place < length ranges
@@ -88,29 +104,42 @@ written_is ranges d place old new bytes same so_far one =
     ap length (same ∙ one ∙ ap (λ xs. xs ++ line_of (get_or ranges place d)) so_far)
 
 -- none of the first `place` ranges is at fault
-abbrev pub NoneWrongBelow : List UidMap → ℕ → Type 0
-NoneWrongBelow ranges place = (k : ℕ) (fault : RangeFault) → k < place → ¬ HasFaultAt ranges k fault
+abbrev pub NoneWrongBelow : {A : Type 0} → Option (Bounds A) → List UidMap → ℕ → Type 0
+NoneWrongBelow bounds ranges place = (k : ℕ) (fault : RangeFault) → k < place → ¬ HasFaultAt bounds ranges k fault
 
 -- one more that is not at fault
-pub none_wrong_more : (ranges : List UidMap) (d : UidMap) (place : ℕ) → NoneWrongBelow ranges place
-    → place < length ranges
-    → ((fault : RangeFault) → ¬ IsAtFault (take place ranges) (get_or ranges place d) fault)
-    → NoneWrongBelow ranges (place + 1)
-none_wrong_more ranges d place so_far here sound k fault below at = elim (cases_lt k place) [
+pub none_wrong_more : {A : Type 0} (bounds : Option (Bounds A)) (ranges : List UidMap) (d : UidMap) (place : ℕ)
+    → NoneWrongBelow bounds ranges place → place < length ranges
+    → ((fault : RangeFault) → ¬ IsAtFault bounds (take place ranges) (get_or ranges place d) fault)
+    → NoneWrongBelow bounds ranges (place + 1)
+none_wrong_more bounds ranges d place so_far here sound k fault below at = elim (cases_lt k place) [
   | inl earlier ↦ so_far k fault earlier at
   | inr last ↦ is (omega (arith, below, last))
 ] where
   is : k ≡ place → ⊥
   is same =
-      let at_place = subst (λ i. IsAtFault (take i ranges) at.range fault) same at.is_at_fault in
+      let at_place = subst (λ i. IsAtFault bounds (take i ranges) at.range fault) same at.is_at_fault in
       let one =
       same_Some _ _ (sym at.here ∙ ap (λ i. slice_get ranges i) same ∙ slice_get-get_or ranges place d here) in
-      sound fault (subst (λ r. IsAtFault (take place ranges) r fault) one at_place)
+      sound fault (subst (λ r. IsAtFault bounds (take place ranges) r fault) one at_place)
 
 -- none of all is at fault
-pub none_wrong_all : (ranges : List UidMap) (place : ℕ) → length ranges ≤ place → NoneWrongBelow ranges place
-    → (k : ℕ) (fault : RangeFault) → ¬ HasFaultAt ranges k fault
-none_wrong_all ranges place past so_far k fault at = elim (cases_lt k place) [
+pub none_wrong_all : {A : Type 0} (bounds : Option (Bounds A)) (ranges : List UidMap) (place : ℕ)
+    → length ranges ≤ place → NoneWrongBelow bounds ranges place
+    → (k : ℕ) (fault : RangeFault) → ¬ HasFaultAt bounds ranges k fault
+none_wrong_all bounds ranges place past so_far k fault at = elim (cases_lt k place) [
   | inl earlier ↦ so_far k fault earlier at
   | inr late ↦ none-some _ (sym (slice_get_past ranges k (omega (arith, past, late))) ∙ at.here)
 ]
+
+-- `newuidmap` refuses the range exactly if it does not allow it to the user, to whom it gives those ids
+pub refused_by : {A : Type 0} (bounds : Option (Bor (Bounds A))) (it : Bor (Bounds A)) (given : Vec SubIds A)
+    (range : UidMap) (allowed : Bool) → bounds ≡ Some it → it.now.given ≡ Some given
+    → (IsTrue allowed ↔ IsAllowed it.now.own given.items range)
+    → IsTrue (not allowed) ↔ IsRefused (option_map (λ one. one.now) bounds) range
+refused_by {A} bounds it given range allowed is is_given says =
+    subst (λ (b : Option (Bor (Bounds A))). IsTrue (not allowed) ↔ IsRefused (option_map (λ one. one.now) b) range)
+    (sym is)
+    (subst (λ (g : Option (Vec SubIds A)). IsTrue (not allowed)
+    ↔ MatchOption g ⊥ (λ given. ¬ IsAllowed it.now.own given.items range)) (sym is_given)
+    (denied allowed says))

@@ -1,6 +1,6 @@
 -- Where something is told of texts that are refused.
 use Rattle.std.proofs.Common.{◌≡◌, ◌≢◌, ◌⊎◌, ◌↔◌, inl, inr, ℕ, ◌+◌, List, [], ◌∷◌, ◌++◌, Option, Some, None, refl, sym}
-use Rattle.std.proofs.Common.{◌∙◌, append_assoc, subst}
+use Rattle.std.proofs.Common.{Bool, ◌∙◌, append_assoc, subst}
 use Rattle.std.proofs.lemmas.List.Elements.{Contains-get_or}
 use Rattle.std.proofs.lemmas.Option.{none-some, same_Some, slice_get_within, slice_get-get_or}
 use Rattle.std.specs.Prelude.{IsSomeAnd, slice_get, Contains}
@@ -16,6 +16,7 @@ use Rattle.virtiofs_mapaudit.specs.Refusals.{TellsSpecs, TellsRanges, TellsIds, 
 use Rattle.virtiofs_mapaudit.specs.Refusals.{TellsGuests, IsSomeRefused}
 use Rattle.virtiofs_mapaudit.specs.declared.ids.kind.IdKind.{IdKind}
 use Rattle.virtiofs_mapaudit.specs.declared.refusal.Refusal.{Refusal}
+use Rattle.virtiofs_process.specs.declared.runner.Bounds.{Bounds}
 use Rattle.virtiofs_mapaudit.specs.declared.setup.IdSetUp.{IdSetUp}
 use Rattle.virtiofs_mapaudit.specs.declared.setup.NamesSetUp.{NamesSetUp}
 use Rattle.virtiofs_mapaudit.specs.declared.setup.SetUp.{SetUp}
@@ -73,22 +74,24 @@ ranges_told number option texts told (inr (place, first, (refusal, at, alone))) 
 
 -- ---- what is set up
 
-ids_none : {A : Type 0} (specs ranges : List (List ℕ)) (set : Option (IdSetUp A)) → ReadsIds specs ranges set
+ids_none : {A : Type 0} (bounds : Option (Bounds A)) (sets_up : Bool) (specs ranges : List (List ℕ))
+    (set : Option (IdSetUp A)) → ReadsIds bounds sets_up specs ranges set
     → (RefusesSpecs specs ⊎ RefusesRanges ranges) ↔ (set ≡ None)
-ids_none specs ranges (Some set) (say, accepted, say_ranges) = (
+ids_none bounds sets_up specs ranges (Some set) (say, accepted, say_ranges, runs, same) = (
   (λ wrong. elim wrong [
     | inl (fault, has) ↦ absurd (texts_no_fault specs set.map fault say accepted has)
-    | inr refused ↦ absurd (ranges_right ranges set.ranges.items say_ranges refused)
+    | inr refused ↦ absurd (ranges_right ranges set.written.items say_ranges refused)
   ]),
   (λ none. absurd (none-some set (sym none))),
 )
-ids_none specs ranges None refused = ((λ wrong. refl), (λ none. refused))
+ids_none bounds sets_up specs ranges None refused = ((λ wrong. refl), (λ none. refused))
 
-ids_told : {A : Type 0} (number : ℕ) (kind : IdKind) (specs ranges : List (List ℕ)) (set : Option (IdSetUp A))
-    (told : List (Refusal A)) → ReadsIds specs ranges set → TellsIds number kind specs ranges told
+ids_told : {A : Type 0} (bounds : Option (Bounds A)) (sets_up : Bool) (number : ℕ) (kind : IdKind)
+    (specs ranges : List (List ℕ)) (set : Option (IdSetUp A)) (told : List (Refusal A))
+    → ReadsIds bounds sets_up specs ranges set → TellsIds number kind specs ranges told
     → (told ≢ []) ↔ (set ≡ None)
-ids_told number kind specs ranges set told reads tells =
-    let none = ids_none specs ranges set reads in
+ids_told bounds sets_up number kind specs ranges set told reads tells =
+    let none = ids_none bounds sets_up specs ranges set reads in
     let both =
     both_some (RefusesSpecs specs) (RefusesRanges ranges) tells.of_specs tells.of_ranges told tells.whole
     (specs_told number _ specs tells.of_specs tells.tells_specs)
@@ -114,9 +117,9 @@ guest_told : {A : Type 0} (number : ℕ) (guest : Guest A) (set : SetUp A) (told
 guest_told number guest set told sets_up tells =
     both_some _ _ tells.of_users (tells.of_groups ++ tells.of_names) told
     (tells.whole ∙ append_assoc tells.of_users tells.of_groups tells.of_names)
-    (ids_told number _ _ _ set.users tells.of_users sets_up.users tells.users)
+    (ids_told _ _ number _ _ _ set.users tells.of_users sets_up.users tells.users)
     (both_some _ _ tells.of_groups tells.of_names (tells.of_groups ++ tells.of_names) refl
-    (ids_told number _ _ _ set.groups tells.of_groups sets_up.groups tells.groups)
+    (ids_told _ _ number _ _ _ set.groups tells.of_groups sets_up.groups tells.groups)
     (names_told number _ set.names tells.of_names sets_up.names tells.names))
 
 -- something is told of guests exactly where a text of one is refused

@@ -1,7 +1,7 @@
 -- What is found of guests, and its text.
-use Rattle.std.proofs.Common.{◌≡◌, ◌≢◌, ◌↔◌, inl, inr, ℕ, ◌+◌, ◌<◌, ◌≤◌, Bool, true, false, IsTrue, IsFalse, string_bytes, List}
+use Rattle.std.proofs.Common.{◌≡◌, ◌≢◌, ◌↔◌, inl, inr, ℕ, ◌+◌, ◌<◌, ◌≤◌, Bool, true, false, IsTrue, List}
 use Rattle.std.proofs.Common.{[], ◌∷◌, ◌++◌, length, take, get_or, All, Result, Ok, Err, OnOk, refl, sym, ap, ◌∙◌}
-use Rattle.std.proofs.Common.{subst, arith, rules, append_assoc, append-nil, flat_map, Option, None, IfSome}
+use Rattle.std.proofs.Common.{subst, arith, rules, append_assoc, append-nil, flat_map, Option}
 use Rattle.std.proofs.lemmas.Bool.{cases_lt}
 use Rattle.std.proofs.lemmas.Grind.{flat_map-append}
 use Rattle.std.proofs.lemmas.List.{take_all, length-take-le, length-append}
@@ -12,36 +12,33 @@ use Rattle.std.specs.Borrow.{Bor}
 use Rattle.std.specs.Global.{Global}
 use Rattle.std.specs.List.{AllZip}
 use Rattle.virtiofs_map.proofs.ForCallers.{AllZip-push}
-use Rattle.virtiofs_mapaudit.proofs.ListLemmas.{more_at, AnyHas-left, AnyHas-right, in_two, in_three}
+use Rattle.virtiofs_mapaudit.proofs.ListLemmas.{more_at, AnyHas-left, AnyHas-right, in_three, in_four}
 use Rattle.virtiofs_mapaudit.specs.Accepted.{AreSorted}
 use Rattle.virtiofs_mapaudit.specs.AlikeGuests.{alike_to, likes_of, is_first}
 use Rattle.virtiofs_mapaudit.specs.FindingText.{found_text}
 use Rattle.virtiofs_mapaudit.specs.SummaryText.{SumsUp}
 use Rattle.virtiofs_mapaudit.specs.declared.alike.Alike.{Alike}
-use Rattle.virtiofs_mapaudit.specs.Lists.{Adds, listed}
-use Rattle.virtiofs_mapaudit.specs.IdFindings.{FindsIds}
+use Rattle.virtiofs_mapaudit.specs.Lists.{Adds, listed, if_so}
+use Rattle.virtiofs_mapaudit.specs.IdFindings.{FindsIds, FindsKept}
 use Rattle.virtiofs_mapaudit.specs.PairFindings.{FindsPair}
-use Rattle.virtiofs_mapaudit.specs.Ranges.{FindsFault}
 use Rattle.virtiofs_mapaudit.specs.Report.{FindsPart, FindsKind, ids_found, FindsReport, IsFound, HasAccepted, IsPairOf, HasPair, AreNumbered}
-use Rattle.virtiofs_mapaudit.specs.ReportJson.{IsJson}
 use Rattle.virtiofs_mapaudit.specs.ReportParts.{AddsPairs, AreCompared}
-use Rattle.virtiofs_mapaudit.specs.Said.{Says, SaysMended, IsBest, ShownIf, AreTables, SaysAlike, SaysAt, SaysFrom, SaysGuests, IsPlain, parts_text, closing}
+use Rattle.virtiofs_mapaudit.specs.Said.{Audits, ShownIf, AreTables, SaysAlike, SaysAt, SaysFrom, SaysGuests, IsPlain, parts_text, closing}
 use Rattle.virtiofs_mapaudit.specs.Guests.{SetsUp}
 use Rattle.virtiofs_mapaudit.proofs.RefusalLemmas.{told_where_refused}
 use Rattle.virtiofs_mapaudit.specs.Refusals.{TellsGuests}
-use Rattle.virtiofs_mapaudit.specs.Advice.{IsAdvice}
-use Rattle.virtiofs_mapaudit.specs.AdviceText.{mend_text}
 use Rattle.virtiofs_mapaudit.specs.declared.advice.Advised.{Advised}
-use Rattle.virtiofs_mapaudit.specs.declared.audit.Said.{Said}
+use Rattle.virtiofs_mapaudit.specs.declared.audit.Audited.{Audited}
 use Rattle.virtiofs_mapaudit.specs.declared.audit.Part.{Part}
 use Rattle.virtiofs_mapaudit.specs.declared.audit.Report.{Report}
 use Rattle.virtiofs_options.specs.declared.front.Asked.{Asked}
 use Rattle.virtiofs_options.specs.declared.guest.Guest.{Guest}
 use Rattle.virtiofs_mapaudit.specs.declared.finding.Finding.{Finding}
-use Rattle.virtiofs_mapaudit.specs.declared.finding.Finding.TheVariants.{Range}
+use Rattle.virtiofs_mapaudit.specs.declared.finding.Finding.TheVariants.{Range, OtherRanges, Ids}
+use Rattle.virtiofs_mapaudit.specs.declared.ids.found.IdFault.TheVariants.{Kept}
 use Rattle.virtiofs_mapaudit.specs.declared.ids.found.IdFindings.{IdFindings}
+use Rattle.virtiofs_mapaudit.specs.declared.ids.found.IdsFound.{IdsFound}
 use Rattle.virtiofs_mapaudit.specs.declared.ids.kind.IdKind.{IdKind}
-use Rattle.virtiofs_mapaudit.specs.declared.ids.ranges.RangeFound.{RangeFound}
 use Rattle.virtiofs_mapaudit.specs.declared.refusal.Refusal.{Refusal}
 use Rattle.virtiofs_mapaudit.specs.declared.setup.IdSetUp.{IdSetUp}
 use Rattle.virtiofs_mapaudit.specs.declared.setup.SetUp.{SetUp}
@@ -159,25 +156,31 @@ written_all asked guests sets parts place before text over so_far = (
 -- ---- ids of a kind
 
 -- what is found of ids of a kind, part by part
-pub kind_found : {A V E : Type 0} (r : Result V E) (kind : IdKind) (set : IdSetUp A) (range : Option RangeFound)
-    (ids : IdFindings A) (in_namespace : Bool) (a b c : List (Finding A)) → FindsFault set.ranges.items range
-    → FindsIds set.map set.ranges.items ids → (IsTrue in_namespace ↔ (set.ranges.items ≢ []))
-    → b ≡ a ++ listed (Range kind) range → OnOk r (c ≡ b ++ ids_found kind in_namespace ids)
-    → OnOk r (Adds (FindsKind kind set) a c)
-kind_found (Ok x) kind set range ids in_namespace a b c finds_range finds_ids namespace first second = record {
-  more = listed (Range kind) range ++ ids_found kind in_namespace ids;
-  is = record {
-    range = range;
-    ids = ids;
-    in_namespace = in_namespace;
-    finds_range = finds_range;
-    finds_ids = finds_ids;
-    namespace = namespace;
-    whole = refl;
-  };
-  added = in_two a _ _ b c first second;
-}
-kind_found (Err e) kind set range ids in_namespace a b c finds_range finds_ids namespace first second = tt
+pub kind_found : {A V E : Type 0} (r : Result V E) (isolated : Bool) (kind : IdKind) (set : IdSetUp A)
+    (ids : IdFindings A) (kept : Option (IdsFound A)) (in_namespace : Bool) (a b c d e : List (Finding A))
+    → FindsIds set.map set.ranges.items ids → FindsKept isolated set.specs.items set.ranges.items kept
+    → (IsTrue in_namespace ↔ (set.ranges.items ≢ []))
+    → b ≡ a ++ listed (Range kind) set.fault → c ≡ b ++ if_so set.differs (OtherRanges kind)
+    → d ≡ c ++ ids_found kind in_namespace ids → OnOk r (e ≡ d ++ listed (Ids kind in_namespace Kept) kept)
+    → OnOk r (Adds (FindsKind isolated kind set) a e)
+kind_found (Ok x) isolated kind set ids kept in_namespace a b c d e finds_ids finds_kept namespace first second third
+    fourth =
+    record {
+      more = listed (Range kind) set.fault ++ if_so set.differs (OtherRanges kind) ++ ids_found kind in_namespace ids
+          ++ listed (Ids kind in_namespace Kept) kept;
+      is = record {
+        ids = ids;
+        kept = kept;
+        in_namespace = in_namespace;
+        finds_ids = finds_ids;
+        finds_kept = finds_kept;
+        namespace = namespace;
+        whole = refl;
+      };
+      added = in_four a _ _ _ _ b c d e first second third fourth;
+    }
+kind_found (Err x) isolated kind set ids kept in_namespace a b c d e finds_ids finds_kept namespace first second third
+    fourth = tt
 
 -- ---- pairs
 
@@ -260,8 +263,8 @@ compared_all accepted sets place count before after over so_far =
 -- ---- the report
 
 -- the part is of the guest by itself
-abbrev pub IsOf : {A : Type 0} → List (Bor (List ℕ)) → SetUp A → Part A → Type 0
-IsOf accepted set part = FindsPart accepted set part
+abbrev pub IsOf : {A : Type 0} → Bool → List (Bor (List ℕ)) → SetUp A → Part A → Type 0
+IsOf isolated accepted set part = FindsPart isolated accepted set part
 
 -- one more number
 numbered_more : {A : Type 0} (number : ℕ) (parts : List (Part A)) (part : Part A) → AreNumbered number parts
@@ -271,16 +274,17 @@ numbered_more number (one ∷ parts) part (is, is_too, are) first second =
     (is, is_too, numbered_more (number + 1) parts part are (omega (arith, first)) (omega (arith, second)))
 
 -- the guests before that place were audited, and each two of them compared
-pub record AreAudited {A : Type 0} (accepted : List (Bor (List ℕ))) (sets : List (SetUp A)) (place : ℕ) (guests pairs : List (Part A)) : Type 0 where
-  pub each : AllZip (IsOf accepted) (take place sets) guests
+pub record AreAudited {A : Type 0} (isolated : Bool) (accepted : List (Bor (List ℕ))) (sets : List (SetUp A)) (place : ℕ)
+    (guests pairs : List (Part A)) : Type 0 where
+  pub each : AllZip (IsOf isolated accepted) (take place sets) guests
   pub numbers : AreNumbered 1 guests
   pub all : All (IsPairOf accepted sets) pairs
   pub compared : AreCompared place pairs
 
 -- none at first
-pub audited_none : {A : Type 0} (accepted : List (Bor (List ℕ))) (sets : List (SetUp A)) (guests pairs : List (Part A)) → guests ≡ [] → pairs ≡ []
-    → AreAudited accepted sets 0 guests pairs
-audited_none accepted sets guests pairs none none_too = rw (none, none_too) (record {
+pub audited_none : {A : Type 0} (isolated : Bool) (accepted : List (Bor (List ℕ))) (sets : List (SetUp A)) (guests pairs : List (Part A)) → guests ≡ [] → pairs ≡ []
+    → AreAudited isolated accepted sets 0 guests pairs
+audited_none isolated accepted sets guests pairs none none_too = rw (none, none_too) (record {
   each = tt;
   numbers = tt;
   all = search rules;
@@ -288,24 +292,26 @@ audited_none accepted sets guests pairs none none_too = rw (none, none_too) (rec
 })
 
 -- one more guest
-pub audited_more : {A : Type 0} (accepted : List (Bor (List ℕ))) (sets : List (SetUp A)) (place : ℕ) (set : SetUp A) (guests more pairs next : List (Part A))
-    (one : Part A) → set ≡ get_or sets place set → place < length sets → AreAudited accepted sets place guests pairs
+pub audited_more : {A : Type 0} (isolated : Bool) (accepted : List (Bor (List ℕ))) (sets : List (SetUp A)) (place : ℕ) (set : SetUp A) (guests more pairs next : List (Part A))
+    (one : Part A) → set ≡ get_or sets place set → place < length sets → AreAudited isolated accepted sets place guests pairs
     → more ≡ guests ++ one ∷ [] → one.first ≡ place + 1 → one.second ≡ place + 1
-    → FindsPart accepted set one → AddsPairs accepted sets place place pairs next → AreAudited accepted sets (place + 1) more next
-audited_more accepted sets place set guests more pairs next one is below so_far pushed first second finds adds =
+    → FindsPart isolated accepted set one → AddsPairs accepted sets place place pairs next
+    → AreAudited isolated accepted sets (place + 1) more next
+audited_more isolated accepted sets place set guests more pairs next one is below so_far pushed first second finds adds =
     let long : length guests ≡ place =
-    AllZip-long (IsOf accepted) (take place sets) guests so_far.each ∙ length-take-le place sets (omega (arith, below)) in record {
-      each = rw (pushed, more_at sets place set is below) (AllZip-push (IsOf accepted) (take place sets) guests set one so_far.each finds);
+    AllZip-long (IsOf isolated accepted) (take place sets) guests so_far.each ∙ length-take-le place sets (omega (arith, below)) in record {
+      each = rw (pushed, more_at sets place set is below) (AllZip-push (IsOf isolated accepted) (take place sets) guests set one so_far.each finds);
       numbers = rw pushed (numbered_more 1 guests one so_far.numbers (omega (arith, first, long)) (omega (arith, second, long)));
       all = rw adds.added (All-append (IsPairOf accepted sets) pairs adds.more so_far.all adds.pairs);
       compared = compared_more accepted sets place pairs next so_far.compared adds;
     }
 
 -- all guests
-pub audited_all : {A : Type 0} (accepted : List (Bor (List ℕ))) (sets : List (SetUp A)) (report : Report A) (place : ℕ) → length sets ≤ place
-    → AreAudited accepted sets place report.guests.items report.pairs.items → FindsReport accepted sets report
-audited_all accepted sets report place over so_far = record {
-  guests = subst (λ xs. AllZip (IsOf accepted) xs report.guests.items) (take_all place sets over) so_far.each;
+pub audited_all : {A : Type 0} (isolated : Bool) (accepted : List (Bor (List ℕ))) (sets : List (SetUp A)) (report : Report A) (place : ℕ)
+    → length sets ≤ place → AreAudited isolated accepted sets place report.guests.items report.pairs.items
+    → FindsReport isolated accepted sets report
+audited_all isolated accepted sets report place over so_far = record {
+  guests = subst (λ xs. AllZip (IsOf isolated accepted) xs report.guests.items) (take_all place sets over) so_far.each;
   numbers = so_far.numbers;
   pairs = so_far.all;
   each_two = λ one other order below. so_far.compared one other order (omega (arith, below, over));
@@ -330,56 +336,25 @@ is_plain asked guests sets report is_found accepting refusals advised old one tw
           (closing is_found accepting refusals advised) one two new (first ∙ ap (λ text. text ++ said) empty) second third;
     }
 
--- what is said is all of this
-pub says_all : (asked : Asked) (accepted : List (Bor (List ℕ))) (guests : List (Guest Global)) (said : Said) (sets : List (SetUp Global))
-    (report : Report Global) (advised : Option (Advised Global)) → AllZip SetsUp guests sets → FindsReport accepted sets report
-    → (IsTrue said.is_found ↔ IsFound report)
-    → Adds (TellsGuests 1 guests) [] said.refusals.items
-    → IfSome advised (IsAdvice accepted report) → ((said.refusals.items ≢ []) → advised ≡ None)
-    → (IsTrue asked.quiet → string_bytes said.text ≡ [])
-    → (IsFalse asked.quiet → IsFalse asked.json
-    → IsPlain asked guests sets report said.is_found said.refusals.items advised (string_bytes said.text))
-    → (IsFalse asked.quiet → IsTrue asked.json
-    → IsJson asked sets report said.refusals.items advised (string_bytes said.text))
-    → Says asked accepted guests said
-says_all asked accepted guests said sets report advised sets_up finds found says advice none quiet plain json =
+-- all of this is what an audit tells
+pub audits_all : (isolated : Bool) (accepted : List (Bor (List ℕ))) (guests : List (Guest Global)) (all : Audited)
+    → AllZip SetsUp guests all.sets.items → FindsReport isolated accepted all.sets.items all.report
+    → (IsTrue all.is_found ↔ IsFound all.report) → Adds (TellsGuests 1 guests) [] all.refusals.items
+    → Audits isolated accepted guests all
+audits_all isolated accepted guests all sets_up finds found says =
     let told = subst (TellsGuests 1 guests) (sym says.added) says.is in
     record {
-      sets = sets;
-      report = report;
-      advised = advised;
       sets_up = sets_up;
       finds = finds;
       found = found;
-      refused = told_where_refused 1 guests sets said.refusals.items sets_up told;
+      refused = told_where_refused 1 guests all.sets.items all.refusals.items sets_up told;
       refusals = told;
-      advice = advice;
-      none_advised = none;
-      quiet = quiet;
-      plain = plain;
-      json = json;
     }
 
--- what is said of options alone
-pub says_mended : (accepted : List (Bor (List ℕ))) (guests : List (Guest Global)) (said : Said) (sets : List (SetUp Global)) (report : Report Global)
-    (best : List (Guest Global)) (left : Report Global) → AllZip SetsUp guests sets → FindsReport accepted sets report
-    → Adds (TellsGuests 1 guests) [] said.refusals.items → IsBest accepted guests report best left
-    → ((said.refusals.items ≢ []) → string_bytes said.text ≡ [])
-    → (said.refusals.items ≡ [] → string_bytes said.text ≡ mend_text best)
-    → (said.refusals.items ≡ [] → IsTrue said.is_found ↔ IsFound left) → SaysMended accepted guests said
-says_mended accepted guests said sets report best left sets_up finds says is_best nothing text found =
-    let told = subst (TellsGuests 1 guests) (sym says.added) says.is in
-    record {
-      sets = sets;
-      report = report;
-      best = best;
-      left = left;
-      sets_up = sets_up;
-      finds = finds;
-      refused = told_where_refused 1 guests sets said.refusals.items sets_up told;
-      refusals = told;
-      nothing = nothing;
-      is_best = is_best;
-      text = text;
-      found = found;
-    }
+-- each guest has its set-up, and its part of what is found
+pub audited_long : (isolated : Bool) (accepted : List (Bor (List ℕ))) (guests : List (Guest Global)) (all : Audited)
+    → Audits isolated accepted guests all
+    → (length all.sets.items ≡ length guests) × (length all.report.guests.items ≡ length guests)
+audited_long isolated accepted guests all audits =
+    let sets = AllZip-long SetsUp guests all.sets.items audits.sets_up in
+    (sets, AllZip-long (IsOf isolated accepted) all.sets.items all.report.guests.items audits.finds.guests ∙ sets)

@@ -16,7 +16,7 @@ use Rattle.virtiofs_map.specs.Printed.{build_error_text, rules_error_text}
 use Rattle.virtiofs_map.specs.Refusal.{OutOfMemoryOr}
 use Rattle.virtiofs_map.specs.RulesFault.{RulesFault, HasRulesFault, InRule, NotOfText, rule_fault_of, fault_at}
 use Rattle.virtiofs_map.specs.RulesFault.{rules_fault_of}
-use Rattle.virtiofs_map.specs.SpecificationText.{SpecificationFault, specification_fault_of}
+use Rattle.virtiofs_map.specs.SpecificationText.{Says, SpecificationFault, specification_fault_of}
 use Rattle.virtiofs_map.specs.Specifications.{texts_of, AllSay, SpecsFault, HasSpecsFault, Unread, Unbuilt, specs_fault_of}
 use Rattle.virtiofs_map.specs.declared.cmdline.IdMap.{IdMap}
 use Rattle.virtiofs_map.specs.declared.cmdline.IdMapError.{IdMapError}
@@ -25,7 +25,7 @@ use Rattle.virtiofs_map.specs.declared.soft_idmap.errors.IdMapBuildError.{IdMapB
 use Rattle.virtiofs_map.specs.declared.soft_idmap.errors.SpecsError.{SpecsError}
 use Rattle.virtiofs_map.specs.declared.soft_idmap.errors.SpecsError.TheVariants as errors
 use Rattle.virtiofs_map.specs.declared.xattrmap.errors.Error.{Error}
-use Rattle.virtiofs_map.proofs.ForCallers.{AllZip-push, texts_no_fault, namespace_no_fault, rules_no_fault}
+use Rattle.virtiofs_map.proofs.ForCallers.{AllZip-push, specification_one_value, texts_no_fault, namespace_no_fault, rules_no_fault}
 use Rattle.virtiofs_mapaudit.specs.Guests.{SaysRange, RefusesRanges, ReadsText, SetsUp}
 use Rattle.virtiofs_mapaudit.specs.Lists.{Adds}
 use Rattle.virtiofs_mapaudit.specs.Refusals.{IsAt, TellsPlace, TellsBuildFault, TellsSpecsFault}
@@ -346,3 +346,24 @@ refuses_range texts i d fault below wrong =
     let f : Bor (List ℕ) → List ℕ = λ text. chars text.now in
     let is = get_or-map f texts i d (f d) below in
     (f (get_or texts i d), fault, rw (← is) (Contains-get_or (texts_of texts) i (f d) (rw length-map below)), wrong)
+
+-- ---- specifications that are read again
+
+-- there are as many specifications as texts
+pub as_many : (texts : List (Bor (List ℕ))) (specs : List IdMap) → AllSay (texts_of texts) specs
+    → length specs ≡ length texts
+as_many [] [] say = refl
+as_many [] (spec ∷ specs) say = absurd say
+as_many (text ∷ texts) [] say = absurd say
+as_many (text ∷ texts) (spec ∷ specs) say = ap (λ (n : ℕ). suc n) (as_many texts specs say.1)
+
+-- what a text says is the specification at its place
+pub says_at : (texts : List (Bor (List ℕ))) (specs : List IdMap) (place : ℕ) (d : Bor (List ℕ)) (spec : IdMap)
+    → AllSay (texts_of texts) specs → place < length texts → Says (chars (get_or texts place d).now) spec
+    → spec ≡ get_or specs place spec
+says_at [] specs place d spec say below says = absurd (omega (arith, below))
+says_at (one ∷ texts) [] place d spec say below says = absurd say
+says_at (one ∷ texts) (first ∷ specs) zero d spec say below says =
+    specification_one_value (chars one.now) spec first says say.0
+says_at (one ∷ texts) (first ∷ specs) (suc place) d spec say below says =
+    says_at texts specs place d spec say.1 (omega (arith, below)) says

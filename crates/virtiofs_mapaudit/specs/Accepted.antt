@@ -31,7 +31,7 @@ IsKindName name = (kind : FindingKind) × (name_of kind ≡ name)
 abbrev pub accept_sentence : List ℕ → List ℕ
 accept_sentence text =
     codes "'--accept' has no value " ++ shown text
-    ++ codes ": it has 'root', 'not_back', 'lacking', 'range', 'posix_acl', 'no_rule', 'not_listed', 'listed_elsewhere', 'idle_rule', 'id_of_both', 'shown_to_other' and 'name_of_both'\n"
+    ++ codes ": it has 'root', 'not_back', 'lacking', 'kept', 'range', 'other_ranges', 'posix_acl', 'no_rule', 'not_listed', 'listed_elsewhere', 'idle_rule', 'acl_renamed', 'id_of_both', 'shown_to_other' and 'name_of_both'\n"
 
 -- the text at that place, counted from 0, names no kind, and each before it does; and the sentence on it
 pub record IsFirstNoKind (texts : List (Bor (List ℕ))) (place : ℕ) (sentence : List ℕ) : Type 0 where

@@ -1,9 +1,10 @@
 -- Options that are advised in place of those of guests. They were tried: less is found with them.
-use Rattle.std.specs.Prelude.{◌≡◌, ◌≢◌, ◌⊎◌, ◌↔◌, ℕ, IsTrue, List, [], length}
+use Rattle.std.specs.Prelude.{◌≡◌, ◌≢◌, ◌⊎◌, ◌↔◌, ℕ, Bool, IsTrue, List, [], length}
 use Rattle.std.specs.List.{AllZip}
 use Rattle.virtiofs_map.specs.IdAudit.{IsAstray, GoesInto}
 use Rattle.virtiofs_map.specs.Mending.{Mends}
 use Rattle.virtiofs_map.specs.declared.cmdline.IdMap.{IdMap}
+use Rattle.virtiofs_map.specs.declared.idmap.UidMap.{UidMap}
 use Rattle.std.specs.Borrow.{Bor}
 use Rattle.virtiofs_mapaudit.specs.FindingKinds.{kind_of}
 use Rattle.virtiofs_mapaudit.specs.Guests.{SetsUp}
@@ -17,7 +18,6 @@ use Rattle.virtiofs_mapaudit.specs.declared.audit.Part.{Part}
 use Rattle.virtiofs_mapaudit.specs.declared.audit.Report.{Report}
 use Rattle.virtiofs_mapaudit.specs.declared.finding.Finding.{Finding}
 use Rattle.virtiofs_mapaudit.specs.declared.refusal.Refusal.{Refusal}
-use Rattle.virtiofs_mapaudit.specs.declared.setup.IdSetUp.{IdSetUp}
 use Rattle.virtiofs_mapaudit.specs.declared.setup.SetUp.{SetUp}
 use Rattle.virtiofs_options.specs.declared.guest.Guest.{Guest}
 
@@ -25,10 +25,10 @@ use Rattle.virtiofs_options.specs.declared.guest.Guest.{Guest}
 
 -- the ids that do not round-trip or become one which the namespace lacks are forbidden, and nothing else is changed; so
 -- there are no such ids any more
-pub record AreMended {A : Type 0} (set : IdSetUp A) (specs : List IdMap) : Type 0 where
-  pub mends : Mends set.map (IsLacking set.ranges.items) specs
-  pub none_astray : (guest : ℕ) → ¬ IsAstray specs guest
-  pub none_lacking : (guest : ℕ) → ¬ GoesInto specs (IsLacking set.ranges.items) guest
+pub record AreMended (specs : List IdMap) (ranges : List UidMap) (mended : List IdMap) : Type 0 where
+  pub mends : Mends specs (IsLacking ranges) mended
+  pub none_astray : (guest : ℕ) → ¬ IsAstray mended guest
+  pub none_lacking : (guest : ℕ) → ¬ GoesInto mended (IsLacking ranges) guest
 
 -- ---- kinds of findings
 
@@ -66,19 +66,19 @@ IsBetter after before = (¬ FindsNew after before) × FindsNew before after
 
 -- ---- advice
 
--- an audit of guests: which of their texts are refused, and what is found, where findings of kinds with these names are
--- accepted
-pub record IsAudited {A : Type 0} (accepted : List (Bor (List ℕ))) (guests : List (Guest A))
+-- an audit of guests, isolated or not: which of their texts are refused, and what is found, where findings of kinds with
+-- these names are accepted
+pub record IsAudited {A : Type 0} (isolated : Bool) (accepted : List (Bor (List ℕ))) (guests : List (Guest A))
     (refusals : List (Refusal A)) (report : Report A) : Type 0 where
   pub sets : List (SetUp A)
   pub sets_up : AllZip SetsUp guests sets
   pub refused : TellsGuests 1 guests refusals
-  pub finds : FindsReport accepted sets report
+  pub finds : FindsReport isolated accepted sets report
 
 -- with these options no text is refused, and less is found than before
-pub record IsAdvice {A : Type 0} (accepted : List (Bor (List ℕ))) (before : Report A) (advised : Advised A) : Type
-    0 where
-  pub audited : IsAudited accepted advised.guests.items [] advised.after
+pub record IsAdvice {A : Type 0} (isolated : Bool) (accepted : List (Bor (List ℕ))) (before : Report A)
+    (advised : Advised A) : Type 0 where
+  pub audited : IsAudited isolated accepted advised.guests.items [] advised.after
   pub better : IsBetter advised.after before
   pub left : IsTrue advised.is_left ↔ IsFound advised.after
   pub accepting : IsTrue advised.has_accepted ↔ HasAccepted advised.after

@@ -7,6 +7,7 @@ use Rattle.std.specs.Fmt.{decimal}
 use Rattle.virtiofs_mapaudit.specs.Lists.{joined}
 use Rattle.virtiofs_mapaudit.specs.declared.alike.Alike.{Alike}
 use Rattle.virtiofs_options.specs.declared.guest.Guest.{Guest}
+use Rattle.virtiofs_process.specs.declared.runner.Runner.{Runner}
 
 -- the texts are the same, one by one
 abbrev pub are_same : List (Bor (List ℕ)) → List (Bor (List ℕ)) → Bool
@@ -23,13 +24,20 @@ abbrev pub are_both : Bool → Bool → Bool
 are_both true other = other
 are_both false other = not other
 
--- the guests have the same options
+-- one runner, or none is said in both places
+abbrev pub is_same_runner : {A : Type 0} → Option (Bor (Runner A)) → Option (Bor (Runner A)) → Bool
+is_same_runner None None = true
+is_same_runner (Some runner) (Some other) = runner.now.place == other.now.place
+is_same_runner runner other = false
+
+-- the guests have the same options, and one runner
 abbrev pub have_same_options : {A : Type 0} → Guest A → Guest A → Bool
 have_same_options guest other =
     are_same guest.translate_uid.items other.translate_uid.items
     && are_same guest.translate_gid.items other.translate_gid.items
     && are_same guest.uid_map.items other.uid_map.items && are_same guest.gid_map.items other.gid_map.items
     && is_same guest.xattrmap other.xattrmap && are_both guest.posix_acl other.posix_acl
+    && is_same_runner guest.runner other.runner
 
 -- the numbers of those guests that have the same options as one; the first guest has that number
 abbrev pub numbers_alike : {A : Type 0} → Guest A → ℕ → List (Guest A) → List ℕ
@@ -43,6 +51,10 @@ abbrev pub alike_of : List ℕ → Alike
 alike_of [] = record { first = 0; second = 0; count = 0 }
 alike_of (first ∷ []) = record { first = first; second = first; count = 1 }
 alike_of (first ∷ second ∷ numbers) = record { first = first; second = second; count = 2 + length numbers }
+
+-- one guest by itself
+abbrev pub alone : ℕ → Alike
+alone number = record { first = number; second = number; count = 1 }
 
 -- the guests that have the same options as one of them
 abbrev pub alike_to : {A : Type 0} → List (Guest A) → Guest A → Alike

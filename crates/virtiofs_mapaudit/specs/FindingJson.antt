@@ -4,18 +4,20 @@ use Rattle.std.specs.Prelude.{ℕ, ◌+◌, Bool, List, codes, map, Option, Some
 use Rattle.serde_json.specs.Data.{Data, null, boolean, string, array, object, Members, member, no_members, item, no_items}
 use Rattle.serde_json.specs.View.{items_of}
 use Rattle.virtiofs_map.specs.declared.id_audit.spans.Span.{Span}
+use Rattle.virtiofs_mapaudit.specs.AclNames.{acl_bytes}
 use Rattle.virtiofs_mapaudit.specs.FindingKinds.{kind_of, name_of}
 use Rattle.virtiofs_mapaudit.specs.IdJson.{count}
-use Rattle.virtiofs_mapaudit.specs.NameJson.{least_data}
+use Rattle.virtiofs_mapaudit.specs.NameJson.{name_data, least_data}
 use Rattle.virtiofs_mapaudit.specs.declared.finding.Finding.{Finding}
 use Rattle.virtiofs_mapaudit.specs.declared.finding.Finding.TheVariants as findings
 use Rattle.virtiofs_mapaudit.specs.declared.ids.found.IdFault.{IdFault}
-use Rattle.virtiofs_mapaudit.specs.declared.ids.found.IdFault.TheVariants.{NotBack, Lacking}
+use Rattle.virtiofs_mapaudit.specs.declared.ids.found.IdFault.TheVariants.{NotBack, Lacking, Kept}
 use Rattle.virtiofs_mapaudit.specs.declared.ids.found.IdsFound.{IdsFound}
 use Rattle.virtiofs_mapaudit.specs.declared.ids.kind.IdKind.{IdKind}
 use Rattle.virtiofs_mapaudit.specs.declared.ids.kind.IdKind.TheVariants.{Users, Groups}
 use Rattle.virtiofs_mapaudit.specs.declared.ids.ranges.RangeFault.{RangeFault}
-use Rattle.virtiofs_mapaudit.specs.declared.ids.ranges.RangeFault.TheVariants.{Empty, Beyond, TooMany, PastPage, MeetsInside, MeetsOutside}
+use Rattle.virtiofs_mapaudit.specs.declared.ids.ranges.RangeFault.TheVariants.{Empty, Beyond, TooMany, PastPage, NotGiven, MeetsInside, MeetsOutside}
+use Rattle.virtiofs_mapaudit.specs.declared.names.acl.AclName.{AclName}
 
 -- ---- of one guest
 
@@ -58,6 +60,7 @@ not_back_data accepted guest what ids it =
 abbrev pub ids_data : {A : Type 0} → Bool → ℕ → List ℕ → List ℕ → IdFault → IdsFound A → Data
 ids_data accepted guest what ids NotBack it = not_back_data accepted guest what ids it
 ids_data accepted guest what ids Lacking it = alone_data accepted guest what ids it
+ids_data accepted guest what ids Kept it = alone_data accepted guest what ids it
 
 -- ids of one kind that act as root of the host, if there are any: all of them, the least, and what it becomes
 abbrev pub acting_data : {A : Type 0} → Option (IdsFound A) → Data
@@ -95,6 +98,7 @@ fault_data accepted guest what kind place Empty = range_data accepted guest what
 fault_data accepted guest what kind place Beyond = range_data accepted guest what (ids_word kind) (place + 1) (codes "beyond") None
 fault_data accepted guest what kind place TooMany = range_data accepted guest what (ids_word kind) (place + 1) (codes "too_many") None
 fault_data accepted guest what kind place PastPage = range_data accepted guest what (ids_word kind) (place + 1) (codes "past_page") None
+fault_data accepted guest what kind place NotGiven = range_data accepted guest what (ids_word kind) (place + 1) (codes "not_given") None
 fault_data accepted guest what kind place (MeetsInside earlier) =
     range_data accepted guest what (ids_word kind) (place + 1) (codes "overlaps_inside") (Some (earlier + 1))
 fault_data accepted guest what kind place (MeetsOutside earlier) =
@@ -105,6 +109,14 @@ abbrev pub plain_data : Bool → ℕ → List ℕ → Data
 plain_data accepted guest what =
     object (member (codes "accepted") (boolean accepted)
     (member (codes "guest") (count guest) (member (codes "kind") (string what) no_members)))
+
+-- that the kernel shows other ranges of these ids
+abbrev pub other_data : Bool → ℕ → List ℕ → List ℕ → Data
+other_data accepted guest what ids =
+    object (member (codes "accepted") (boolean accepted)
+    (member (codes "guest") (count guest)
+    (member (codes "ids") (string ids)
+    (member (codes "kind") (string what) no_members))))
 
 -- a rule that decides no name
 abbrev pub idle_data : Bool → ℕ → List ℕ → ℕ → Data
@@ -121,6 +133,15 @@ names_data accepted guest what least =
     (member (codes "guest") (count guest)
     (member (codes "kind") (string what)
     (member (codes "least") least no_members))))
+
+-- a name of an access control list that passes as another one
+abbrev pub acl_data : Bool → ℕ → List ℕ → AclName → List ℕ → Data
+acl_data accepted guest what name host =
+    object (member (codes "accepted") (boolean accepted)
+    (member (codes "becomes") (name_data host)
+    (member (codes "guest") (count guest)
+    (member (codes "kind") (string what)
+    (member (codes "name") (string (acl_bytes name)) no_members)))))
 
 -- ---- of two guests
 
@@ -155,6 +176,7 @@ abbrev pub named_data : {A : Type 0} → Bool → ℕ → List ℕ → Finding A
 named_data accepted guest what findings.PosixAcl = plain_data accepted guest what
 named_data accepted guest what (findings.Range kind range) =
     fault_data accepted guest what kind range.place range.fault
+named_data accepted guest what (findings.OtherRanges kind) = other_data accepted guest what (ids_word kind)
 named_data accepted guest what (findings.Ids kind in_namespace fault it) =
     ids_data accepted guest what (ids_word kind) fault it
 named_data accepted guest what (findings.Root users groups) = root_data accepted guest what users groups
@@ -162,6 +184,7 @@ named_data accepted guest what findings.NoRule = plain_data accepted guest what
 named_data accepted guest what (findings.NotListed least) = names_data accepted guest what (least_data least)
 named_data accepted guest what (findings.ListedElsewhere least) = names_data accepted guest what (least_data least)
 named_data accepted guest what (findings.IdleRule place) = idle_data accepted guest what (place + 1)
+named_data accepted guest what (findings.AclRenamed name host) = acl_data accepted guest what name host.items
 named_data accepted guest what (findings.IdsOfBoth first second kind it) =
     met_data accepted what first second (ids_word kind) it
 named_data accepted guest what (findings.ShownToOther setter lister least) =

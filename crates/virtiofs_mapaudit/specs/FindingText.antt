@@ -1,15 +1,17 @@
 -- What is printed of a finding.
-use Rattle.std.specs.Prelude.{ℕ, ◌+◌, Bool, true, false, ◌||◌, if◌then◌else◌, List, [], ◌∷◌, ◌++◌, codes, flat_map, Option, Some, None}
+use Rattle.std.specs.Prelude.{ℕ, ◌+◌, ◌==◌, Bool, true, false, ◌||◌, if◌then◌else◌, List, [], ◌∷◌, ◌++◌, codes, flat_map, Option, Some, None}
 use Rattle.std.specs.Fmt.{decimal}
 use Rattle.virtiofs_map.specs.Names.{begins}
 use Rattle.virtiofs_map.specs.declared.audit.answer.Audit.{Audit}
 use Rattle.virtiofs_map.specs.declared.audit.answer.Audit.TheVariants.{Yes, No}
 use Rattle.virtiofs_map.specs.declared.id_audit.spans.Span.{Span}
+use Rattle.virtiofs_mapaudit.specs.AclNames.{acl_bytes}
 use Rattle.virtiofs_mapaudit.specs.Lists.{joined}
 use Rattle.virtiofs_mapaudit.specs.ExtentText.{is_one, extent_text}
 use Rattle.virtiofs_mapaudit.specs.KindWords.{one_of}
+use Rattle.virtiofs_mapaudit.specs.KindWords.{ranging}
 use Rattle.virtiofs_mapaudit.specs.RangeText.{range_text}
-use Rattle.virtiofs_output.specs.Written.{quoted}
+use Rattle.virtiofs_output.specs.Written.{written, quoted}
 use Rattle.virtiofs_mapaudit.specs.declared.audit.Part.{Part}
 use Rattle.virtiofs_mapaudit.specs.declared.finding.Finding.{Finding}
 use Rattle.virtiofs_mapaudit.specs.declared.finding.Finding.TheVariants as findings
@@ -17,6 +19,7 @@ use Rattle.virtiofs_mapaudit.specs.declared.ids.found.IdFault.{IdFault}
 use Rattle.virtiofs_mapaudit.specs.declared.ids.found.IdFault.TheVariants as of_ids
 use Rattle.virtiofs_mapaudit.specs.declared.ids.found.IdsFound.{IdsFound}
 use Rattle.virtiofs_mapaudit.specs.declared.ids.kind.IdKind.{IdKind}
+use Rattle.virtiofs_mapaudit.specs.declared.names.acl.AclName.{AclName}
 use Rattle.virtiofs_mapaudit.specs.declared.names.found.LeastName.{LeastName}
 
 -- ---- ids
@@ -87,19 +90,40 @@ root_text users groups = either_text users groups ++ acting_text (is_one_of user
 abbrev pub failing_text : List ℕ → List Span → List ℕ
 failing_text one ids = joined (codes "calls with " ∷ extent_text one ids ∷ codes " fail: " ∷ [])
 
+-- why calls with an id fail that becomes that one
+abbrev pub lack_why : ℕ → List ℕ
+lack_why host =
+    if host == 4294967295 then codes ", which is no id to Linux\n"
+    else codes ", which the daemon's namespace does not have\n"
+
 -- that the namespace lacks what an id becomes
 abbrev pub lack_text : List ℕ → ℕ → ℕ → List ℕ
 lack_text one guest host =
-    joined (one ∷ codes " " ∷ decimal guest ∷ codes " becomes " ∷ one ∷ codes " " ∷ decimal host ∷ codes ", which the daemon's namespace does not have\n" ∷ [])
+    joined (one ∷ codes " " ∷ decimal guest ∷ codes " becomes " ∷ one ∷ codes " " ∷ decimal host ∷ lack_why host ∷ [])
 
 -- ids that become some which the namespace of the daemon lacks
 abbrev pub lacking_text : {A : Type 0} → List ℕ → IdsFound A → List ℕ
 lacking_text one it = failing_text one it.ids.items ++ lack_text one it.guest it.host
 
+-- which ids keep their number
+abbrev pub keepers_text : List ℕ → List Span → List ℕ
+keepers_text one ids =
+    joined (extent_text one ids ∷ codes " " ∷ verb ids (codes "keeps its") (codes "keep their") ∷ codes " number without a specification: " ∷ [])
+
+-- which id of the host an id is
+abbrev pub is_text : List ℕ → ℕ → ℕ → List ℕ
+is_text one guest host =
+    joined (one ∷ codes " " ∷ decimal guest ∷ codes " is " ∷ one ∷ codes " " ∷ decimal host ∷ codes " of the host\n" ∷ [])
+
+-- ids that keep their number, and the least of them
+abbrev pub kept_text : {A : Type 0} → List ℕ → IdsFound A → List ℕ
+kept_text one it = keepers_text one it.ids.items ++ is_text one it.guest it.host
+
 -- what is wrong with ids of a guest, whose daemon may run in a namespace
 abbrev pub ids_text : {A : Type 0} → IdKind → Bool → IdFault → IdsFound A → List ℕ
 ids_text kind in_namespace of_ids.NotBack it = not_back_text (one_of kind) (whereabouts in_namespace) it
 ids_text kind in_namespace of_ids.Lacking it = lacking_text (one_of kind) it
+ids_text kind in_namespace of_ids.Kept it = kept_text (one_of kind) it
 
 -- that two guests reach the same ids of the host, and by which ids the first one does
 abbrev pub both_text : List ℕ → ℕ → ℕ → List Span → List ℕ
@@ -156,18 +180,35 @@ abbrev pub reached_text : {A : Type 0} → ℕ → ℕ → LeastName A → List 
 reached_text first second least =
     joined (codes "guest " ∷ decimal first ∷ codes " reaches an attribute of the host by the name " ∷ least_text least ∷ codes ", and guest " ∷ decimal second ∷ codes " reaches it too\n" ∷ [])
 
+-- a name that passes as another one, which Linux does not take for an access control list
+abbrev pub renamed_text : List ℕ → List ℕ → List ℕ
+renamed_text name host =
+    joined (codes "with --posix-acl, '" ∷ written name ∷ codes "' becomes '" ∷ written host ∷ codes "', which Linux does not take for an ACL\n" ∷ [])
+
+-- a name of an access control list that passes as another one
+abbrev pub acl_text : AclName → List ℕ → List ℕ
+acl_text name host = renamed_text (acl_bytes name) host
+
+-- the kernel shows other ranges than those of the option
+abbrev pub other_ranges_text : List ℕ → List ℕ
+other_ranges_text option =
+    joined (codes "the kernel shows other ranges than " ∷ option
+    ∷ codes " gives, and those of the kernel count here\n" ∷ [])
+
 -- ---- findings
 
 -- what is printed of a finding. Guests and rules are counted from 1
 abbrev pub finding_text : {A : Type 0} → Finding A → List ℕ
 finding_text findings.PosixAcl = codes "--posix-acl does not go with --translate-uid or --translate-gid: the daemon does not start\n"
 finding_text (findings.Range kind range) = range_text kind range
+finding_text (findings.OtherRanges kind) = other_ranges_text (ranging kind)
 finding_text (findings.Ids kind in_namespace fault it) = ids_text kind in_namespace fault it
 finding_text (findings.Root users groups) = root_text users groups
 finding_text findings.NoRule = codes "some names have no rule: calls with them fail\n"
 finding_text (findings.NotListed least) = joined (codes "the guest can set the name " ∷ least_text least ∷ codes ", but lists do not show it\n" ∷ [])
 finding_text (findings.ListedElsewhere least) = joined (codes "lists show the host's attribute " ∷ least_text least ∷ codes " under a name by which the guest does not reach it\n" ∷ [])
 finding_text (findings.IdleRule place) = idle_text place
+finding_text (findings.AclRenamed name host) = acl_text name host.items
 finding_text (findings.IdsOfBoth first second kind it) = met_text (one_of kind) first second it
 finding_text (findings.ShownToOther setter lister least) = shown_text setter lister least
 finding_text (findings.NameOfBoth first second least) = reached_text first second least

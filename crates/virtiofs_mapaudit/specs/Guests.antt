@@ -1,5 +1,5 @@
 -- What the texts of the options of a guest set up.
-use Rattle.std.specs.Prelude.{◌≡◌, ◌≢◌, ◌⊎◌, ◌↔◌, ℕ, List, [], Contains, IsTrue, Option, Some, None}
+use Rattle.std.specs.Prelude.{◌≡◌, ◌≢◌, ◌⊎◌, ◌↔◌, ℕ, Bool, ◌||◌, List, [], Contains, length, nat_lt, IsTrue, Option, Some, None, option_map}
 use Rattle.std.specs.Borrow.{Bor}
 use Rattle.std.specs.List.{AllZip}
 use Rattle.std.specs.Str.{chars}
@@ -11,6 +11,8 @@ use Rattle.virtiofs_map.specs.Specifications.{texts_of, AllSay, SpecsFault, HasS
 use Rattle.virtiofs_map.specs.declared.cmdline.IdMap.{IdMap}
 use Rattle.virtiofs_map.specs.declared.idmap.UidMap.{UidMap}
 use Rattle.virtiofs_options.specs.declared.guest.Guest.{Guest}
+use Rattle.virtiofs_process.specs.declared.runner.Bounds.{Bounds}
+use Rattle.virtiofs_mapaudit.specs.Ranges.{FindsFault, Differ, own_of, ranges_of}
 use Rattle.virtiofs_mapaudit.specs.declared.setup.IdSetUp.{IdSetUp}
 use Rattle.virtiofs_mapaudit.specs.declared.setup.NamesSetUp.{NamesSetUp}
 use Rattle.virtiofs_mapaudit.specs.declared.setup.SetUp.{SetUp}
@@ -41,10 +43,30 @@ abbrev pub ReadsRanges : List (List ℕ) → Option (List UidMap) → Type 0
 ReadsRanges texts (Some ranges) = AllZip SaysRange texts ranges
 ReadsRanges texts None = RefusesRanges texts
 
+-- the namespace that the daemon runs in, by the ranges of its options and by who runs it; what is wrong with these ranges
+pub record RunsIn {A : Type 0} (bounds : Option (Bounds A)) (sets_up : Bool) (set : IdSetUp A) : Type 0 where
+  pub ranges : set.ranges.items ≡ ranges_of bounds sets_up set.written.items
+  pub fault : FindsFault bounds set.written.items set.fault
+  pub differs : IsTrue set.differs ↔ Differ bounds set.written.items
+
+-- what bounds the users and the groups of the daemon of a guest, if it is said who runs it
+abbrev pub users_of : {A : Type 0} → Guest A → Option (Bounds A)
+users_of guest = option_map (λ runner. runner.now.users) guest.runner
+
+abbrev pub groups_of : {A : Type 0} → Guest A → Option (Bounds A)
+groups_of guest = option_map (λ runner. runner.now.groups) guest.runner
+
+-- the daemon sets up a namespace: it has ranges of users or of groups, or it is not root who starts it
+abbrev pub sets_up_namespace : {A : Type 0} → Guest A → Bool
+sets_up_namespace guest =
+    nat_lt 0 (length guest.uid_map.items) || nat_lt 0 (length guest.gid_map.items) || nat_lt 0 (own_of (users_of guest))
+
 -- what the texts set up for ids of a kind; nothing where one of them is refused
-abbrev pub ReadsIds : {A : Type 0} → List (List ℕ) → List (List ℕ) → Option (IdSetUp A) → Type 0
-ReadsIds texts ranges (Some set) = AllSay texts set.map × Accepted set.map × AllZip SaysRange ranges set.ranges.items
-ReadsIds texts ranges None = RefusesSpecs texts ⊎ RefusesRanges ranges
+abbrev pub ReadsIds : {A : Type 0} → Option (Bounds A) → Bool → List (List ℕ) → List (List ℕ) → Option (IdSetUp A) → Type 0
+ReadsIds bounds sets_up texts ranges (Some set) =
+    AllSay texts set.map × Accepted set.map × AllZip SaysRange ranges set.written.items × RunsIn bounds sets_up set
+    × (set.specs.items ≡ set.map)
+ReadsIds bounds sets_up texts ranges None = RefusesSpecs texts ⊎ RefusesRanges ranges
 
 -- the rules that the text says, and how many are written
 abbrev pub ReadsText : {A : Type 0} → List ℕ → NamesSetUp A → Type 0
@@ -62,9 +84,12 @@ Translates guest = (guest.translate_uid.items ≢ []) ⊎ (guest.translate_gid.i
 
 -- what the options of the daemon of a guest set up
 pub record SetsUp {A : Type 0} (guest : Guest A) (set : SetUp A) : Type 0 where
-  pub users : ReadsIds (texts_of guest.translate_uid.items) (texts_of guest.uid_map.items) set.users
-  pub groups : ReadsIds (texts_of guest.translate_gid.items) (texts_of guest.gid_map.items) set.groups
+  pub users : ReadsIds (users_of guest) (sets_up_namespace guest) (texts_of guest.translate_uid.items)
+      (texts_of guest.uid_map.items) set.users
+  pub groups : ReadsIds (groups_of guest) (sets_up_namespace guest) (texts_of guest.translate_gid.items)
+      (texts_of guest.gid_map.items) set.groups
   pub names : ReadsNames guest.xattrmap set.names
+  pub acl : set.posix_acl ≡ guest.posix_acl
   pub lists : IsTrue set.translates_lists ↔ (IsTrue guest.posix_acl × Translates guest)
 
 -- some text of the guest is refused

@@ -1,8 +1,10 @@
 -- What an audit of the ids of users, or of groups, finds.
-use Rattle.std.specs.Prelude.{◌↔◌, ℕ, IsTrue, List, Option, Some, None}
+use Rattle.std.specs.Prelude.{◌≡◌, ◌↔◌, ℕ, ◌<◌, Bool, true, false, IsTrue, List, Option, Some, None}
 use Rattle.virtiofs_map.specs.IdAudit.{IsLeastId, GoesTo, WanderTo, IsAstray, GoesInto, Hold, AreRuns}
 use Rattle.virtiofs_map.specs.declared.cmdline.IdMap.{IdMap}
+use Rattle.virtiofs_map.specs.declared.soft_idmap.entry.Direction.TheVariants.{GuestToHost}
 use Rattle.virtiofs_map.specs.declared.idmap.UidMap.{UidMap}
+use Rattle.virtiofs_mapaudit.specs.ExplainIds.{CoversNone}
 use Rattle.virtiofs_mapaudit.specs.Namespace.{IsLacking, IsRoot, StandsFor}
 use Rattle.virtiofs_mapaudit.specs.declared.ids.found.IdsFound.{IdsFound}
 use Rattle.virtiofs_mapaudit.specs.declared.ids.found.IdFindings.{IdFindings}
@@ -41,6 +43,22 @@ ActAsRoot specs ranges = FindsAll (GoesInto specs (IsRoot ranges)) (TellsHost sp
 pub record FindsIds {A : Type 0} (specs : List IdMap) (ranges : List UidMap) (found : IdFindings A) : Type 0 where
   pub astray : FindsAll (IsAstrayBut specs (IsLacking ranges)) (TellsAstray specs) found.astray
   pub lacking : FindsAll (GoesInto specs (IsLacking ranges)) (TellsHost specs) found.lacking
+
+-- an id of the guest that no specification covers, and that is, outside the namespace of these ranges, the id of the
+-- host of the same number
+pub record IsKept (specs : List IdMap) (ranges : List UidMap) (guest : ℕ) : Type 0 where
+  pub is_id : guest < 4294967295
+  pub uncovered : CoversNone specs GuestToHost guest
+  pub same : StandsFor ranges guest guest
+
+-- it is told as the id of the host of its number
+abbrev pub TellsKept : {A : Type 0} → IdsFound A → Type 0
+TellsKept it = it.host ≡ it.guest
+
+-- if guests are to act only as ids that their specifications map: all ids that keep their number; and else nothing
+abbrev pub FindsKept : {A : Type 0} → Bool → List IdMap → List UidMap → Option (IdsFound A) → Type 0
+FindsKept true specs ranges found = FindsAll (IsKept specs ranges) TellsKept found
+FindsKept false specs ranges found = found ≡ None
 
 -- some id of the guest is that id of the host, outside the namespace of these ranges
 abbrev pub ReachedOutside : List IdMap → List UidMap → ℕ → Type 0

@@ -1,8 +1,16 @@
 pub mod Accepted
+pub mod AclNames
+pub mod AclParts
 pub mod Advice
 pub mod AdviceText
 pub mod AlikeGuests
 pub mod Drawing
+pub mod Explain
+pub mod ExplainIdText
+pub mod ExplainIds
+pub mod ExplainNameText
+pub mod ExplainNames
+pub mod ExplainQuestion
 pub mod ExtentText
 pub mod FindingJson
 pub mod FindingKinds
@@ -11,6 +19,7 @@ pub mod Guests
 pub mod IdFindings
 pub mod IdJson
 pub mod IdTable
+pub mod KeptParts
 pub mod KindWords
 pub mod Lists
 pub mod NameFindings

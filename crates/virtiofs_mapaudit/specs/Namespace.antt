@@ -1,5 +1,5 @@
 -- The user namespace that a daemon runs in: which ids inside it stand for which ids outside it.
-use Rattle.std.specs.Prelude.{◌≡◌, ℕ, ◌+◌, ◌-◌, ◌≤◌, List, [], ◌∷◌, Contains}
+use Rattle.std.specs.Prelude.{◌≡◌, ◌⊎◌, ℕ, ◌+◌, ◌-◌, ◌≤◌, List, [], ◌∷◌, Contains}
 use Rattle.virtiofs_map.specs.Mapping.{InRange}
 use Rattle.virtiofs_map.specs.declared.idmap.UidMap.{UidMap}
 
@@ -11,10 +11,14 @@ Has range inside = InRange range.inside_uid range.count inside
 abbrev pub HasSome : List UidMap → ℕ → Type 0
 HasSome ranges inside = (range : UidMap) × Contains ranges range × Has range inside
 
--- with ranges, the namespace lacks the ids, of 0 to 4294967295, that none of them has; without, it lacks none
+-- no range has the id, which is one of 0 to 4294967295
+abbrev pub HasNone : List UidMap → ℕ → Type 0
+HasNone ranges inside = (inside ≤ 4294967295) × (¬ HasSome ranges inside)
+
+-- each namespace lacks 4294967295, which is no id to Linux; one of ranges also lacks the ids that none of them has
 abbrev pub IsLacking : List UidMap → ℕ → Type 0
-IsLacking [] inside = ⊥
-IsLacking (range ∷ ranges) inside = (inside ≤ 4294967295) × (¬ HasSome (range ∷ ranges) inside)
+IsLacking [] inside = inside ≡ 4294967295
+IsLacking (range ∷ ranges) inside = (inside ≡ 4294967295) ⊎ HasNone (range ∷ ranges) inside
 
 -- outside the namespace, the id inside is that other one, by the range
 pub record StandsBy (range : UidMap) (outside inside : ℕ) : Type 0 where

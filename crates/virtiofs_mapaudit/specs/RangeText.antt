@@ -5,7 +5,7 @@ use Rattle.virtiofs_mapaudit.specs.Lists.{joined}
 use Rattle.virtiofs_mapaudit.specs.Ordinal.{ordinal}
 use Rattle.virtiofs_mapaudit.specs.declared.ids.kind.IdKind.{IdKind}
 use Rattle.virtiofs_mapaudit.specs.declared.ids.ranges.RangeFault.{RangeFault}
-use Rattle.virtiofs_mapaudit.specs.declared.ids.ranges.RangeFault.TheVariants.{Empty, Beyond, TooMany, PastPage, MeetsInside, MeetsOutside}
+use Rattle.virtiofs_mapaudit.specs.declared.ids.ranges.RangeFault.TheVariants.{Empty, Beyond, TooMany, PastPage, NotGiven, MeetsInside, MeetsOutside}
 use Rattle.virtiofs_mapaudit.specs.declared.ids.ranges.RangeFound.{RangeFound}
 
 -- the option at that place, counted from 0, as `the second --uid-map`
@@ -18,6 +18,7 @@ fault_text option Empty = codes " has no id\n"
 fault_text option Beyond = codes " reaches past the greatest id, 4294967294\n"
 fault_text option TooMany = codes " is one too many: Linux takes 340\n"
 fault_text option PastPage = codes " is too much: Linux takes less than 4096 bytes of them\n"
+fault_text option NotGiven = codes " has ids that the user may not give to a namespace: the daemon does not start\n"
 fault_text option (MeetsInside place) = joined (codes " overlaps " ∷ place_text place option ∷ codes " inside the namespace\n" ∷ [])
 fault_text option (MeetsOutside place) = joined (codes " overlaps " ∷ place_text place option ∷ codes " outside the namespace\n" ∷ [])
 

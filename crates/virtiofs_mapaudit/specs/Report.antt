@@ -5,21 +5,20 @@ use Rattle.std.specs.Borrow.{Bor}
 use Rattle.std.specs.List.{AllZip}
 use Rattle.std.specs.declared.vec.Vec.{Vec}
 use Rattle.virtiofs_mapaudit.specs.Accepted.{AreSorted}
-use Rattle.virtiofs_mapaudit.specs.IdFindings.{FindsIds, ActAsRoot}
+use Rattle.virtiofs_mapaudit.specs.AclNames.{FindsAcl}
+use Rattle.virtiofs_mapaudit.specs.IdFindings.{FindsIds, FindsKept, ActAsRoot}
 use Rattle.virtiofs_mapaudit.specs.Lists.{AnyHas, listed, if_so}
 use Rattle.virtiofs_mapaudit.specs.NameFindings.{FindsNames}
 use Rattle.virtiofs_mapaudit.specs.PairFindings.{FindsPair}
-use Rattle.virtiofs_mapaudit.specs.Ranges.{FindsFault}
 use Rattle.virtiofs_mapaudit.specs.declared.audit.Part.{Part}
 use Rattle.virtiofs_mapaudit.specs.declared.audit.Report.{Report}
 use Rattle.virtiofs_mapaudit.specs.declared.finding.Finding.{Finding}
-use Rattle.virtiofs_mapaudit.specs.declared.finding.Finding.TheVariants.{PosixAcl, Range, Ids, Root}
-use Rattle.virtiofs_mapaudit.specs.declared.ids.found.IdFault.TheVariants.{NotBack, Lacking}
+use Rattle.virtiofs_mapaudit.specs.declared.finding.Finding.TheVariants.{PosixAcl, Range, OtherRanges, Ids, Root}
+use Rattle.virtiofs_mapaudit.specs.declared.ids.found.IdFault.TheVariants.{NotBack, Lacking, Kept}
 use Rattle.virtiofs_mapaudit.specs.declared.ids.found.IdFindings.{IdFindings}
 use Rattle.virtiofs_mapaudit.specs.declared.ids.found.IdsFound.{IdsFound}
 use Rattle.virtiofs_mapaudit.specs.declared.ids.kind.IdKind.{IdKind}
 use Rattle.virtiofs_mapaudit.specs.declared.ids.kind.IdKind.TheVariants.{Users, Groups}
-use Rattle.virtiofs_mapaudit.specs.declared.ids.ranges.RangeFound.{RangeFound}
 use Rattle.virtiofs_mapaudit.specs.declared.setup.IdSetUp.{IdSetUp}
 use Rattle.virtiofs_mapaudit.specs.declared.setup.NamesSetUp.{NamesSetUp}
 use Rattle.virtiofs_mapaudit.specs.declared.setup.SetUp.{SetUp}
@@ -34,15 +33,17 @@ abbrev pub ids_found : {A : Type 0} → IdKind → Bool → IdFindings A → Lis
 ids_found kind in_namespace ids =
     listed (Ids kind in_namespace NotBack) ids.astray ++ listed (Ids kind in_namespace Lacking) ids.lacking
 
--- what is found of ids of one kind
-pub record FindsKind {A : Type 0} (kind : IdKind) (set : IdSetUp A) (found : List (Finding A)) : Type 0 where
-  pub range : Option RangeFound
+-- what is found of ids of one kind, where guests are isolated or not
+pub record FindsKind {A : Type 0} (isolated : Bool) (kind : IdKind) (set : IdSetUp A) (found : List (Finding A)) : Type
+    0 where
   pub ids : IdFindings A
+  pub kept : Option (IdsFound A)
   pub in_namespace : Bool
-  pub finds_range : FindsFault set.ranges.items range
   pub finds_ids : FindsIds set.map set.ranges.items ids
+  pub finds_kept : FindsKept isolated set.specs.items set.ranges.items kept
   pub namespace : IsTrue in_namespace ↔ (set.ranges.items ≢ [])
-  pub whole : found ≡ listed (Range kind) range ++ ids_found kind in_namespace ids
+  pub whole : found ≡ listed (Range kind) set.fault ++ if_so set.differs (OtherRanges kind) ++ ids_found kind in_namespace ids
+      ++ listed (Ids kind in_namespace Kept) kept
 
 -- ids of one kind that act as root of the host; none where a text for them is refused
 abbrev pub FindsRootOf : {A : Type 0} → Option (IdSetUp A) → Option (IdsFound A) → Type 0
@@ -68,21 +69,25 @@ abbrev pub FindsNamesOf : {A : Type 0} → NamesSetUp A → List (Finding A) →
 FindsNamesOf set = FindsNames set.map set.written
 
 -- what is found of a guest by itself, in order
-pub record FindsGuest {A : Type 0} (set : SetUp A) (found : Vec (Finding A) A) : Type 0 where
+pub record FindsGuest {A : Type 0} (isolated : Bool) (set : SetUp A) (found : Vec (Finding A) A) : Type 0 where
   pub of_users : List (Finding A)
   pub of_groups : List (Finding A)
   pub of_root : List (Finding A)
   pub of_names : List (Finding A)
-  pub users : FindsIf (FindsKind Users) set.users of_users
-  pub groups : FindsIf (FindsKind Groups) set.groups of_groups
+  pub of_acl : List (Finding A)
+  pub users : FindsIf (FindsKind isolated Users) set.users of_users
+  pub groups : FindsIf (FindsKind isolated Groups) set.groups of_groups
   pub root : FindsRoot set of_root
   pub names : FindsIf FindsNamesOf set.names of_names
+  pub acl : FindsAcl set.posix_acl set.names of_acl
   pub whole : found.items ≡ if_so set.translates_lists PosixAcl ++ of_users ++ of_groups ++ of_root ++ of_names
+      ++ of_acl
 
 -- what is found of a guest by itself, of which some is accepted
-pub record FindsPart {A : Type 0} (accepted : List (Bor (List ℕ))) (set : SetUp A) (part : Part A) : Type 0 where
+pub record FindsPart {A : Type 0} (isolated : Bool) (accepted : List (Bor (List ℕ))) (set : SetUp A) (part : Part A)
+    : Type 0 where
   pub all : Vec (Finding A) A
-  pub finds : FindsGuest set all
+  pub finds : FindsGuest isolated set all
   pub sorted : AreSorted accepted all.items part.found.items part.accepted.items
 
 -- what is found between the two guests of these numbers, counted from 1, of which the first is the lesser
@@ -110,10 +115,10 @@ AreNumbered number [] = ⊤
 AreNumbered number (part ∷ parts) =
     (part.first ≡ number) × (part.second ≡ number) × AreNumbered (number + 1) parts
 
--- what is found of each guest by itself, and between each two
-pub record FindsReport {A : Type 0} (accepted : List (Bor (List ℕ))) (sets : List (SetUp A)) (report : Report A) : Type
-    0 where
-  pub guests : AllZip (FindsPart accepted) sets report.guests.items
+-- what is found of each guest by itself, and between each two; whether guests are isolated, is the same for all
+pub record FindsReport {A : Type 0} (isolated : Bool) (accepted : List (Bor (List ℕ))) (sets : List (SetUp A))
+    (report : Report A) : Type 0 where
+  pub guests : AllZip (FindsPart isolated accepted) sets report.guests.items
   pub numbers : AreNumbered 1 report.guests.items
   pub pairs : All (IsPairOf accepted sets) report.pairs.items
   pub each_two : (place place_2 : ℕ) → place < place_2 → place_2 < length sets

@@ -17,6 +17,7 @@ use Rattle.virtiofs_mapaudit.specs.ReportJson.{IsJson}
 use Rattle.virtiofs_mapaudit.specs.SummaryText.{SumsUp}
 use Rattle.virtiofs_mapaudit.specs.declared.advice.Advised.{Advised}
 use Rattle.virtiofs_mapaudit.specs.declared.alike.Alike.{Alike}
+use Rattle.virtiofs_mapaudit.specs.declared.audit.Audited.{Audited}
 use Rattle.virtiofs_mapaudit.specs.declared.audit.Part.{Part}
 use Rattle.virtiofs_mapaudit.specs.declared.audit.Report.{Report}
 use Rattle.virtiofs_mapaudit.specs.declared.audit.Said.{Said}
@@ -134,43 +135,47 @@ pub record IsPlain {A : Type 0} (asked : Asked) (guests : List (Guest A)) (sets 
   pub whole : text ≡ of_guests ++ parts_text (likes_of guests) report.pairs.items
       ++ closing is_found has_accepted refusals advised
 
--- what is written of the guests, where findings of kinds with these names are accepted: exactly the others count. With
--- `quiet` the text is empty
+-- what is set up, found and refused of the guests, where findings of kinds with these names are accepted: exactly the
+-- others count
+pub record Audits (isolated : Bool) (accepted : List (Bor (List ℕ))) (guests : List (Guest Global)) (all : Audited) : Type
+    0 where
+  pub sets_up : AllZip SetsUp guests all.sets.items
+  pub finds : FindsReport isolated accepted all.sets.items all.report
+  pub found : IsTrue all.is_found ↔ IsFound all.report
+  pub refused : (all.refusals.items ≢ []) ↔ IsSomeRefused guests all.sets.items
+  pub refusals : TellsGuests 1 guests all.refusals.items
+
+-- what is written of the guests. With `quiet` the text is empty
 pub record Says (asked : Asked) (accepted : List (Bor (List ℕ))) (guests : List (Guest Global)) (said : Said) : Type
     0 where
-  pub sets : List (SetUp Global)
-  pub report : Report Global
+  pub all : Audited
   pub advised : Option (Advised Global)
-  pub sets_up : AllZip SetsUp guests sets
-  pub finds : FindsReport accepted sets report
-  pub found : IsTrue said.is_found ↔ IsFound report
-  pub refused : (said.refusals.items ≢ []) ↔ IsSomeRefused guests sets
-  pub refusals : TellsGuests 1 guests said.refusals.items
-  pub advice : IfSome advised (IsAdvice accepted report)
+  pub audits : Audits asked.isolated accepted guests all
+  pub found : said.is_found ≡ all.is_found
+  pub refusals : said.refusals ≡ all.refusals
+  pub advice : IfSome advised (IsAdvice asked.isolated accepted all.report)
   pub none_advised : (said.refusals.items ≢ []) → advised ≡ None
   pub quiet : IsTrue asked.quiet → string_bytes said.text ≡ []
   pub plain : IsFalse asked.quiet → IsFalse asked.json
-      → IsPlain asked guests sets report said.is_found said.refusals.items advised (string_bytes said.text)
+      → IsPlain asked guests all.sets.items all.report said.is_found said.refusals.items advised (string_bytes said.text)
   pub json : IsFalse asked.quiet → IsTrue asked.json
-      → IsJson asked sets report said.refusals.items advised (string_bytes said.text)
+      → IsJson asked all.sets.items all.report said.refusals.items advised (string_bytes said.text)
 
 -- the options that the guests have, and what is found with them; or options that are advised, and what is left then
-abbrev pub IsBest : List (Bor (List ℕ)) → List (Guest Global) → Report Global → List (Guest Global) → Report Global → Type 0
-IsBest accepted guests report best left =
-    ((best ≡ guests) × (left ≡ report)) ⊎ (IsAudited accepted best [] left × IsBetter left report)
+abbrev pub IsBest : Bool → List (Bor (List ℕ)) → List (Guest Global) → Report Global → List (Guest Global) → Report Global → Type 0
+IsBest isolated accepted guests report best left =
+    ((best ≡ guests) × (left ≡ report)) ⊎ (IsAudited isolated accepted best [] left × IsBetter left report)
 
 -- what is written of the guests where options alone are asked for: nothing where a text is refused, and else the best
 -- options; then what is found is what is found with these
-pub record SaysMended (accepted : List (Bor (List ℕ))) (guests : List (Guest Global)) (said : Said) : Type 0 where
-  pub sets : List (SetUp Global)
-  pub report : Report Global
+pub record SaysMended (isolated : Bool) (accepted : List (Bor (List ℕ))) (guests : List (Guest Global)) (said : Said)
+    : Type 0 where
+  pub all : Audited
   pub best : List (Guest Global)
   pub left : Report Global
-  pub sets_up : AllZip SetsUp guests sets
-  pub finds : FindsReport accepted sets report
-  pub refused : (said.refusals.items ≢ []) ↔ IsSomeRefused guests sets
-  pub refusals : TellsGuests 1 guests said.refusals.items
+  pub audits : Audits isolated accepted guests all
+  pub refusals : said.refusals ≡ all.refusals
   pub nothing : (said.refusals.items ≢ []) → string_bytes said.text ≡ []
-  pub is_best : IsBest accepted guests report best left
+  pub is_best : IsBest isolated accepted guests all.report best left
   pub text : said.refusals.items ≡ [] → string_bytes said.text ≡ mend_text best
   pub found : said.refusals.items ≡ [] → IsTrue said.is_found ↔ IsFound left

@@ -49,16 +49,19 @@ pub(crate) fn part_of<A: Allocator + Copy>(
 }
 
 /// One kind of each name.
-const KINDS: [FindingKind; 12] = [
+const KINDS: [FindingKind; 15] = [
     FindingKind::Root,
     FindingKind::Ids(IdKind::Users, IdFault::NotBack),
     FindingKind::Ids(IdKind::Users, IdFault::Lacking),
+    FindingKind::Ids(IdKind::Users, IdFault::Kept),
     FindingKind::Range(IdKind::Users),
+    FindingKind::OtherRanges(IdKind::Users),
     FindingKind::PosixAcl,
     FindingKind::NoRule,
     FindingKind::NotListed,
     FindingKind::ListedElsewhere,
     FindingKind::IdleRule,
+    FindingKind::AclRenamed,
     FindingKind::IdsOfBoth(IdKind::Users),
     FindingKind::ShownToSecond,
     FindingKind::NameOfBoth,
@@ -84,7 +87,7 @@ fn accept_sentence(alloc: Global, text: &str) -> Result<String, AllocError>
 {
     let value = shown(alloc, text)?;
     format!(in alloc;
-        "'--accept' has no value {value}: it has 'root', 'not_back', 'lacking', 'range', 'posix_acl', 'no_rule', 'not_listed', 'listed_elsewhere', 'idle_rule', 'id_of_both', 'shown_to_other' and 'name_of_both'\n"
+        "'--accept' has no value {value}: it has 'root', 'not_back', 'lacking', 'kept', 'range', 'other_ranges', 'posix_acl', 'no_rule', 'not_listed', 'listed_elsewhere', 'idle_rule', 'acl_renamed', 'id_of_both', 'shown_to_other' and 'name_of_both'\n"
     )
 }
 

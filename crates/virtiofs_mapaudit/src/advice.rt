@@ -20,9 +20,11 @@ use options::{Options, guest_of};
 use std::alloc::{AllocError, Allocator};
 use virtiofs_options::guest::Guest;
 
-/// Options that are tried in place of those of each guest, of whom that was found, if any are to be.
+/// Options that are tried in place of those of each guest, isolated or not, of whom that was found, if
+/// any are to be.
 pub(crate) fn options_of<'a, A: Allocator + Copy>(
     alloc: A,
+    isolated: bool,
     tries: bool,
     guests: &[Guest<'a, A>],
     sets: &[SetUp<A>],
@@ -36,7 +38,7 @@ pub(crate) fn options_of<'a, A: Allocator + Copy>(
     }
     for place in 0..guests.len() {
         let part = report.guests.as_slice().get(place);
-        all.push(mended_options(alloc, &guests[place], &sets[place], part)?)?;
+        all.push(mended_options(alloc, isolated, &guests[place], &sets[place], part)?)?;
     }
     Ok(all)
 }
@@ -66,21 +68,24 @@ pub(crate) struct Advised<'a, A: Allocator> {
     pub(crate) has_accepted: bool,
 }
 
-/// Tries guests with other options, in place of those with which that was found before.
+/// Tries guests, isolated or not, with other options, in place of those with which that was found
+/// before.
 pub(crate) fn tried<'a, A: Allocator + Copy>(
     alloc: A,
+    isolated: bool,
     accepted: &[&str],
     guests: Vec<Guest<'a, A>, A>,
     before: &Report<A>,
 ) -> Result<Option<Advised<'a, A>>, AllocError>
-    ensures { IfOk result (λ advised. IfSome advised (IsAdvice accepted.now before.now)) }
+    ensures { IfOk result (λ advised. IfSome advised
+        (IsAdvice isolated accepted.now before.now)) }
 {
     let mut refusals = Vec::new(alloc);
     let sets = set_up_all(alloc, &mut refusals, guests.as_slice())?;
     if !refusals.as_slice().is_empty() {
         return Ok(None);
     }
-    let after = audit(alloc, accepted, sets.as_slice())?;
+    let after = audit(alloc, isolated, accepted, sets.as_slice())?;
     if !is_better(&after, before) {
         return Ok(None);
     }

@@ -1,9 +1,10 @@
 //! Guests with the same options. What is said of one of them is true of all, and is said once.
 ghost use Rattle.std.specs.Prelude.{◌≡◌, ◌<◌, ◌++◌, ◌∷◌, [], List, ℕ, IfOk, OnOk, string_bytes};
-ghost use Rattle.virtiofs_mapaudit.specs.AlikeGuests.{are_both, have_same_options, alike_of, alike_to, likes_of, is_first, is_second, is_told, numbers_text};
+ghost use Rattle.virtiofs_mapaudit.specs.AlikeGuests.{are_both, is_same_runner, have_same_options, alike_of, alone, alike_to, likes_of, is_first, is_second, is_told, numbers_text};
 
 use std::alloc::{AllocError, Allocator};
 use virtiofs_options::guest::Guest;
+use virtiofs_process::runner::Runner;
 
 /// The guests that have the same options as one of them.
 #[derive(Clone, Copy)]
@@ -23,7 +24,18 @@ fn are_both(one: bool, other: bool) -> bool
     if one { other } else { !other }
 }
 
-/// Whether two guests have the same options.
+/// Whether two guests have one runner, or none is said of both.
+fn is_same_runner<A: Allocator>(runner: Option<&Runner<A>>, other: Option<&Runner<A>>) -> bool
+    ensures { result ≡ is_same_runner runner.entry other.entry }
+{
+    match (runner, other) {
+        (None, None) => true,
+        (Some(runner), Some(other)) => runner.place == other.place,
+        _ => false,
+    }
+}
+
+/// Whether two guests have the same options, and one runner.
 fn have_same_options<A: Allocator>(guest: &Guest<'_, A>, other: &Guest<'_, A>) -> bool
     ensures { result ≡ have_same_options guest.now other.now }
 {
@@ -33,7 +45,8 @@ fn have_same_options<A: Allocator>(guest: &Guest<'_, A>, other: &Guest<'_, A>) -
     let of_groups = guest.gid_map.as_slice() == other.gid_map.as_slice();
     let rules = guest.xattrmap == other.xattrmap;
     let lists = are_both(guest.posix_acl, other.posix_acl);
-    users && groups && of_users && of_groups && rules && lists
+    let runner = is_same_runner(guest.runner, other.runner);
+    users && groups && of_users && of_groups && rules && lists && runner
 }
 
 /// These guests, and one more of a greater number.
@@ -63,6 +76,17 @@ fn with_one(alike: Alike, number: usize) -> Alike
             second,
             count: count + 1,
         },
+    }
+}
+
+/// One guest by itself.
+pub(crate) fn alone(number: usize) -> Alike
+    ensures { result ≡ alone number }
+{
+    Alike {
+        first: number,
+        second: number,
+        count: 1,
     }
 }
 

@@ -10,7 +10,7 @@ ghost use Rattle.virtiofs_mapaudit.specs.Refusals.{TellsGuests};
 ghost use Rattle.virtiofs_mapaudit.specs.Report.{FindsReport, IsFound, IsFoundIn, HasAccepted, HasAcceptedIn};
 ghost use Rattle.virtiofs_mapaudit.specs.ReportJson.{IsJson};
 ghost use Rattle.virtiofs_mapaudit.specs.ReportParts.{AddsPairs};
-ghost use Rattle.virtiofs_mapaudit.specs.Said.{Says, ShownIf, ShowsSet, ShowsKind, ShowsBothKinds, ShowsSomeNames, AreTables, SaysAlike, SaysAt, SaysGuests, part_text, parts_text, nothing_found, closing, IsPlain};
+ghost use Rattle.virtiofs_mapaudit.specs.Said.{Audits, Says, ShownIf, ShowsSet, ShowsKind, ShowsBothKinds, ShowsSomeNames, AreTables, SaysAlike, SaysAt, SaysGuests, part_text, parts_text, nothing_found, closing, IsPlain};
 
 use crate::accept::part_of;
 use crate::advice::text::push_advised;
@@ -63,6 +63,19 @@ pub(crate) struct Said {
     pub(crate) is_found: bool,
 }
 
+/// What the options of all guests set up, what is found, and what is refused.
+#[derive(Drop)]
+pub(crate) struct Audited {
+    /// What the options of each guest set up.
+    pub(crate) sets: Vec<SetUp<Global>>,
+    /// What is found.
+    pub(crate) report: Report<Global>,
+    /// Guest by guest, the first fault of each option that is refused.
+    pub(crate) refusals: Vec<Refusal<Global>>,
+    /// Whether anything is found that counts.
+    pub(crate) is_found: bool,
+}
+
 /// Compares a guest with each of those before it, and adds what is found.
 fn audit_pairs<A: Allocator + Copy>(
     alloc: A,
@@ -86,19 +99,20 @@ fn audit_pairs<A: Allocator + Copy>(
     Ok(())
 }
 
-/// What is found of guests by themselves and between each two, where findings of kinds with these
-/// names are accepted.
+/// What is found of guests, isolated or not, by themselves and between each two, where findings of
+/// kinds with these names are accepted.
 pub(crate) fn audit<A: Allocator + Copy>(
     alloc: A,
+    isolated: bool,
     accepted: &[&str],
     sets: &[SetUp<A>],
 ) -> Result<Report<A>, AllocError>
-    ensures { IfOk result (FindsReport accepted.now sets.now) }
+    ensures { IfOk result (FindsReport isolated accepted.now sets.now) }
 {
     let mut guests = Vec::new(alloc);
     let mut pairs = Vec::new(alloc);
     for place in 0..sets.len() {
-        let (number, all) = (place + 1, audit_guest(alloc, &sets[place])?);
+        let (number, all) = (place + 1, audit_guest(alloc, isolated, &sets[place])?);
         guests.push(part_of(alloc, accepted, number, number, all)?)?;
         audit_pairs(alloc, accepted, sets, place, &mut pairs)?;
     }
@@ -424,6 +438,28 @@ pub(crate) fn set_up_all<A: Allocator + Copy>(
     Ok(sets)
 }
 
+/// Sets up and audits all guests, isolated or not, where findings of kinds with these names are
+/// accepted.
+pub(crate) fn audit_all(
+    alloc: Global,
+    isolated: bool,
+    accepted: &[&str],
+    guests: &[Guest<'_, Global>],
+) -> Result<Audited, AllocError>
+    ensures { IfOk result (Audits isolated accepted.now guests.now) }
+{
+    let mut refusals = Vec::new(alloc);
+    let sets = set_up_all(alloc, &mut refusals, guests)?;
+    let report = audit(alloc, isolated, accepted, sets.as_slice())?;
+    let is_found = has_found(&report);
+    Ok(Audited {
+        sets,
+        report,
+        refusals,
+        is_found,
+    })
+}
+
 /// The text in the form that was asked for: nothing, JSON, or as it is.
 fn in_form(
     alloc: Global,
@@ -458,16 +494,18 @@ fn in_form(
 /// What is advised in place of the options with which that was found, if it is to be tried.
 fn advice<'a, A: Allocator + Copy>(
     alloc: A,
+    isolated: bool,
     accepted: &[&str],
     tries: bool,
     others: Vec<Guest<'a, A>, A>,
     report: &Report<A>,
 ) -> Result<Option<Advised<'a, A>>, AllocError>
-    ensures tried { IfOk result (λ advised. IfSome advised (IsAdvice accepted.now report.now)) }
+    ensures tried { IfOk result (λ advised. IfSome advised
+        (IsAdvice isolated accepted.now report.now)) }
     ensures untried { IsFalse tries → IfOk result (λ advised. advised ≡ None) }
 {
     if tries {
-        return tried(alloc, accepted, others, report);
+        return tried(alloc, isolated, accepted, others, report);
     }
     Ok(None)
 }
@@ -481,14 +519,18 @@ pub(crate) fn say(
 ) -> Result<Said, AllocError>
     ensures { IfOk result (Says asked accepted.now guests.now) }
 {
-    let mut refusals = Vec::new(alloc);
-    let sets = set_up_all(alloc, &mut refusals, guests)?;
-    let report = audit(alloc, accepted, sets.as_slice())?;
-    let is_found = has_found(&report);
+    let isolated = asked.isolated;
+    let all = audit_all(alloc, isolated, accepted, guests)?;
+    let Audited {
+        sets,
+        report,
+        refusals,
+        is_found,
+    } = all;
     let tries = is_found && !asked.quiet && refusals.as_slice().is_empty();
-    let options = options_of(alloc, tries, guests, sets.as_slice(), &report)?;
+    let options = options_of(alloc, isolated, tries, guests, sets.as_slice(), &report)?;
     let others = guests_of(alloc, options.as_slice())?;
-    let advised = advice(alloc, accepted, tries, others, &report)?;
+    let advised = advice(alloc, isolated, accepted, tries, others, &report)?;
     let told = refusals.as_slice();
     let text = in_form(
         alloc,

@@ -2,12 +2,13 @@
 ghost use Rattle.std.specs.Prelude.{◌≡◌, [], Some};
 ghost use Rattle.std.specs.Fmt.{DisplaysOnOk};
 ghost use Rattle.virtiofs_mapaudit.specs.ExtentText.{extent_text};
-ghost use Rattle.virtiofs_mapaudit.specs.FindingText.{whereabouts, shared_text, astray_text, becomes_text, back_text, way_text, not_back_text, either_text, is_one_of, acting_text, root_text, failing_text, lack_text, lacking_text, ids_text, both_text, one_text, met_text, or_name, also, is_usual, least_text, idle_text, shown_text, reached_text, finding_text};
+ghost use Rattle.virtiofs_mapaudit.specs.FindingText.{whereabouts, shared_text, astray_text, becomes_text, back_text, way_text, not_back_text, either_text, is_one_of, acting_text, root_text, failing_text, lack_why, lack_text, lacking_text, keepers_text, is_text, kept_text, ids_text, both_text, one_text, met_text, or_name, also, is_usual, least_text, idle_text, shown_text, reached_text, renamed_text, acl_text, other_ranges_text, finding_text};
 
 use crate::ids::extent::{Extent, is_one};
 use crate::ids::found::{IdFault, IdsFound};
-use crate::ids::kind::{IdKind, one_of};
+use crate::ids::kind::{IdKind, one_of, ranging};
 use crate::ids::ranges::{RangeFound, write_range};
+use crate::names::acl::{AclName, acl_name};
 use crate::names::found::LeastName;
 use std::alloc::Allocator;
 use std::fmt;
@@ -28,6 +29,8 @@ pub(crate) enum Finding<A: Allocator> {
         /// Which range it is, and what is wrong with it.
         range: RangeFound,
     },
+    /// The kernel shows other ranges of users, or of groups, than those of the options.
+    OtherRanges(IdKind),
     /// Something is wrong with ids.
     Ids {
         /// Whose ids they are.
@@ -54,6 +57,13 @@ pub(crate) enum Finding<A: Allocator> {
     ListedElsewhere(LeastName<A>),
     /// The written rule at this place, counted from 0, decides no name.
     IdleRule(usize),
+    /// Access control lists are on, and one of their names passes as another one.
+    AclRenamed {
+        /// The name.
+        name: AclName,
+        /// The name as which it passes.
+        host: Vec<u8, A>,
+    },
     /// Two guests reach the same ids of the host.
     IdsOfBoth {
         /// The number of the first guest.
@@ -277,6 +287,16 @@ fn write_failing<W: fmt::Write>(f: &mut fmt::Formatter<W>, one: &str, ids: &[Spa
     write!(f, "calls with {extent} fail: ")
 }
 
+/// Why calls with an id fail that becomes this one.
+fn lack_why(host: u32) -> &'static str
+    ensures { result.now ≡ lack_why host }
+{
+    if host == u32::MAX {
+        return ", which is no id to Linux\n";
+    }
+    ", which the daemon's namespace does not have\n"
+}
+
 /// Writes that the namespace lacks what an id becomes.
 fn write_lack<W: fmt::Write>(
     f: &mut fmt::Formatter<W>,
@@ -287,10 +307,8 @@ fn write_lack<W: fmt::Write>(
     ensures { DisplaysOnOk W.write_str_gives f.old result
         (Some (lack_text one.now guest host)) f.new }
 {
-    write!(
-        f,
-        "{one} {guest} becomes {one} {host}, which the daemon's namespace does not have\n"
-    )
+    let why = lack_why(host);
+    write!(f, "{one} {guest} becomes {one} {host}{why}")
 }
 
 /// Writes that the namespace lacks what ids become.
@@ -304,6 +322,57 @@ fn write_lacking<W: fmt::Write, A: Allocator>(
 {
     write_failing(f, one, found.ids.as_slice())?;
     write_lack(f, one, found.guest, found.host)
+}
+
+/// Writes which ids keep their number.
+fn write_keepers<W: fmt::Write>(f: &mut fmt::Formatter<W>, one: &str, ids: &[Span]) -> fmt::Result
+    ensures { DisplaysOnOk W.write_str_gives f.old result
+        (Some (keepers_text one.now ids.now)) f.new }
+{
+    let extent = Extent { one, ids };
+    let keep = if is_one(ids) {
+        "keeps its"
+    } else {
+        "keep their"
+    };
+    write!(f, "{extent} {keep} number without a specification: ")
+}
+
+/// Writes which id of the host an id is.
+fn write_is<W: fmt::Write>(
+    f: &mut fmt::Formatter<W>,
+    one: &str,
+    guest: u32,
+    host: u32,
+) -> fmt::Result
+    ensures { DisplaysOnOk W.write_str_gives f.old result
+        (Some (is_text one.now guest host)) f.new }
+{
+    write!(f, "{one} {guest} is {one} {host} of the host\n")
+}
+
+/// Writes that ids keep their number.
+fn write_kept<W: fmt::Write, A: Allocator>(
+    f: &mut fmt::Formatter<W>,
+    one: &str,
+    found: &IdsFound<A>,
+) -> fmt::Result
+    ensures { DisplaysOnOk W.write_str_gives f.old result
+        (Some (kept_text one.now found.now)) f.new }
+{
+    write_keepers(f, one, found.ids.as_slice())?;
+    write_is(f, one, found.guest, found.host)
+}
+
+/// Writes that the kernel shows other ranges than those of an option.
+fn write_other_ranges<W: fmt::Write>(f: &mut fmt::Formatter<W>, option: &str) -> fmt::Result
+    ensures { DisplaysOnOk W.write_str_gives f.old result
+        (Some (other_ranges_text option.now)) f.new }
+{
+    write!(
+        f,
+        "the kernel shows other ranges than {option} gives, and those of the kernel count here\n"
+    )
 }
 
 /// Writes what is wrong with ids.
@@ -321,6 +390,7 @@ fn write_ids<W: fmt::Write, A: Allocator>(
     match fault {
         IdFault::NotBack => write_not_back(f, one, there, found),
         IdFault::Lacking => write_lacking(f, one, found),
+        IdFault::Kept => write_kept(f, one, found),
     }
 }
 
@@ -471,6 +541,30 @@ fn write_reached<W: fmt::Write, A: Allocator>(
     )
 }
 
+/// Writes that a name passes as another one, which Linux does not take for an access control list.
+fn write_renamed<W: fmt::Write>(f: &mut fmt::Formatter<W>, name: &[u8], host: &[u8]) -> fmt::Result
+    ensures { DisplaysOnOk W.write_str_gives f.old result
+        (Some (renamed_text name.now host.now)) f.new }
+{
+    let (name, host) = (Written(name), Written(host));
+    write!(
+        f,
+        "with --posix-acl, '{name}' becomes '{host}', which Linux does not take for an ACL\n"
+    )
+}
+
+/// Writes that a name of an access control list passes as another one.
+fn write_acl<W: fmt::Write, A: Allocator>(
+    f: &mut fmt::Formatter<W>,
+    name: AclName,
+    host: &Vec<u8, A>,
+) -> fmt::Result
+    ensures { DisplaysOnOk W.write_str_gives f.old result
+        (Some (acl_text name host.now.items)) f.new }
+{
+    write_renamed(f, acl_name(name).as_bytes(), host.as_slice())
+}
+
 /// A line that says what was found.
 impl<A: Allocator> fmt::Display for Finding<A> {
     ghost output = { λ finding. Some (finding_text finding) };
@@ -479,6 +573,7 @@ impl<A: Allocator> fmt::Display for Finding<A> {
         match self {
             Finding::PosixAcl => f.write_str(POSIX_ACL),
             Finding::Range { kind, range } => write_range(f, *kind, *range),
+            Finding::OtherRanges(kind) => write_other_ranges(f, ranging(*kind)),
             Finding::Ids {
                 kind,
                 in_namespace,
@@ -496,6 +591,7 @@ impl<A: Allocator> fmt::Display for Finding<A> {
                 "lists show the host's attribute {least} under a name by which the guest does not reach it\n"
             ),
             Finding::IdleRule(place) => write_idle(f, *place),
+            Finding::AclRenamed { name, host } => write_acl(f, *name, host),
             Finding::IdsOfBoth {
                 first,
                 second,

@@ -3,6 +3,7 @@
 pub(crate) mod audits;
 pub(crate) mod extent;
 pub(crate) mod found;
+pub(crate) mod kept;
 pub(crate) mod kind;
 pub(crate) mod meeting;
 pub(crate) mod namespace;

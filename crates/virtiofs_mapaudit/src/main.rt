@@ -8,7 +8,9 @@ mod advice;
 mod alike;
 mod as_json;
 mod audit;
+mod explain;
 mod finding;
+mod host;
 mod ids;
 mod mend;
 mod names;
@@ -23,6 +25,9 @@ mod summary;
 
 use crate::accept::no_kind;
 use crate::audit::{Said, say};
+use crate::explain::asking::{Question, Questions, read_questions};
+use crate::explain::say_explained;
+use crate::host::{Host, HostFault, HostProcess, ask};
 use crate::mend::say_mended;
 use crate::picture::say_drawn;
 use std::alloc::{AllocError, Global};
@@ -30,11 +35,16 @@ use std::process::ExitCode;
 use std::{env, io};
 use virtiofs_options::front::Asked;
 use virtiofs_options::guest::Guest;
+use virtiofs_options::guests::Process;
 use virtiofs_options::unknown::{UnknownWord, unknown_line};
-use virtiofs_options::words::{Words, read_words};
+use virtiofs_options::values::Values;
+use virtiofs_options::words::{ProcessWords, Words, read_process, read_words};
 use virtiofs_output::emit::emit;
 use virtiofs_output::outcome::{AnswerFault, Answered, status};
 use virtiofs_output::tally::{Tally, WriteFailed};
+use virtiofs_process::command_line::read_command_line;
+use virtiofs_process::error::ReadError;
+use virtiofs_process::runner::Runner;
 
 const USAGE: &str = "usage: virtiofs_mapaudit [OPTIONS] [-- COMMAND LINE OF THE DAEMON]..
 virtiofs_mapaudit(1) says more: man virtiofs_mapaudit
@@ -88,54 +98,154 @@ fn run(rt: &HostRuntime) -> Result<Answered, AnswerFault> {
             write_whole(rt, text.as_str())?;
             Ok(Answered::Given)
         }
-        Words::Wrong(text) => {
-            let _ = eprint!(rt; "virtiofs_mapaudit: {text}{USAGE}");
-            Ok(Answered::WrongWords)
-        }
+        Words::Wrong(text) => { Ok(wrong(rt, text.as_str())) }
         Words::Audit {
             asked,
             values,
             guests,
             unknown,
-        } => {
-            let accepted = values.accept.as_slice();
-            if let Some(text) = no_kind(rt.alloc(), accepted)? {
-                let _ = eprint!(rt; "virtiofs_mapaudit: {text}{USAGE}");
-                return Ok(Answered::WrongWords);
+        } => audited(rt, asked, values, guests, unknown),
+    }
+}
+
+/// Tells what is wrong with the words.
+fn wrong(rt: &HostRuntime, text: &str) -> Answered {
+    let _ = eprint!(rt; "virtiofs_mapaudit: {text}{USAGE}");
+    Answered::WrongWords
+}
+
+/// Adds the guest of a process, or says what is wrong with its words.
+fn add_process<'a>(
+    rt: &HostRuntime,
+    process: &'a HostProcess,
+    guests: &mut Vec<Guest<'a, Global>>,
+    unknown: &mut Vec<UnknownWord<'a>, Global>,
+) -> Result<Option<String>, AnswerFault> {
+    let pid = process.pid;
+    let words = match read_command_line(rt.alloc(), process.cmdline.as_slice()) {
+        Ok(words) => words,
+        Err(ReadError::OutOfMemory) => return Err(AnswerFault::OutOfMemory),
+        Err(ReadError::Wrong(_)) => {
+            let text = format!(in rt.alloc(); "a word of process {pid} is not UTF-8\n")?;
+            return Ok(Some(text));
+        }
+    };
+    match read_process(rt.alloc(), guests.len() + 1, words.as_slice())? {
+        ProcessWords::Wrong(text) => Ok(Some(text)),
+        ProcessWords::Read(Process::NoDaemon) => Ok(Some(format!(in rt.alloc();
+            "process {pid} is no virtiofsd\n"
+        )?)),
+        ProcessWords::Read(
+            Process::OfGuest {
+                guest,
+                unknown: more,
+            },
+        ) => {
+            let mut guest = guest;
+            guest.runner = Some(&process.runner);
+            guests.push(guest)?;
+            for word in more.as_slice() {
+                unknown.push(*word)?;
             }
-            let lines = unknown_lines(rt.alloc(), unknown.as_slice())?;
-            let answered = answer(rt, asked, accepted, guests.as_slice())?;
-            if !asked.quiet {
-                for line in lines.as_slice() {
-                    let _ = eprintln!(rt; "{line}");
-                }
-            }
-            Ok(answered)
+            Ok(None)
         }
     }
 }
 
-/// Audits guests, and writes what is to be said of them, a drawing, or options that are advised.
+/// Says of each guest who starts its daemon: the only one of these, or the one at its place.
+fn set_starters<'a>(guests: &mut Vec<Guest<'a, Global>>, starters: &'a [Runner<Global>]) {
+    let is_one = starters.len() == 1;
+    for place in 0..guests.len() {
+        let of_guest = if is_one { 0 } else { place };
+        if let (Some(guest), Some(runner)) = (guests.get_mut(place), starters.get(of_guest)) {
+            guest.runner = Some(runner);
+        }
+    }
+}
+
+/// Audits the guests of command lines, and those of the host's processes.
+fn audited_on<'a>(
+    rt: &HostRuntime,
+    asked: Asked,
+    accepted: &[&str],
+    questions: &[Question<'_>],
+    host: &'a Host,
+    guests: Vec<Guest<'a, Global>>,
+    unknown: Vec<UnknownWord<'a>, Global>,
+) -> Result<Answered, AnswerFault> {
+    let (mut guests, mut unknown) = (guests, unknown);
+    set_starters(&mut guests, host.starters.as_slice());
+    for process in host.processes.as_slice() {
+        if let Some(text) = add_process(rt, process, &mut guests, &mut unknown)? {
+            return Ok(wrong(rt, text.as_str()));
+        }
+    }
+    let lines = unknown_lines(rt.alloc(), unknown.as_slice())?;
+    let answered = answer(rt, asked, accepted, questions, guests.as_slice())?;
+    if !asked.quiet {
+        for line in lines.as_slice() {
+            let _ = eprintln!(rt; "{line}");
+        }
+    }
+    Ok(answered)
+}
+
+/// Reads the values of the options, asks the host, and audits.
+fn audited<'a>(
+    rt: &HostRuntime,
+    asked: Asked,
+    values: Values<'a>,
+    guests: Vec<Guest<'a, Global>>,
+    unknown: Vec<UnknownWord<'a>, Global>,
+) -> Result<Answered, AnswerFault> {
+    let accepted = values.accept.as_slice();
+    if let Some(text) = no_kind(rt.alloc(), accepted)? {
+        return Ok(wrong(rt, text.as_str()));
+    }
+    let questions = match read_questions(rt.alloc(), values.explain.as_slice())? {
+        Questions::Read(questions) => questions,
+        Questions::Wrong(text) => return Ok(wrong(rt, text.as_str())),
+    };
+    match ask(rt, &values, guests.len()) {
+        Ok(host) => {
+            let questions = questions.as_slice();
+            audited_on(rt, asked, accepted, questions, &host, guests, unknown)
+        }
+        Err(HostFault::Told(text)) => Ok(wrong(rt, text.as_str())),
+        Err(HostFault::OutOfMemory) => Err(AnswerFault::OutOfMemory),
+    }
+}
+
+/// Audits guests, and writes what is to be said of them, a drawing, options that are advised, or the
+/// answers to questions.
 fn answer(
     rt: &HostRuntime,
     asked: Asked,
     accepted: &[&str],
+    questions: &[Question<'_>],
     guests: &[Guest<'_, Global>],
 ) -> Result<Answered, AnswerFault> {
-    let said = if asked.mend {
-        say_mended(rt.alloc(), accepted, guests)?
+    let said = if !questions.is_empty() {
+        say_explained(rt.alloc(), questions, guests)?
+    } else if asked.mend {
+        say_mended(rt.alloc(), asked.isolated, accepted, guests)?
     } else if asked.svg && !asked.quiet {
-        say_drawn(rt.alloc(), accepted, guests)?
+        say_drawn(rt.alloc(), asked.isolated, accepted, guests)?
     } else {
         say(rt.alloc(), asked, accepted, guests)?
     };
+    write_said(rt, &said, asked.quiet)
+}
+
+/// Writes what is to be written; of texts that are refused, nothing if `quiet`.
+fn write_said(rt: &HostRuntime, said: &Said, quiet: bool) -> Result<Answered, AnswerFault> {
     write_whole(rt, said.text.as_str())?;
-    if !asked.quiet {
+    if !quiet {
         for refusal in said.refusals.as_slice() {
             let _ = eprintln!(rt; "{refusal}");
         }
     }
-    Ok(ended(&said))
+    Ok(ended(said))
 }
 
 /// Writes a text to standard output, and flushes.

@@ -4,25 +4,29 @@ ghost use Rattle.virtiofs_mapaudit.specs.Said.{SaysMended};
 
 use crate::advice::text::push_mend;
 use crate::advice::{guests_of, options_of, tried};
-use crate::audit::{Said, audit, has_found, set_up_all};
+use crate::audit::{Audited, Said, audit_all};
 use std::alloc::{AllocError, Global};
 use virtiofs_options::guest::Guest;
 
-/// What is to be written of guests: the options that are advised, or else those that they have. What is
-/// found is what is found with the options that are written; findings of kinds with these names are
-/// accepted, and do not count.
+/// What is to be written of guests, isolated or not: the options that are advised, or else those that
+/// they have. What is found is what is found with the options that are written; findings of kinds with
+/// these names are accepted, and do not count.
 pub(crate) fn say_mended(
     alloc: Global,
+    isolated: bool,
     accepted: &[&str],
     guests: &[Guest<'_, Global>],
 ) -> Result<Said, AllocError>
-    ensures { IfOk result (SaysMended accepted.now guests.now) }
+    ensures { IfOk result (SaysMended isolated accepted.now guests.now) }
 {
-    let mut refusals = Vec::new(alloc);
+    let all = audit_all(alloc, isolated, accepted, guests)?;
+    let Audited {
+        sets,
+        report,
+        refusals,
+        is_found,
+    } = all;
     let mut text = String::new(alloc);
-    let sets = set_up_all(alloc, &mut refusals, guests)?;
-    let report = audit(alloc, accepted, sets.as_slice())?;
-    let is_found = has_found(&report);
     if !refusals.as_slice().is_empty() {
         return Ok(Said {
             text,
@@ -30,9 +34,9 @@ pub(crate) fn say_mended(
             is_found,
         });
     }
-    let options = options_of(alloc, true, guests, sets.as_slice(), &report)?;
+    let options = options_of(alloc, isolated, true, guests, sets.as_slice(), &report)?;
     let others = guests_of(alloc, options.as_slice())?;
-    let Some(advised) = tried(alloc, accepted, others, &report)? else {
+    let Some(advised) = tried(alloc, isolated, accepted, others, &report)? else {
         push_mend(&mut text, guests)?;
         return Ok(Said {
             text,

@@ -14,7 +14,7 @@ mod sheet;
 mod words;
 
 use crate::alike::{alike_to, is_first, is_told, likes_of};
-use crate::audit::{Report, Said, audit, has_found, set_up_all};
+use crate::audit::{Audited, Report, Said, audit_all};
 use crate::refusal::Refusal;
 use crate::setup::SetUp;
 use drawn::{push_found, push_guest};
@@ -104,19 +104,23 @@ fn framed<A: Allocator + Copy>(alloc: A, sheet: &Sheet<A>) -> Result<String<A>, 
     Ok(text)
 }
 
-/// What is to be written of the guests where a drawing is asked for. Findings of kinds with these names
-/// are accepted.
+/// What is to be written of the guests, isolated or not, where a drawing is asked for. Findings of kinds
+/// with these names are accepted.
 pub(crate) fn say_drawn(
     alloc: Global,
+    isolated: bool,
     accepted: &[&str],
     guests: &[Guest<'_, Global>],
 ) -> Result<Said, AllocError>
-    ensures { IfOk result (SaysDrawn accepted.now guests.now) }
+    ensures { IfOk result (SaysDrawn isolated accepted.now guests.now) }
 {
-    let mut refusals = Vec::new(alloc);
-    let sets = set_up_all(alloc, &mut refusals, guests)?;
-    let report = audit(alloc, accepted, sets.as_slice())?;
-    let is_found = has_found(&report);
+    let all = audit_all(alloc, isolated, accepted, guests)?;
+    let Audited {
+        sets,
+        report,
+        refusals,
+        is_found,
+    } = all;
     let sheet = drawing_of(alloc, guests, sets.as_slice(), &report, refusals.as_slice())?;
     let text = framed(alloc, &sheet)?;
     Ok(Said {

@@ -1,13 +1,16 @@
 //! What is found of one guest by itself.
 ghost use Rattle.std.specs.Prelude.{◌≡◌, ◌↔◌, ◌≢◌, ◌++◌, [], IsTrue, OnOk, IfOk};
+ghost use Rattle.virtiofs_mapaudit.specs.AclNames.{FindsAcl};
 ghost use Rattle.virtiofs_mapaudit.specs.Lists.{listed, if_so, Adds};
 ghost use Rattle.virtiofs_mapaudit.specs.Report.{ids_found, root_found, FindsKind, FindsRootOf, FindsRoot, FindsNamesOf, FindsIf, FindsGuest};
 
 use crate::finding::Finding;
 use crate::ids::audits::{acting_as_root, audit_ids};
 use crate::ids::found::{IdFault, IdFindings, IdsFound};
+use crate::ids::kept::kept_ids;
 use crate::ids::kind::IdKind;
-use crate::ids::ranges::{RangeFound, first_fault};
+use crate::ids::ranges::RangeFound;
+use crate::names::acl::push_acl_names;
 use crate::names::audits::push_names;
 use crate::setup::{IdSetUp, NamesSetUp, SetUp};
 use std::alloc::{AllocError, Allocator};
@@ -66,20 +69,39 @@ fn push_range<A: Allocator>(
     Ok(())
 }
 
+/// Adds that the kernel shows other ranges than those of the options, if so.
+fn push_other<A: Allocator>(
+    found: &mut Vec<Finding<A>, A>,
+    kind: IdKind,
+    differs: bool,
+) -> Result<(), AllocError>
+    ensures { OnOk result (found.new.items
+        ≡ found.old.items ++ if_so differs (Finding.OtherRanges kind)) }
+{
+    if differs {
+        found.push(Finding::OtherRanges(kind))?;
+    }
+    Ok(())
+}
+
 /// Adds what is found of ids of one kind.
 fn push_kind<A: Allocator + Copy>(
     alloc: A,
+    isolated: bool,
     found: &mut Vec<Finding<A>, A>,
     kind: IdKind,
     set: &IdSetUp<A>,
 ) -> Result<(), AllocError>
-    ensures { OnOk result (Adds (FindsKind kind set.now) found.old.items found.new.items) }
+    ensures { OnOk result (Adds (FindsKind isolated kind set.now) found.old.items found.new.items) }
 {
     let ranges = set.ranges.as_slice();
     let ids = audit_ids(alloc, &set.map, ranges)?;
-    let range = first_fault(alloc, ranges)?;
-    push_range(found, kind, range)?;
-    push_ids(found, kind, has_some(ranges), ids)
+    let kept = kept_ids(alloc, isolated, set)?;
+    let in_namespace = has_some(ranges);
+    push_range(found, kind, set.fault)?;
+    push_other(found, kind, set.differs)?;
+    push_ids(found, kind, in_namespace, ids)?;
+    push_fault(found, kind, in_namespace, IdFault::Kept, kept)
 }
 
 /// Whether there are ranges.
@@ -92,15 +114,16 @@ fn has_some(ranges: &[UidMap]) -> bool
 /// Adds what is found of ids of one kind, where no text for them is refused.
 fn push_some_kind<A: Allocator + Copy>(
     alloc: A,
+    isolated: bool,
     found: &mut Vec<Finding<A>, A>,
     kind: IdKind,
     set: &Option<IdSetUp<A>>,
 ) -> Result<(), AllocError>
     ensures { OnOk result
-        (Adds (FindsIf (FindsKind kind) set.now) found.old.items found.new.items) }
+        (Adds (FindsIf (FindsKind isolated kind) set.now) found.old.items found.new.items) }
 {
     match set {
-        Some(set) => push_kind(alloc, found, kind, set),
+        Some(set) => push_kind(alloc, isolated, found, kind, set),
         None => Ok(()),
     }
 }
@@ -161,6 +184,24 @@ fn push_some_names<A: Allocator + Copy>(
     }
 }
 
+/// Adds which names of access control lists pass as others, if these lists are on and there are rules.
+fn push_acl<A: Allocator + Copy>(
+    alloc: A,
+    found: &mut Vec<Finding<A>, A>,
+    are_on: bool,
+    set: &Option<NamesSetUp<A>>,
+) -> Result<(), AllocError>
+    ensures { OnOk result (Adds (FindsAcl are_on set.now) found.old.items found.new.items) }
+{
+    if !are_on {
+        return Ok(());
+    }
+    match set {
+        Some(set) => push_acl_names(alloc, found, &set.map),
+        None => Ok(()),
+    }
+}
+
 /// Adds that access control lists are on while ids are translated, if so.
 fn push_lists<A: Allocator>(found: &mut Vec<Finding<A>, A>, are_on: bool) -> Result<(), AllocError>
     ensures { OnOk result (found.new.items ≡ found.old.items ++ if_so are_on Finding.PosixAcl) }
@@ -171,18 +212,20 @@ fn push_lists<A: Allocator>(found: &mut Vec<Finding<A>, A>, are_on: bool) -> Res
     Ok(())
 }
 
-/// What is found of a guest, in order.
+/// What is found of a guest, isolated or not, in order.
 pub(crate) fn audit_guest<A: Allocator + Copy>(
     alloc: A,
+    isolated: bool,
     set: &SetUp<A>,
 ) -> Result<Vec<Finding<A>, A>, AllocError>
-    ensures { IfOk result (FindsGuest set.now) }
+    ensures { IfOk result (FindsGuest isolated set.now) }
 {
     let mut found = Vec::new(alloc);
     push_lists(&mut found, set.translates_lists)?;
-    push_some_kind(alloc, &mut found, IdKind::Users, &set.users)?;
-    push_some_kind(alloc, &mut found, IdKind::Groups, &set.groups)?;
+    push_some_kind(alloc, isolated, &mut found, IdKind::Users, &set.users)?;
+    push_some_kind(alloc, isolated, &mut found, IdKind::Groups, &set.groups)?;
     push_root(alloc, &mut found, set)?;
     push_some_names(alloc, &mut found, &set.names)?;
+    push_acl(alloc, &mut found, set.posix_acl, &set.names)?;
     Ok(found)
 }

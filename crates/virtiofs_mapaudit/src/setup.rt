@@ -1,34 +1,45 @@
 //! What the texts of a guest set up, and which of them are refused.
-ghost use Rattle.std.specs.Prelude.{◌≡◌, ◌≢◌, ◌++◌, ◌∷◌, ◌↔◌, [], IfOk, IfErr, IfSome, IsTrue, OnOk, Some, None, string_bytes};
+ghost use Rattle.std.specs.Prelude.{◌≡◌, ◌≢◌, ◌++◌, ◌∷◌, ◌↔◌, [], IfOk, IfErr, IfSome, IsTrue, OnOk, option_map, Some, None, string_bytes};
 ghost use Rattle.std.specs.Str.{chars};
 ghost use Rattle.virtiofs_map.specs.Refusal.{OutOfMemoryOr};
 ghost use Rattle.virtiofs_map.specs.Build.{BuildFault, build_fault_of};
 ghost use Rattle.virtiofs_map.specs.RulesFault.{RulesFault, HasRulesFault, rules_fault_of};
 ghost use Rattle.virtiofs_map.specs.SpecificationText.{SpecificationFault, specification_fault_of};
 ghost use Rattle.std.specs.Option.{option_map};
-ghost use Rattle.virtiofs_mapaudit.specs.Guests.{ReadsSpecs, ReadsRanges, ReadsIds, ReadsText, ReadsNames, SetsUp, Translates};
+ghost use Rattle.virtiofs_mapaudit.specs.Guests.{ReadsSpecs, ReadsRanges, ReadsIds, RunsIn, users_of, groups_of, sets_up_namespace, ReadsText, ReadsNames, SetsUp, Translates};
 ghost use Rattle.virtiofs_map.specs.Printed.{build_error_text, rules_error_text};
 ghost use Rattle.virtiofs_mapaudit.specs.Lists.{Adds};
 ghost use Rattle.virtiofs_mapaudit.specs.Refusals.{IsAt, TellsPlace, TellsBuildFault, TellsSpecsFault, TellsSpecs, TellsRanges, TellsIds, TellsNames, TellsGuest};
-ghost use Rattle.virtiofs_map.specs.Specifications.{SpecsFault, specs_fault_of, texts_of};
+ghost use Rattle.virtiofs_map.specs.Specifications.{SpecsFault, specs_fault_of, texts_of, AllSay};
 
 use crate::ids::audits::Ids;
 use crate::ids::kind::{IdKind, ranging, translating};
-use crate::ids::ranges::Place;
+use crate::ids::namespace::{differ, own_of, ranges_of};
+use crate::ids::ranges::{Place, RangeFound, first_fault};
 use crate::refusal::Refusal;
 use std::alloc::{AllocError, Allocator};
 use virtiofs_map::cmdline;
+use virtiofs_map::cmdline::IdMap as Spec;
 use virtiofs_map::idmap::UidMap;
 use virtiofs_map::soft_idmap::{IdMap, IdMapBuildError, SpecsError};
 use virtiofs_map::xattrmap::{Error, ErrorKind, XattrMap};
 use virtiofs_options::guest::Guest;
+use virtiofs_process::runner::Bounds;
 
 /// What the options of a daemon set up for ids of one kind.
 #[derive(Drop)]
 pub(crate) struct IdSetUp<A: Allocator> {
     /// The map of the specifications.
     pub(crate) map: Ids<A>,
-    /// The ranges of the daemon's namespace.
+    /// The specifications.
+    pub(crate) specs: Vec<Spec, A>,
+    /// The ranges of the options.
+    pub(crate) written: Vec<UidMap, A>,
+    /// The first of these that is at fault.
+    pub(crate) fault: Option<RangeFound>,
+    /// Whether the kernel shows other ranges than these.
+    pub(crate) differs: bool,
+    /// The ranges of the namespace that the daemon runs in; none where it runs in the host's.
     pub(crate) ranges: Vec<UidMap, A>,
 }
 
@@ -50,7 +61,9 @@ pub(crate) struct SetUp<A: Allocator> {
     pub(crate) groups: Option<IdSetUp<A>>,
     /// The rules for names; `None` where there are none, or where they are refused.
     pub(crate) names: Option<NamesSetUp<A>>,
-    /// Whether access control lists are on while ids are translated.
+    /// Whether access control lists are on.
+    pub(crate) posix_acl: bool,
+    /// Whether they are while ids are translated.
     pub(crate) translates_lists: bool,
 }
 
@@ -198,26 +211,76 @@ fn read_ranges<A: Allocator + Copy>(
     Ok(Some(ranges))
 }
 
+/// The specifications of a map. The texts are those of which it was made.
+fn specs_again<A: Allocator + Copy>(
+    alloc: A,
+    map: &Ids<A>,
+    texts: &[&str],
+) -> Result<Vec<Spec, A>, AllocError>
+    requires { AllSay (texts_of texts.now) map.now }
+    ensures { IfOk result (λ specs. specs.items ≡ map.now) }
+{
+    let mut specs = Vec::new(alloc);
+    for place in 0..texts.len() {
+        let Ok(spec) = Spec::from_str(alloc, texts[place]) else {
+            return Err(AllocError);
+        };
+        specs.push(spec)?;
+    }
+    Ok(specs)
+}
+
+/// The set-up of specifications, and of ranges that are read.
+fn in_namespace<A: Allocator + Copy>(
+    alloc: A,
+    bounds: Option<&Bounds<A>>,
+    sets_up: bool,
+    map: Ids<A>,
+    specs: Vec<Spec, A>,
+    written: Vec<UidMap, A>,
+) -> Result<IdSetUp<A>, AllocError>
+    ensures map { IfOk result (λ set. set.map ≡ map) }
+    ensures specs { IfOk result (λ set. set.specs.items ≡ specs.items) }
+    ensures written { IfOk result (λ set. set.written.items ≡ written.items) }
+    ensures runs { IfOk result (RunsIn (option_map (λ it. it.now) bounds.entry) sets_up) }
+{
+    let fault = first_fault(alloc, bounds, written.as_slice())?;
+    let differs = differ(bounds, written.as_slice());
+    let ranges = ranges_of(alloc, bounds, sets_up, written.as_slice())?;
+    Ok(IdSetUp {
+        map,
+        specs,
+        written,
+        fault,
+        differs,
+        ranges,
+    })
+}
+
 /// What texts set up for ids of a kind, or nothing where one is refused.
 fn read_ids<A: Allocator + Copy>(
     alloc: A,
     refusals: &mut Vec<Refusal<A>, A>,
     number: usize,
     kind: IdKind,
+    bounds: Option<&Bounds<A>>,
+    sets_up: bool,
     specs: &[&str],
     ranges: &[&str],
 ) -> Result<Option<IdSetUp<A>>, AllocError>
-    ensures read { IfOk result (ReadsIds (texts_of specs.now) (texts_of ranges.now)) }
+    ensures read { IfOk result (ReadsIds (option_map (λ it. it.now) bounds.entry) sets_up
+        (texts_of specs.now) (texts_of ranges.now)) }
     ensures says { OnOk result (Adds
         (TellsIds number kind (texts_of specs.now) (texts_of ranges.now))
         refusals.old.items refusals.new.items) }
 {
     let map = read_specs(alloc, refusals, number, translating(kind), specs)?;
     let ranges = read_ranges(alloc, refusals, number, ranging(kind), ranges)?;
-    match (map, ranges) {
-        (Some(map), Some(ranges)) => Ok(Some(IdSetUp { map, ranges })),
-        _ => Ok(None),
-    }
+    let (Some(map), Some(written)) = (map, ranges) else {
+        return Ok(None);
+    };
+    let specs = specs_again(alloc, &map, specs)?;
+    Ok(Some(in_namespace(alloc, bounds, sets_up, map, specs, written)?))
 }
 
 /// What a text of rules sets up, or the first thing that is wrong with it.
@@ -318,6 +381,33 @@ fn translates_lists<A: Allocator>(guest: &Guest<'_, A>) -> bool
     false
 }
 
+/// What bounds the users of the daemon of a guest, if it is said who runs it.
+fn users_of<'g, A: Allocator>(guest: &'g Guest<'g, A>) -> Option<&'g Bounds<A>>
+    ensures { option_map (λ it. it.now) result ≡ users_of guest.now }
+{
+    match guest.runner {
+        Some(runner) => Some(&runner.users),
+        None => None,
+    }
+}
+
+/// What bounds its groups.
+fn groups_of<'g, A: Allocator>(guest: &'g Guest<'g, A>) -> Option<&'g Bounds<A>>
+    ensures { option_map (λ it. it.now) result ≡ groups_of guest.now }
+{
+    match guest.runner {
+        Some(runner) => Some(&runner.groups),
+        None => None,
+    }
+}
+
+/// Whether the daemon of a guest sets up a namespace: it has ranges, or it is not root who starts it.
+fn sets_up_namespace<A: Allocator>(guest: &Guest<'_, A>) -> bool
+    ensures { result ≡ sets_up_namespace guest.now }
+{
+    !guest.uid_map.is_empty() || !guest.gid_map.is_empty() || own_of(users_of(guest)) > 0
+}
+
 /// What the texts of the guest of that number set up.
 pub(crate) fn set_up<A: Allocator + Copy>(
     alloc: A,
@@ -329,11 +419,14 @@ pub(crate) fn set_up<A: Allocator + Copy>(
     ensures says { OnOk result (Adds (TellsGuest number guest.now)
         refusals.old.items refusals.new.items) }
 {
+    let sets_up = sets_up_namespace(guest);
     let users = read_ids(
         alloc,
         refusals,
         number,
         IdKind::Users,
+        users_of(guest),
+        sets_up,
         guest.translate_uid.as_slice(),
         guest.uid_map.as_slice(),
     )?;
@@ -342,6 +435,8 @@ pub(crate) fn set_up<A: Allocator + Copy>(
         refusals,
         number,
         IdKind::Groups,
+        groups_of(guest),
+        sets_up,
         guest.translate_gid.as_slice(),
         guest.gid_map.as_slice(),
     )?;
@@ -350,6 +445,7 @@ pub(crate) fn set_up<A: Allocator + Copy>(
         users,
         groups,
         names,
+        posix_acl: guest.posix_acl,
         translates_lists: translates_lists(guest),
     })
 }

@@ -4,7 +4,7 @@ use Rattle.std.specs.Borrow.{Bor}
 use Rattle.std.specs.Global.{Global}
 use Rattle.std.specs.Option.{option_or}
 use Rattle.virtiofs_options.specs.GuestOptions.{HasNoOption, TakesIn, has_any}
-use Rattle.virtiofs_options.specs.Lines.{beginning, line_of, after_line}
+use Rattle.virtiofs_options.specs.Lines.{beginning, first_daemon, line_of, after_line}
 use Rattle.virtiofs_options.specs.Parts.{AreParts, HasFault}
 use Rattle.virtiofs_options.specs.Unknown.{is_faulty, HasPartFault, told, unknown_of}
 use Rattle.virtiofs_options.specs.Whole.{is_line}
@@ -13,6 +13,8 @@ use Rattle.virtiofs_options.specs.declared.fault.Fault.TheVariants.{Whole, Nothi
 use Rattle.virtiofs_options.specs.declared.command.Part.{Part}
 use Rattle.virtiofs_options.specs.declared.guest.Guest.{Guest}
 use Rattle.virtiofs_options.specs.declared.guests.Guests.{Guests}
+use Rattle.virtiofs_options.specs.declared.guests.Process.{Process}
+use Rattle.virtiofs_options.specs.declared.guests.Process.TheVariants.{OfGuest, NoDaemon}
 use Rattle.virtiofs_options.specs.declared.options.Options.{Options}
 
 -- what is not known of a command line: the number of the guest, whether it is a part of `-o`, and the text
@@ -72,6 +74,20 @@ IsGuestFault options number first words fault =
     ((start_of options (has_any first) words ≡ None) × (fault ≡ lacking_fault options number words))
     ⊎ ((start : ℕ) × (start_of options (has_any first) words ≡ Some start)
     × IsLineFault options (line_of (drop start words)) fault)
+
+-- the words of a process are those of the daemon of the guest of that number, from the daemon's word on; or there is no
+-- such word
+abbrev pub IsProcess : Options → ℕ → List (Bor (List ℕ)) → Process → Type 0
+IsProcess options number words (OfGuest guest unknown) =
+    (start : ℕ) × (first_daemon words ≡ Some start)
+    × ((none : Guest Global) × HasNoOption none
+    × IsLine options number none (line_of (drop start words)) guest (map told unknown.items))
+IsProcess options number words NoDaemon = first_daemon words ≡ None
+
+-- what is wrong with the command line in the words of a process
+abbrev pub IsProcessFault : Options → List (Bor (List ℕ)) → Fault → Type 0
+IsProcessFault options words fault =
+    (start : ℕ) × (first_daemon words ≡ Some start) × IsLineFault options (line_of (drop start words)) fault
 
 -- words are these guests, and what is left begins a further one, whose daemon has the options of `next`
 abbrev pub GuestsThen : {A : Type 0} → Options → ℕ → Guest A → List (Guest A) → Option (List (Bor (List ℕ))) → Told

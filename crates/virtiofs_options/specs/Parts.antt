@@ -5,7 +5,7 @@ use Rattle.std.specs.List.{before_first}
 use Rattle.virtiofs_options.specs.declared.command.Part.{Part}
 use Rattle.virtiofs_options.specs.declared.command.Part.TheVariants.{Plain, Flag, Valued, Stray}
 use Rattle.virtiofs_options.specs.declared.fault.Fault.{Fault}
-use Rattle.virtiofs_options.specs.declared.fault.Fault.TheVariants.{Unknown, Missing, Unwanted, NotShown, NotAlone, Whole, OlderUnknown, BeforeDashes, AfterDashes, Nothing}
+use Rattle.virtiofs_options.specs.declared.fault.Fault.TheVariants.{Unknown, Missing, Unwanted, NotShown, NotAlone, Whole, OlderUnknown, BeforeDashes, AfterDashes, Nothing, Beside}
 use Rattle.virtiofs_options.specs.declared.fault.ReadError.{ReadError}
 use Rattle.virtiofs_options.specs.declared.fault.ReadError.TheVariants.{OutOfMemory, Wrong}
 use Rattle.virtiofs_options.specs.declared.options.Options.{Options}
@@ -101,6 +101,7 @@ IsWrong options words (OlderUnknown text) = ⊥
 IsWrong options words (BeforeDashes word) = ⊥
 IsWrong options words (AfterDashes option) = ⊥
 IsWrong options words (Nothing guest) = ⊥
+IsWrong options words Beside = ⊥
 
 -- the words are these parts, and then the rest
 abbrev pub PartsThen : Options → List (Bor (List ℕ)) → List Part → List (Bor (List ℕ)) → Type 0

@@ -2,7 +2,7 @@
 use Rattle.std.specs.Prelude.{◌≡◌, ℕ, ◌∷◌, ◌++◌, List, [], Bool, true, false, decimal, flat_map, codes, length, take, nat_lt, if◌then◌else◌, chars, encode_utf8_all}
 use Rattle.virtiofs_output.specs.Written.{quoted}
 use Rattle.virtiofs_options.specs.declared.fault.Fault.{Fault}
-use Rattle.virtiofs_options.specs.declared.fault.Fault.TheVariants.{Unknown, Missing, Unwanted, NotShown, NotAlone, Whole, OlderUnknown, BeforeDashes, AfterDashes, Nothing}
+use Rattle.virtiofs_options.specs.declared.fault.Fault.TheVariants.{Unknown, Missing, Unwanted, NotShown, NotAlone, Whole, OlderUnknown, BeforeDashes, AfterDashes, Nothing, Beside}
 
 -- texts one after another
 abbrev pub joined : List (List ℕ) → List ℕ
@@ -16,19 +16,14 @@ front_of word = encode_utf8_all (take 60 (chars word))
 abbrev pub shown : List ℕ → List ℕ
 shown word = quoted (front_of word) ++ (if nat_lt 60 (length (chars word)) then codes ".." else [])
 
--- the sentence on a word that is not known, with one that is
-abbrev pub unknown_sentence : List ℕ → List ℕ → List ℕ
-unknown_sentence word known =
-    joined (codes "unknown word " ∷ shown word ∷ codes ": the nearest that is known is '" ∷ known ∷ codes "'\n" ∷ [])
+-- the sentence on what is not known, with what is
+abbrev pub unknown_sentence : List ℕ → List ℕ → List ℕ → List ℕ
+unknown_sentence what text known =
+    joined (codes "unknown " ∷ what ∷ codes " " ∷ shown text ∷ codes ": the nearest that is known is '" ∷ known ∷ codes "'\n" ∷ [])
 
 -- the sentence on a value of `--show` that it does not have
 abbrev pub not_shown_sentence : List ℕ → List ℕ
 not_shown_sentence value = codes "'--show' has no value " ++ shown value ++ codes ": it has 'ids' and 'names'\n"
-
--- the sentence on a part of `-o` that is not known, with one that is
-abbrev pub older_sentence : List ℕ → List ℕ → List ℕ
-older_sentence text known =
-    joined (codes "unknown part of '-o' " ∷ shown text ∷ codes ": the nearest that is known is '" ∷ known ∷ codes "'\n" ∷ [])
 
 -- the sentence on a word that holds more than one
 abbrev pub whole_sentence : List ℕ → List ℕ
@@ -63,13 +58,14 @@ unknown_line guest false word = line_with guest (codes "option of virtiofsd") wo
 
 -- the sentence on what is wrong with words
 abbrev pub IsSentence : Fault → List ℕ → Type 0
-IsSentence (Unknown word) text = (known : List ℕ) × (text ≡ unknown_sentence word.now known)
+IsSentence (Unknown word) text = (known : List ℕ) × (text ≡ unknown_sentence (codes "word") word.now known)
 IsSentence (Missing option) text = text ≡ codes "'" ++ option.now ++ codes "' lacks its value\n"
 IsSentence (Unwanted option) text = text ≡ codes "'" ++ option.now ++ codes "' has no value\n"
 IsSentence (NotShown value) text = text ≡ not_shown_sentence value.now
 IsSentence (Whole word) text = text ≡ whole_sentence word.now
-IsSentence (OlderUnknown part) text = (known : List ℕ) × (text ≡ older_sentence part.now known)
+IsSentence (OlderUnknown part) text = (known : List ℕ) × (text ≡ unknown_sentence (codes "part of '-o'") part.now known)
 IsSentence (BeforeDashes word) text = text ≡ before_dashes_sentence word.now
 IsSentence (AfterDashes option) text = text ≡ after_dashes_sentence option.now
 IsSentence (Nothing guest) text = text ≡ nothing_sentence guest
 IsSentence NotAlone text = text ≡ codes "'--mend' goes with neither '--json', '--quiet', '--svg' nor '--show'\n"
+IsSentence Beside text = text ≡ codes "'--explain' goes with neither '--json', '--quiet', '--svg', '--mend' nor '--show'\n"

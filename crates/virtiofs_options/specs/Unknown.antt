@@ -10,7 +10,7 @@ use Rattle.virtiofs_options.specs.Whole.{is_line, follows}
 use Rattle.virtiofs_options.specs.declared.command.Part.{Part}
 use Rattle.virtiofs_options.specs.declared.command.Part.TheVariants.{Plain, Flag, Valued, Stray}
 use Rattle.virtiofs_options.specs.declared.fault.Fault.{Fault}
-use Rattle.virtiofs_options.specs.declared.fault.Fault.TheVariants.{Unknown, Missing, Unwanted, NotShown, NotAlone, Whole, OlderUnknown, BeforeDashes, AfterDashes, Nothing}
+use Rattle.virtiofs_options.specs.declared.fault.Fault.TheVariants.{Unknown, Missing, Unwanted, NotShown, NotAlone, Whole, OlderUnknown, BeforeDashes, AfterDashes, Nothing, Beside}
 use Rattle.virtiofs_options.specs.declared.options.Options.{Options}
 use Rattle.virtiofs_options.specs.declared.options.Takes.{Takes}
 use Rattle.virtiofs_options.specs.declared.options.Takes.TheVariants as takes
@@ -83,6 +83,7 @@ IsPartFault options part (Missing option) = ⊥
 IsPartFault options part (Unwanted option) = ⊥
 IsPartFault options part (NotShown value) = ⊥
 IsPartFault options part NotAlone = ⊥
+IsPartFault options part Beside = ⊥
 IsPartFault options part (BeforeDashes word) = ⊥
 IsPartFault options part (Nothing guest) = ⊥
 

@@ -1,10 +1,10 @@
 -- What the program's words come to.
-use Rattle.std.specs.Prelude.{◌≡◌, ◌⊎◌, ◌+◌, ℕ, List, Bool, false, Option, None, Some, is_some, map, drop, length, string_bytes, if◌then◌else◌}
+use Rattle.std.specs.Prelude.{◌≡◌, ◌⊎◌, ◌==◌, ◌&&◌, ◌+◌, ℕ, List, [], Bool, true, false, not, Option, None, Some, is_some, map, drop, length, nat_lt, string_bytes, if◌then◌else◌}
 use Rattle.std.specs.Borrow.{Bor}
 use Rattle.std.specs.Global.{Global}
-use Rattle.virtiofs_options.specs.AskedOptions.{AreValues, IsAsked, IsAskedWrongly, first_told, not_shown, mixes}
-use Rattle.virtiofs_options.specs.GuestOptions.{HasNoOption, TakesIn}
-use Rattle.virtiofs_options.specs.Guests.{AreGuests, HasGuestFault}
+use Rattle.virtiofs_options.specs.AskedOptions.{AreValues, IsAsked, IsAskedWrongly, first_told, not_shown, mixes, is_beside}
+use Rattle.virtiofs_options.specs.GuestOptions.{HasNoOption, TakesIn, has_any}
+use Rattle.virtiofs_options.specs.Guests.{AreGuests, HasGuestFault, Told}
 use Rattle.virtiofs_options.specs.Lines.{first_daemon, first_end, line_of}
 use Rattle.virtiofs_options.specs.Parts.{AreParts, HasFault, is_option, takes_of}
 use Rattle.virtiofs_options.specs.Sentences.{IsSentence}
@@ -12,7 +12,7 @@ use Rattle.virtiofs_options.specs.Unknown.{told}
 use Rattle.virtiofs_options.specs.Whole.{is_line}
 use Rattle.virtiofs_options.specs.declared.command.Part.{Part}
 use Rattle.virtiofs_options.specs.declared.fault.Fault.{Fault}
-use Rattle.virtiofs_options.specs.declared.fault.Fault.TheVariants.{Unknown, Missing, Unwanted, NotShown, NotAlone, Whole, OlderUnknown, BeforeDashes, AfterDashes, Nothing}
+use Rattle.virtiofs_options.specs.declared.fault.Fault.TheVariants.{Unknown, Missing, Unwanted, NotShown, NotAlone, Whole, OlderUnknown, BeforeDashes, AfterDashes, Nothing, Beside}
 use Rattle.virtiofs_options.specs.declared.guest.Guest.{Guest}
 use Rattle.virtiofs_options.specs.declared.options.Options.{Options}
 use Rattle.virtiofs_options.specs.declared.front.Asked.{Asked}
@@ -33,7 +33,8 @@ IsFront options words (Tell telling) =
     (parts : List Part) × AreParts options words parts × (first_told parts ≡ Some telling)
 IsFront options words (Audit asked values guest) =
     (parts : List Part) × AreParts options words parts × (first_told parts ≡ None) × (not_shown parts ≡ None)
-    × (mixes parts ≡ false) × IsAsked parts asked × AreValues parts values × IsGuestOf parts guest
+    × (mixes parts ≡ false) × (is_beside parts ≡ false) × IsAsked parts asked × AreValues parts values
+    × IsGuestOf parts guest
 
 -- what is wrong with these words: a word, or what they ask for
 abbrev pub HasFrontFault : Options → List (Bor (List ℕ)) → Fault → Type 0
@@ -56,6 +57,7 @@ front_fault options words (Missing option) = Missing option
 front_fault options words (Unwanted option) = Unwanted option
 front_fault options words (NotShown value) = NotShown value
 front_fault options words NotAlone = NotAlone
+front_fault options words Beside = Beside
 front_fault options words (Whole word) = Whole word
 front_fault options words (OlderUnknown text) = OlderUnknown text
 front_fault options words (BeforeDashes word) = BeforeDashes word
@@ -71,13 +73,24 @@ start_after words (Some end) = end + 1
 abbrev pub rest_of : List (Bor (List ℕ)) → List (Bor (List ℕ))
 rest_of words = drop (start_after words (first_end words)) words
 
+-- processes are named, and no command line
+abbrev pub names_processes : {A : Type 0} → Values → Guest A → List (Bor (List ℕ)) → Bool
+names_processes values first words = nat_lt 0 (length values.pid.items) && not (has_any first) && (length words == 0)
+
+-- the guests of the words after the first `--`, none where only processes are named
+abbrev pub AreGuestsUnless : Bool → Options → Guest Global → List (Bor (List ℕ)) → List (Guest Global) → Told → Type 0
+AreGuestsUnless true of_daemon first words guests unknown = (guests ≡ []) × (unknown ≡ [])
+AreGuestsUnless false of_daemon first words guests unknown = AreGuests of_daemon first words guests unknown
+
 -- what the words after the first `--` come to, where the first guest has the options before it
 abbrev pub IsAudit : Options → Asked → Values → Guest Global → List (Bor (List ℕ)) → Words → Type 0
 IsAudit of_daemon asked values first words (out.Audit asked_for all guests unknown) =
-    (asked_for ≡ asked) × (all ≡ values) × AreGuests of_daemon first words guests.items (map told unknown.items)
+    (asked_for ≡ asked) × (all ≡ values)
+    × AreGuestsUnless (names_processes values first words) of_daemon first words guests.items (map told unknown.items)
 IsAudit of_daemon asked values first words (out.Shown text) = ⊥
 IsAudit of_daemon asked values first words (out.Wrong text) =
-    (fault : Fault) × HasGuestFault of_daemon first words fault × IsSentence fault (string_bytes text)
+    (names_processes values first words ≡ false)
+    × ((fault : Fault) × HasGuestFault of_daemon first words fault × IsSentence fault (string_bytes text))
 
 -- the help or the version
 abbrev pub IsShown : Words → Type 0

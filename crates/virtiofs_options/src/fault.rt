@@ -1,11 +1,11 @@
 //! What is wrong with words, and the sentence on it.
 ghost use Rattle.std.specs.Prelude.{◌≡◌, ℕ, List, IfOk, string_bytes, nat_lt, length, chars};
-ghost use Rattle.virtiofs_options.specs.Sentences.{front_of, shown, IsSentence, unknown_sentence, not_shown_sentence, older_sentence, whole_sentence, before_dashes_sentence, after_dashes_sentence, nothing_sentence};
+ghost use Rattle.virtiofs_options.specs.Sentences.{front_of, shown, IsSentence, unknown_sentence, not_shown_sentence, whole_sentence, before_dashes_sentence, after_dashes_sentence, nothing_sentence};
 ghost use Rattle.virtiofs_options.specs.declared.fault.ReadError.TheVariants.{OutOfMemory, Wrong};
 
 use crate::command::key_of;
 use crate::nearest::nearest;
-use crate::options::Options;
+use crate::options::{Options, Takes};
 use std::alloc::{AllocError, AllocFailed, Global};
 use virtiofs_output::written::push_quoted;
 
@@ -32,6 +32,8 @@ pub(crate) enum Fault<'a> {
     AfterDashes(&'a str),
     /// There is nothing to audit for the guest of this number, counted from 1.
     Nothing(usize),
+    /// `--explain` stands beside an option that also says what is written.
+    Beside,
 }
 
 /// Why words are not read.
@@ -101,41 +103,30 @@ pub fn shown(alloc: Global, word: &str) -> Result<String, AllocError>
     Ok(text)
 }
 
-/// The sentence on a word that is not known, with one that is.
-fn told_with(alloc: Global, word: &str, known: &str) -> Result<String, AllocError>
-    ensures { IfOk result (λ text. string_bytes text ≡ unknown_sentence word.now known.now) }
-{
-    let word = shown(alloc, word)?;
-    format!(in alloc; "unknown word {word}: the nearest that is known is '{known}'\n")
-}
-
-/// The sentence on a word that is not known. Only the characters that are quoted are compared with
-/// what is known.
-fn unknown_text(alloc: Global, word: &str, options: Options) -> Result<String, AllocError>
-    ensures { IfOk result (λ text. (known : List ℕ)
-        × (string_bytes text ≡ unknown_sentence word.now known)) }
-{
-    let front = front_of(alloc, word)?;
-    let known = nearest(alloc, front.as_str(), options.known)?;
-    told_with(alloc, word, known)
-}
-
-/// The sentence on a part of `-o` that is not known, with one that is.
-fn older_told_with(alloc: Global, text: &str, known: &str) -> Result<String, AllocError>
-    ensures { IfOk result (λ told. string_bytes told ≡ older_sentence text.now known.now) }
+/// The sentence on what is not known, a word or a part of `-o`, with one that is.
+fn told_with(alloc: Global, what: &str, text: &str, known: &str) -> Result<String, AllocError>
+    ensures { IfOk result (λ told. string_bytes told
+        ≡ unknown_sentence what.now text.now known.now) }
 {
     let text = shown(alloc, text)?;
-    format!(in alloc; "unknown part of '-o' {text}: the nearest that is known is '{known}'\n")
+    format!(in alloc; "unknown {what} {text}: the nearest that is known is '{known}'\n")
 }
 
-/// The sentence on a part of `-o` that is not known. What it has before a `=` is compared.
-fn older_text(alloc: Global, text: &str, options: Options) -> Result<String, AllocError>
+/// The sentence on what is not known. The first characters of `name`, as many as a sentence quotes,
+/// are compared with what is known.
+fn unknown_text(
+    alloc: Global,
+    what: &str,
+    text: &str,
+    name: &str,
+    known: &[(&'static str, Takes)],
+) -> Result<String, AllocError>
     ensures { IfOk result (λ told. (known : List ℕ)
-        × (string_bytes told ≡ older_sentence text.now known)) }
+        × (string_bytes told ≡ unknown_sentence what.now text.now known)) }
 {
-    let front = front_of(alloc, key_of(text))?;
-    let known = nearest(alloc, front.as_str(), options.older)?;
-    older_told_with(alloc, text, known)
+    let front = front_of(alloc, name)?;
+    let nearest = nearest(alloc, front.as_str(), known)?;
+    told_with(alloc, what, text, nearest)
 }
 
 /// The sentence on a word that holds more than one.
@@ -191,7 +182,7 @@ pub(crate) fn fault_text(
     ensures { IfOk result (λ text. IsSentence fault.entry (string_bytes text)) }
 {
     match fault {
-        Fault::Unknown(word) => unknown_text(alloc, word, options),
+        Fault::Unknown(word) => unknown_text(alloc, "word", word, word, options.known),
         Fault::Missing(option) => format!(in alloc; "'{option}' lacks its value\n"),
         Fault::Unwanted(option) => format!(in alloc; "'{option}' has no value\n"),
         Fault::NotShown(value) => not_shown_text(alloc, value),
@@ -200,9 +191,15 @@ pub(crate) fn fault_text(
             "'--mend' goes with neither '--json', '--quiet', '--svg' nor '--show'\n",
         ),
         Fault::Whole(word) => whole_text(alloc, word),
-        Fault::OlderUnknown(text) => older_text(alloc, text, options),
+        Fault::OlderUnknown(text) => {
+            unknown_text(alloc, "part of '-o'", text, key_of(text), options.older)
+        }
         Fault::BeforeDashes(word) => before_dashes_text(alloc, word),
         Fault::AfterDashes(option) => after_dashes_text(alloc, option),
         Fault::Nothing(guest) => nothing_text(alloc, guest),
+        Fault::Beside => String::from_str(
+            alloc,
+            "'--explain' goes with neither '--json', '--quiet', '--svg', '--mend' nor '--show'\n",
+        ),
     }
 }

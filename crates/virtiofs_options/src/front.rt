@@ -1,6 +1,6 @@
 //! What the words before the first `--` ask for.
-ghost use Rattle.std.specs.Prelude.{◌≡◌, true, false, None, find, is_some, IsOk, IfOk, IfErr};
-ghost use Rattle.virtiofs_options.specs.AskedOptions.{has_shown, not_shown, IsAsked, IsAskedWrongly, mixes, tells, first_told};
+ghost use Rattle.std.specs.Prelude.{◌≡◌, ◌||◌, true, false, None, find, is_some, IsOk, IfOk, IfErr};
+ghost use Rattle.virtiofs_options.specs.AskedOptions.{has_shown, has_value, not_shown, IsAsked, IsAskedWrongly, mixes, is_beside, tells, first_told};
 ghost use Rattle.virtiofs_options.specs.GuestOptions.{has_flag};
 
 use crate::command::Part;
@@ -22,6 +22,8 @@ pub struct Asked {
     pub ids: bool,
     /// What becomes of some names.
     pub names: bool,
+    /// Whether a guest is to act only as ids that its specifications map.
+    pub isolated: bool,
 }
 
 /// Whether an option that has no value is among the parts.
@@ -51,16 +53,32 @@ fn not_shown<'a>(parts: &[Part<'a>]) -> Option<&'a str>
         .find(|value| !(*value == "ids" || *value == "names"))
 }
 
+/// Whether an option that has a value is among the parts.
+fn has_value(parts: &[Part<'_>], option: &str) -> bool
+    ensures { result ≡ has_value option.now parts.now }
+{
+    parts.iter().any(|part| part.value_in(option).is_some())
+}
+
+/// Whether something is asked for that `--explain` does not go with.
+fn asks_more(asked: Asked) -> bool
+    ensures { result ≡ (asked.json || asked.quiet || asked.svg || asked.mend || asked.ids || asked.names) }
+{
+    asked.json || asked.quiet || asked.svg || asked.mend || asked.ids || asked.names
+}
+
 /// What the parts before the first `--` ask for.
 ///
 /// # Errors
 ///
 /// `NotShown`: the first value of a `--show` that names nothing to show. `NotAlone`, where there is
-/// no such value: `--mend` and another option that says what is written.
+/// no such value: `--mend` and another option that says what is written. `Beside`, where none of
+/// these is so: `--explain` and another option that says what is written.
 pub(crate) fn asked_of<'a>(parts: &[Part<'a>]) -> Result<Asked, Fault<'a>>
     ensures shown { IsOk result → not_shown parts.now ≡ None }
     ensures read { IfOk result (IsAsked parts.now) }
     ensures alone { IsOk result → mixes parts.now ≡ false }
+    ensures beside { IsOk result → is_beside parts.now ≡ false }
     ensures refused { IfErr result (IsAskedWrongly parts.now) }
 {
     if let Some(value) = not_shown(parts) {
@@ -73,9 +91,13 @@ pub(crate) fn asked_of<'a>(parts: &[Part<'a>]) -> Result<Asked, Fault<'a>>
         mend: has_flag(parts, "--mend"),
         ids: has_shown(parts, "ids"),
         names: has_shown(parts, "names"),
+        isolated: has_flag(parts, "--isolated"),
     };
     if asked.mend && (asked.json || asked.quiet || asked.svg || asked.ids || asked.names) {
         return Err(Fault::NotAlone);
+    }
+    if has_value(parts, "--explain") && asks_more(asked) {
+        return Err(Fault::Beside);
     }
     Ok(asked)
 }

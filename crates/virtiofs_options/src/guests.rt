@@ -1,12 +1,12 @@
 //! The guests that command lines of the daemon make.
-ghost use Rattle.std.specs.Prelude.{◌≡◌, ◌<◌, ◌≤◌, ◌+◌, length, map, option_map, IfSome, IfOk, IfErr, OnOk};
-ghost use Rattle.virtiofs_options.specs.Guests.{start_of, lacking_fault, AddsLine, IsLineFault, AddsGuest, IsGuestFault, AreGuests, HasGuestFault};
+ghost use Rattle.std.specs.Prelude.{◌≡◌, ◌<◌, ◌≤◌, ◌+◌, ◌++◌, length, map, option_map, IfSome, IfOk, IfErr, OnOk};
+ghost use Rattle.virtiofs_options.specs.Guests.{start_of, lacking_fault, Told, IsLine, AddsLine, IsLineFault, AddsGuest, IsGuestFault, IsProcess, IsProcessFault, AreGuests, HasGuestFault};
 ghost use Rattle.virtiofs_options.specs.Parts.{WrongOnly};
 ghost use Rattle.virtiofs_options.specs.Unknown.{told};
 
 use crate::fault::{Fault, ReadError};
 use crate::guest::Guest;
-use crate::line::{after_line, beginning, line_of, tail_of};
+use crate::line::{after_line, beginning, first_daemon, line_of, tail_of};
 use crate::options::Options;
 use crate::parts::read_parts;
 use crate::unknown::{UnknownWord, check_parts, push_unknown};
@@ -46,6 +46,29 @@ fn lacking_fault<'a>(options: Options, number: usize, words: &[&'a str]) -> Faul
     }
 }
 
+/// Reads the words of the command line of the guest of that number, which has the options of `first`
+/// already, and adds what is not known of them.
+fn line_guest<'a>(
+    alloc: Global,
+    options: Options,
+    number: usize,
+    line: &[&'a str],
+    first: Guest<'a, Global>,
+    unknown: &mut Vec<UnknownWord<'a>, Global>,
+) -> Result<Guest<'a, Global>, ReadError<'a>>
+    ensures read { IfOk result (λ guest. (here : Told)
+        × IsLine options number first.entry line.now guest here
+        × (map told unknown.new.items ≡ map told unknown.old.items ++ here)) }
+    ensures refused { IfErr result (WrongOnly (IsLineFault options line.now)) }
+{
+    let parts = read_parts(alloc, options, line)?;
+    check_parts(alloc, options, parts.as_slice())?;
+    push_unknown(unknown, options, number, parts.as_slice())?;
+    let mut guest = first;
+    guest.take_parts(parts.as_slice())?;
+    Ok(guest)
+}
+
 /// Reads the words of the command line of a further guest, which has the options of `first` already.
 fn read_line<'a>(
     alloc: Global,
@@ -57,12 +80,8 @@ fn read_line<'a>(
     ensures read { OnOk result (AddsLine options first.entry line.now read.old read.new) }
     ensures refused { IfErr result (WrongOnly (IsLineFault options line.now)) }
 {
-    let parts = read_parts(alloc, options, line)?;
-    check_parts(alloc, options, parts.as_slice())?;
     let number = read.guests.len() + 1;
-    push_unknown(&mut read.unknown, options, number, parts.as_slice())?;
-    let mut guest = first;
-    guest.take_parts(parts.as_slice())?;
+    let guest = line_guest(alloc, options, number, line, first, &mut read.unknown)?;
     read.guests.push(guest)?;
     Ok(())
 }
@@ -89,6 +108,45 @@ fn add_guest<'w, 'a>(
     let words = tail_of(words, start);
     match read_line(alloc, options, line_of(words), first, read) {
         Ok(()) => Ok(after_line(words)),
+        Err(error) => Err(error),
+    }
+}
+
+/// What the words of a process come to.
+#[derive(Drop)]
+pub enum Process<'a> {
+    /// The guest that its daemon serves, and what the daemon does not know of its command line.
+    OfGuest {
+        guest: Guest<'a, Global>,
+        unknown: Vec<UnknownWord<'a>, Global>,
+    },
+    /// No word is the daemon's.
+    NoDaemon,
+}
+
+/// Reads the words of a process, for the guest of that number. The command line begins at the
+/// daemon's word.
+///
+/// # Errors
+///
+/// What is wrong with the command line; or a request for memory was refused.
+pub(crate) fn read_process<'a>(
+    alloc: Global,
+    options: Options,
+    number: usize,
+    words: &[&'a str],
+) -> Result<Process<'a>, ReadError<'a>>
+    ensures read { IfOk result (IsProcess options number words.now) }
+    ensures refused { IfErr result (WrongOnly (IsProcessFault options words.now)) }
+{
+    let Some(start) = first_daemon(words) else {
+        return Ok(Process::NoDaemon);
+    };
+    let mut unknown = Vec::new(alloc);
+    let first = Guest::new(alloc);
+    let line = line_of(tail_of(words, start));
+    match line_guest(alloc, options, number, line, first, &mut unknown) {
+        Ok(guest) => Ok(Process::OfGuest { guest, unknown }),
         Err(error) => Err(error),
     }
 }

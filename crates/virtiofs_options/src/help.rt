@@ -65,7 +65,7 @@ fn program<'a>(alloc: Global) -> Command<'a> {
         .after_help(
             "After -- comes a command line of the daemon, and after a further -- that of a further guest of the same directory. virtiofs_mapaudit(1) says more.",
         )
-        .override_usage("virtiofs_mapaudit [OPTIONS] [-- COMMAND LINE OF THE DAEMON].. ")
+        .override_usage("virtiofs_mapaudit [OPTIONS] [-- COMMAND LINE OF THE DAEMON]..")
 }
 
 /// The option that shows more.
@@ -78,15 +78,50 @@ fn show<'a>(alloc: Global) -> Arg<'a> {
         .help("Show also what becomes of all ids, or of some names")
 }
 
+/// The program's own options that have any value: the name, what stands for the value, and what the
+/// option does.
+const OWN_VALUED: [(&str, &str, &str); 6] = [
+    (
+        "accept",
+        "KIND",
+        "Findings of this kind, named as in JSON, do not count for the status",
+    ),
+    (
+        "explain",
+        "WHAT",
+        "Say what becomes of one id or one name: user=1000, host-user=, group=, host-group=, name= or host-name=",
+    ),
+    (
+        "pid",
+        "PID",
+        "Audit this process of a daemon, as a further guest",
+    ),
+    (
+        "run-as",
+        "UID[:GID]",
+        "The user who starts the daemon; more than once: of each command line in turn",
+    ),
+    ("subuid", "FILE", "Read FILE in place of /etc/subuid"),
+    ("subgid", "FILE", "Read FILE in place of /etc/subgid"),
+];
+
+/// The options that are the program's own and have any value.
+fn of_program<'a>(alloc: Global, command: Command<'a>) -> Result<Command<'a>, AllocError> {
+    let mut command = command;
+    for &(name, value, help) in &OWN_VALUED {
+        command = command.arg(valued(alloc, name, value, help))?;
+    }
+    Ok(command)
+}
+
 /// The program with its options.
 fn command<'a>(alloc: Global) -> Result<Command<'a>, AllocError> {
-    of_daemon(alloc, program(alloc))?
+    of_program(alloc, of_daemon(alloc, program(alloc))?)?
         .arg(show(alloc))?
-        .arg(valued(
+        .arg(flag(
             alloc,
-            "accept",
-            "KIND",
-            "Findings of this kind, named as in JSON, do not count for the status",
+            "isolated",
+            "Report ids that keep their number: no specification maps them",
         ))?
         .arg(flag(alloc, "json", "Write JSON"))?
         .arg(flag(alloc, "quiet", "Write nothing: the status tells"))?

@@ -10,7 +10,7 @@ mod command;
 pub mod fault;
 pub mod front;
 pub mod guest;
-mod guests;
+pub mod guests;
 mod help;
 mod line;
 mod nearest;

@@ -64,7 +64,7 @@ const COUNTED: [&str; 6] = [
 const COUNTED_OLDER: [&str; 3] = ["xattrmap", "posix_acl", "no_posix_acl"];
 
 /// The options of the program, and those of the daemon that may stand beside them.
-const KNOWN: [(&str, Takes); 16] = [
+const KNOWN: [(&str, Takes); 22] = [
     ("--translate-uid", Value),
     ("--translate-gid", Value),
     ("--uid-map", Value),
@@ -76,7 +76,13 @@ const KNOWN: [(&str, Takes); 16] = [
     ("--mend", Nothing),
     ("--svg", Nothing),
     ("--show", Value),
+    ("--isolated", Nothing),
     ("--accept", Value),
+    ("--explain", Value),
+    ("--pid", Value),
+    ("--run-as", Value),
+    ("--subuid", Value),
+    ("--subgid", Value),
     ("--help", Nothing),
     ("-h", Nothing),
     ("--version", Nothing),

@@ -12,6 +12,16 @@ use std::alloc::{AllocError, Allocator, Global};
 pub struct Values<'a> {
     /// Of `--accept`: a kind of finding.
     pub accept: Vec<&'a str, Global>,
+    /// Of `--explain`: an id or a name.
+    pub explain: Vec<&'a str, Global>,
+    /// Of `--pid`: a process.
+    pub pid: Vec<&'a str, Global>,
+    /// Of `--run-as`: the user who starts a daemon.
+    pub run_as: Vec<&'a str, Global>,
+    /// Of `--subuid`: a file in place of `/etc/subuid`.
+    pub subuid: Vec<&'a str, Global>,
+    /// Of `--subgid`: a file in place of `/etc/subgid`.
+    pub subgid: Vec<&'a str, Global>,
 }
 
 /// The values of an option.
@@ -38,5 +48,10 @@ pub(crate) fn values_of<'a>(alloc: Global, parts: &[Part<'a>]) -> Result<Values<
 {
     Ok(Values {
         accept: values_in(alloc, parts, "--accept")?,
+        explain: values_in(alloc, parts, "--explain")?,
+        pid: values_in(alloc, parts, "--pid")?,
+        run_as: values_in(alloc, parts, "--run-as")?,
+        subuid: values_in(alloc, parts, "--subuid")?,
+        subgid: values_in(alloc, parts, "--subgid")?,
     })
 }

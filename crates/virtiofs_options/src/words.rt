@@ -3,13 +3,13 @@
 ghost use Rattle.std.specs.Prelude.{◌≡◌, ◌≤◌, length, IfOk, IfErr};
 ghost use Rattle.virtiofs_options.specs.Lines.{first_end};
 ghost use Rattle.virtiofs_options.specs.Parts.{WrongOnly};
-ghost use Rattle.virtiofs_options.specs.Words.{IsFront, HasFrontFault, belongs, front_fault, start_after, IsAudit, AreWords};
+ghost use Rattle.virtiofs_options.specs.Words.{IsFront, HasFrontFault, belongs, front_fault, start_after, names_processes, IsAudit, AreWords};
 
 use crate::command::{is_option, takes};
 use crate::fault::{Fault, ReadError, fault_text};
 use crate::front::{Asked, asked_of, telling_of};
 use crate::guest::Guest;
-use crate::guests::{Guests, read_guests};
+use crate::guests::{Guests, Process, read_guests, read_process as process_of};
 use crate::help::{Telling, told};
 use crate::line::{first_daemon, first_end, line_of, tail_of};
 use crate::options::{OF_DAEMON, OWN, Options};
@@ -27,6 +27,7 @@ pub enum Words<'a> {
         asked: Asked,
         /// The values of the program's own options.
         values: Values<'a>,
+        /// The guests of command lines: none where only processes are named.
         guests: Vec<Guest<'a, Global>>,
         /// What the daemon does not know of their command lines.
         unknown: Vec<UnknownWord<'a>, Global>,
@@ -99,6 +100,13 @@ fn rest_start(words: &[&str]) -> usize
     }
 }
 
+/// Whether processes are named, and no command line.
+fn names_processes(values: &Values<'_>, first: &Guest<'_, Global>, words: &[&str]) -> bool
+    ensures { result ≡ names_processes values.now first.now words.now }
+{
+    !values.pid.is_empty() && !first.has_any() && words.is_empty()
+}
+
 /// What the words after the first `--` come to, where `first` has the options before it.
 fn audit_of<'a>(
     alloc: Global,
@@ -110,6 +118,14 @@ fn audit_of<'a>(
 ) -> Result<Words<'a>, AllocError>
     ensures { IfOk result (IsAudit of_daemon asked values.entry first.entry words.now) }
 {
+    if names_processes(&values, &first, words) {
+        return Ok(Words::Audit {
+            asked,
+            values,
+            guests: Vec::new(alloc),
+            unknown: Vec::new(alloc),
+        });
+    }
     match read_guests(alloc, of_daemon, words, first) {
         Ok(Guests { guests, unknown }) => Ok(Words::Audit {
             asked,
@@ -152,4 +168,32 @@ fn words_of<'a>(
 /// `AllocError`: a request for memory was refused.
 pub fn read_words<'a>(alloc: Global, words: &'a [&'a str]) -> Result<Words<'a>, AllocError> {
     words_of(alloc, OWN, OF_DAEMON, words)
+}
+
+/// What the words of a process come to, or what is wrong with them.
+#[derive(Drop)]
+pub enum ProcessWords<'a> {
+    /// What they come to.
+    Read(Process<'a>),
+    /// A sentence on what is wrong.
+    Wrong(String),
+}
+
+/// Reads the words of a process, for the guest of that number, counted from 1.
+///
+/// # Errors
+///
+/// `AllocError`: a request for memory was refused.
+pub fn read_process<'a>(
+    alloc: Global,
+    number: usize,
+    words: &[&'a str],
+) -> Result<ProcessWords<'a>, AllocError> {
+    match process_of(alloc, OF_DAEMON, number, words) {
+        Ok(process) => Ok(ProcessWords::Read(process)),
+        Err(ReadError::Wrong(fault)) => {
+            Ok(ProcessWords::Wrong(fault_text(alloc, fault, OF_DAEMON)?))
+        }
+        Err(ReadError::OutOfMemory) => Err(AllocError),
+    }
 }

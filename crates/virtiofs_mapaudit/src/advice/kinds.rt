@@ -15,6 +15,8 @@ pub(crate) enum FindingKind {
     PosixAcl,
     /// Ranges of the namespace.
     Range(IdKind),
+    /// Ranges that the kernel shows.
+    OtherRanges(IdKind),
     /// Ids with a fault.
     Ids(IdKind, IdFault),
     /// Ids that act as root of the host.
@@ -27,6 +29,8 @@ pub(crate) enum FindingKind {
     ListedElsewhere,
     /// Rules that decide no name.
     IdleRule,
+    /// Names of access control lists that pass as others.
+    AclRenamed,
     /// Ids of the host that both guests reach.
     IdsOfBoth(IdKind),
     /// Names that the first guest can set, and that lists of the second show.
@@ -54,12 +58,14 @@ pub(crate) fn kind_of<A: Allocator>(finding: &Finding<A>) -> FindingKind
     match finding {
         Finding::PosixAcl => FindingKind::PosixAcl,
         Finding::Range { kind, .. } => FindingKind::Range(*kind),
+        Finding::OtherRanges(kind) => FindingKind::OtherRanges(*kind),
         Finding::Ids { kind, fault, .. } => FindingKind::Ids(*kind, *fault),
         Finding::Root { .. } => FindingKind::Root,
         Finding::NoRule => FindingKind::NoRule,
         Finding::NotListed(_) => FindingKind::NotListed,
         Finding::ListedElsewhere(_) => FindingKind::ListedElsewhere,
         Finding::IdleRule(_) => FindingKind::IdleRule,
+        Finding::AclRenamed { .. } => FindingKind::AclRenamed,
         Finding::IdsOfBoth { kind, .. } => FindingKind::IdsOfBoth(*kind),
         Finding::ShownToOther { setter, lister, .. } => shown_kind(*setter, *lister),
         Finding::NameOfBoth { .. } => FindingKind::NameOfBoth,
@@ -73,6 +79,7 @@ fn fault_name(fault: IdFault) -> &'static str
     match fault {
         IdFault::NotBack => "not_back",
         IdFault::Lacking => "lacking",
+        IdFault::Kept => "kept",
     }
 }
 
@@ -84,12 +91,14 @@ pub(crate) fn name_of(kind: FindingKind) -> &'static str
     match kind {
         FindingKind::PosixAcl => "posix_acl",
         FindingKind::Range(_) => "range",
+        FindingKind::OtherRanges(_) => "other_ranges",
         FindingKind::Ids(_, fault) => fault_name(fault),
         FindingKind::Root => "root",
         FindingKind::NoRule => "no_rule",
         FindingKind::NotListed => "not_listed",
         FindingKind::ListedElsewhere => "listed_elsewhere",
         FindingKind::IdleRule => "idle_rule",
+        FindingKind::AclRenamed => "acl_renamed",
         FindingKind::IdsOfBoth(_) => "id_of_both",
         FindingKind::ShownToSecond | FindingKind::ShownToFirst => "shown_to_other",
         FindingKind::NameOfBoth => "name_of_both",

@@ -5,35 +5,83 @@ ghost use Rattle.virtiofs_mapaudit.specs.Advice.{AreMended};
 use super::options::Options;
 use crate::audit::Part;
 use crate::finding::Finding;
+use crate::ids::audits::Ids;
+use crate::ids::kept::kept_ids;
 use crate::ids::kind::IdKind;
 use crate::ids::namespace::lacking_ids;
 use crate::names::mending::mended_rules;
 use crate::setup::{IdSetUp, NamesSetUp, SetUp};
 use std::alloc::{AllocError, Allocator};
 use virtiofs_map::cmdline;
-use virtiofs_map::id_audit::mended;
+use virtiofs_map::id_audit::{Span, mended};
 use virtiofs_map::idmap::UidMap;
+use virtiofs_map::soft_idmap::IdMap;
 use virtiofs_options::guest::Guest;
 
-/// The specifications of a guest, with the ids forbidden that do not round-trip, and those that
-/// become one which the namespace lacks.
-fn mended_ids<A: Allocator + Copy>(
-    alloc: A,
-    set: &IdSetUp<A>,
-) -> Result<Vec<cmdline::IdMap, A>, AllocError>
-    ensures { IfOk result (λ specs. AreMended set.now specs.items) }
-{
-    let lacking = lacking_ids(alloc, set.ranges.as_slice())?;
-    mended(alloc, &set.map, lacking.as_slice())
+/// The specification that forbids these ids.
+fn forbidding(ids: Span) -> cmdline::IdMap {
+    cmdline::IdMap::ForbidGuest {
+        from_guest: ids.first,
+        count: ids.last.saturating_sub(ids.first).saturating_add(1),
+    }
 }
 
-/// Whether something counts that is found of ids of a kind.
+/// What specifications set up, with the ids forbidden that keep their number; nothing where none do.
+fn closed<A: Allocator + Copy>(
+    alloc: A,
+    isolated: bool,
+    set: &IdSetUp<A>,
+) -> Result<Option<Ids<A>>, AllocError> {
+    let Some(kept) = kept_ids(alloc, isolated, set)? else {
+        return Ok(None);
+    };
+    let mut specs: Vec<cmdline::IdMap, A> = set.specs.iter().copied().collect(alloc)?;
+    for span in kept.ids.as_slice() {
+        specs.push(forbidding(*span))?;
+    }
+    match IdMap::try_from(alloc, specs) {
+        Ok(map) => Ok(Some(map)),
+        Err(_) => Ok(None),
+    }
+}
+
+/// The specifications of a map, with the ids forbidden that do not round-trip, and those that become
+/// one which the namespace lacks.
+fn mended_ids<A: Allocator + Copy>(
+    alloc: A,
+    map: &Ids<A>,
+    ranges: &[UidMap],
+) -> Result<Vec<cmdline::IdMap, A>, AllocError>
+    ensures { IfOk result (λ specs. AreMended map.now ranges.now specs.items) }
+{
+    let lacking = lacking_ids(alloc, ranges)?;
+    mended(alloc, map, lacking.as_slice())
+}
+
+/// Whether something counts that is found of ids of a kind, and that specifications are to mend. They
+/// are not where the kernel shows other ranges than the options: these ids may be there again when the
+/// daemon is started as its options say.
 fn counts_ids<A: Allocator>(kind: IdKind, part: Option<&Part<A>>) -> bool {
     let Some(part) = part else {
         return false;
     };
+    let found = part.found.as_slice();
+    let differs = found.iter().any(
+        |finding| matches!(finding, Finding::OtherRanges(theirs) if *theirs == kind),
+    );
+    !differs
+        && found.iter().any(
+            |finding| matches!(finding, Finding::Ids { kind: theirs, .. } if *theirs == kind),
+        )
+}
+
+/// Whether a range of a kind counts as one at fault.
+fn counts_ranges<A: Allocator>(kind: IdKind, part: Option<&Part<A>>) -> bool {
+    let Some(part) = part else {
+        return false;
+    };
     part.found.as_slice().iter().any(
-        |finding| matches!(finding, Finding::Ids { kind: theirs, .. } if *theirs == kind),
+        |finding| matches!(finding, Finding::Range { kind: theirs, .. } if *theirs == kind),
     )
 }
 
@@ -49,6 +97,7 @@ fn counts_names<A: Allocator>(part: Option<&Part<A>>) -> bool {
                 | Finding::NotListed(_)
                 | Finding::ListedElsewhere(_)
                 | Finding::IdleRule(_)
+                | Finding::AclRenamed { .. }
         )
     })
 }
@@ -58,6 +107,7 @@ fn counts_names<A: Allocator>(part: Option<&Part<A>>) -> bool {
 fn mended_texts<A: Allocator + Copy>(
     alloc: A,
     counts: bool,
+    isolated: bool,
     given: &[&str],
     set: &Option<IdSetUp<A>>,
 ) -> Result<Vec<String<A>, A>, AllocError> {
@@ -71,23 +121,30 @@ fn mended_texts<A: Allocator + Copy>(
     let Some(set) = set else {
         return Ok(texts);
     };
-    for spec in mended_ids(alloc, set)?.as_slice() {
+    let ranges = set.ranges.as_slice();
+    let specs = match closed(alloc, isolated, set)? {
+        Some(map) => mended_ids(alloc, &map, ranges)?,
+        None => mended_ids(alloc, &set.map, ranges)?,
+    };
+    for spec in specs.as_slice() {
         texts.push(format!(in alloc; "{spec}")?)?;
     }
     Ok(texts)
 }
 
-/// The texts of the ranges of a guest that have an id.
+/// The texts of the ranges of the options of a guest; of those that have an id alone, if one at fault
+/// counts.
 fn range_texts<A: Allocator + Copy>(
     alloc: A,
+    counts: bool,
     set: &Option<IdSetUp<A>>,
 ) -> Result<Vec<String<A>, A>, AllocError> {
     let mut texts = Vec::new(alloc);
     let Some(set) = set else {
         return Ok(texts);
     };
-    for range in set.ranges.as_slice() {
-        if range.count > 0 {
+    for range in set.written.as_slice() {
+        if range.count > 0 || !counts {
             texts.push(format!(in alloc; "{range}")?)?;
         }
     }
@@ -106,10 +163,12 @@ fn better_rules<A: Allocator + Copy>(
     mended_rules(alloc, text, names)
 }
 
-/// Options that are tried in place of those of a guest, of whom that was found. Where access control
-/// lists are on and no ids are translated, none are then either, since these do not go together.
+/// Options that are tried in place of those of a guest, isolated or not, of whom that was found. Where
+/// access control lists are on and no ids are translated, none are then either, since these do not go
+/// together.
 pub(super) fn mended_options<'a, A: Allocator + Copy>(
     alloc: A,
+    isolated: bool,
     guest: &Guest<'a, A>,
     set: &SetUp<A>,
     part: Option<&Part<A>>,
@@ -123,11 +182,12 @@ pub(super) fn mended_options<'a, A: Allocator + Copy>(
     let mut options = Options {
         translate_uid: Vec::new(alloc),
         translate_gid: Vec::new(alloc),
-        uid_map: range_texts(alloc, &set.users)?,
-        gid_map: range_texts(alloc, &set.groups)?,
+        uid_map: range_texts(alloc, counts_ranges(IdKind::Users, part), &set.users)?,
+        gid_map: range_texts(alloc, counts_ranges(IdKind::Groups, part), &set.groups)?,
         given_rules: guest.xattrmap,
         rules,
         posix_acl: keeps_lists,
+        runner: guest.runner,
     };
     if !keeps_lists {
         let (users, groups) = (
@@ -136,8 +196,8 @@ pub(super) fn mended_options<'a, A: Allocator + Copy>(
         );
         let of_users = counts_ids(IdKind::Users, part);
         let of_groups = counts_ids(IdKind::Groups, part);
-        options.translate_uid = mended_texts(alloc, of_users, users, &set.users)?;
-        options.translate_gid = mended_texts(alloc, of_groups, groups, &set.groups)?;
+        options.translate_uid = mended_texts(alloc, of_users, isolated, users, &set.users)?;
+        options.translate_gid = mended_texts(alloc, of_groups, isolated, groups, &set.groups)?;
     }
     Ok(options)
 }

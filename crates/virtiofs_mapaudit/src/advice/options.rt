@@ -5,6 +5,7 @@ ghost use Rattle.virtiofs_mapaudit.specs.OptionsText.{option_text, values_text, 
 use crate::shell::ShellWord;
 use std::alloc::{AllocError, Allocator};
 use virtiofs_options::guest::Guest;
+use virtiofs_process::runner::Runner;
 
 /// Options of a guest: texts that were made, and the rules for names as they are or made anew.
 #[derive(Drop)]
@@ -23,6 +24,8 @@ pub(crate) struct Options<'a, A: Allocator> {
     pub(crate) rules: Option<String<A>>,
     /// Whether access control lists are on.
     pub(crate) posix_acl: bool,
+    /// Who runs the daemon.
+    pub(crate) runner: Option<&'a Runner<A>>,
 }
 
 /// The texts, lent.
@@ -53,6 +56,7 @@ pub(super) fn guest_of<'a, A: Allocator + Copy>(
         gid_map: lent(alloc, options.gid_map.as_slice())?,
         xattrmap,
         posix_acl: options.posix_acl,
+        runner: options.runner,
     })
 }
 

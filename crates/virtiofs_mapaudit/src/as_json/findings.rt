@@ -3,15 +3,16 @@ ghost use Rattle.std.specs.Prelude.{◌≡◌, ◌+◌, ◌++◌, IfOk, OnOk, ma
 ghost use Rattle.serde_json.specs.View.{view};
 ghost use Rattle.virtiofs_mapaudit.specs.NameJson.{least_data};
 ghost use Rattle.virtiofs_mapaudit.specs.FindingKinds.{kind_of, name_of};
-ghost use Rattle.virtiofs_mapaudit.specs.FindingJson.{ids_word, span_data, alone_data, not_back_data, ids_data, acting_data, root_data, range_data, fault_data, idle_data, names_data, between_data, met_data, plain_data, named_data, finding_data};
+ghost use Rattle.virtiofs_mapaudit.specs.FindingJson.{ids_word, span_data, alone_data, not_back_data, ids_data, acting_data, root_data, range_data, fault_data, other_data, idle_data, acl_data, names_data, between_data, met_data, plain_data, named_data, finding_data};
 
-use super::names::least_value;
+use super::names::{least_value, name_value};
 use super::{Built, BuiltList};
 use crate::advice::kinds::{kind_of, name_of};
 use crate::finding::Finding;
 use crate::ids::found::{IdFault, IdsFound};
 use crate::ids::kind::IdKind;
 use crate::ids::ranges::{RangeFault, RangeFound};
+use crate::names::acl::{AclName, acl_name};
 use crate::names::found::LeastName;
 use serde_json::{Value, json};
 use std::alloc::{AllocError, Global};
@@ -106,7 +107,7 @@ fn ids_value(
 {
     match fault {
         IdFault::NotBack => not_back_value(alloc, accepted, guest, what, ids, it),
-        IdFault::Lacking => alone(alloc, accepted, guest, what, ids, it),
+        IdFault::Lacking | IdFault::Kept => alone(alloc, accepted, guest, what, ids, it),
     }
 }
 
@@ -192,6 +193,16 @@ fn fault_value(
             "past_page",
             None,
         ),
+        RangeFault::NotGiven => range_value(
+            alloc,
+            accepted,
+            guest,
+            what,
+            ids,
+            number,
+            "not_given",
+            None,
+        ),
         RangeFault::MeetsInside(place) => {
             let other = number_at(place)?;
             range_value(
@@ -221,6 +232,14 @@ fn fault_value(
     }
 }
 
+/// That the kernel shows other ranges of these ids.
+fn other_value(alloc: Global, accepted: bool, guest: usize, what: &str, ids: &str) -> Built
+    ensures { IfOk result (λ value.
+        view value ≡ other_data accepted guest what.now ids.now) }
+{
+    json!(in alloc; {"accepted": accepted, "guest": guest, "ids": ids, "kind": what})
+}
+
 /// A rule that decides no name.
 fn idle_value(alloc: Global, accepted: bool, guest: usize, what: &str, place: usize) -> Built
     ensures { IfOk result (λ value.
@@ -228,6 +247,28 @@ fn idle_value(alloc: Global, accepted: bool, guest: usize, what: &str, place: us
 {
     let rule = number_at(place)?;
     json!(in alloc; {"accepted": accepted, "guest": guest, "kind": what, "rule": rule})
+}
+
+/// A name of an access control list that passes as another one.
+fn acl_value(
+    alloc: Global,
+    accepted: bool,
+    guest: usize,
+    what: &str,
+    name: AclName,
+    host: &[u8],
+) -> Built
+    ensures { IfOk result (λ value.
+        view value ≡ acl_data accepted guest what.now name host.now) }
+{
+    let (becomes, name) = (name_value(alloc, host)?, acl_name(name));
+    json!(in alloc; {
+        "accepted": accepted,
+        "becomes": becomes,
+        "guest": guest,
+        "kind": what,
+        "name": name
+    })
 }
 
 /// Names of a guest.
@@ -303,6 +344,7 @@ fn named_value(
     match finding {
         Finding::PosixAcl | Finding::NoRule => plain_value(alloc, accepted, guest, what),
         Finding::Range { kind, range } => fault_value(alloc, accepted, guest, what, *kind, *range),
+        Finding::OtherRanges(kind) => other_value(alloc, accepted, guest, what, word(*kind)),
         Finding::Ids {
             kind,
             fault,
@@ -316,6 +358,9 @@ fn named_value(
             names_value(alloc, accepted, guest, what, least)
         }
         Finding::IdleRule(place) => idle_value(alloc, accepted, guest, what, *place),
+        Finding::AclRenamed { name, host } => {
+            acl_value(alloc, accepted, guest, what, *name, host.as_slice())
+        }
         Finding::IdsOfBoth {
             first,
             second,

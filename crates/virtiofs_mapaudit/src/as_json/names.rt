@@ -24,7 +24,7 @@ fn text_value(alloc: Global, text: &str, escaped: bool) -> Built
 }
 
 /// A name: as it is where it is UTF-8, and else escaped as in the lines.
-fn name_value(alloc: Global, name: &[u8]) -> Built
+pub(super) fn name_value(alloc: Global, name: &[u8]) -> Built
     ensures { IfOk result (λ value. view value ≡ name_data name.now) }
 {
     if let Ok(text) = std::str::from_utf8(name) {

@@ -60,7 +60,7 @@ fn astray_of<A: Allocator + Copy>(
 }
 
 /// The ids that become one of these.
-fn ids_to<A: Allocator + Copy>(
+pub(super) fn ids_to<A: Allocator + Copy>(
     alloc: A,
     map: &Ids<A>,
     hosts: &[Span],

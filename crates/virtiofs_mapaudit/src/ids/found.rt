@@ -9,8 +9,10 @@ pub(crate) enum IdFault {
     /// They do not round-trip: each becomes an id of the host that leads back to another id of the
     /// guest.
     NotBack,
-    /// They become ids that the namespace of the daemon lacks.
+    /// They become ids that the namespace of the daemon lacks, as each lacks 4294967295.
     Lacking,
+    /// No specification covers them, and they are the ids of the host of the same numbers.
+    Kept,
 }
 
 /// Ids of a guest that are reported, and what is told of the least of them.

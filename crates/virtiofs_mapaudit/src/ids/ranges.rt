@@ -1,17 +1,19 @@
 //! What is wrong with the ranges of a daemon's namespace.
-ghost use Rattle.std.specs.Prelude.{◌≡◌, ◌↔◌, ◌++◌, length, IfOk, IsTrue, MatchOption, OnOk, Some, string_bytes};
+ghost use Rattle.std.specs.Prelude.{◌≡◌, ◌↔◌, ◌++◌, length, IfOk, IsTrue, MatchOption, OnOk, Some, option_map, string_bytes};
 ghost use Rattle.std.specs.Fmt.{DisplaysOnOk};
 ghost use Rattle.virtiofs_mapaudit.specs.RangeText.{place_text, range_text};
-ghost use Rattle.virtiofs_mapaudit.specs.RangeParts.{MeetsNone};
-ghost use Rattle.virtiofs_mapaudit.specs.Ranges.{MeetAt, IsBeyond, line_of, lines_of, IsAtFault, FindsFault};
+ghost use Rattle.virtiofs_mapaudit.specs.RangeParts.{MeetsNone, MeetsAs};
+ghost use Rattle.virtiofs_mapaudit.specs.Ranges.{MeetAt, IsBeyond, IsRefused, line_of, lines_of, IsAtFault, FindsFault};
 
 use super::kind::{IdKind, ranging};
 use crate::ordinal::Ordinal;
 use std::alloc::{AllocError, Allocator};
 use std::fmt;
 use virtiofs_map::idmap::UidMap;
+use virtiofs_process::allowed::is_allowed;
+use virtiofs_process::runner::Bounds;
 
-/// What is wrong with a range. Linux takes no namespace with such a range.
+/// What is wrong with a range. The daemon gets no namespace with such a range.
 #[derive(Clone, Copy)]
 pub(crate) enum RangeFault {
     /// It has no id.
@@ -22,6 +24,8 @@ pub(crate) enum RangeFault {
     TooMany,
     /// With its line the text of the ranges is longer than Linux takes.
     PastPage,
+    /// Not all of its ids are the user's own, or given to the user by `/etc/subuid`.
+    NotGiven,
     /// Inside the namespace it meets the earlier range of that place, counted from 0.
     MeetsInside(usize),
     /// Outside the namespace it meets that range.
@@ -57,8 +61,7 @@ fn is_beyond(range: &UidMap) -> bool
 
 /// The first of the ranges before a range that it meets, inside the namespace or outside.
 fn meeting(before: &[UidMap], range: &UidMap) -> Option<RangeFault>
-    ensures { MatchOption result (MeetsNone before.now range.now)
-        (IsAtFault before.now range.now) }
+    ensures { MatchOption result (MeetsNone before.now range.now) (MeetsAs before.now range.now) }
 {
     for place in 0..before.len() {
         let one = &before[place];
@@ -78,13 +81,32 @@ const MOST_RANGES: usize = 340;
 /// Linux takes a text of ranges that is shorter than a page.
 const PAGE: usize = 4096;
 
+/// Whether `newuidmap` is asked for a range, and refuses it.
+fn is_refused<A: Allocator>(bounds: Option<&Bounds<A>>, range: &UidMap) -> bool
+    ensures { IsTrue result ↔ IsRefused (option_map (λ it. it.now) bounds.entry) range.now }
+{
+    let Some(bounds) = bounds else {
+        return false;
+    };
+    match &bounds.given {
+        Some(given) => !is_allowed(bounds.own, given.as_slice(), range),
+        None => false,
+    }
+}
+
 /// What is wrong with a range, before which those others stand. The lines of all of them are
 /// `written` bytes.
-fn fault_of(before: &[UidMap], range: &UidMap, written: usize) -> Option<RangeFault>
+fn fault_of<A: Allocator>(
+    bounds: Option<&Bounds<A>>,
+    before: &[UidMap],
+    range: &UidMap,
+    written: usize,
+) -> Option<RangeFault>
     requires { written ≡ length (lines_of before.now ++ line_of range.now) }
     ensures { MatchOption result
-        ((fault : RangeFault) → ¬ IsAtFault before.now range.now fault)
-        (IsAtFault before.now range.now) }
+        ((fault : RangeFault) → ¬ IsAtFault (option_map (λ it. it.now) bounds.entry)
+        before.now range.now fault)
+        (IsAtFault (option_map (λ it. it.now) bounds.entry) before.now range.now) }
 {
     if range.count == 0 {
         return Some(RangeFault::Empty);
@@ -97,6 +119,9 @@ fn fault_of(before: &[UidMap], range: &UidMap, written: usize) -> Option<RangeFa
     }
     if written >= PAGE {
         return Some(RangeFault::PastPage);
+    }
+    if is_refused(bounds, range) {
+        return Some(RangeFault::NotGiven);
     }
     meeting(before, range)
 }
@@ -112,15 +137,16 @@ fn push_line<A: Allocator>(lines: &mut String<A>, range: &UidMap) -> Result<(), 
 /// The first range that is at fault.
 pub(crate) fn first_fault<A: Allocator>(
     alloc: A,
+    bounds: Option<&Bounds<A>>,
     ranges: &[UidMap],
 ) -> Result<Option<RangeFound>, AllocError>
-    ensures { IfOk result (FindsFault ranges.now) }
+    ensures { IfOk result (FindsFault (option_map (λ it. it.now) bounds.entry) ranges.now) }
 {
     let mut lines = String::new(alloc);
     for place in 0..ranges.len() {
         let range = &ranges[place];
         push_line(&mut lines, range)?;
-        if let Some(fault) = fault_of(&ranges[..place], range, lines.as_bytes().len()) {
+        if let Some(fault) = fault_of(bounds, &ranges[..place], range, lines.as_bytes().len()) {
             return Ok(Some(RangeFound { place, fault }));
         }
     }
@@ -168,6 +194,12 @@ pub(crate) fn write_range<W: fmt::Write>(
             write!(
                 f,
                 "{range} is too much: Linux takes less than 4096 bytes of them\n"
+            )
+        }
+        RangeFault::NotGiven => {
+            write!(
+                f,
+                "{range} has ids that the user may not give to a namespace: the daemon does not start\n"
             )
         }
         RangeFault::MeetsInside(place) => {

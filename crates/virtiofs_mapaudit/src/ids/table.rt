@@ -59,7 +59,7 @@ pub(crate) fn images_of(piece: Piece) -> Option<Span>
 }
 
 /// The side from which ids come in a direction.
-fn source_word(direction: Direction) -> &'static str
+pub(crate) fn source_word(direction: Direction) -> &'static str
     ensures { result.now ≡ source_word direction }
 {
     match direction {

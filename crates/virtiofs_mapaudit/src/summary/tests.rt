@@ -11,7 +11,7 @@ use virtiofs_options::words::{Words, read_words};
 /// Words with a space between each two, and what is said of the guest's users.
 type Row = (&'static str, &'static str);
 
-static USERS: [Row; 17] = [
+static USERS: [Row; 12] = [
     ("-- virtiofsd", "all keep their number"),
     (
         "--translate-uid map:0:100000:65536",
@@ -53,6 +53,11 @@ static USERS: [Row; 17] = [
         "--translate-uid guest:0:100:1 --translate-uid guest:2:102:1 --translate-uid guest:4:104:1 --translate-uid guest:6:106:1 --translate-uid guest:8:108:1 --translate-uid guest:10:110:1 --translate-uid guest:12:112:1 --translate-uid guest:14:114:1 --translate-uid guest:16:116:1",
         "in 9 ranges, which --show ids lists, the others keep their number",
     ),
+    ("--translate-uid map:0:1", "refused"),
+];
+
+/// The same, where there are ranges of users alone.
+static USERS_IN_NAMESPACE: [Row; 5] = [
     (
         "--uid-map :0:100000:65536:",
         "all keep their number in the daemon's namespace; its 0 to 65535 are 100000 to 165535 on the host",
@@ -69,7 +74,6 @@ static USERS: [Row; 17] = [
         "--uid-map :0:0:1: --uid-map :2:2:1: --uid-map :4:4:1: --uid-map :6:6:1: --uid-map :8:8:1: --uid-map :10:10:1: --uid-map :12:12:1: --uid-map :14:14:1: --uid-map :16:16:1:",
         "all keep their number in the daemon's namespace; it has 9 ranges",
     ),
-    ("--translate-uid map:0:1", "refused"),
     ("--uid-map :0:1:", "refused"),
 ];
 
@@ -110,12 +114,12 @@ fn said(alloc: Global, line: &str) -> Result<String, Fail> {
     Ok(text)
 }
 
-#[test]
-fn says_what_users_are(rt: HostRuntime) -> Result<(), Fail> {
-    for (line, users) in &USERS {
-        let text = said(rt.alloc(), line)?;
-        let wanted = format!(in rt.alloc();
-            "guest 1\n  users: {users}\n  groups: all keep their number\n  names: all pass as they are\n"
+/// Sees what is said of guests, whose groups are all alike.
+fn see_users(rt: &impl Abort, alloc: Global, rows: &[Row], groups: &str) -> Result<(), Fail> {
+    for (line, users) in rows {
+        let text = said(alloc, line)?;
+        let wanted = format!(in alloc;
+            "guest 1\n  users: {users}\n  groups: {groups}\n  names: all pass as they are\n"
         )?;
         assert_eq!(rt; text.as_str(), wanted.as_str(), "{line}");
     }
@@ -123,11 +127,18 @@ fn says_what_users_are(rt: HostRuntime) -> Result<(), Fail> {
 }
 
 #[test]
+fn says_what_users_are(rt: HostRuntime) -> Result<(), Fail> {
+    see_users(&rt, rt.alloc(), &USERS, "all keep their number")?;
+    let groups = "all keep their number in the daemon's namespace; its 0 is 0 on the host";
+    see_users(&rt, rt.alloc(), &USERS_IN_NAMESPACE, groups)
+}
+
+#[test]
 fn says_what_groups_are(rt: HostRuntime) -> Result<(), Fail> {
     let line = "--translate-gid map:0:7:1 --gid-map :0:9:10:";
     let text = said(rt.alloc(), line)?;
     let wanted =
-        "guest 1\n  users: all keep their number\n  groups: 0 is 7 in the daemon's namespace, the others keep their number in the daemon's namespace; its 0 to 9 are 9 to 18 on the host\n  names: all pass as they are\n";
+        "guest 1\n  users: all keep their number in the daemon's namespace; its 0 is 0 on the host\n  groups: 0 is 7 in the daemon's namespace, the others keep their number in the daemon's namespace; its 0 to 9 are 9 to 18 on the host\n  names: all pass as they are\n";
     assert_eq!(rt; text.as_str(), wanted);
     Ok(())
 }

@@ -1,7 +1,5 @@
-use Rattle.std.proofs.Common.{◌∙◌}
-use Rattle.std.proofs.lemmas.Slice.Zip.{AllZip-long}
-use Rattle.virtiofs_mapaudit.specs.Guests.{SetsUp}
-use Rattle.virtiofs_mapaudit.proofs.ReportLemmas.{IsOf, says_all}
+use Rattle.std.proofs.Common.{◌∙◌, refl}
+use Rattle.virtiofs_mapaudit.proofs.ReportLemmas.{audited_long}
 use Rattle.virtiofs_mapaudit.proofs.ListLemmas.{is_not_empty}
 use Rattle.virtiofs_mapaudit.proofs.audit.say.Goals.{then-not-asked, else-not-asked}
 use Rattle.virtiofs_mapaudit.proofs.audit.say.Goals as goal
@@ -9,29 +7,31 @@ use Rattle.virtiofs_mapaudit.proofs.audit.say.Goals as goal
 pub options_of-requires : goal.options_of-requires
 options_of-requires c = record {
   same = rw c.as_slice-2.ensures.value
-      (AllZip-long SetsUp c.args.guests.now c.in_ok-sets.sets.items c.in_ok-sets.ensures.sets_up);
+      (audited_long c.args.asked.isolated c.args.accepted.now c.args.guests.now c.in_ok-all.all c.in_ok-all.ensures).0;
 }
 
 pub in_form-requires-clause-same : goal.in_form-requires-clause-same
 in_form-requires-clause-same c =
     rw c.as_slice-4.ensures.value
-    (AllZip-long SetsUp c.args.guests.now c.in_ok-sets.sets.items c.in_ok-sets.ensures.sets_up)
+    (audited_long c.args.asked.isolated c.args.accepted.now c.args.guests.now c.in_ok-all.all c.in_ok-all.ensures).0
 
 pub in_form-requires-clause-same_2 : goal.in_form-requires-clause-same_2
 in_form-requires-clause-same_2 c =
-    let finds = rw c.as_slice.ensures.value at c.in_ok-report.ensures in
-    AllZip-long (IsOf c.args.accepted.now) c.in_ok-sets.sets.items c.in_ok-report.report.guests.items finds.guests
-    ∙ AllZip-long SetsUp c.args.guests.now c.in_ok-sets.sets.items c.in_ok-sets.ensures.sets_up
+    (audited_long c.args.asked.isolated c.args.accepted.now c.args.guests.now c.in_ok-all.all c.in_ok-all.ensures).1
 
 pub returns : goal.returns
-returns c =
-    says_all c.args.asked c.args.accepted.now c.args.guests.now _ c.in_ok-sets.sets.items c.in_ok-report.report c.in_ok-advised.advised
-    c.in_ok-sets.ensures.sets_up (rw c.as_slice.ensures.value at c.in_ok-report.ensures)
-    c.has_found-is_found.ensures
-    (rw c.new-refusals.ensures.items at c.in_ok-sets.ensures.says) c.in_ok-advised.ensures.tried
-    (λ some. c.in_ok-advised.ensures.untried (elim c.if-not-asked.branch [
-      | then-not-asked w ↦ w.tries-is ∙ is_not_empty _ _ some (rw w.as_slice-then-not-asked.ensures.value at w.is_empty-tries.ensures)
-      | else-not-asked w ↦ w.tries-is ∙ w.if-not-asked.false
-    ])) c.in_ok-text.ensures.quiet
-    (rw (c.as_slice-4.ensures.value, c.as_slice-told.ensures.value) at c.in_ok-text.ensures.plain)
-    (rw (c.as_slice-4.ensures.value, c.as_slice-told.ensures.value) at c.in_ok-text.ensures.json)
+returns c = record {
+  all = c.in_ok-all.all;
+  advised = c.in_ok-advised.advised;
+  audits = c.in_ok-all.ensures;
+  found = refl;
+  refusals = refl;
+  advice = c.in_ok-advised.ensures.tried;
+  none_advised = λ some. c.in_ok-advised.ensures.untried (elim c.if-not-asked.branch [
+    | then-not-asked w ↦ w.tries-is ∙ is_not_empty _ _ some (rw w.as_slice.ensures.value at w.is_empty-tries.ensures)
+    | else-not-asked w ↦ w.tries-is ∙ w.if-not-asked.false
+  ]);
+  quiet = c.in_ok-text.ensures.quiet;
+  plain = rw (c.as_slice-4.ensures.value, c.as_slice-told.ensures.value) at c.in_ok-text.ensures.plain;
+  json = rw (c.as_slice-4.ensures.value, c.as_slice-told.ensures.value) at c.in_ok-text.ensures.json;
+}

@@ -1,8 +1,8 @@
 use Rattle.virtiofs_mapaudit.proofs.SetUpLemmas.{adds_ids}
 use Rattle.virtiofs_mapaudit.proofs.setup.read_ids.Goals as goal
 
-pub returns-in-Some-Some-clause-says : goal.returns-in-Some-Some-clause-says
-returns-in-Some-Some-clause-says g c =
+pub returns-clause-says : goal.returns-clause-says
+returns-clause-says g c =
     adds_ids _ _ _ _ _ _ _ _ _ c.translating.ensures c.ranging.ensures c.in_ok-map.ensures.says
     c.in_ok-ranges.ensures.says
 

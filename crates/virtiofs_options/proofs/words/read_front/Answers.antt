@@ -10,5 +10,6 @@ returns-clause-read c = (
   search rules,
   search rules,
   search rules,
+  search rules,
   (c.new-guest.result, c.new-guest.ensures, search rules),
 )

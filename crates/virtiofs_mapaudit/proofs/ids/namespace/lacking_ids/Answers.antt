@@ -1,36 +1,15 @@
-use Rattle.std.proofs.Common.{◌≤◌, inl, inr, arith, refl}
-use Rattle.std.proofs.lemmas.Bool.{cases_lt}
+use Rattle.std.proofs.Common.{refl}
 use Rattle.virtiofs_mapaudit.proofs.IdLemmas.{none_here, some_here}
-use Rattle.virtiofs_mapaudit.proofs.NamespaceLemmas.{lacks_none, lacks_had, lacks_more, lacks_all, lacks_nothing}
+use Rattle.virtiofs_mapaudit.proofs.NamespaceLemmas.{lacks_no_id, lacks_both}
 use Rattle.virtiofs_mapaudit.proofs.ids.namespace.lacking_ids.Goals as goal
 
 pub returns-then-is_empty : goal.returns-then-is_empty
 returns-then-is_empty g c =
-    lacks_nothing c.args.ranges.now _
-    (none_here c.args.ranges.now c.is_empty.result c.is_empty.ensures c.if-is_empty.true) c.new-ids.ensures.items
-
-pub loop-first-init : goal.loop-first-init
-loop-first-init g c = rw c.new-ids.ensures.items (lacks_none c.args.ranges.now)
-
-pub loop-first-preserved-in-Some : goal.loop-first-preserved-in-Some
-loop-first-preserved-in-Some g c =
-    lacks_had c.args.ranges.now c.in-Ok.first c.in-Some.end _ c.in-Some.ensures.0 c.in-Some.ensures.2
-    (rw c.in-Ok.ensures.1 c.loop-first.invariant)
-
-pub loop-first-preserved : goal.loop-first-preserved
-loop-first-preserved g c =
-    rw (c.from-next.ensures, c.in_ok-push.ensures.items)
-    (lacks_more c.args.ranges.now c.in-Ok.first c.last_lacking-last.result _ _ refl refl
-    (omega (arith, c.last_lacking-last.type_inv)) c.last_lacking-last.ensures.order c.last_lacking-last.ensures.lacks
-    (rw c.in-Ok.ensures.1 c.loop-first.invariant))
+    lacks_no_id c.one_span.result c.args.ranges.now _
+    (none_here c.args.ranges.now c.is_empty.result c.is_empty.ensures c.if-is_empty.true) refl refl c.one_span.ensures
 
 pub returns : goal.returns
 returns g c =
-    let passed : 4294967296 ≤ c.loop-first.next =
-    elim (cases_lt c.loop-first.next 4294967296) [
-      | inl small ↦ absurd (c.in_default.ensures small)
-      | inr big ↦ big
-    ] in
-    lacks_all c.args.ranges.now c.loop-first.next _
-    (some_here c.args.ranges.now c.is_empty.result c.is_empty.ensures c.if-is_empty.false) (omega (arith, passed))
-    c.loop-first.invariant
+    lacks_both c.args.ranges.now c.in_ok-ids.ids.items _ _
+    (some_here c.args.ranges.now c.is_empty.result c.is_empty.ensures c.if-is_empty.false) refl refl
+    c.in_ok-ids.ensures c.in_ok-push.ensures.items

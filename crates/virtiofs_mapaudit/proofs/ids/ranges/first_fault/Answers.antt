@@ -12,11 +12,11 @@ fault_of-requires g c =
 
 pub loop-place-preserved : goal.loop-place-preserved
 loop-place-preserved g c = (
-  none_wrong_more c.args.ranges.now _ c.loop-place.place c.loop-place.invariant.0 c.loop-place-test.true c.in_default.ensures,
+  none_wrong_more _ c.args.ranges.now _ c.loop-place.place c.loop-place.invariant.0 c.loop-place-test.true c.in_default.ensures,
   lines_more c.args.ranges.now _ c.loop-place.place _ _ c.loop-place-test.true c.loop-place.invariant.1
       c.in_ok-push_line.ensures,
 )
 
 pub returns : goal.returns
 returns g c =
-    none_wrong_all c.args.ranges.now c.loop-place.place (omega (arith, c.loop-place-test.false)) c.loop-place.invariant.0
+    none_wrong_all _ c.args.ranges.now c.loop-place.place (omega (arith, c.loop-place-test.false)) c.loop-place.invariant.0

@@ -21,4 +21,5 @@ returns g c =
       groups = then.groups;
       user_ranges = then.user_ranges;
       group_ranges = then.group_ranges;
+      runner = then.runner;
     })

@@ -1,0 +1,21 @@
+use Rattle.std.proofs.Common.{◌≡◌, ◌++◌, List, None, find, map, refl, subst}
+use Rattle.virtiofs_options.specs.GuestOptions.{TakesIn}
+use Rattle.virtiofs_options.specs.Unknown.{is_faulty, told, unknown_of}
+use Rattle.virtiofs_options.specs.declared.command.Part.{Part}
+use Rattle.virtiofs_options.proofs.guests.line_guest.Goals as goal
+
+pub returns-clause-read : goal.returns-clause-read
+returns-clause-read c = (
+  unknown_of c.args.options c.args.number c.in_ok-parts.parts.items,
+  (
+    c.in_ok-parts.parts.items,
+    c.in_ok-parts.ensures.read,
+    subst (λ (it : List Part). find (is_faulty c.args.options) it ≡ None) c.as_slice.ensures.value
+        (c.in_ok-check_parts.ensures.right refl),
+    subst (TakesIn c.args.first c.take_parts.new.self) c.as_slice-3.ensures.value c.in_ok-take_parts.ensures,
+    refl,
+  ),
+  subst (λ (it : List Part). map told c.push_unknown.new.unknown.items
+      ≡ map told c.args.unknown.now.items ++ unknown_of c.args.options c.args.number it)
+      c.as_slice-2.ensures.value c.in_ok-push_unknown.ensures,
+)

@@ -1,0 +1,68 @@
+-- Texts that are cut at a byte.
+use Rattle.std.proofs.Common.{◌≡◌, ◌≢◌, ℕ, ◌+◌, ◌-◌, ◌<◌, eqb, List, [], ◌∷◌, ◌++◌, length, take, drop, get_or, false, All}
+use Rattle.std.proofs.Common.{refl, sym, ap, ◌∙◌, arith}
+use Rattle.std.proofs.lemmas.Bool.Decides.{nat_tests}
+use Rattle.std.proofs.lemmas.List.{take-append-drop, drop_more, get_or-take, length-take, take_rest}
+use Rattle.std.proofs.lemmas.List.Elements.{All-from_get_or, All-weaker, recursion_from_All}
+use Rattle.std.proofs.lemmas.List.Splits.{slice_split_at, slice_split_none}
+use Rattle.virtiofs_map.specs.Separator.{Lacks, split_at_each}
+
+-- a text with a byte c does not lack it
+pub Lacks-not : (c : ℕ) (a x : List ℕ) → Lacks c (a ++ c ∷ x) → ⊥
+Lacks-not c [] x lacks = lacks.0 refl
+Lacks-not c (b ∷ bs) x lacks = Lacks-not c bs x lacks.1
+
+cons_same : (d e : ℕ) (ds es : List ℕ) → d ≡ e → ds ≡ es → d ∷ ds ≡ e ∷ es
+cons_same d e ds es first rest = cc
+
+-- a text has one first byte c
+pub cut_one : (c : ℕ) (a b x y : List ℕ) → a ++ c ∷ x ≡ b ++ c ∷ y → Lacks c a → Lacks c b → (a ≡ b) × (x ≡ y)
+cut_one c [] [] x y same left right = (refl, cc)
+cut_one c [] (d ∷ ds) x y same left right = let first : d ≡ c = cc in absurd (right.0 first)
+cut_one c (d ∷ ds) [] x y same left right = let first : d ≡ c = cc in absurd (left.0 first)
+cut_one c (d ∷ ds) (e ∷ es) x y same left right =
+    let heads : d ≡ e = cc in
+    let tails : ds ++ c ∷ x ≡ es ++ c ∷ y = cc in
+    let others = cut_one c ds es x y tails left.1 right.1 in
+    (cons_same d e ds es heads others.0, others.1)
+
+-- bytes that are not c, as a test
+passes_not : (c : ℕ) (xs : List ℕ) → All (λ b. b ≢ c) xs → All (λ b. eqb b c ≡ false) xs
+passes_not c xs all = All-weaker (λ b. b ≢ c) (λ b. eqb b c ≡ false) (λ b other. grind (arith, nat_tests, other)) xs all
+
+-- a text without the byte c
+pub whole_lacks : (c : ℕ) (text : List ℕ) → ((k : ℕ) → k < length text → get_or text k 0 ≢ c) → Lacks c text
+whole_lacks c text none = recursion_from_All (λ b. b ≢ c) text (All-from_get_or (λ b. b ≢ c) text 0 none)
+
+pub whole_part : (c : ℕ) (text : List ℕ) → ((k : ℕ) → k < length text → get_or text k 0 ≢ c)
+    → split_at_each c text ≡ text ∷ []
+whole_part c text none =
+    slice_split_none (λ b. eqb b c) text (passes_not c text (All-from_get_or (λ b. b ≢ c) text 0 none))
+
+before : (c : ℕ) (text : List ℕ) (place : ℕ) → ((k : ℕ) → k < place → get_or text k 0 ≢ c)
+    → All (λ b. b ≢ c) (take place text)
+before c text place none =
+    All-from_get_or (λ b. b ≢ c) (take place text) 0
+    (λ i below. let less : i < place = omega (arith, below, length-take place text) in rw get_or-take (none i less))
+
+-- a text whose first byte c stands at that place
+pub front_lacks : (c : ℕ) (text : List ℕ) (place : ℕ) → ((k : ℕ) → k < place → get_or text k 0 ≢ c)
+    → Lacks c (take place text)
+front_lacks c text place none = recursion_from_All (λ b. b ≢ c) (take place text) (before c text place none)
+
+pub cut_whole : (c : ℕ) (text : List ℕ) (place : ℕ) → place < length text → get_or text place 0 ≡ c
+    → text ≡ take place text ++ c ∷ take (length text - (place + 1)) (drop (place + 1) text)
+cut_whole c text place below here =
+    sym (take-append-drop place text)
+    ∙ ap (λ t. take place text ++ t) (drop_more text place 0 below
+    ∙ ap (λ b. b ∷ drop (place + 1) text) here
+    ∙ ap (λ t. c ∷ t) (sym (take_rest text (place + 1))))
+
+pub cut_parts : (c : ℕ) (text : List ℕ) (place : ℕ) → place < length text → get_or text place 0 ≡ c
+    → ((k : ℕ) → k < place → get_or text k 0 ≢ c)
+    → split_at_each c text
+    ≡ take place text ∷ split_at_each c (take (length text - (place + 1)) (drop (place + 1) text))
+cut_parts c text place below here none =
+    ap (split_at_each c) (cut_whole c text place below here)
+    ∙ slice_split_at (λ b. eqb b c) (take place text) c _ (passes_not c (take place text) (before c text place none))
+    (grind (arith, nat_tests))

@@ -1,0 +1,14 @@
+-- What is left of a text that is cut at a byte. Only private functions cite these definitions.
+use Rattle.std.specs.Prelude.{ℕ, ◌+◌, List, [], length, Option, None, Some}
+use Rattle.std.specs.Borrow.{Bor}
+use Rattle.virtiofs_map.specs.Separator.{split_at_each}
+
+-- the parts of what is left, between the bytes c
+abbrev pub parts_left : ℕ → Option (Bor (List ℕ)) → List (List ℕ)
+parts_left c None = []
+parts_left c (Some rest) = split_at_each c rest.now
+
+-- how many bytes and cuts are left
+abbrev pub bytes_left : Option (Bor (List ℕ)) → ℕ
+bytes_left None = 0
+bytes_left (Some rest) = length rest.now + 1

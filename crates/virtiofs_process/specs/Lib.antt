@@ -1,0 +1,12 @@
+pub mod Allowed
+pub mod CommandLine
+pub mod CutParts
+pub mod Decimal
+pub mod IdMapParts
+pub mod IdMapText
+pub mod Lines
+pub mod RunAs
+pub mod Sequence
+pub mod Status
+pub mod SubordinateIds
+pub mod Users
