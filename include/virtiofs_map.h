@@ -40,13 +40,11 @@
  * kind (ids instead of names, or names instead of ids), a map of another version. None
  * of these is ever treated as the map that changes no id. To get that map, make a map
  * from no specifications. A call that is given one of these returns VIRTIOFS_NO_MAP.
- * There is one exception: if a call takes two maps of names, and only the second is no
- * map, the code may be VIRTIOFS_NO_MEMORY instead. If the numbers begin as a map does,
- * but the rest was not written by a `make` or was changed since, the result means
- * nothing. Whatever the numbers are, a call returns, reads nothing outside of them, and
- * writes nothing outside of its results. But an audit of names may then take time that grows
- * with the square of the number of rules times the number of bytes: we measured a minute for
- * 100 KB. So audit only maps that you made.
+ * If the numbers begin as a map does, but the rest was not written by a `make` or was
+ * changed since, the result means nothing. Whatever the numbers are, a call returns,
+ * reads nothing outside of them, and writes nothing outside of its results. But an audit
+ * of names may then take time that grows with the square of the number of rules times
+ * the number of bytes: we measured a minute for 100 KB. So audit only maps that you made.
  *
  * What the numbers mean is private to a version of the library, and they are in the byte
  * order of the machine. So do not store them in files, and do not send them to another
@@ -135,7 +133,7 @@ enum virtiofs_code {
     VIRTIOFS_NO_ROOM = 7,      /* the buffer is too short */
     VIRTIOFS_NO_MEMORY = 8,    /* an allocation failed */
     VIRTIOFS_NO_MAP = 9,       /* the words, or the bytes, are no map */
-    VIRTIOFS_NO_NAME = 10,     /* the bytes are no name: one of them is zero */
+    VIRTIOFS_NO_NAME = 10,     /* no longer returned: a name ends before its first zero */
     VIRTIOFS_MERGES = 11,      /* two ids of the value would become the same id */
     VIRTIOFS_ROOT_MOVES = 12,  /* the capability has no field for the new id of root */
     VIRTIOFS_NO_ID = 13        /* the id, or what it becomes, is 4294967295 */
@@ -513,8 +511,7 @@ static inline enum virtiofs_code virtiofs_range_read(const void *text, size_t te
  */
 
 /* The most bytes that a map of a text of `text_len` bytes takes. A buffer of that many bytes
-   is always enough; tests show this, but it is not proved. The result is SIZE_MAX if
-   no buffer can be that large. */
+   is always enough. The result is SIZE_MAX if no buffer can be that large. */
 static inline size_t virtiofs_names_bound(size_t text_len);
 
 /* Makes a map from a text of rules, in the buffer `bytes` of `room` bytes. OK: the first
@@ -534,7 +531,10 @@ static inline enum virtiofs_code virtiofs_names_make(const void *text, size_t te
    the guest's name with a prepend before it. NO_ROOM: it does not fit. These two codes are
    returned only if a `prefix` or a `map` rule puts its prepend before the name, even an empty
    prepend. AS_IT_IS: the host has the same name; nothing is copied. DENIED; UNSUPPORTED;
-   UNTERMINATED; NO_NAME; NO_MAP. */
+   UNTERMINATED; NO_MAP.
+   The name ends before its first zero, so `name_len` may count it. What follows that zero makes
+   no difference, and is not copied; if the code is AS_IT_IS, it is no part of the host's name
+   either, so hand on no more than a system call reads: the bytes before the first zero. */
 VIRTIOFS_CHECKED((6))
 static inline enum virtiofs_code virtiofs_names_client(struct virtiofs_names map, const void *name,
                                                        size_t name_len, void *out, size_t room,

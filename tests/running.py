@@ -4,8 +4,6 @@ Every command is a process group of its own, with a shell in it that waits at a 
 Once this process is gone, by Ctrl-C, by `kill` or by `kill -9`, the pipe closes and the shell kills its group.
 """
 import contextlib
-import importlib.machinery
-import importlib.util
 import os
 import shutil
 import signal
@@ -73,15 +71,6 @@ def made_room(name):
 
 def cores():
     return len(os.sched_getaffinity(0))
-
-
-def kit():
-    """The kit's command `rt`, as a module."""
-    told = subprocess.run(["rt", "doc"], stdout=subprocess.PIPE, encoding="utf-8", check=True).stdout.strip()
-    loader = importlib.machinery.SourceFileLoader("rt_of_the_kit", f"{os.path.dirname(told)}/bin/rt")
-    rt = importlib.util.module_from_spec(importlib.util.spec_from_loader("rt_of_the_kit", loader))
-    loader.exec_module(rt)
-    return rt
 
 
 def shown(seconds):

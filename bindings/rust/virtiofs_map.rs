@@ -60,7 +60,7 @@ pub(super) mod ffi {
         pub fn virtiofs_map_names_make(text: *const u8, text_len: usize, bytes: *mut u8, room: usize,
             wanted: &mut usize, fault: &mut Fault, quoted: *mut u8, quoted_room: usize) -> u32;
         pub fn virtiofs_map_names_client(bytes: *const u8, map_len: usize, name: *const u8, name_len: usize,
-            out: *mut u8, room: usize, len: &mut usize) -> u32;
+            out: *mut u8, room: usize, len: *mut usize) -> u32;
         pub fn virtiofs_map_names_server(bytes: *const u8, map_len: usize, list: *const u8, list_len: usize,
             out: *mut u8, room: usize, len: &mut usize) -> u32;
         pub fn virtiofs_map_names_is_terminated(bytes: *const u8, map_len: usize, yes: &mut bool) -> u32;
@@ -798,43 +798,51 @@ pub mod xattrmap {
         /// What becomes of a name that the guest asks for. A name that passes as it is is borrowed.
         #[inline]
         pub fn map_client_xattr<'a>(&self, xattr_name: &'a CStr) -> Result<AppliedRule<'a>, Error> {
-            let mut out = [MaybeUninit::uninit(); ROOM];
-            match self.client(xattr_name, &mut out) {
-                (ffi::AS_IT_IS, _) => Ok(AppliedRule::Pass(Cow::Borrowed(xattr_name))),
-                (ffi::DENIED, _) => Ok(AppliedRule::Deny),
-                (ffi::UNSUPPORTED, _) => Ok(AppliedRule::Unsupported),
-                (ffi::OK, len) => {
+            let (mut out, mut len) = ([MaybeUninit::uninit(); ROOM], MaybeUninit::uninit());
+            // (the two answers that are most frequent are told apart here, by a comparison each)
+            match self.client(xattr_name, &mut out, &mut len) {
+                ffi::AS_IT_IS => Ok(AppliedRule::Pass(Cow::Borrowed(xattr_name))),
+                ffi::DENIED => Ok(AppliedRule::Deny),
+                // Sound: the call wrote the length.
+                code => self.other_client(code, xattr_name, &out, unsafe { len.assume_init() }),
+            }
+        }
+
+        #[inline(never)]
+        fn other_client<'a>(
+            &self, code: u32, xattr_name: &CStr, out: &[MaybeUninit<u8>; ROOM], len: usize,
+        ) -> Result<AppliedRule<'a>, Error> {
+            match code {
+                ffi::OK => {
                     let mut name = Vec::with_capacity(len + 1);
                     // Sound: the call wrote so many bytes.
                     name.extend_from_slice(unsafe { slice::from_raw_parts(out.as_ptr() as *const u8, len) });
                     Ok(AppliedRule::Pass(Cow::Owned(c_string(name))))
                 }
-                (ffi::NO_ROOM, len) => self.long_client(xattr_name, len),
+                ffi::UNSUPPORTED => Ok(AppliedRule::Unsupported),
+                ffi::NO_ROOM => self.long_client(xattr_name, len),
                 _ => Err(ErrorKind::UnterminatedMapping.into()),
             }
         }
 
         #[cold]
-        fn long_client<'a>(&self, xattr_name: &CStr, len: usize) -> Result<AppliedRule<'a>, Error> {
-            let mut out = Vec::with_capacity(len + 1);
-            if self.client(xattr_name, out.spare_capacity_mut()) != (ffi::OK, len) {
+        fn long_client<'a>(&self, xattr_name: &CStr, wanted: usize) -> Result<AppliedRule<'a>, Error> {
+            let (mut out, mut len) = (Vec::with_capacity(wanted + 1), MaybeUninit::uninit());
+            if self.client(xattr_name, out.spare_capacity_mut(), &mut len) != ffi::OK {
                 return Err(ErrorKind::UnterminatedMapping.into());
             }
-            // Sound: the call wrote so many bytes.
-            unsafe { out.set_len(len) };
+            // Sound: the call wrote the length, and so many bytes.
+            unsafe { out.set_len(len.assume_init()) };
             Ok(AppliedRule::Pass(Cow::Owned(c_string(out))))
         }
 
-        /// The code for a name, and the length of what is written to `out`, or that is needed.
+        /// The code for a name. The call writes to `len` the length of what is written to `out`, or that is needed.
         #[inline]
-        fn client(&self, name: &CStr, out: &mut [MaybeUninit<u8>]) -> (u32, usize) {
-            let (bytes, map_len, name, mut len) = (self.bytes.as_ptr(), self.bytes.len(), name.to_bytes(), 0);
-            let (to, room) = (out.as_mut_ptr() as *mut u8, out.len());
+        fn client(&self, name: &CStr, out: &mut [MaybeUninit<u8>], len: &mut MaybeUninit<usize>) -> u32 {
+            let (bytes, map_len, name) = (self.bytes.as_ptr(), self.bytes.len(), name.to_bytes());
+            let (to, room, len) = (out.as_mut_ptr() as *mut u8, out.len(), len.as_mut_ptr());
             // Sound: map and name are lent for the call, which writes to `len` and to `out` alone.
-            let code = unsafe {
-                ffi::virtiofs_map_names_client(bytes, map_len, name.as_ptr(), name.len(), to, room, &mut len)
-            };
-            (code, len)
+            unsafe { ffi::virtiofs_map_names_client(bytes, map_len, name.as_ptr(), name.len(), to, room, len) }
         }
 
         /// The list that the guest gets for the host's: each name with a zero after it, one zero where none is left.

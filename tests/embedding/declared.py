@@ -34,8 +34,8 @@ def of_rust(said):
     return f"{'writes to' if 'mut' in pointer[0] else 'leads to'} {word}" if pointer else word
 
 
-# A struct that the crate takes in the place of a slice.
-LENT = {"Words": ["leads to u32", "usize"]}
+# Structs that the crate takes in the place of a slice.
+LENT = {"Words": ["leads to u32", "usize"], "Bytes": ["leads to u8", "usize"], "Room": ["writes to u8", "usize"]}
 
 
 def arguments_of_rust(said):

@@ -3,7 +3,9 @@ mod AuditAlikeLemmas
 mod AuditFrontLemmas
 mod BeginsLemmas
 mod BuildFaultLemmas
+mod ByteWordLemmas
 mod CutLemmas
+mod DecisionLemmas
 mod FirstRuleLemmas
 mod MapRuleLemmas
 mod MappingLawLemmas
@@ -15,7 +17,9 @@ mod ReadSoFarLemmas
 mod ReaderLemmas
 mod RuleFieldLemmas
 mod RuleReadingLemmas
+mod RuleRowLemmas
 mod RuleTextLemmas
+mod RulesInLemmas
 mod SearchLemmas
 mod ServerListLemmas
 mod SpecificationLawLemmas

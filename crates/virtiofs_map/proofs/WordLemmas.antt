@@ -1,18 +1,19 @@
 -- What the words of a map say of a number, by a search of its ranges.
-use Rattle.std.proofs.Common.{rules, [], ◌≡◌, inl, inr, ℕ, zero, suc, ◌+◌, ◌-◌, ◌/◌, ◌<◌, ◌≤◌, List, length, get_or}
+use Rattle.std.proofs.Common.{rules, [], ◌∷◌, ◌≡◌, inl, inr, ℕ, zero, suc, ◌+◌, ◌-◌, ◌/◌, ◌<◌, ◌≤◌, List, length, get_or}
 use Rattle.std.proofs.Common.{slice_index, AllPairs, All, Contains, Option, Some, None, slice_get, min, subst, refl}
 use Rattle.std.proofs.Common.{sym, ◌∙◌, arith}
 use Rattle.std.proofs.lemmas.Bool.{cases_order}
 use Rattle.std.proofs.lemmas.List.Elements.{All-contains, Contains-get_or}
 use Rattle.std.proofs.lemmas.Option.{same_Some, slice_get-get_or}
 use Rattle.virtiofs_map.specs.Build.{HasTarget, Accepted}
+use Rattle.virtiofs_map.specs.Image.{IsImage}
 use Rattle.virtiofs_map.specs.ImageAnswer.{SaysValue, SaysIn, SaysLeadsBack}
 use Rattle.virtiofs_map.specs.LookupSteps.{acting, halvings_within, binary_digits}
 use Rattle.virtiofs_map.specs.Mapping.{first_of, count_of, EntryCovers, target_of, Becomes}
 use Rattle.virtiofs_map.specs.MappingLaws.{IsMappedBothWays}
 use Rattle.virtiofs_map.specs.RangeParts.{Precedes, HasNumbers, AreRanges}
 use Rattle.virtiofs_map.specs.Steps.{count_after, CountsBetween}
-use Rattle.virtiofs_map.specs.WordParts.{Table, IsAt, HasRanges, IsOfWords, table_in, Searches, SaysEntry}
+use Rattle.virtiofs_map.specs.WordParts.{Table, IsAt, HasRanges, words_lent, table_in, Searches, SaysEntry}
 use Rattle.virtiofs_map.specs.declared.cmdline.IdMap.{IdMap}
 use Rattle.virtiofs_map.specs.declared.soft_idmap.entry.Direction.{Direction}
 use Rattle.virtiofs_map.specs.declared.soft_idmap.entry.Direction.TheVariants.{GuestToHost, HostToGuest}
@@ -158,19 +159,20 @@ no_ranges direction table none = record {
   stand = record { counted = sym none; each = λ k range here. absurd (cc) };
 }
 
--- the ranges of a direction
-pub IsOfWords-ranges : (specs : List IdMap) (words : List ℕ) (direction : Direction) → IsOfWords specs words
-    → HasRanges specs direction (table_in words direction)
-IsOfWords-ranges specs words GuestToHost are = are.guests
-IsOfWords-ranges specs words HostToGuest are = are.hosts
-
 -- they are as many as specifications act
 pub HasRanges-count : (specs : List IdMap) (direction : Direction) (table : Table) → HasRanges specs direction table
     → table.count ≡ acting specs direction
 HasRanges-count specs direction table has = sym has.stand.counted ∙ has.stores.counted
 
-pub IsOfWords-empty : IsOfWords [] []
-IsOfWords-empty = record {
+no_count : (direction : Direction) → (table_in (words_lent []) direction).count ≡ 0
+no_count GuestToHost = refl
+no_count HostToGuest = refl
+
+-- what a map without specifications lends
+pub IsImage-empty : IsImage [] (words_lent [])
+IsImage-empty = record {
+  kind = refl;
+  room = omega arith;
   accepted =
       record {
         source = λ direction. search rules;
@@ -178,10 +180,13 @@ IsOfWords-empty = record {
         apart =
             λ direction i j d before below. absurd (omega arith);
       };
-  room = λ some. absurd (omega arith);
-  guests = no_ranges GuestToHost (table_in [] GuestToHost) refl;
-  hosts = no_ranges HostToGuest (table_in [] HostToGuest) refl;
+  ranges = λ direction. no_ranges direction (table_in (words_lent []) direction) (no_count direction);
 }
+
+-- a map that has words lends those
+pub IsImage-lent : (specs : List IdMap) (words : List ℕ) → IsImage specs words → IsImage specs (words_lent words)
+IsImage-lent specs [] image = absurd (let room = image.room in omega arith)
+IsImage-lent specs (first ∷ rest) image = image
 
 -- ---- how many ranges there are
 

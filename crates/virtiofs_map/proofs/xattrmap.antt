@@ -1,14 +1,15 @@
 mod AddedLemmas
 mod AnsweredListLemmas
-mod ByteWordLemmas
 mod DecidingLemmas
 mod FirstNameLemmas
 mod FittingLemmas
 mod KeptRuleLemmas
 mod ListingLemmas
 mod MadeRuleLemmas
+mod NodeCountLemmas
 mod RuleEqualityLemmas
 mod RuleWordLemmas
+mod SlotLemmas
 mod TerminatedLemmas
 mod WalkAnswerLemmas
 mod WayLemmas

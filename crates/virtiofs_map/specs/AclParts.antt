@@ -3,34 +3,22 @@ use Rattle.std.specs.Prelude.{◌≡◌, ◌≢◌, ◌⊎◌, ℕ, ◌<◌, ◌
 use Rattle.std.specs.Prelude.{Option, Some, IsSomeAnd}
 use Rattle.virtiofs_map.specs.Acl.{tag_of, id_of, HasId, specs_for, IsSound, IsEntryFault, HasAclFault, MergesEarlier}
 use Rattle.virtiofs_map.specs.Acl.{IsIdByte}
-use Rattle.virtiofs_map.specs.Build.{Accepted}
+use Rattle.virtiofs_map.specs.Image.{IsImage}
 use Rattle.virtiofs_map.specs.Mapping.{Becomes}
-use Rattle.virtiofs_map.specs.WordParts.{Table, HasRanges}
 use Rattle.virtiofs_map.specs.declared.acl.errors.AclError.{AclError}
 use Rattle.virtiofs_map.specs.declared.acl.errors.AclError.TheVariants.{Entry}
 use Rattle.virtiofs_map.specs.declared.acl.merges.EntryRoom.{EntryRoom}
+use Rattle.virtiofs_map.specs.declared.acl.ways.Ways.{Ways}
 use Rattle.virtiofs_map.specs.declared.cmdline.IdMap.{IdMap}
 use Rattle.virtiofs_map.specs.declared.soft_idmap.entry.Direction.{Direction}
 
 -- ---- what ids are looked up in
 
--- `says` holds for each list of specifications and each direction of which these are the ranges
-abbrev pub OfRanges : Table → (List IdMap → Direction → Type 0) → Type 0
-OfRanges table says = (specs : List IdMap) (direction : Direction) → Accepted specs → HasRanges specs direction table
-    → says specs direction
-
--- these are the ranges of users and of groups in a direction
-pub record AreWays (users groups : List IdMap) (direction : Direction) (user_ranges group_ranges : Table) : Type 0 where
-  pub users_accepted : Accepted users
-  pub groups_accepted : Accepted groups
-  pub of_users : HasRanges users direction user_ranges
-  pub of_groups : HasRanges groups direction group_ranges
-
--- `says` holds for each two lists and each direction of which these are the ranges
-abbrev pub OfWays : Table → Table → (List IdMap → List IdMap → Direction → Type 0) → Type 0
-OfWays user_ranges group_ranges says =
-    (users groups : List IdMap) (direction : Direction) → AreWays users groups direction user_ranges group_ranges
-    → says users groups direction
+-- `says` holds for each two lists of specifications of which these are the maps, and for the direction
+abbrev pub OfWays : Ways → (List IdMap → List IdMap → Direction → Type 0) → Type 0
+OfWays ways says =
+    (users groups : List IdMap) → IsImage users ways.users.now → IsImage groups ways.groups.now
+    → says users groups ways.direction
 
 -- ---- the tests
 

@@ -5,20 +5,25 @@ use Rattle.std.specs.Prelude.{not, ◌==◌, nat_eq, nat_lt, if◌then◌else◌
 use Rattle.std.specs.Prelude.{Some, None, is_none, option_and_then, count_by}
 use Rattle.std.specs.Cmp.Lexicographic.{pointwise, slice_cmp}
 use Rattle.std.specs.List.{list_all, list_any, filter_map, flat_map, range_with_len}
+use Rattle.std.specs.List.Sorted.{IsPermutation}
 use Rattle.std.specs.Option.{option_map_or}
 use Rattle.std.specs.Ordering.{nat_cmp, is_lt}
 use Rattle.virtiofs_map.specs.Audit.{IsBefore}
 use Rattle.virtiofs_map.specs.FirstRule.{acts}
-use Rattle.virtiofs_map.specs.GatheredParts.{front_of, host_pattern}
+use Rattle.virtiofs_map.specs.GatheredParts.{front_of, host_pattern, part_of}
 use Rattle.virtiofs_map.specs.MapRule.{IsName}
 use Rattle.virtiofs_map.specs.Names.{begins, deciding}
+use Rattle.virtiofs_map.specs.NamesImage.{IsMapOf}
+use Rattle.virtiofs_map.specs.NamesImageParts.{IsMap, rules_of}
 use Rattle.virtiofs_map.specs.Rule.{MappingRule}
 use Rattle.virtiofs_map.specs.Steps.{count_after, CountsBetween}
 use Rattle.virtiofs_map.specs.declared.audit.answer.Audit.{Audit}
 use Rattle.virtiofs_map.specs.declared.audit.answer.Audit.TheVariants.{Yes, No}
 use Rattle.virtiofs_map.specs.declared.audit.questions.Asked.{Asked}
 use Rattle.virtiofs_map.specs.declared.audit.questions.Asked.TheVariants.{Lost, Seen, Shared, Stray}
+use Rattle.virtiofs_map.specs.declared.audit.gathered.Part.TheVariants.{Front}
 use Rattle.virtiofs_map.specs.declared.audit.questions.Question.{Question}
+use Rattle.virtiofs_map.specs.declared.audit.reach.Reach.{Reach}
 use Rattle.virtiofs_map.specs.declared.xattrmap.scopes.Side.{Side}
 use Rattle.virtiofs_map.specs.declared.xattrmap.scopes.Side.TheVariants.{Client, Server}
 
@@ -94,10 +99,22 @@ is_shared rules others = passes_where (is_reached others) rules
 
 -- what is asked holds of this name
 abbrev pub holds_of : {A : Type 0} → Asked A → List ℕ → Bool
-holds_of (Lost rules) = is_lost rules.now
-holds_of (Seen rules others) = is_seen rules.now others.now
-holds_of (Shared rules others) = is_shared rules.now others.now
-holds_of (Stray rules) = is_stray rules.now
+holds_of (Lost map) = is_lost (rules_of map)
+holds_of (Seen map other) = is_seen (rules_of map) (rules_of other)
+holds_of (Shared map other) = is_shared (rules_of map) (rules_of other.now.map)
+holds_of (Stray map) = is_stray (rules_of map)
+
+-- what a map of the rules puts before names is known, and so which names of the host the guest reaches
+pub record IsReachOf {A : Type 0} (rules : List MappingRule) (reach : Reach A) : Type 0 where
+  pub map : IsMapOf rules reach.map
+  pub fronts : IsPermutation (filter_map (part_of (Front Client)) rules) reach.fronts
+
+-- the bytes of what is asked about are maps
+abbrev pub AreMaps : {A : Type 0} → Asked A → Type 0
+AreMaps (Lost map) = IsMap map
+AreMaps (Seen map other) = IsMap map × IsMap other
+AreMaps (Shared map other) = IsMap map × IsReachOf (rules_of other.now.map) other.now
+AreMaps (Stray map) = IsMap map
 
 -- the name begins with these bytes, and the test holds of it
 abbrev pub within : List ℕ → (List ℕ → Bool) → List ℕ → Bool

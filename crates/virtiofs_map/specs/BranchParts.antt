@@ -1,11 +1,13 @@
 -- A trie of patterns whose pieces have labels. Only private functions, the invariant of `XattrMap` and `NamesImage`
 -- cite these definitions.
 use Rattle.std.specs.Prelude.{◌≡◌, ◌≢◌, ◌⊎◌, ℕ, ◌+◌, ◌-◌, ◌*◌, ◌<◌, ◌≤◌, Bool, true, false, if◌then◌else◌, List, []}
-use Rattle.std.specs.Prelude.{◌∷◌, ◌++◌, length, take, drop, Contains, All, Option, Some, slice_get, slice_index}
+use Rattle.std.specs.Prelude.{◌∷◌, ◌++◌, length, take, drop, filter, map, Contains, All, Option, Some, slice_get}
+use Rattle.std.specs.Prelude.{slice_index}
 use Rattle.std.specs.List.{flat_map}
 use Rattle.std.specs.Option.{option_map_or}
 use Rattle.virtiofs_map.specs.FirstRule.{CountsFronts, acts, pattern, longest, deciding_length, shared}
 use Rattle.virtiofs_map.specs.Names.{begins, first}
+use Rattle.virtiofs_map.specs.PatternTrie.{longest_label, nodes}
 use Rattle.virtiofs_map.specs.Rule.{MappingRule, HasNoZero, type_number}
 use Rattle.virtiofs_map.specs.Steps.{count_after}
 use Rattle.virtiofs_map.specs.ByteWordParts.{word_bytes}
@@ -205,11 +207,20 @@ pub record AreRowsOf (rows : List ℕ) (branches : List Branch) : Type 0 where
   pub small : All IsSmall branches
   pub bytes : All HasBytes branches
 
+-- what names of that side are compared with
+abbrev pub patterns_on : Side → List MappingRule → List (List ℕ)
+patterns_on side rules = map (pattern side) (filter (acts side) rules)
+
+-- how many branches the trie of a side has, with its holes
+abbrev pub branch_count : Side → List MappingRule → ℕ
+branch_count side rules = length (nodes longest_label (patterns_on side rules))
+
 -- the rows are a trie of the patterns of that side, whose labels stand among the bytes, and of few rules
 pub record IsTrieIn (side : Side) (rules : List MappingRule) (rows bytes : List ℕ) : Type 0 where
   pub branches : List Branch
   pub rows_of : AreRowsOf rows branches
   pub trie : IsTrie side rules branches bytes
+  pub counted : length branches ≡ branch_count side rules
   pub few : AreFew rules
 
 -- ---- what a walk promises

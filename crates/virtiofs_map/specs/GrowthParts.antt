@@ -1,8 +1,11 @@
 -- What holds while a trie of patterns grows. Only private functions cite these definitions.
 use Rattle.std.specs.Prelude.{◌≡◌, ◌≢◌, ◌⊎◌, ℕ, ◌+◌, ◌-◌, ◌<◌, ◌≤◌, Bool, false, List, [], length, take, drop, All}
-use Rattle.std.specs.Prelude.{Some, slice_get, slice_index}
+use Rattle.std.specs.Prelude.{suc, ◌∷◌, map, Option, Some, None, slice_get, slice_index, ◌==◌, ◌&&◌, not, if◌then◌else◌}
 use Rattle.std.specs.Option.{option_map_or}
 use Rattle.virtiofs_map.specs.BranchParts.{no_answer, AreInOrder}
+use Rattle.virtiofs_map.specs.PatternTrie.{Node, root}
+use Rattle.virtiofs_map.specs.TrieParts.{branch_with, children_of}
+use Rattle.std.specs.List.{flat_map}
 use Rattle.virtiofs_map.specs.declared.xattrmap.trie.branch.Branch.{Branch}
 use Rattle.virtiofs_map.specs.declared.xattrmap.trie.growth.Part.{Part}
 use Rattle.virtiofs_map.specs.declared.xattrmap.trie.patterns.Pattern.{Pattern}
@@ -79,8 +82,9 @@ pub record IsPart (patterns : List Pattern) (part : Part) : Type 0 where
   pub least : IsLeast patterns (IsInside patterns part) part.answer
 
 -- a hole: an unused place between children, for a byte that leads nowhere
-pub record IsHole (at : ℕ) (part : Part) : Type 0 where
-  pub later : at ≢ 0
+pub record IsHole (part : Part) : Type 0 where
+  pub deep : part.depth ≢ 0
+  pub answer : part.answer ≡ no_answer
   pub empty : part.low ≡ part.high
   pub head : part.head ≡ 0
 
@@ -91,69 +95,41 @@ pub record IsReached (patterns : List Pattern) (depth : ℕ) : Type 0 where
   pub long : depth ≤ length (text patterns at)
 
 -- the place has a part or is a hole, and its numbers are within their bounds
-pub record IsPlace (patterns : List Pattern) (at : ℕ) (part : Part) : Type 0 where
-  pub is : IsPart patterns part ⊎ IsHole at part
+pub record IsPlace (patterns : List Pattern) (part : Part) : Type 0 where
+  pub is : IsPart patterns part ⊎ IsHole part
   pub deep : (part.depth ≡ 0) ⊎ IsReached patterns part.depth
   pub label : part.length ≤ part.depth
   pub size : part.length < 65536
   pub answer : part.answer ≤ no_answer
   pub empty : part.low ≡ part.high → part.length ≡ 0
 
--- the places have parts or are holes, and the first is the root
+-- the places have parts or are holes
 pub record ArePlaces (patterns : List Pattern) (parts : List Part) : Type 0 where
-  pub each : (at : ℕ) (part : Part) → slice_get parts at ≡ Some part → IsPlace patterns at part
-  pub some : 0 < length parts
-  pub root : (part : Part) → slice_get parts 0 ≡ Some part → part.depth ≡ 0
+  pub each : (at : ℕ) (part : Part) → slice_get parts at ≡ Some part → IsPlace patterns part
 
 -- the places that were there are there still
 pub record IsLonger (old new : List Part) : Type 0 where
   pub longer : length old ≤ length new
   pub same : (at : ℕ) → at < length old → slice_get new at ≡ slice_get old at
 
+-- the path of a part
+abbrev pub path_of_part : List Pattern → Part → List ℕ
+path_of_part patterns part = take part.depth (text patterns part.low)
+
+-- the node that has the patterns of a part; none for a hole
+unfoldable pub node_of : List Pattern → Part → Option Node
+node_of patterns part =
+    if (part.low == part.high) && not (part.depth == 0)
+    then None
+    else Some record { path = path_of_part patterns part; byte = part.head; size = part.length }
+
 -- ---- children
 
--- `kid` is the child part for one byte: it has the patterns of `part` whose next byte is `kid.head`
-pub record IsKid (patterns : List Pattern) (part kid : Part) : Type 0 where
-  pub from : part.low ≤ kid.low
-  pub some : kid.low < kid.high
-  pub upto : kid.high ≤ part.high
-  pub depth : kid.depth ≡ part.depth + 1 + kid.length
-  pub head : slice_index (text patterns kid.low) part.depth ≡ kid.head
-  pub group : (i : ℕ) → part.low ≤ i → i < part.high → slice_index (text patterns i) part.depth ≡ kid.head
-      → (kid.low ≤ i) × (i < kid.high)
-
--- the byte with which the pattern at the place goes on leads to one of the places between the two
-pub record HasKid (patterns : List Pattern) (parts : List Part) (part : Part) (first last i : ℕ) : Type 0 where
-  pub at : ℕ
-  pub kid : Part
-  pub from : first ≤ at
-  pub below : at < last
-  pub here : slice_get parts at ≡ Some kid
-  pub head : kid.head ≡ slice_index (text patterns i) part.depth
-
--- the places between the two are the children of a part, as far as the pattern at that place; where they do not stand
--- side by side, each stands as far behind the first place as its byte behind the lowest byte
-pub record AreKids (patterns : List Pattern) (parts : List Part) (part : Part) (first last low : ℕ) (scattered : Bool)
-    (upto : ℕ) : Type 0 where
-  pub kids : (at : ℕ) (kid : Part) → first ≤ at → at < last → slice_get parts at ≡ Some kid → kid.head ≢ 0
-      → IsKid patterns part kid
-  pub complete : (i : ℕ) → part.low ≤ i → i < upto → part.depth < length (text patterns i)
-      → HasKid patterns parts part first last i
-  pub placed : scattered ≡ false → (k : ℕ) (kid : Part) → first + k < last → slice_get parts (first + k) ≡ Some kid
-      → kid.head ≢ 0 → kid.head ≡ low + k
-
--- the children of a part were appended to the places, as far as the pattern at that place
-pub record AreAdded (patterns : List Pattern) (old new : List Part) (part : Part) (low : ℕ) (scattered : Bool)
-    (upto : ℕ) : Type 0 where
+-- children of a part were appended to the places
+pub record AreAdded (patterns : List Pattern) (old new : List Part) (part : Part) : Type 0 where
   pub longer : IsLonger old new
-  pub places : (at : ℕ) (kid : Part) → length old ≤ at → slice_get new at ≡ Some kid → IsPlace patterns at kid
+  pub places : (at : ℕ) (kid : Part) → length old ≤ at → slice_get new at ≡ Some kid → IsPlace patterns kid
   pub deeper : (at : ℕ) (kid : Part) → length old ≤ at → slice_get new at ≡ Some kid → part.depth < kid.depth
-  pub kids : AreKids patterns new part (length old) (length new) low scattered upto
-  pub few : low + length new ≤ 256 + length old
-  pub next : (i : ℕ) → upto ≤ i → i < part.high
-      → low + length new ≤ slice_index (text patterns i) part.depth + length old
-  pub apart : (i j : ℕ) → part.low ≤ i → i < upto → upto ≤ j → j < part.high
-      → slice_index (text patterns i) part.depth < slice_index (text patterns j) part.depth
 
 -- ---- branches
 
@@ -172,36 +148,37 @@ childless_of part first answer label =
       scattered = false;
     }
 
--- the branch of a part, whose children stand among the places
-pub record IsGrown (patterns : List Pattern) (parts : List Part) (at : ℕ) (part : Part) (branch : Branch) : Type 0 where
-  pub answer : branch.answer ≤ no_answer
-  pub head : branch.head ≡ part.head
-  pub size : branch.length ≡ part.length
-  pub label : part.low < part.high → branch.label + part.length ≡ start_of patterns part.low + part.depth
-  pub bare : part.low ≡ part.high → branch.label ≡ 0
-  pub within : branch.first + branch.width ≤ length parts
-  pub low : 1 ≤ branch.low
-  pub high : branch.low + branch.width ≤ 256
+-- the branch names the least answer of the patterns that begin the way of the part
+pub record IsGrown (patterns : List Pattern) (part : Part) (branch : Branch) : Type 0 where
   pub least : IsPart patterns part → IsLeast patterns (IsUpto patterns part) branch.answer
-  pub kids : IsPart patterns part
-      → AreKids patterns parts part branch.first (branch.first + branch.width) branch.low branch.scattered part.high
+  pub bare : part.low ≡ part.high → branch.answer ≡ part.answer
 
 -- the first places have branches
 pub record AreGrown (patterns : List Pattern) (parts : List Part) (branches : List Branch) : Type 0 where
   pub counted : length branches ≤ length parts
   pub each : (at : ℕ) (part : Part) (branch : Branch) → slice_get parts at ≡ Some part
-      → slice_get branches at ≡ Some branch → IsGrown patterns parts at part branch
+      → slice_get branches at ≡ Some branch → IsGrown patterns part branch
+
+-- the nodes of the places stand level by level, as far as they have branches, and each branch is that of its node
+pub record AreExact (patterns : List Pattern) (parts : List Part) (branches : List Branch) : Type 0 where
+  pub order : map (node_of patterns) parts
+      ≡ Some root ∷ flat_map (children_of patterns) (take (length branches) (map (node_of patterns) parts))
+  pub exact : (at : ℕ) (part : Part) (branch : Branch) → slice_get parts at ≡ Some part
+      → slice_get branches at ≡ Some branch
+      → branch
+      ≡ branch_with patterns branch.answer
+      (suc (length (flat_map (children_of patterns) (take at (map (node_of patterns) parts))))) (node_of patterns part)
 
 -- the places from there on are at least so deep
 pub record AreDeep (parts : List Part) (from depth : ℕ) : Type 0 where
   pub deep : (at : ℕ) (part : Part) → from ≤ at → slice_get parts at ≡ Some part → depth ≤ part.depth
 
 -- the branch of a part was made, and its children were appended to the places
-pub record IsBranched (patterns : List Pattern) (old new : List Part) (at : ℕ) (branch : Branch) : Type 0 where
+pub record IsBranched (patterns : List Pattern) (old new : List Part) (part : Part) (branch : Branch) : Type 0 where
   pub longer : IsLonger old new
   pub places : ArePlaces patterns new
-  pub grown : (part : Part) → slice_get old at ≡ Some part → IsGrown patterns new at part branch
-  pub deeper : (part : Part) → slice_get old at ≡ Some part → AreDeep new (length old) (part.depth + 1)
+  pub grown : IsGrown patterns part branch
+  pub deeper : AreDeep new (length old) (part.depth + 1)
 
 -- a hole at that depth
 abbrev pub hole : ℕ → Part

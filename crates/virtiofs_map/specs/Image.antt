@@ -1,8 +1,10 @@
 -- Maps of ids as plain numbers.
 use Rattle.std.specs.Prelude.{◌≡◌, ℕ, ◌+◌, ◌*◌, ◌<◌, ◌≤◌, List, length, take, drop, slice_index}
+use Rattle.virtiofs_map.specs.Build.{Accepted}
 use Rattle.virtiofs_map.specs.LookupSteps.{acting}
-use Rattle.virtiofs_map.specs.WordParts.{guest_count, host_count, IsOfWords}
+use Rattle.virtiofs_map.specs.WordParts.{HasWords, HasRanges, table_in}
 use Rattle.virtiofs_map.specs.declared.cmdline.IdMap.{IdMap}
+use Rattle.virtiofs_map.specs.declared.soft_idmap.entry.Direction.{Direction}
 use Rattle.virtiofs_map.specs.declared.soft_idmap.entry.Direction.TheVariants.{GuestToHost, HostToGuest}
 
 -- the first word is that of an image of this version, so there is a first word
@@ -12,8 +14,9 @@ HasKind words = slice_index words 0 ≡ 1768190721
 -- the words, or a leading part of them, are the image of a map of the specifications
 pub record IsImage (specs : List IdMap) (words : List ℕ) : Type 0 where
   pub kind : HasKind words
-  pub room : 3 + 4 * guest_count words + 4 * host_count words ≤ length words
-  pub held : IsOfWords specs words
+  pub room : HasWords words
+  pub accepted : Accepted specs
+  pub ranges : (direction : Direction) → HasRanges specs direction (table_in words direction)
 
 -- how many words the image of a map of the specifications has
 abbrev pub image_length : List IdMap → ℕ

@@ -36,6 +36,7 @@ pub mod NamesImageParts
 pub mod NamespaceParts
 pub mod NamespaceText
 pub mod Numeral
+pub mod PatternTrie
 pub mod PieceParts
 pub mod Pieces
 pub mod Printed
@@ -50,6 +51,7 @@ pub mod SpecificationParts
 pub mod SpecificationText
 pub mod Specifications
 pub mod Steps
+pub mod TrieParts
 pub mod ValueChanges
 pub mod ValueKinds
 pub mod WordParts

@@ -1,7 +1,7 @@
 -- An image of a map of names: bytes that are written once, and then only read.
 use Rattle.std.specs.Prelude.{◌≡◌, ◌≢◌, ◌⊎◌, ℕ, ◌+◌, ◌-◌, ◌*◌, ◌<◌, ◌≤◌, if◌then◌else◌, List, [], ◌∷◌, ◌++◌, length}
 use Rattle.std.specs.Prelude.{take, drop, All, Option, Some, None, IsSomeAnd}
-use Rattle.virtiofs_map.specs.BranchParts.{AreSpans, IsTrieIn}
+use Rattle.virtiofs_map.specs.BranchParts.{AreSpans, IsTrieIn, branch_count}
 use Rattle.virtiofs_map.specs.ByteWordParts.{word_at, word_bytes}
 use Rattle.virtiofs_map.specs.Names.{deciding}
 use Rattle.virtiofs_map.specs.Rule.{MappingRule, HasNoZero, type_number}
@@ -15,6 +15,7 @@ use Rattle.virtiofs_map.specs.declared.xattrmap.image.ListWritten.TheVariants as
 use Rattle.virtiofs_map.specs.declared.xattrmap.scopes.Side.{Side}
 use Rattle.virtiofs_map.specs.declared.xattrmap.scopes.Side.TheVariants.{Client, Server}
 use Rattle.virtiofs_map.specs.declared.xattrmap.spans.Span.{Span}
+use Rattle.virtiofs_map.specs.declared.xattrmap.view.XattrMapRef.{XattrMapRef}
 
 -- ---- parts
 
@@ -65,6 +66,23 @@ pub record AreRuleRows (rules : List MappingRule) (rows bytes : List ℕ) : Type
   -- fewer than 2^48 bytes, so that a position fits into 48 bits
   pub few : length bytes < 281474976710656
 
+-- ---- how long an image is
+
+-- how many bytes the patterns of the rules have
+abbrev pub pattern_bytes : List MappingRule → ℕ
+pattern_bytes [] = 0
+pattern_bytes (rule ∷ rules) = length rule.key + length rule.prepend + pattern_bytes rules
+
+-- how many bytes the image of a map of the rules has: six numbers of 8 bytes, a row of 24 bytes for each branch of the
+-- two tries and for each rule, and all patterns
+unfoldable pub image_length : List MappingRule → ℕ
+image_length rules =
+    48 + 24 * (branch_count Client rules + branch_count Server rules + length rules) + pattern_bytes rules
+
+-- the most bytes that an image may have
+abbrev pub longest_image : ℕ
+longest_image = 281474976710655
+
 -- ---- what an image says
 
 -- the bytes are an image of a map of these rules
@@ -72,8 +90,12 @@ pub record IsImage (rules : List MappingRule) (image : List ℕ) : Type 0 where
   -- the image begins with six numbers, the first of which says what it is
   pub begun : 48 ≤ length image
   pub kind : word_at image 0 ≡ image_kind
-  -- the parts that the other numbers name are all there
+  -- the parts that the other numbers name are all there: the first stands behind these numbers, and the last ends
+  -- where the image does
   pub parts : (which : ℕ) → which < 4 → HasPart image which
+  pub first : part_start image 0 ≡ 48
+  pub last : part_end image 3 ≡ image_length rules
+  pub short : image_length rules ≤ longest_image
   -- the image has a trie of what names are compared with, for each side
   pub client : IsTrieIn Client rules (part image 0) (part image 3)
   pub server : IsTrieIn Server rules (part image 1) (part image 3)
@@ -81,22 +103,28 @@ pub record IsImage (rules : List MappingRule) (image : List ℕ) : Type 0 where
   pub stored : AreRuleRows rules (part image 2) (part image 3)
   pub no_zero : All HasNoZero rules
 
+-- the map is one of these rules: its bytes are an image of them
+abbrev pub IsMapOf : List MappingRule → XattrMapRef → Type 0
+IsMapOf rules map = IsImage rules map.bytes.now
+
 -- the bytes do not begin as an image does
 abbrev pub IsNoImage : List ℕ → Type 0
 IsNoImage image = (length image < 48) ⊎ (word_at image 0 ≢ image_kind)
 
--- there is an image of the rules that has so many bytes
+-- the image of the rules has so many bytes
 abbrev pub HasImage : List MappingRule → ℕ → Type 0
-HasImage rules count = (image : List ℕ) × (length image ≡ count) × IsImage rules image
+HasImage rules count =
+    (count ≡ image_length rules) × (image : List ℕ) × (length image ≡ count) × IsImage rules image
 
 -- ---- what the calls say
 
 -- what came of writing an image into bytes that were old and are new
 abbrev pub WritesImage : List MappingRule → List ℕ → List ℕ → ImageWritten → Type 0
 WritesImage rules old new (images.Written count) =
-    (count ≤ length old) × IsImage rules (take count new) × (drop count new ≡ drop count old)
+    (count ≡ image_length rules) × (count ≤ length old) × IsImage rules (take count new)
+    × (drop count new ≡ drop count old)
 WritesImage rules old new (images.NoRoom count) = (length old < count) × HasImage rules count × (new ≡ old)
-WritesImage rules old new images.TooLong = new ≡ old
+WritesImage rules old new images.TooLong = (longest_image < image_length rules) × (new ≡ old)
 
 -- the decision says which rule decides the name: the first that fits it, or none
 abbrev pub Says : Side → List MappingRule → List ℕ → Decision → Type 0

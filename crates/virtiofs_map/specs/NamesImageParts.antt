@@ -1,16 +1,58 @@
--- How images of maps of names are written and read. Only private functions cite these definitions.
-use Rattle.std.specs.Prelude.{◌≡◌, ⊤, ℕ, ◌+◌, ◌*◌, ◌<◌, ◌≤◌, List, [], ◌∷◌, ◌++◌, length, drop, All}
+-- How images of maps of names are written and read. Only private functions, and the model of `XattrMap`, cite these
+-- definitions.
+use Rattle.std.specs.Prelude.{◌≡◌, ◌⊎◌, ℕ, zero, suc, ◌+◌, ◌-◌, ◌*◌, ◌/◌, ◌%◌, ◌≤◌, ◌==◌, if◌then◌else◌, List, [], ◌∷◌}
+use Rattle.std.specs.Prelude.{◌++◌, length, take, drop}
 use Rattle.std.specs.List.{flat_map}
-use Rattle.virtiofs_map.specs.BranchParts.{IsTrieIn}
-use Rattle.virtiofs_map.specs.ByteWordParts.{word_bytes}
-use Rattle.virtiofs_map.specs.Names.{HostAnswer, IsListed, IsHidden, IsUndecided}
-use Rattle.virtiofs_map.specs.NamesImage.{AreRuleRows, image_kind}
-use Rattle.virtiofs_map.specs.Rule.{MappingRule, HasNoZero}
-use Rattle.virtiofs_map.specs.declared.xattrmap.image.list.Seen.{Seen}
-use Rattle.virtiofs_map.specs.declared.xattrmap.image.list.Seen.TheVariants.{NoMap, Undecided, Hidden, Listed}
-use Rattle.virtiofs_map.specs.declared.xattrmap.image.parts.Parts.{Parts}
+use Rattle.virtiofs_map.specs.ByteWordParts.{word_at, word_bytes}
+use Rattle.virtiofs_map.specs.Names.{HostAnswer, IsListed, IsHidden, IsUndecided, host_answer, names}
+use Rattle.virtiofs_map.specs.NamesImage.{IsImage, IsMapOf, image_kind, image_length, longest_image, part}
+use Rattle.virtiofs_map.specs.Rule.{MappingRule, RuleType, Prefix, Okay, Bad, Unsupported}
+use Rattle.virtiofs_map.specs.RuleParts.{holds}
 use Rattle.virtiofs_map.specs.declared.xattrmap.image.write.Places.{Places}
-use Rattle.virtiofs_map.specs.declared.xattrmap.scopes.Side.{Side}
+use Rattle.virtiofs_map.specs.declared.xattrmap.listed.Seen.{Seen}
+use Rattle.virtiofs_map.specs.declared.xattrmap.listed.Seen.TheVariants.{NoMap, Undecided, Hidden, Listed}
+use Rattle.virtiofs_map.specs.declared.xattrmap.scopes.Side.TheVariants.{Client, Server}
+use Rattle.virtiofs_map.specs.declared.xattrmap.view.XattrMapRef.{XattrMapRef}
+
+-- ---- the rules that an image has
+
+-- the type of that number
+abbrev pub type_numbered : ℕ → RuleType
+type_numbered number =
+    if number == 0 then Prefix else if number == 1 then Okay else if number == 2 then Bad else Unsupported
+
+-- the rule of a row, whose patterns stand among the bytes
+abbrev pub rule_of_row : List ℕ → List ℕ → MappingRule
+rule_of_row bytes row = record {
+  kind = type_numbered (word_at row 0 / 281474976710656 % 4);
+  client = holds Client (word_at row 0 / 281474976710656 / 4 % 4);
+  server = holds Server (word_at row 0 / 281474976710656 / 4 % 4);
+  key =
+      take (word_at row 8 - word_at row 0 % 281474976710656) (drop (word_at row 0 % 281474976710656) bytes);
+  prepend = take (word_at row 16 - word_at row 8) (drop (word_at row 8) bytes);
+}
+
+-- the rules of the first of these rows
+abbrev pub rules_of_rows : List ℕ → ℕ → List ℕ → List MappingRule
+rules_of_rows bytes zero rows = []
+rules_of_rows bytes (suc count) rows = rule_of_row bytes (take 24 rows) ∷ rules_of_rows bytes count (drop 24 rows)
+
+-- the rules that an image has
+unfoldable pub rules_in : List ℕ → List MappingRule
+rules_in image = rules_of_rows (part image 3) (length (part image 2) / 24) (part image 2)
+
+-- the rules that a map has
+abbrev pub rules_of : XattrMapRef → List MappingRule
+rules_of map = rules_in map.bytes.now
+
+-- the bytes are an image of the rules that they have
+abbrev pub IsMap : XattrMapRef → Type 0
+IsMap map = IsMapOf (rules_of map) map
+
+-- the bytes are an image of these rules, and nothing follows it
+pub record IsWholeImage (rules : List MappingRule) (bytes : List ℕ) : Type 0 where
+  pub image : IsImage rules bytes
+  pub whole : length bytes ≡ image_length rules
 
 -- ---- writing
 
@@ -26,7 +68,7 @@ pub record ArePlaces (client server rules bytes : ℕ) (places : Places) : Type 
   pub second : places.rules ≡ places.server + server
   pub third : places.bytes ≡ places.rules + 24 * rules
   pub last : places.end ≡ places.bytes + bytes
-  pub short : places.end < 281474976710656
+  pub short : places.end ≤ longest_image
 
 -- the six numbers at the beginning of an image
 abbrev pub numbers_of : Places → List ℕ
@@ -36,13 +78,7 @@ numbers_of places = image_kind ∷ 48 ∷ places.server ∷ places.rules ∷ pla
 abbrev pub header_of : Places → List ℕ
 header_of places = flat_map word_bytes (numbers_of places)
 
--- ---- reading
-
--- the parts are those of an image of the rules, for names of that side
-pub record ArePartsOf (side : Side) (rules : List MappingRule) (parts : Parts) : Type 0 where
-  pub trie : IsTrieIn side rules parts.rows.now parts.bytes.now
-  pub stored : AreRuleRows rules parts.rules.now parts.bytes.now
-  pub no_zero : All HasNoZero rules
+-- ---- lists
 
 -- the guest sees that of a name of the host
 abbrev pub IsSeenAs : HostAnswer → Seen → Type 0
@@ -51,9 +87,16 @@ IsSeenAs answer Undecided = answer ≡ IsUndecided
 IsSeenAs answer Hidden = answer ≡ IsHidden
 IsSeenAs answer (Listed shown) = answer ≡ IsListed shown.now
 
--- what is listed has no more bytes than that
-abbrev pub IsNoLonger : ℕ → Seen → Type 0
-IsNoLonger most NoMap = ⊤
-IsNoLonger most Undecided = ⊤
-IsNoLonger most Hidden = ⊤
-IsNoLonger most (Listed shown) = length shown.now ≤ most
+-- how many bytes are listed
+abbrev pub seen_length : Seen → ℕ
+seen_length NoMap = 0
+seen_length Undecided = 0
+seen_length Hidden = 0
+seen_length (Listed shown) = length shown.now
+
+-- the guest sees that of the first name of a list, and the rest has the other names; or the rest has all names, and
+-- nothing is seen
+abbrev pub IsFirstSeen : List MappingRule → List ℕ → Seen → List ℕ → Type 0
+IsFirstSeen rules list seen rest =
+    ((names list ≡ names rest) × (seen ≡ Hidden))
+    ⊎ ((name : List ℕ) × (names list ≡ name ∷ names rest) × IsSeenAs (host_answer rules name) seen)

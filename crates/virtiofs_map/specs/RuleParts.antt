@@ -1,8 +1,10 @@
 -- What the private functions on rules and their text say. Only they cite these definitions.
-use Rattle.std.specs.Prelude.{◌≡◌, ◌⊎◌, ℕ, ◌-◌, Bool, List, [], ◌∷◌, take, drop, ◌==◌, Contains, IsSomeAnd}
+use Rattle.std.specs.Prelude.{◌≡◌, ◌⊎◌, ℕ, ◌-◌, Bool, List, [], ◌∷◌, length, map, take, drop, ◌==◌, Contains, IsSomeAnd}
+use Rattle.std.specs.Prelude.{All as AllOf}
 use Rattle.std.specs.Int.RustNames.{bit_and}
 use Rattle.std.specs.Str.{chars}
 use Rattle.virtiofs_map.specs.BranchParts.{IsSpan}
+use Rattle.virtiofs_map.specs.NamesImage.{pattern_bytes}
 use Rattle.virtiofs_map.specs.Rule.{RuleType, MappingRule}
 use Rattle.virtiofs_map.specs.Rule as types
 use Rattle.virtiofs_map.specs.RuleText.{ScopeName, RuleHead, RuleAsWritten, rules_of, Opens, Fields}
@@ -96,6 +98,11 @@ rule_kept bytes entry =
 -- the entry's patterns stand among the bytes
 abbrev pub IsAmong : List ℕ → RuleEntry → Type 0
 IsAmong bytes entry = IsSpan bytes (rule_kept bytes entry) entry.span
+
+-- the entries' patterns stand among the bytes, and there are no other bytes
+pub record AreKept (bytes : List ℕ) (entries : List RuleEntry) : Type 0 where
+  pub among : AllOf (IsAmong bytes) entries
+  pub whole : length bytes ≡ pattern_bytes (map (rule_kept bytes) entries)
 
 -- ---- reading
 

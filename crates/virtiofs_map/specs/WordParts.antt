@@ -1,8 +1,7 @@
--- What the words of a map stand for, and how they are searched. Only private functions, the invariant of a map and
--- `Image` cite these definitions.
-use Rattle.std.specs.Prelude.{◌≡◌, ◌⊎◌, ℕ, ◌+◌, ◌*◌, ◌<◌, ◌≤◌, List, length, slice_index, slice_get}
+-- What the words of a map stand for, and how they are searched. Only private functions, the invariants of maps
+-- and `Image` cite these definitions.
+use Rattle.std.specs.Prelude.{◌≡◌, ◌⊎◌, ℕ, ◌+◌, ◌*◌, ◌<◌, ◌≤◌, List, [], ◌∷◌, length, slice_index, slice_get}
 use Rattle.std.specs.Prelude.{Some}
-use Rattle.virtiofs_map.specs.Build.{Accepted}
 use Rattle.virtiofs_map.specs.ImageAnswer.{SaysValue}
 use Rattle.virtiofs_map.specs.Mapping.{first_of, EntryCovers, target_of}
 use Rattle.virtiofs_map.specs.RangeParts.{AreRanges, Stores, Searched}
@@ -93,16 +92,14 @@ table_in words HostToGuest =
           host_count words;
     }
 
--- there is no word, or there are words for the ranges of both directions
+-- there are words for the ranges of both directions
 abbrev pub HasWords : List ℕ → Type 0
-HasWords words = 1 ≤ length words → 3 + 4 * guest_count words + 4 * host_count words ≤ length words
+HasWords words = 3 + 4 * guest_count words + 4 * host_count words ≤ length words
 
--- the words are those of a map of the specifications; a map of no specification may have no word
-pub record IsOfWords (specs : List IdMap) (words : List ℕ) : Type 0 where
-  pub accepted : Accepted specs
-  pub room : HasWords words
-  pub guests : HasRanges specs GuestToHost (table_in words GuestToHost)
-  pub hosts : HasRanges specs HostToGuest (table_in words HostToGuest)
+-- what a map lends that keeps these words: the map of no specification may keep none
+abbrev pub words_lent : List ℕ → List ℕ
+words_lent [] = 1768190721 ∷ 0 ∷ 0 ∷ []
+words_lent (first ∷ rest) = first ∷ rest
 
 -- ---- a search
 

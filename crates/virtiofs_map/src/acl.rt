@@ -19,6 +19,9 @@
 //! capability. Revisions 1 and 2 have no such field, and the id counts as 0. So they are accepted
 //! unchanged if 0 is mapped to 0. If it is not, [`capability_to_host_in_revision_3`] writes the
 //! same in revision 3 into memory that the caller lends.
+//!
+//! [`translate_acl`], [`translate_capability`] and [`write_revision_3`] do the same in the direction
+//! that they are given, by maps that are lent as words: [`crate::soft_idmap::IdMapRef`].
 ghost use Rattle.std.specs.Prelude.{◌≡◌, ◌↔◌, IsOk, IfErr, IsErrAnd, OnOk, OnErr, Some, length};
 ghost use Rattle.virtiofs_map.specs.Acl.{IdsBecome, KeepsRest, GoesAcross, HasAclFault};
 ghost use Rattle.virtiofs_map.specs.AclLaws.{AllMapped, ComesBack};
@@ -33,7 +36,6 @@ ghost use Rattle.virtiofs_map.specs.declared.soft_idmap.entry.Direction.TheVaria
 mod capabilities;
 mod entries;
 mod errors;
-pub mod image;
 mod lists;
 mod little_endian;
 mod merges;
@@ -42,12 +44,11 @@ mod ways;
 use crate::id_types::{GuestGid, GuestUid, HostGid, HostUid};
 use crate::soft_idmap::{Direction, IdMap};
 use crate::xattrmap::XattrName;
-use capabilities::{translate_root, write_revision_3};
+pub use capabilities::{translate_capability, write_revision_3};
 pub use errors::{AclError, CapabilityError, EntryFault};
-use lists::translate;
+pub use lists::translate_acl;
 pub use merges::EntryRoom;
 use std::alloc::Allocator;
-use ways::Ways;
 
 /// The two kinds of values that contain ids.
 #[derive(Clone, Copy, Debug, PartialEq, Eq)]
@@ -117,8 +118,8 @@ pub fn acl_to_host<A: Allocator>(
     ensures leads_back { OnOk result (AllMapped users.now groups.now GuestToHost value.old
         → ComesBack users.now groups.now GuestToHost (length room.old) value.old value.new) }
 {
-    let ways = Ways::of_maps(users, groups, Direction::GuestToHost);
-    translate(&ways, value, room)
+    let (users, groups) = (users.lent(), groups.lent());
+    translate_acl(&users, &groups, Direction::GuestToHost, value, room)
 }
 
 /// Converts an access control list of the host, in place, into one for the guest, as
@@ -149,8 +150,8 @@ pub fn acl_to_guest<A: Allocator>(
     ensures leads_back { OnOk result (AllMapped users.now groups.now HostToGuest value.old
         → ComesBack users.now groups.now HostToGuest (length room.old) value.old value.new) }
 {
-    let ways = Ways::of_maps(users, groups, Direction::HostToGuest);
-    translate(&ways, value, room)
+    let (users, groups) = (users.lent(), groups.lent());
+    translate_acl(&users, &groups, Direction::HostToGuest, value, room)
 }
 
 /// Converts a capability of the guest, in place, into one for the host: the id of root is mapped by
@@ -179,8 +180,7 @@ pub fn capability_to_host<A: Allocator>(
         IsMappedBothWays users.now GuestToHost (root_of value.old)
         → RootComesBack users.now GuestToHost value.old value.new) }
 {
-    let ranges = users.ranges(Direction::GuestToHost);
-    translate_root(&ranges, value)
+    translate_capability(&users.lent(), Direction::GuestToHost, value)
 }
 
 /// Converts a capability of the host, in place, into one for the guest, as [`capability_to_host`]
@@ -206,8 +206,7 @@ pub fn capability_to_guest<A: Allocator>(
         IsMappedBothWays users.now HostToGuest (root_of value.old)
         → RootComesBack users.now HostToGuest value.old value.new) }
 {
-    let ranges = users.ranges(Direction::HostToGuest);
-    translate_root(&ranges, value)
+    translate_capability(&users.lent(), Direction::HostToGuest, value)
 }
 
 /// Reads a capability of the guest, of any revision, and writes the same for the host in revision
@@ -232,8 +231,7 @@ pub fn capability_to_host_in_revision_3<A: Allocator>(
         → IsErrAnd result (λ e. e ≡ fault) }
     ensures unchanged { OnErr result (written.new ≡ written.old) }
 {
-    let ranges = users.ranges(Direction::GuestToHost);
-    write_revision_3(&ranges, value, written)
+    write_revision_3(&users.lent(), Direction::GuestToHost, value, written)
 }
 
 /// Reads a capability of the host, of any revision, and writes the same for the guest in revision
@@ -258,6 +256,5 @@ pub fn capability_to_guest_in_revision_3<A: Allocator>(
         → IsErrAnd result (λ e. e ≡ fault) }
     ensures unchanged { OnErr result (written.new ≡ written.old) }
 {
-    let ranges = users.ranges(Direction::HostToGuest);
-    write_revision_3(&ranges, value, written)
+    write_revision_3(&users.lent(), Direction::HostToGuest, value, written)
 }

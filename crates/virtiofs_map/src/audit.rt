@@ -44,6 +44,7 @@ mod candidates;
 mod deciding;
 mod gathered;
 mod least;
+pub mod lent;
 mod ordered;
 mod questions;
 mod reach;
@@ -52,10 +53,9 @@ mod terminated;
 use crate::steps::Steps;
 use crate::xattrmap::{Side, XattrMap, XattrName};
 pub use answer::Audit;
-use candidates::{least_guest_name, least_host_name, try_guest_names};
+use candidates::try_guest_names;
 use least::Tried;
 use questions::{Asked, Question};
-use reach::Reach;
 use std::alloc::{AllocError, Allocator};
 
 /// Whether each non-empty name that passes is listed back: if the host's list has only the host
@@ -92,6 +92,7 @@ pub fn audit_counted<A: Allocator + Copy>(
     ensures counted { OnOk result (CountsBetween 1 (most_tried map.now) steps.old steps.new) }
     ensures uncounted { OnErr result (steps.new ≡ steps.old) }
 {
+    let map = map.as_ref();
     let question = Question {
         asked: Asked::Lost(map),
         beginning: XattrName { bytes: &[] },
@@ -129,7 +130,7 @@ pub fn keeps_apart<A: Allocator + Copy>(
     // The answer is Yes if and only if the guests are isolated.
     ensures isolated { IfOk result (λ audit. (audit ≡ Yes) ↔ Isolated r.now q.now) }
 {
-    keeps_apart_within(alloc, r, q, XattrName { bytes: &[] })
+    lent::keeps_apart(alloc, r.as_ref(), q.as_ref())
 }
 
 /// `Yes` if there is no non-empty host name that both guests reach, the one with the first map
@@ -157,7 +158,7 @@ pub fn shares_no_name<A: Allocator + Copy>(
     // The other way round it is the same.
     ensures both_ways { IfOk result (λ audit. (audit ≡ Yes) ↔ SharesNoName q.now r.now) }
 {
-    shares_no_name_within(alloc, r, q, XattrName { bytes: &[] })
+    lent::shares_no_name(alloc, r.as_ref(), q.as_ref())
 }
 
 /// For each non-empty host name H that is listed to the guest under a name N: does N pass as H?
@@ -176,7 +177,7 @@ pub fn audit_listed<A: Allocator + Copy>(
     ensures answer { IfOk result (AnswersLeast (IsStray map.now)) }
     ensures opens { IfOk result (λ audit. (audit ≡ Yes) ↔ OpensListed map.now) }
 {
-    audit_listed_within(alloc, map, XattrName { bytes: &[] })
+    lent::audit_listed(alloc, map.as_ref())
 }
 
 /// The question of [`audit`] about the names alone that begin with these bytes: whether each of them
@@ -194,11 +195,7 @@ pub fn audit_within<A: Allocator + Copy>(
 ) -> Result<Audit<A>, AllocError>
     ensures { IfOk result (AnswersLeast (Within beginning.entry.bytes.now (IsLost map.now))) }
 {
-    let question = Question {
-        asked: Asked::Lost(map),
-        beginning,
-    };
-    least_guest_name(alloc, &question, map, map, Side::Server)
+    lent::audit_within(alloc, map.as_ref(), beginning)
 }
 
 /// The question of [`keeps_apart`] about the names of the first map alone that begin with these
@@ -216,11 +213,7 @@ pub fn keeps_apart_within<A: Allocator + Copy>(
 ) -> Result<Audit<A>, AllocError>
     ensures { IfOk result (AnswersLeast (Within beginning.entry.bytes.now (IsSeen r.now q.now))) }
 {
-    let question = Question {
-        asked: Asked::Seen(r, q),
-        beginning,
-    };
-    least_guest_name(alloc, &question, r, q, Side::Server)
+    lent::keeps_apart_within(alloc, r.as_ref(), q.as_ref(), beginning)
 }
 
 /// The question of [`shares_no_name`] about the names of the first map alone that begin with these
@@ -238,12 +231,7 @@ pub fn shares_no_name_within<A: Allocator + Copy>(
 ) -> Result<Audit<A>, AllocError>
     ensures { IfOk result (AnswersLeast (Within beginning.entry.bytes.now (IsShared r.now q.now))) }
 {
-    let reach = Reach::new(alloc, q)?;
-    let question = Question {
-        asked: Asked::Shared(r, &reach),
-        beginning,
-    };
-    least_guest_name(alloc, &question, r, q, Side::Client)
+    lent::shares_no_name_within(alloc, r.as_ref(), q.as_ref(), beginning)
 }
 
 /// The question of [`audit_listed`] about the names of the host alone that begin with these bytes.
@@ -260,9 +248,5 @@ pub fn audit_listed_within<A: Allocator + Copy>(
 ) -> Result<Audit<A>, AllocError>
     ensures { IfOk result (AnswersLeast (Within beginning.entry.bytes.now (IsStray map.now))) }
 {
-    let question = Question {
-        asked: Asked::Stray(map),
-        beginning,
-    };
-    least_host_name(alloc, &question, map)
+    lent::audit_listed_within(alloc, map.as_ref(), beginning)
 }

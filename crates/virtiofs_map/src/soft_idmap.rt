@@ -5,6 +5,7 @@
 //! number that none covers stays itself.
 ghost use Rattle.std.specs.Prelude.{◌≡◌, List, [], IsOk, IfOk, IfErr, OnOk, MatchResult};
 ghost use Rattle.virtiofs_map.specs.Build.{Accepted, BuildFault, HasFirstFault, build_fault_of};
+ghost use Rattle.virtiofs_map.specs.Image.{IsImage};
 ghost use Rattle.virtiofs_map.specs.Lookup.{LooksUp};
 ghost use Rattle.virtiofs_map.specs.Mapping.{Becomes};
 ghost use Rattle.virtiofs_map.specs.MappingLaws.{IsOrderFree, KeepsGreatest, IsMappedBothWays, LeadsBack};
@@ -22,7 +23,6 @@ use crate::{Steps, cmdline};
 use row::Answer;
 use std::alloc::{Allocator, Global};
 use std::marker::{Model, PhantomData};
-use words::Words;
 
 mod build;
 mod entry;
@@ -46,7 +46,8 @@ pub use errors::{FaultKind, IdMapBuildError, MapError, RangeEnd, SpecsError};
 pub(crate) use lookup::look_up;
 pub use piece::{Outcome, Piece};
 pub use pieces::Pieces;
-pub(crate) use words::{Ranges, image_ranges};
+pub use words::IdMapRef;
+pub(crate) use words::Ranges;
 
 /// A map of ids between a guest and its host.
 ///
@@ -60,7 +61,7 @@ pub struct IdMap<
     A: Allocator = Global,
 > {
     specs: Vec<cmdline::IdMap, A>,
-    words: Words<A>,
+    words: Vec<u32, A>,
     guest: PhantomData<Guest>,
     host: PhantomData<Host>,
 }
@@ -69,13 +70,14 @@ impl<Guest: GuestId<HostType = Host>, Host: HostId<GuestType = Guest>, A: Alloca
     for IdMap<Guest, Host, A> {
     ghost use Rattle.std.specs.Prelude.{List};
     ghost use Rattle.virtiofs_map.specs.declared.cmdline.IdMap.{IdMap as Specification};
-    ghost use Rattle.virtiofs_map.specs.WordParts.{IsOfWords};
+    ghost use Rattle.virtiofs_map.specs.Image.{IsImage};
+    ghost use Rattle.virtiofs_map.specs.WordParts.{words_lent};
 
     ghost Value = { List Specification };
 
     ghost view = { λ map. map.specs.items };
 
-    ghost invariant = { λ map. IsOfWords map.specs.items map.words };
+    ghost invariant = { λ map. IsImage map.specs.items (words_lent map.words.items) };
 }
 
 impl<Guest: GuestId<HostType = Host>, Host: HostId<GuestType = Guest>, A: Allocator + Copy> IdMap<
@@ -91,7 +93,7 @@ impl<Guest: GuestId<HostType = Host>, Host: HostId<GuestType = Guest>, A: Alloca
     {
         IdMap {
             specs: Vec::new(alloc),
-            words: Words::none(alloc),
+            words: Vec::new(alloc),
             guest: PhantomData,
             host: PhantomData,
         }
@@ -262,13 +264,20 @@ impl<Guest: GuestId<HostType = Host>, Host: HostId<GuestType = Guest>, A: Alloca
         &self.specs
     }
 
+    /// The map as words that are lent. It takes no memory.
+    pub fn lent(&self) -> IdMapRef<'_>
+        ensures { IsImage self.now result }
+    {
+        IdMapRef::lent(&self.words)
+    }
+
     /// The ranges of a direction.
-    pub(crate) fn ranges(&self, direction: Direction) -> Ranges<'_>
+    fn ranges(&self, direction: Direction) -> Ranges<'_>
         ensures accepted { Accepted self.now }
         ensures ranges { HasRanges self.now direction result }
         ensures counted { result.count ≡ acting self.now direction }
     {
-        self.words.ranges(direction)
+        self.lent().ranges(direction)
     }
 
     /// What a number becomes in a direction; `None` where its use fails.

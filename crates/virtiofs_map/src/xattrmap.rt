@@ -33,6 +33,7 @@
 ghost use Rattle.std.specs.Prelude.{◌≡◌, ℕ, List, IfOk, IfErr, MatchResult};
 ghost use Rattle.std.specs.Str.{chars};
 ghost use Rattle.virtiofs_map.specs.MapRule.{ReadsMapRule};
+ghost use Rattle.virtiofs_map.specs.NamesImage.{IsMapOf};
 ghost use Rattle.virtiofs_map.specs.Refusal.{IsOutOfMemory, OutOfMemoryOr};
 ghost use Rattle.virtiofs_map.specs.Rule.{MappingRule};
 ghost use Rattle.virtiofs_map.specs.RuleText.{SaysRules, CountsRules};
@@ -50,46 +51,52 @@ pub(crate) mod rules;
 mod scopes;
 mod spans;
 mod trie;
+mod view;
 mod words;
 mod written;
 
 pub use client::{AppliedRule, PassedName};
 pub use errors::{Error, ErrorKind, PatternField};
+use image::write::image_of;
 pub use listed::ListedNames;
 pub use names::{XattrName, XattrNameBuf};
 use reader::read_rules;
-use rules::Rules;
 pub use scopes::Side;
 use std::alloc::{AllocError, Allocator, Global};
 use std::marker::Model;
 pub(crate) use trie::shared_length;
-use trie::trie_rows;
+pub use view::XattrMapRef;
 
-/// A map of attribute names: its rules, in order. In contracts it is the list of its rules, where
-/// each `map` rule is replaced by the two or three rules that it is short for.
+/// A map of attribute names, in one row of bytes: its image. In contracts it is the list of its
+/// rules, where each `map` rule is replaced by the two or three rules that it is short for.
 #[derive(Drop)]
 #[derive_where(Debug)]
 pub struct XattrMap<A: Allocator = Global> {
-    rules: Rules<A>,
-    /// The rows of the trie of the client's patterns, whose labels stand among the rules' bytes.
-    client: Vec<u8, A>,
-    /// The rows of the trie of the server's patterns.
-    server: Vec<u8, A>,
+    bytes: Vec<u8, A>,
 }
 
 impl<A: Allocator> Model for XattrMap<A> {
-    ghost use Rattle.std.specs.Prelude.{List, All};
-    ghost use Rattle.virtiofs_map.specs.BranchParts.{IsTrieIn};
-    ghost use Rattle.virtiofs_map.specs.Rule.{MappingRule, HasNoZero};
-    ghost use Rattle.virtiofs_map.specs.declared.xattrmap.scopes.Side.TheVariants.{Client, Server};
+    ghost use Rattle.std.specs.Prelude.{List};
+    ghost use Rattle.virtiofs_map.specs.NamesImageParts.{IsWholeImage, rules_in};
+    ghost use Rattle.virtiofs_map.specs.Rule.{MappingRule};
 
     ghost Value = { List MappingRule };
 
-    ghost view = { λ map. map.rules.list };
+    ghost view = { λ map. rules_in map.bytes.items };
 
-    ghost invariant = { λ map. All HasNoZero map.rules.list
-        × IsTrieIn Client map.rules.list map.client.items map.rules.bytes
-        × IsTrieIn Server map.rules.list map.server.items map.rules.bytes };
+    ghost invariant = { λ map. IsWholeImage (rules_in map.bytes.items) map.bytes.items };
+}
+
+impl<A: Allocator> XattrMap<A> {
+    /// The map, lent for reading.
+    #[inline(always)]
+    pub fn as_ref(&self) -> XattrMapRef<'_>
+        ensures { IsMapOf self.now result }
+    {
+        XattrMapRef {
+            bytes: self.bytes.as_slice(),
+        }
+    }
 }
 
 impl<A: Allocator> PartialEq for XattrMap<A> {
@@ -108,7 +115,7 @@ impl<A: Allocator> PartialEq for XattrMap<A> {
         // for.
         ensures equal { IsTrue result ↔ (self.now ≡ other.now) }
     {
-        self.rules.are_same(&other.rules)
+        self.as_ref().is_same(other.as_ref())
     }
 }
 
@@ -150,13 +157,8 @@ impl<A: Allocator + Copy> XattrMap<A> {
         ensures map_rule { IfOk result (ReadsMapRule (chars text.now)) }
     {
         let (rules, _) = read_rules(alloc, text)?;
-        let client = trie_rows(alloc, &rules, Side::Client)?;
-        let server = trie_rows(alloc, &rules, Side::Server)?;
-        Ok(XattrMap {
-            rules,
-            client,
-            server,
-        })
+        let bytes = image_of(alloc, &rules)?;
+        Ok(XattrMap { bytes })
     }
 
     /// How many rules are written in a text. A `map` rule is one of them, though it is short for two
@@ -184,13 +186,7 @@ impl<A: Allocator + Copy> XattrMap<A> {
     pub fn clone(&self, alloc: A) -> Result<XattrMap<A>, AllocError>
         ensures { IfOk result (λ map. map ≡ self.now) }
     {
-        let rules = self.rules.copied(alloc)?;
-        let client = Vec::from_slice(alloc, self.client.as_slice())?;
-        let server = Vec::from_slice(alloc, self.server.as_slice())?;
-        Ok(XattrMap {
-            rules,
-            client,
-            server,
-        })
+        let bytes = Vec::from_slice(alloc, self.bytes.as_slice())?;
+        Ok(XattrMap { bytes })
     }
 }

@@ -1,6 +1,6 @@
 -- What is decided of a name is what becomes of it.
 use Rattle.std.proofs.Common.{◌≡◌, ◌≢◌, inl, inr, ℕ, Bool, List, ◌++◌, length, Option, Some, None, IsSomeAnd, IfOk}
-use Rattle.std.proofs.Common.{MatchResult, Result, Ok, Err, refl, sym, subst, arith}
+use Rattle.std.proofs.Common.{MatchResult, Result, Ok, Err, refl, sym, subst, ap, arith, ◌∙◌, ◌<◌, drop}
 use Rattle.std.proofs.lemmas.Bool.{cases_lt}
 use Rattle.std.specs.Global.{Global}
 use Rattle.std.specs.Option.{option_map, option_map_or}
@@ -8,13 +8,14 @@ use Rattle.virtiofs_map.specs.Audit.{AnswersLeast}
 use Rattle.virtiofs_map.specs.declared.audit.answer.Audit.{Audit}
 use Rattle.virtiofs_map.specs.LookupAnswers.{IsDecidedBy}
 use Rattle.virtiofs_map.specs.Names.{ClientAnswer, IsUnterminated, answer_by, client_answer, deciding}
-use Rattle.virtiofs_map.specs.NamesImage.{Says}
+use Rattle.virtiofs_map.specs.NamesImage.{Says, WritesList}
 use Rattle.virtiofs_map.specs.Rule.{RuleType, Prefix, Okay, Bad, Unsupported, MappingRule}
 use Rattle.virtiofs_map.specs.declared.xattrmap.image.Decision.{Decision}
 use Rattle.virtiofs_map.specs.declared.xattrmap.image.Decision.TheVariants as decisions
+use Rattle.virtiofs_map.specs.declared.xattrmap.image.ListWritten.TheVariants as lists
 use Rattle.virtiofs_map.specs.declared.xattrmap.scopes.Side.TheVariants.{Client}
-use Rattle.virtiofs_map_c.specs.Codes.{ok, as_it_is, no_map, no_memory}
-use Rattle.virtiofs_map_c.specs.Names.{IsClientCode, TellsClient, TellsDecision, TellsFound, TellsLeast, TellsNo}
+use Rattle.virtiofs_map_c.specs.Codes.{ok, as_it_is, no_map, no_memory, no_room}
+use Rattle.virtiofs_map_c.specs.Names.{IsClientCode, TellsClient, TellsDecision, TellsFound, TellsLeast, TellsNo, TellsServer}
 use Rattle.virtiofs_map_c.specs.Replies.{TellsBytes}
 
 -- what the rule that is there, or none, makes of the name
@@ -67,19 +68,19 @@ of_prefix : (rule : Option MappingRule) (prepend : List ℕ)
 of_prefix None prepend is = is
 of_prefix (Some rule) prepend is = is.0
 
-pub okay_told : (rules : List MappingRule) (decision : Decision) (name old : List ℕ) (code len : ℕ) (new : List ℕ)
-    → Says Client rules name decision → TellsDecision decision name old code len new → IsDecidedBy Okay rules name
+pub okay_told : (rules : List MappingRule) (decision : Decision) (name front old : List ℕ) (code len : ℕ) (new : List ℕ)
+    → Says Client rules name decision → TellsDecision decision front old code len new → IsDecidedBy Okay rules name
     → code ≡ as_it_is
-okay_told rules decisions.NoMap name old code len new says tells okay = absurd says
-okay_told rules decisions.Undecided name old code len new says tells okay = absurd (cc)
-okay_told rules decisions.Okay name old code len new says tells okay = tells.code_told
-okay_told rules (decisions.Prefix prepend) name old code len new says tells okay =
+okay_told rules decisions.NoMap name front old code len new says tells okay = absurd says
+okay_told rules decisions.Undecided name front old code len new says tells okay = absurd (cc)
+okay_told rules decisions.Okay name front old code len new says tells okay = tells.code_told
+okay_told rules (decisions.Prefix prepend) name front old code len new says tells okay =
     absurd (let same =
     one_kind (deciding Client rules name) Prefix Okay (of_prefix (deciding Client rules name) prepend.now says) okay in
     cc)
-okay_told rules decisions.Bad name old code len new says tells okay =
+okay_told rules decisions.Bad name front old code len new says tells okay =
     absurd (let same = one_kind (deciding Client rules name) Bad Okay says okay in cc)
-okay_told rules decisions.Unsupported name old code len new says tells okay =
+okay_told rules decisions.Unsupported name front old code len new says tells okay =
     absurd (let same = one_kind (deciding Client rules name) Unsupported Okay says okay in cc)
 
 -- bytes that are told are not told as a name that passes as it is
@@ -89,25 +90,25 @@ bytes_told bytes old code len new tells is = elim (cases_lt (length old) (length
   | inr fits ↦ (let told = (tells.fits fits).0 in absurd (omega (arith, told, is)))
 ]
 
-pub prefix_told : (rules : List MappingRule) (decision : Decision) (name old : List ℕ) (code len : ℕ) (new : List ℕ)
-    → Says Client rules name decision → TellsDecision decision name old code len new → IsDecidedBy Prefix rules name
+pub prefix_told : (rules : List MappingRule) (decision : Decision) (name front old : List ℕ) (code len : ℕ) (new : List ℕ)
+    → Says Client rules name decision → TellsDecision decision front old code len new → IsDecidedBy Prefix rules name
     → code ≢ as_it_is
-prefix_told rules decisions.NoMap name old code len new says tells prefix = absurd says
-prefix_told rules decisions.Undecided name old code len new says tells prefix = absurd (cc)
-prefix_told rules decisions.Okay name old code len new says tells prefix =
+prefix_told rules decisions.NoMap name front old code len new says tells prefix = absurd says
+prefix_told rules decisions.Undecided name front old code len new says tells prefix = absurd (cc)
+prefix_told rules decisions.Okay name front old code len new says tells prefix =
     absurd (let same = one_kind (deciding Client rules name) Okay Prefix says prefix in cc)
-prefix_told rules (decisions.Prefix prepend) name old code len new says tells prefix =
-    bytes_told (prepend.now ++ name) old code len new tells
-prefix_told rules decisions.Bad name old code len new says tells prefix =
+prefix_told rules (decisions.Prefix prepend) name front old code len new says tells prefix =
+    bytes_told (prepend.now ++ front) old code len new tells
+prefix_told rules decisions.Bad name front old code len new says tells prefix =
     absurd (let same = one_kind (deciding Client rules name) Bad Prefix says prefix in cc)
-prefix_told rules decisions.Unsupported name old code len new says tells prefix =
+prefix_told rules decisions.Unsupported name front old code len new says tells prefix =
     absurd (let same = one_kind (deciding Client rules name) Unsupported Prefix says prefix in cc)
 
 -- ---- the codes of names
 
 pub decision_code : (decision : Decision) (name old : List ℕ) (code len : ℕ) (new : List ℕ)
     → TellsDecision decision name old code len new → IsClientCode code
-decision_code decisions.NoMap name old code len new tells = inr (inr (inr (inr (inr (inr (inr tells.code_told))))))
+decision_code decisions.NoMap name old code len new tells = inr (inr (inr (inr (inr (inr tells.code_told)))))
 decision_code decisions.Undecided name old code len new tells = inr (inr (inr (inr (inl tells.code_told))))
 decision_code decisions.Okay name old code len new tells = inr (inl tells.code_told)
 decision_code (decisions.Prefix prepend) name old code len new tells =
@@ -122,6 +123,19 @@ pub decision_none : (decision : Decision) (name old : List ℕ) (code len : ℕ)
     → TellsDecision decision name old code len new → decision ≡ decisions.NoMap → code ≡ no_map
 decision_none decision name old code len new tells is =
     (subst (λ (d : Decision). TellsDecision d name old code len new) is tells).code_told
+
+-- ---- lists
+
+-- a list that was written, and one for which there is no room
+pub list_told : (answer : Option (List ℕ)) (old : List ℕ) (count : ℕ) (new : List ℕ)
+    → WritesList answer old new (lists.Written count) → TellsServer answer old ok count new
+list_told answer old count new (list, is, same, now) =
+    rw is (same, inl (refl, now ∙ ap (λ (n : ℕ). list ++ drop n old) same))
+
+pub no_room_told : (answer : Option (List ℕ)) (old : List ℕ) (count : ℕ) (new : List ℕ)
+    → WritesList answer old new (lists.NoRoom count) → TellsServer answer old no_room count new
+no_room_told answer old count new (list, is, same, short) =
+    rw is (same, inr (refl, subst (λ (n : ℕ). length old < n) same short))
 
 -- ---- audits
 

@@ -1,6 +1,6 @@
 -- What is told of a value is what the library answers of it.
-use Rattle.std.proofs.Common.{◌≡◌, ◌≢◌, ◌⊎◌, inl, inr, ℕ, List, Option, Some, None, Result, Ok, Err, refl, subst, arith}
-use Rattle.std.specs.Prelude.{IsSomeAnd, IfSome, IfErr, MatchOption, OnErr}
+use Rattle.std.proofs.Common.{◌≡◌, ◌≢◌, ◌⊎◌, inl, inr, ℕ, List, Result, Ok, Err, refl, subst, arith}
+use Rattle.std.specs.Prelude.{IfErr, OnErr}
 use Rattle.std.proofs.lemmas.Bool.{false≢true}
 use Rattle.virtiofs_map.specs.ValueChanges.{ChangesList, ChangesRoot, WritesRevision3}
 use Rattle.virtiofs_map.specs.declared.acl.errors.AclError.{AclError}
@@ -21,31 +21,23 @@ use Rattle.virtiofs_map_c.specs.declared.fault.Fault.{Fault}
 -- ---- whatever the maps are
 
 -- but where it is done, nothing has changed
-pub told_unchanged : {E : Type 0} (is_told : ℕ → Fault → E → Type 0) (answer : Option (Result (Unit {0}) E)) (code : ℕ)
-    (told : Fault) (old new : List ℕ) → IsAnswerTold is_told answer code told
-    → MatchOption answer (new ≡ old) (λ r. OnErr r (new ≡ old)) → code ≢ ok → new ≡ old
-told_unchanged is_told None code told old new is same failed = same
-told_unchanged is_told (Some (Ok done)) code told old new is same failed = absurd (failed is.0)
-told_unchanged is_told (Some (Err error)) code told old new is same failed = same
-
--- what is no map is told so
-pub told_no_map : {E : Type 0} (is_told : ℕ → Fault → E → Type 0) (answer : Option (Result (Unit {0}) E)) (code : ℕ)
-    (told : Fault) → IsAnswerTold is_told answer code told → answer ≡ None → code ≡ no_map
-told_no_map is_told None code told is none = is.0
-told_no_map is_told (Some r) code told is none = absurd (cc)
+pub told_unchanged : {E : Type 0} (is_told : ℕ → Fault → E → Type 0) (answer : Result (Unit {0}) E) (code : ℕ)
+    (told : Fault) (old new : List ℕ) → IsAnswerTold is_told answer code told → OnErr answer (new ≡ old) → code ≢ ok
+    → new ≡ old
+told_unchanged is_told (Ok done) code told old new is same failed = absurd (failed is.0)
+told_unchanged is_told (Err error) code told old new is same failed = same
 
 -- an error has a code of its own
 abbrev pub FailsOtherwise : {E : Type 0} → (ℕ → Fault → E → Type 0) → Type 0
 FailsOtherwise {E} is_told = (code : ℕ) (told : Fault) (error : E) → is_told code told error
     → (code ≢ ok) × (code ≢ no_map)
 
-pub told_no_fault : {E : Type 0} (is_told : ℕ → Fault → E → Type 0) (answer : Option (Result (Unit {0}) E)) (code : ℕ)
+pub told_no_fault : {E : Type 0} (is_told : ℕ → Fault → E → Type 0) (answer : Result (Unit {0}) E) (code : ℕ)
     (told : Fault) → FailsOtherwise is_told → IsAnswerTold is_told answer code told → (code ≡ ok) ⊎ (code ≡ no_map)
     → told ≡ no_fault
-told_no_fault is_told None code told fails is without = is.1
-told_no_fault is_told (Some (Ok done)) code told fails is without = is.1
-told_no_fault is_told (Some (Err error)) code told fails is (inl done) = absurd ((fails code told error is).0 done)
-told_no_fault is_told (Some (Err error)) code told fails is (inr none) = absurd ((fails code told error is).1 none)
+told_no_fault is_told (Ok done) code told fails is without = is.1
+told_no_fault is_told (Err error) code told fails is (inl done) = absurd ((fails code told error is).0 done)
+told_no_fault is_told (Err error) code told fails is (inr none) = absurd ((fails code told error is).1 none)
 
 -- ---- the codes of errors
 
@@ -85,34 +77,30 @@ pub capability_fails_otherwise : FailsOtherwise IsCapabilityTold
 capability_fails_otherwise code told error is =
     rw is.code_told ((capability_error_code error).1, (capability_error_code error).2)
 
-pub tells_acl_code : (room : ℕ) (answer : Option (Result (Unit {0}) AclError)) (code : ℕ) (told : Fault)
+pub tells_acl_code : (room : ℕ) (answer : Result (Unit {0}) AclError) (code : ℕ) (told : Fault)
     → IsAnswerTold (IsAclTold room) answer code told → IsAclCode code
-tells_acl_code room None code told is = inr (inr (inr (inr (inl is.0))))
-tells_acl_code room (Some (Ok done)) code told is = inl is.0
-tells_acl_code room (Some (Err error)) code told is = rw is.code_told (acl_error_code error).0
+tells_acl_code room (Ok done) code told is = inl is.0
+tells_acl_code room (Err error) code told is = rw is.code_told (acl_error_code error).0
 
-pub tells_capability_code : (answer : Option (Result (Unit {0}) CapabilityError)) (code : ℕ) (told : Fault)
+pub tells_capability_code : (answer : Result (Unit {0}) CapabilityError) (code : ℕ) (told : Fault)
     → IsAnswerTold IsCapabilityTold answer code told → IsCapabilityCode code
-tells_capability_code None code told is = inl (inr (inr (inr is.0)))
-tells_capability_code (Some (Ok done)) code told is = inl (inl is.0)
-tells_capability_code (Some (Err error)) code told is = rw is.code_told (capability_error_code error).0
+tells_capability_code (Ok done) code told is = inl (inl is.0)
+tells_capability_code (Err error) code told is = rw is.code_told (capability_error_code error).0
 
-pub tells_root_code : (answer : Option (Result (Unit {0}) CapabilityError)) (code : ℕ) (told : Fault)
-    → IsAnswerTold IsCapabilityTold answer code told → IfSome answer (λ r. IfErr r (λ e. e ≢ capabilities.RootMoves))
+pub tells_root_code : (answer : Result (Unit {0}) CapabilityError) (code : ℕ) (told : Fault)
+    → IsAnswerTold IsCapabilityTold answer code told → IfErr answer (λ e. e ≢ capabilities.RootMoves)
     → IsRootCode code
-tells_root_code None code told is stays = inr (inr (inr is.0))
-tells_root_code (Some (Ok done)) code told is stays = inl is.0
-tells_root_code (Some (Err error)) code told is stays = rw is.code_told (root_error_code error stays)
+tells_root_code (Ok done) code told is stays = inl is.0
+tells_root_code (Err error) code told is stays = rw is.code_told (root_error_code error stays)
 
 -- ---- where the maps are images
 
 pub tells_acl : (users groups : List Specification) (direction : Direction) (room : ℕ) (old new : List ℕ)
-    (answer : Option (Result (Unit {0}) AclError)) (code : ℕ) (told : Fault)
+    (answer : Result (Unit {0}) AclError) (code : ℕ) (told : Fault)
     → IsAnswerTold (IsAclTold room) answer code told
-    → IsSomeAnd answer (ChangesList users groups direction room old new)
+    → ChangesList users groups direction room old new answer
     → ChangesAcl users groups direction room old new code told
-tells_acl users groups direction room old new None code told is change = absurd change
-tells_acl users groups direction room old new (Some (Ok done)) code told is change = record {
+tells_acl users groups direction room old new (Ok done) code told is change = record {
   done = λ _. record { user_ids = change.user_ids; group_ids = change.group_ids; rest = change.rest };
   accepted = λ _. change.accepted;
   complete = λ _. is.0;
@@ -120,7 +108,7 @@ tells_acl users groups direction room old new (Some (Ok done)) code told is chan
   faulty = λ error has. absurd (change.faulty error has);
   leads_back = λ _. change.leads_back;
 }
-tells_acl users groups direction room old new (Some (Err error)) code told is change =
+tells_acl users groups direction room old new (Err error) code told is change =
     let failed : code ≢ ok = rw is.code_told (acl_error_code error).1 in
     record {
       done = λ answered. absurd (failed answered);
@@ -132,11 +120,10 @@ tells_acl users groups direction room old new (Some (Err error)) code told is ch
     }
 
 pub tells_capability : (users : List Specification) (direction : Direction) (old new : List ℕ)
-    (answer : Option (Result (Unit {0}) CapabilityError)) (code : ℕ) (told : Fault)
-    → IsAnswerTold IsCapabilityTold answer code told → IsSomeAnd answer (ChangesRoot users direction old new)
+    (answer : Result (Unit {0}) CapabilityError) (code : ℕ) (told : Fault)
+    → IsAnswerTold IsCapabilityTold answer code told → ChangesRoot users direction old new answer
     → ChangesCapability users direction old new code told
-tells_capability users direction old new None code told is change = absurd change
-tells_capability users direction old new (Some (Ok done)) code told is change = record {
+tells_capability users direction old new (Ok done) code told is change = record {
   root = λ _. change.root;
   front = λ _. change.front;
   accepted = λ _. change.accepted;
@@ -145,7 +132,7 @@ tells_capability users direction old new (Some (Ok done)) code told is change = 
   faulty = λ error has. absurd (change.faulty error has);
   leads_back = λ _. change.leads_back;
 }
-tells_capability users direction old new (Some (Err error)) code told is change =
+tells_capability users direction old new (Err error) code told is change =
     let failed : code ≢ ok = rw is.code_told (capability_error_code error).1 in
     record {
       root = λ answered. absurd (failed answered);
@@ -158,11 +145,10 @@ tells_capability users direction old new (Some (Err error)) code told is change 
     }
 
 pub tells_written : (users : List Specification) (direction : Direction) (value written : List ℕ)
-    (answer : Option (Result (Unit {0}) CapabilityError)) (code : ℕ) (told : Fault)
-    → IsAnswerTold IsCapabilityTold answer code told → IsSomeAnd answer (WritesRevision3 users direction value written)
+    (answer : Result (Unit {0}) CapabilityError) (code : ℕ) (told : Fault)
+    → IsAnswerTold IsCapabilityTold answer code told → WritesRevision3 users direction value written answer
     → WritesCapability users direction value written code told
-tells_written users direction value written None code told is change = absurd change
-tells_written users direction value written (Some (Ok done)) code told is change = record {
+tells_written users direction value written (Ok done) code told is change = record {
   root = λ _. change.root;
   same = λ _. change.same;
   accepted = λ _. change.accepted;
@@ -170,7 +156,7 @@ tells_written users direction value written (Some (Ok done)) code told is change
   refused = λ failed. absurd (failed is.0);
   faulty = λ error has. absurd (change.faulty error has);
 }
-tells_written users direction value written (Some (Err error)) code told is change =
+tells_written users direction value written (Err error) code told is change =
     let failed : code ≢ ok = rw is.code_told (capability_error_code error).1 in
     record {
       root = λ answered. absurd (failed answered);

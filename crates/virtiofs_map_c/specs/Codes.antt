@@ -31,9 +31,6 @@ no_memory = 8
 abbrev pub no_map : ℕ
 no_map = 9
 
-abbrev pub no_name : ℕ
-no_name = 10
-
 abbrev pub merges : ℕ
 merges = 11
 

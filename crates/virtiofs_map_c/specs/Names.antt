@@ -1,26 +1,27 @@
 -- What the calls on attribute names tell.
 use Rattle.std.specs.Prelude.{◌≡◌, ◌⊎◌, ℕ, ◌<◌, ◌≤◌, Bool, true, false, List, ◌++◌, length, take, drop, Option, Some}
-use Rattle.std.specs.Prelude.{None, Contains}
+use Rattle.std.specs.Prelude.{None, ◌==◌}
+use Rattle.std.specs.List.{before_first}
 use Rattle.std.specs.Global.{Global}
 use Rattle.virtiofs_map.specs.Audit.{AnswersLeast}
 use Rattle.virtiofs_map.specs.Names.{ClientAnswer, Passes, IsDenied, IsUnsupported, IsUnterminated, client_answer}
-use Rattle.virtiofs_map.specs.NamesImage.{IsImage, HasImage}
+use Rattle.virtiofs_map.specs.NamesImage.{IsImage, HasImage, image_length}
 use Rattle.virtiofs_map.specs.Rule.{MappingRule}
 use Rattle.virtiofs_map.specs.declared.audit.answer.Audit.{Audit}
 use Rattle.virtiofs_map.specs.declared.audit.answer.Audit.TheVariants.{Yes, No}
 use Rattle.virtiofs_map.specs.declared.xattrmap.image.Decision.{Decision}
 use Rattle.virtiofs_map.specs.declared.xattrmap.image.Decision.TheVariants as decisions
 use Rattle.virtiofs_map_c.specs.Codes.{ok, as_it_is, denied, unsupported, unterminated, no_room, no_memory, no_map}
-use Rattle.virtiofs_map_c.specs.Codes.{no_name}
 use Rattle.virtiofs_map_c.specs.Replies.{TellsBytes, TellsCode}
 
 -- ---- making
 
--- An image of the rules is the beginning of the bytes, and the rest of them is as it was; or the image has more bytes
--- than there are, and all of them are as they were.
+-- The image of the rules has so many bytes. It is the beginning of the bytes, and the rest of them is as it was; or it
+-- has more bytes than there are, and all of them are as they were.
 abbrev pub TellsNames : List MappingRule → List ℕ → ℕ → ℕ → List ℕ → Type 0
 TellsNames rules old code wanted new =
-    ((code ≡ ok) × (wanted ≤ length old) × IsImage rules (take wanted new) × (drop wanted new ≡ drop wanted old))
+    ((code ≡ ok) × (wanted ≡ image_length rules) × (wanted ≤ length old) × IsImage rules (take wanted new)
+    × (drop wanted new ≡ drop wanted old))
     ⊎ ((code ≡ no_room) × (length old < wanted) × HasImage rules wanted × (new ≡ old))
 
 -- ---- a name from the guest
@@ -42,10 +43,11 @@ TellsClient IsDenied name old code len new = TellsCode denied old code len new
 TellsClient IsUnsupported name old code len new = TellsCode unsupported old code len new
 TellsClient IsUnterminated name old code len new = TellsCode unterminated old code len new
 
--- what is told of any bytes: what becomes of the name, or that they are no name
-pub record AnswersClient (rules : List MappingRule) (name old : List ℕ) (code len : ℕ) (new : List ℕ) : Type 0 where
-  pub no_name : Contains name 0 → TellsCode no_name old code len new
-  pub told : ¬ Contains name 0 → TellsClient (client_answer rules name) name old code len new
+-- what is told of any bytes: what becomes of the name that stands before their first zero
+abbrev pub AnswersClient : List MappingRule → List ℕ → List ℕ → ℕ → ℕ → List ℕ → Type 0
+AnswersClient rules bytes old code len new =
+    TellsClient (client_answer rules (before_first (λ byte. byte == 0) bytes)) (before_first (λ byte. byte == 0) bytes)
+    old code len new
 
 -- the codes that the call has
 abbrev pub IsClientCode : ℕ → Type 0
@@ -53,7 +55,7 @@ IsClientCode code =
     (code ≡ ok)
     ⊎ ((code ≡ as_it_is)
     ⊎ ((code ≡ denied)
-    ⊎ ((code ≡ unsupported) ⊎ ((code ≡ unterminated) ⊎ ((code ≡ no_room) ⊎ ((code ≡ no_name) ⊎ (code ≡ no_map)))))))
+    ⊎ ((code ≡ unsupported) ⊎ ((code ≡ unterminated) ⊎ ((code ≡ no_room) ⊎ (code ≡ no_map))))))
 
 -- ---- a list of the host
 
@@ -82,7 +84,3 @@ abbrev pub TellsLeast : (List ℕ → Type 0) → List ℕ → ℕ → Bool → 
 TellsLeast bad old code all len new =
     ((audit : Audit Global) × AnswersLeast bad audit × TellsFound audit old code all len new)
     ⊎ TellsNo no_memory old code all len new
-
--- that one of two is no map is told; or out of memory
-abbrev pub TellsNoMap : List ℕ → ℕ → Bool → ℕ → List ℕ → Type 0
-TellsNoMap old code all len new = TellsNo no_map old code all len new ⊎ TellsNo no_memory old code all len new

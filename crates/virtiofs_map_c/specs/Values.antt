@@ -1,5 +1,5 @@
 -- What the calls tell that change the ids in a value.
-use Rattle.std.specs.Prelude.{◌≡◌, ◌≢◌, ◌⊎◌, ℕ, List, Option, Some, None, Result, Ok, Err}
+use Rattle.std.specs.Prelude.{◌≡◌, ◌≢◌, ◌⊎◌, ℕ, List, Result, Ok, Err}
 use Rattle.virtiofs_map.specs.Acl.{GoesAcross, HasAclFault}
 use Rattle.virtiofs_map.specs.AclLaws.{IsTranslated, AllMapped, ComesBack}
 use Rattle.virtiofs_map.specs.Capability.{root_of, RootBecomes, KeepsFront, IsInRevision3, HasRoot, RootGoesAcross}
@@ -80,11 +80,10 @@ pub record IsCapabilityTold (code : ℕ) (told : Fault) (error : CapabilityError
 abbrev pub IsCode : ℕ → ℕ → Fault → Type 0
 IsCode answered code told = (code ≡ answered) × (told ≡ no_fault)
 
--- what became of a value is told: that the maps are none, that it is done, or its error
-abbrev pub IsAnswerTold : {E : Type 0} → (ℕ → Fault → E → Type 0) → Option (Result (Unit {0}) E) → ℕ → Fault → Type 0
-IsAnswerTold is_told None code told = IsCode no_map code told
-IsAnswerTold is_told (Some (Ok done)) code told = IsCode ok code told
-IsAnswerTold is_told (Some (Err error)) code told = is_told code told error
+-- what became of a value is told: that it is done, or its error
+abbrev pub IsAnswerTold : {E : Type 0} → (ℕ → Fault → E → Type 0) → Result (Unit {0}) E → ℕ → Fault → Type 0
+IsAnswerTold is_told (Ok done) code told = IsCode ok code told
+IsAnswerTold is_told (Err error) code told = is_told code told error
 
 -- ---- what the calls answer
 

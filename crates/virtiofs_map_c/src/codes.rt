@@ -30,9 +30,6 @@ pub const NO_MEMORY: u32 = 8;
 /// The numbers are no map.
 pub const NO_MAP: u32 = 9;
 
-/// The bytes are no name.
-pub const NO_NAME: u32 = 10;
-
 /// Two ids of a value would become one.
 pub const MERGES: u32 = 11;
 

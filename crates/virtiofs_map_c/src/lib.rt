@@ -7,6 +7,7 @@
 
 mod arrays;
 mod buffer;
+mod bytes;
 mod codes;
 mod fault;
 mod front;

@@ -1,38 +1,41 @@
 //! Maps of attribute names, in the caller's bytes.
-ghost use Rattle.std.specs.Prelude.{◌≡◌, ◌≢◌, ◌↔◌, ◌+◌, ◌*◌, List, Contains, IsTrue, false, min};
+ghost use Rattle.std.specs.Prelude.{◌≡◌, ◌≢◌, ◌↔◌, ◌≤◌, ◌+◌, ◌*◌, ℕ, List, length, IsTrue, false, min};
 ghost use Rattle.virtiofs_map.specs.Audit.{IsLost, IsStray, IsSeen, IsShared, Terminated};
 ghost use Rattle.virtiofs_map.specs.LookupAnswers.{IsDecidedBy};
 ghost use Rattle.virtiofs_map.specs.Names.{server_answer};
-ghost use Rattle.virtiofs_map.specs.NamesImage.{IsImage, IsNoImage};
+ghost use Rattle.virtiofs_map.specs.NamesImage.{IsImage, IsNoImage, image_length};
 ghost use Rattle.virtiofs_map.specs.Rule.{MappingRule, Okay, Prefix};
 ghost use Rattle.virtiofs_map_c.specs.Codes.{ok, as_it_is, no_map};
 ghost use Rattle.virtiofs_map_c.specs.Faults.{no_fault};
 ghost use Rattle.virtiofs_map_c.specs.Makes.{IsAnswered, TellsFault, MakesOrTells, TellsThis};
-ghost use Rattle.virtiofs_map_c.specs.Names.{AnswersClient, IsClientCode, TellsNames, TellsServer, TellsLeast, TellsNo, TellsNoMap};
+ghost use Rattle.virtiofs_map_c.specs.Names.{AnswersClient, IsClientCode, TellsNames, TellsServer, TellsLeast, TellsNo};
 ghost use Rattle.virtiofs_map_c.specs.Rules.{BytesSayRules, BytesFault, HasBytesFault, IsBytesTold};
 
 mod lookups;
 mod made;
-mod opened;
 mod reading;
 
 use crate::buffer::nothing;
-use crate::codes::{NO_MAP, NO_NAME, NO_ROOM, OK, UNTERMINATED};
+use crate::bytes::{Bytes, Room};
+use crate::codes::{NO_MAP, NO_ROOM, OK, UNTERMINATED};
 use crate::fault::Fault;
 use lookups::{tell, tell_client, tell_none};
 use made::{made, tell_of_rules};
-use opened::{both, opened};
 use std::alloc::Global;
-use virtiofs_map::audit::{audit, audit_listed, keeps_apart, shares_no_name};
-use virtiofs_map::xattrmap::Side;
-use virtiofs_map::xattrmap::image::{Decision, ListWritten, decide, is_terminated, write_list};
+use virtiofs_map::audit::lent::{audit, audit_listed, keeps_apart, shares_no_name};
+use virtiofs_map::xattrmap::image::{
+    Decision, ListWritten, decide, is_terminated, most_bytes, write_list,
+};
+use virtiofs_map::xattrmap::{Side, XattrMapRef};
 
 /// How many bytes the map of a text of that length has at most.
 #[unsafe(no_mangle)]
 pub extern "C" fn virtiofs_map_names_bound(text_len: usize) -> usize
-    ensures { result ≡ min (512 + 64 * text_len) 18446744073709551615 }
+    ensures bound { result ≡ min (512 + 64 * text_len) 18446744073709551615 }
+    ensures enough { (text : List ℕ) (rules : List MappingRule) → BytesSayRules text rules
+        → length text ≤ text_len → min (image_length rules) 18446744073709551615 ≤ result }
 {
-    text_len.saturating_mul(64).saturating_add(512)
+    most_bytes(text_len)
 }
 
 /// Makes a map of a text of rules.
@@ -69,43 +72,41 @@ pub extern "C" fn virtiofs_map_names_make(
     }
 }
 
-/// The host's name for a name that the guest asks for.
+/// The host's name for a name that the guest asks for, which stands before the first zero.
 #[unsafe(no_mangle)]
 pub extern "C" fn virtiofs_map_names_client(
-    bytes: &[u8],
-    name: &[u8],
-    out: &mut [u8],
+    bytes: Bytes<'_>,
+    name: Bytes<'_>,
+    out: Room<'_>,
     len: &mut usize,
 ) -> u32
-    ensures answer { (rules : List MappingRule) → IsImage rules bytes.now
-        → AnswersClient rules name.now out.old result len.new out.new }
-    ensures okay { (rules : List MappingRule) → IsImage rules bytes.now
-        → IsDecidedBy Okay rules name.now → (¬ Contains name.now 0) → result ≡ as_it_is }
-    ensures prefix { (rules : List MappingRule) → IsImage rules bytes.now
-        → IsDecidedBy Prefix rules name.now → result ≢ as_it_is }
+    ensures answer { (rules : List MappingRule) → IsImage rules bytes.entry.lent.now
+        → AnswersClient rules name.entry.lent.now out.entry.lent.now result len.new out.exit.0.now }
+    ensures okay { (rules : List MappingRule) → IsImage rules bytes.entry.lent.now
+        → IsDecidedBy Okay rules name.entry.lent.now → result ≡ as_it_is }
+    ensures prefix { (rules : List MappingRule) → IsImage rules bytes.entry.lent.now
+        → IsDecidedBy Prefix rules name.entry.lent.now → result ≢ as_it_is }
     ensures code { IsClientCode result }
-    ensures no_map { IsNoImage bytes.now → result ≡ no_map }
+    ensures no_map { IsNoImage bytes.entry.lent.now → result ≡ no_map }
 {
-    match decide(bytes, Side::Client, name) {
-        Decision::NoMap => nothing(NO_MAP, len),
-        _ if name.contains(&0) => nothing(NO_NAME, len),
-        decision => tell_client(decision, name, out, len),
-    }
+    let decision = decide(bytes.lent, Side::Client, name.lent);
+    tell_client(decision, name.lent, out.lent, len)
 }
 
 /// The list that the guest gets for the host's list.
 #[unsafe(no_mangle)]
 pub extern "C" fn virtiofs_map_names_server(
-    bytes: &[u8],
-    list: &[u8],
-    out: &mut [u8],
+    bytes: Bytes<'_>,
+    list: Bytes<'_>,
+    out: Room<'_>,
     len: &mut usize,
 ) -> u32
-    ensures answer { (rules : List MappingRule) → IsImage rules bytes.now
-        → TellsServer (server_answer rules list.now) out.old result len.new out.new }
-    ensures no_map { IsNoImage bytes.now → result ≡ no_map }
+    ensures answer { (rules : List MappingRule) → IsImage rules bytes.entry.lent.now
+        → TellsServer (server_answer rules list.entry.lent.now)
+        out.entry.lent.now result len.new out.exit.0.now }
+    ensures no_map { IsNoImage bytes.entry.lent.now → result ≡ no_map }
 {
-    match write_list(bytes, list, out) {
+    match write_list(bytes.lent, list.lent, out.lent) {
         ListWritten::NoMap => nothing(NO_MAP, len),
         ListWritten::Undecided => nothing(UNTERMINATED, len),
         ListWritten::Written(count) => {
@@ -153,9 +154,9 @@ pub extern "C" fn virtiofs_map_names_audit(
         → TellsLeast (IsLost rules) out.old result all.new len.new out.new }
     ensures no_map { IsNoImage bytes.now → TellsNo no_map out.old result all.new len.new out.new }
 {
-    match opened(alloc, bytes) {
-        Ok(map) => tell(audit(alloc, &map), all, out, len),
-        Err(code) => tell_none(code, all, len),
+    match XattrMapRef::of(bytes) {
+        Some(map) => tell(audit(alloc, map), all, out, len),
+        None => tell_none(NO_MAP, all, len),
     }
 }
 
@@ -172,9 +173,9 @@ pub extern "C" fn virtiofs_map_names_audit_listed(
         → TellsLeast (IsStray rules) out.old result all.new len.new out.new }
     ensures no_map { IsNoImage bytes.now → TellsNo no_map out.old result all.new len.new out.new }
 {
-    match opened(alloc, bytes) {
-        Ok(map) => tell(audit_listed(alloc, &map), all, out, len),
-        Err(code) => tell_none(code, all, len),
+    match XattrMapRef::of(bytes) {
+        Some(map) => tell(audit_listed(alloc, map), all, out, len),
+        None => tell_none(NO_MAP, all, len),
     }
 }
 
@@ -192,11 +193,11 @@ pub extern "C" fn virtiofs_map_names_keeps_apart(
         → IsImage others second.now
         → TellsLeast (IsSeen rules others) out.old result all.new len.new out.new }
     ensures no_map { IsNoImage first.now → TellsNo no_map out.old result all.new len.new out.new }
-    ensures no_other { IsNoImage second.now → TellsNoMap out.old result all.new len.new out.new }
+    ensures no_other { IsNoImage second.now → TellsNo no_map out.old result all.new len.new out.new }
 {
-    match both(alloc, first, second) {
-        Ok((one, other)) => tell(keeps_apart(alloc, &one, &other), all, out, len),
-        Err(code) => tell_none(code, all, len),
+    match (XattrMapRef::of(first), XattrMapRef::of(second)) {
+        (Some(one), Some(other)) => tell(keeps_apart(alloc, one, other), all, out, len),
+        _ => tell_none(NO_MAP, all, len),
     }
 }
 
@@ -214,10 +215,10 @@ pub extern "C" fn virtiofs_map_names_shares_no_name(
         → IsImage others second.now
         → TellsLeast (IsShared rules others) out.old result all.new len.new out.new }
     ensures no_map { IsNoImage first.now → TellsNo no_map out.old result all.new len.new out.new }
-    ensures no_other { IsNoImage second.now → TellsNoMap out.old result all.new len.new out.new }
+    ensures no_other { IsNoImage second.now → TellsNo no_map out.old result all.new len.new out.new }
 {
-    match both(alloc, first, second) {
-        Ok((one, other)) => tell(shares_no_name(alloc, &one, &other), all, out, len),
-        Err(code) => tell_none(code, all, len),
+    match (XattrMapRef::of(first), XattrMapRef::of(second)) {
+        (Some(one), Some(other)) => tell(shares_no_name(alloc, one, other), all, out, len),
+        _ => tell_none(NO_MAP, all, len),
     }
 }

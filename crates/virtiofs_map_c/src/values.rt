@@ -11,30 +11,15 @@ ghost use Rattle.virtiofs_map_c.specs.Values.{ChangesAcl, ChangesCapability, Wri
 
 mod told;
 
+use crate::bytes::before_zero;
 use crate::codes::{ACL, CAPABILITY, NO_IDS};
 use crate::fault::Fault;
-use told::{tell_acl, tell_capability};
-use virtiofs_map::acl::image::{translate_acl, translate_capability, write_revision_3};
-use virtiofs_map::acl::{EntryRoom, ValueKind, carries_ids};
-use virtiofs_map::soft_idmap::Direction;
+use told::{tell_acl, tell_capability, tell_no_map};
+use virtiofs_map::acl::{
+    EntryRoom, ValueKind, carries_ids, translate_acl, translate_capability, write_revision_3,
+};
+use virtiofs_map::soft_idmap::{Direction, IdMapRef};
 use virtiofs_map::xattrmap::XattrName;
-
-/// Where the first zero stands.
-fn first_zero(name: &[u8]) -> Option<usize>
-    ensures { result ≡ position (λ byte. byte == 0) name.now }
-{
-    name.iter().position(|byte| *byte == 0)
-}
-
-/// A name up to its first zero, as C reads it.
-fn before_zero(name: &[u8]) -> &[u8]
-    ensures { result.now ≡ before_first (λ byte. byte == 0) name.now }
-{
-    match first_zero(name) {
-        Some(end) => &name[..end],
-        None => name,
-    }
-}
 
 /// Which ids the values of an attribute hold, whose name stands before the first zero.
 #[unsafe(no_mangle)]
@@ -54,6 +39,34 @@ pub extern "C" fn virtiofs_map_carries_ids(name: &[u8]) -> u32
     }
 }
 
+/// Changes an access control list in place, in a direction.
+fn change_acl(
+    users: &[u32],
+    groups: &[u32],
+    direction: Direction,
+    value: &mut [u8],
+    room: &mut [EntryRoom],
+    fault: &mut Fault,
+) -> u32
+    ensures answer { (specs others : List Specification) → IsImage specs users.now
+        → IsImage others groups.now → ChangesAcl specs others direction
+        (length room.old) value.old value.new result fault.new }
+    ensures unchanged { result ≢ ok → value.new ≡ value.old }
+    ensures no_map { (¬ HasKind users.now) ⊎ (¬ HasKind groups.now) → result ≡ no_map }
+    ensures no_fault { (result ≡ ok) ⊎ (result ≡ no_map) → fault.new ≡ no_fault }
+    ensures code { IsAclCode result }
+{
+    let Some(users) = IdMapRef::of(users) else {
+        return tell_no_map(fault);
+    };
+    let Some(groups) = IdMapRef::of(groups) else {
+        return tell_no_map(fault);
+    };
+    let lent = room.len();
+    let answer = translate_acl(&users, &groups, direction, value, room);
+    tell_acl(answer, lent, fault)
+}
+
 /// Makes an access control list of the guest one of the host, in place.
 #[unsafe(no_mangle)]
 pub extern "C" fn virtiofs_map_acl_to_host(
@@ -71,9 +84,7 @@ pub extern "C" fn virtiofs_map_acl_to_host(
     ensures no_fault { (result ≡ ok) ⊎ (result ≡ no_map) → fault.new ≡ no_fault }
     ensures code { IsAclCode result }
 {
-    let lent = room.len();
-    let answer = translate_acl(users, groups, Direction::GuestToHost, value, room);
-    tell_acl(answer, lent, fault)
+    change_acl(users, groups, Direction::GuestToHost, value, room, fault)
 }
 
 /// Makes an access control list of the host one of the guest, in place.
@@ -93,9 +104,28 @@ pub extern "C" fn virtiofs_map_acl_to_guest(
     ensures no_fault { (result ≡ ok) ⊎ (result ≡ no_map) → fault.new ≡ no_fault }
     ensures code { IsAclCode result }
 {
-    let lent = room.len();
-    let answer = translate_acl(users, groups, Direction::HostToGuest, value, room);
-    tell_acl(answer, lent, fault)
+    change_acl(users, groups, Direction::HostToGuest, value, room, fault)
+}
+
+/// Changes a capability in place, in a direction.
+fn change_capability(
+    users: &[u32],
+    direction: Direction,
+    value: &mut [u8],
+    fault: &mut Fault,
+) -> u32
+    ensures answer { (specs : List Specification) → IsImage specs users.now
+        → ChangesCapability specs direction value.old value.new result fault.new }
+    ensures unchanged { result ≢ ok → value.new ≡ value.old }
+    ensures no_map { (¬ HasKind users.now) → result ≡ no_map }
+    ensures no_fault { (result ≡ ok) ⊎ (result ≡ no_map) → fault.new ≡ no_fault }
+    ensures code { IsCapabilityCode result }
+{
+    let Some(users) = IdMapRef::of(users) else {
+        return tell_no_map(fault);
+    };
+    let answer = translate_capability(&users, direction, value);
+    tell_capability(answer, fault)
 }
 
 /// Makes a capability of the guest one of the host, in place.
@@ -112,8 +142,7 @@ pub extern "C" fn virtiofs_map_capability_to_host(
     ensures no_fault { (result ≡ ok) ⊎ (result ≡ no_map) → fault.new ≡ no_fault }
     ensures code { IsCapabilityCode result }
 {
-    let answer = translate_capability(users, Direction::GuestToHost, value);
-    tell_capability(answer, fault)
+    change_capability(users, Direction::GuestToHost, value, fault)
 }
 
 /// Makes a capability of the host one of the guest, in place.
@@ -130,7 +159,28 @@ pub extern "C" fn virtiofs_map_capability_to_guest(
     ensures no_fault { (result ≡ ok) ⊎ (result ≡ no_map) → fault.new ≡ no_fault }
     ensures code { IsCapabilityCode result }
 {
-    let answer = translate_capability(users, Direction::HostToGuest, value);
+    change_capability(users, Direction::HostToGuest, value, fault)
+}
+
+/// Writes a capability in revision 3, in a direction.
+fn write_capability(
+    users: &[u32],
+    direction: Direction,
+    value: &[u8],
+    written: &mut [u8; 24],
+    fault: &mut Fault,
+) -> u32
+    ensures answer { (specs : List Specification) → IsImage specs users.now
+        → WritesCapability specs direction value.now written.new result fault.new }
+    ensures unchanged { result ≢ ok → written.new ≡ written.old }
+    ensures no_map { (¬ HasKind users.now) → result ≡ no_map }
+    ensures no_fault { (result ≡ ok) ⊎ (result ≡ no_map) → fault.new ≡ no_fault }
+    ensures code { IsRootCode result }
+{
+    let Some(users) = IdMapRef::of(users) else {
+        return tell_no_map(fault);
+    };
+    let answer = write_revision_3(&users, direction, value, written);
     tell_capability(answer, fault)
 }
 
@@ -149,8 +199,7 @@ pub extern "C" fn virtiofs_map_capability_to_host_in_revision_3(
     ensures no_fault { (result ≡ ok) ⊎ (result ≡ no_map) → fault.new ≡ no_fault }
     ensures code { IsRootCode result }
 {
-    let answer = write_revision_3(users, Direction::GuestToHost, value, written);
-    tell_capability(answer, fault)
+    write_capability(users, Direction::GuestToHost, value, written, fault)
 }
 
 /// Writes a capability of the host as one of the guest in revision 3.
@@ -168,6 +217,5 @@ pub extern "C" fn virtiofs_map_capability_to_guest_in_revision_3(
     ensures no_fault { (result ≡ ok) ⊎ (result ≡ no_map) → fault.new ≡ no_fault }
     ensures code { IsRootCode result }
 {
-    let answer = write_revision_3(users, Direction::HostToGuest, value, written);
-    tell_capability(answer, fault)
+    write_capability(users, Direction::HostToGuest, value, written, fault)
 }

@@ -8,9 +8,9 @@ mod told;
 use crate::common::users_of;
 use by_linux::{CAPABILITIES, LISTS, REVISION_2};
 use std::alloc::Global;
+use std::process::Abort;
 use std::test::Fail;
 use told::{SHIFTED, check_capability, check_list, check_written, value_of};
-use virtiofs_map::acl::image::{translate_acl, translate_capability, write_revision_3};
 use virtiofs_map::acl::{CapabilityError, EntryRoom, ValueKind, carries_ids};
 use virtiofs_map::id_types::{GuestGid, HostGid};
 use virtiofs_map::soft_idmap::Direction::{GuestToHost, HostToGuest};
@@ -103,27 +103,31 @@ fn writes_the_same_in_revision_3(rt: HostRuntime) -> Result<(), Fail> {
 }
 
 #[test]
-fn words_that_are_no_image_change_nothing(rt: HostRuntime) {
-    let mut value = [2, 0, 0, 0];
-    let mut room = [EntryRoom::new(); 0];
-    let mut written = [255; 24];
-    assert!(rt; translate_acl(&[], &[], GuestToHost, &mut value, &mut room).is_none());
-    assert!(rt; translate_capability(&[], GuestToHost, &mut value).is_none());
-    assert!(rt; write_revision_3(&[], GuestToHost, &value, &mut written).is_none());
-    assert!(rt; value == [2, 0, 0, 0] && written == [255; 24]);
-}
-
-#[test]
 fn sets_values_of_the_guest(rt: HostRuntime) -> Result<(), Fail> {
     let (guest, host) = LISTS[0];
-    let guest = value_of(rt.alloc(), guest)?;
-    let host = value_of(rt.alloc(), host)?;
-    let set = set_on_host(rt.alloc(), b"system.posix_acl_access", &guest)?;
-    assert!(rt; set.as_deref() == Some(host.as_slice()));
-    let set = set_on_host(rt.alloc(), b"user.note", &guest)?;
-    assert!(rt; set.as_deref() == Some(guest.as_slice()));
-    let set = set_on_host(rt.alloc(), b"security.capability", &guest)?;
-    assert!(rt; set.is_none());
+    let value = value_of(rt.alloc(), host)?;
+    assert_set(
+        &rt,
+        rt.alloc(),
+        b"system.posix_acl_access",
+        guest,
+        Some(value.as_slice()),
+    )?;
+    let value = value_of(rt.alloc(), guest)?;
+    assert_set(&rt, rt.alloc(), b"user.note", guest, Some(value.as_slice()))?;
+    assert_set(&rt, rt.alloc(), b"security.capability", guest, None)
+}
+
+fn assert_set(
+    rt: &impl Abort,
+    alloc: Global,
+    name: &[u8],
+    words: &[u32],
+    wanted: Option<&[u8]>,
+) -> Result<(), Fail> {
+    let value = value_of(alloc, words)?;
+    let set = set_on_host(alloc, name, &value)?;
+    assert!(rt; set.as_deref() == wanted, "of {name:?}");
     Ok(())
 }
 

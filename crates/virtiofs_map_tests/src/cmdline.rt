@@ -20,21 +20,32 @@ static PRINTED: [(&str, &str); 11] = [
     ("squash-HOST:10:20:30", "squash-host:10:20:30"),
 ];
 
-/// Each text with an unknown word, and the word as the fault has it.
-static PREFIXES: [(&str, &str); 5] = [
-    ("foo:1", "foo"),
-    (":0:1:2", ""),
-    ("map-0:1", "map-0"),
-    ("map\u{660}:0:1:2", "map\u{660}"),
-    ("FORB\u{130}D-GUEST:1:2", "forb\u{130}d-guest"),
-];
-
-/// Each text with another count of numbers, how many the word takes, and how many are seen.
-static LENGTHS: [(&str, usize, usize); 4] = [
-    ("foo", 1, 0),
-    ("", 1, 0),
-    ("map:1:2", 3, 2),
-    ("forbid-guest:1:2:3", 2, 3),
+/// Texts with an unknown word or another count of numbers, and what is printed of the fault.
+static FAULTS: [(&str, &str); 9] = [
+    ("foo:1", "Invalid ID map prefix foo"),
+    (":0:1:2", "Invalid ID map prefix "),
+    ("map-0:1", "Invalid ID map prefix map-0"),
+    ("map\u{660}:0:1:2", "Invalid ID map prefix map\u{660}"),
+    (
+        "FORB\u{130}D-GUEST:1:2",
+        "Invalid ID map prefix forb\u{130}d-guest",
+    ),
+    (
+        "foo",
+        "Invalid ID map length (expected 1 elements, got 0 elements)",
+    ),
+    (
+        "",
+        "Invalid ID map length (expected 1 elements, got 0 elements)",
+    ),
+    (
+        "map:1:2",
+        "Invalid ID map length (expected 3 elements, got 2 elements)",
+    ),
+    (
+        "forbid-guest:1:2:3",
+        "Invalid ID map length (expected 2 elements, got 3 elements)",
+    ),
 ];
 
 /// A text, and the first of its fields that is no number.
@@ -64,15 +75,12 @@ fn prints_specifications(rt: HostRuntime) -> Result<(), Fail> {
 
 #[test]
 fn prints_faults(rt: HostRuntime) -> Result<(), Fail> {
-    let alloc = rt.alloc();
-    for &(text, prefix) in &PREFIXES {
-        let printed = format!(in alloc; "Invalid ID map prefix {prefix}")?;
-        assert!(rt; fault_of(alloc, text)? == printed, "of {text:?}");
-    }
-    for &(text, taken, seen) in &LENGTHS {
-        let counts = format!(in alloc; "(expected {taken} elements, got {seen} elements)")?;
-        let printed = format!(in alloc; "Invalid ID map length {counts}")?;
-        assert!(rt; fault_of(alloc, text)? == printed, "of {text:?}");
+    for &(text, printed) in &FAULTS {
+        assert_eq!(rt;
+            fault_of(rt.alloc(), text)?.as_str(),
+            printed,
+            "of {text:?}"
+        );
     }
     let fault: IdMapError = IdMapError::OutOfMemory;
     assert_eq!(rt; fault.to_string(rt.alloc())?.as_str(), "Out of memory");

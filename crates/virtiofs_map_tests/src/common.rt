@@ -2,7 +2,7 @@
 
 use std::alloc::Allocator;
 use std::test::Fail;
-use virtiofs_map::id_types::{GuestUid, HostUid};
+use virtiofs_map::id_types::{GuestId, GuestUid, HostId, HostUid};
 use virtiofs_map::soft_idmap::IdMap;
 use virtiofs_map::xattrmap::{Side, XattrMap, XattrName};
 use virtiofs_map::{Steps, cmdline};
@@ -27,6 +27,16 @@ pub(crate) fn users_of<A: Allocator + Copy>(
     alloc: A,
     texts: &str,
 ) -> Option<IdMap<GuestUid, HostUid, A>> {
+    map_of(alloc, texts)
+}
+
+/// The map of other ids.
+pub(crate) fn map_of<Guest, Host, A>(alloc: A, texts: &str) -> Option<IdMap<Guest, Host, A>>
+where
+    Guest: GuestId<HostType = Host>,
+    Host: HostId<GuestType = Guest>,
+    A: Allocator + Copy,
+{
     IdMap::try_from(alloc, specs_of(alloc, texts)?).ok()
 }
 

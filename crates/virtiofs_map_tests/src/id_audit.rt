@@ -1,14 +1,18 @@
 //! Audits of ids, with what they are to answer.
 
 use crate::common::users_of;
-use Asked::{ApartFrom, Back, IsReached, Own, Reaches, ReachesAny};
+use Asked::{ApartFrom, Back, Own, Reached, Reaches, ReachesAny};
 use std::alloc::Global;
+use std::fmt::Debug;
 use std::test::Fail;
 use virtiofs_map::id_audit::{
-    Astray, IdAudit, Shared, Span, comes_back, ids_apart, ids_astray, ids_into, is_alone, mended,
-    reached, reaches, reaches_any,
+    Span, comes_back, ids_apart, ids_astray, ids_into, is_alone, mended, reached, reaches,
+    reaches_any,
 };
-use virtiofs_map::id_types::{GuestUid, HostUid, Id};
+use virtiofs_map::id_types::{GuestUid, HostUid};
+use virtiofs_map::soft_idmap::IdMap;
+
+type Users = IdMap<GuestUid, HostUid>;
 
 /// Specifications under which the guest has 65536 ids of the host, and no other.
 const OWN: &str = "map:0:100000:65536|forbid-guest:65536:4294901759";
@@ -17,34 +21,44 @@ const NEXT: &str = "map:0:165535:65536|forbid-guest:65536:4294901759";
 
 const OPEN: &str = "map:0:100000:65536";
 
-/// Specifications with a bar between each two, what is asked, and the numbers that are told: none
-/// for a yes.
-static ROWS: [(&str, Asked, &[u32]); 13] = [
+/// Specifications with a bar between each two, what is asked, and the answer.
+static ROWS: [(&str, Asked, &str); 12] = [
     // 100000 stays itself on the host, and comes back as 0.
-    (OPEN, Back, &[100_000, 100_000, 0]),
-    (OWN, Back, &[]),
-    (OPEN, Own, &[0, 100_000, 100_000]),
-    (OWN, Own, &[]),
-    (OPEN, Reaches(0, 65536), &[65536]),
-    (OWN, Reaches(165_536, 4294967295), &[]),
-    (OWN, ApartFrom(NEXT), &[65535]),
-    (OWN, ApartFrom("forbid-guest:0:4294967295"), &[]),
-    (OWN, IsReached(99_999), &[]),
-    (OWN, IsReached(100_000), &[100_000]),
+    (
+        OPEN,
+        Back,
+        "No(Astray { guest: GuestUid(100000), host: HostUid(100000), back: GuestUid(0) })",
+    ),
+    (OWN, Back, "Yes"),
+    (
+        OPEN,
+        Own,
+        "Ok(No(Shared { guest: GuestUid(0), other: GuestUid(100000), host: HostUid(100000) }))",
+    ),
+    (OWN, Own, "Ok(Yes)"),
+    (OPEN, Reaches(0, 65536), "Some(GuestUid(65536))"),
+    (OWN, Reaches(165_536, 4294967295), "None"),
+    (OWN, ApartFrom(NEXT), "Ok(No(GuestUid(65535)))"),
+    (OWN, ApartFrom("forbid-guest:0:4294967295"), "Ok(Yes)"),
+    (OWN, Reached, "Ok([Span { first: 100000, last: 165535 }])"),
     (
         OWN,
-        ReachesAny([(165_535, 165_535), (100_007, 100_009)]),
-        &[7],
+        ReachesAny(&[(165_535, 165_535), (100_007, 100_009)]),
+        "Ok(Some(GuestUid(7)))",
     ),
-    (OWN, ReachesAny([(165_536, 4294967295), (0, 99_999)]), &[]),
-    ("", ReachesAny([(5, 3), (9, 20)]), &[9]),
+    (
+        OWN,
+        ReachesAny(&[(165_536, 4294967295), (0, 99_999)]),
+        "Ok(None)",
+    ),
+    ("", ReachesAny(&[(5, 3), (9, 20)]), "Ok(Some(GuestUid(9)))"),
 ];
 
 #[test]
 fn finds_the_least_id(rt: HostRuntime) -> Result<(), Fail> {
     for &(texts, asked, wanted) in &ROWS {
         let told = told(rt.alloc(), texts, asked)?;
-        assert_eq!(rt; told.as_slice(), wanted, "{asked:?} of {texts:?}");
+        assert_eq!(rt; told.as_str(), wanted, "{asked:?} of {texts:?}");
     }
     Ok(())
 }
@@ -141,26 +155,25 @@ static EXTENTS: [(&str, Ends, Ends, Ends); 15] = [
 
 #[test]
 fn tells_all_ids(rt: HostRuntime) -> Result<(), Fail> {
-    let alloc = rt.alloc();
     for &(texts, hosts, into, astray) in &EXTENTS {
-        let map = users_of(alloc, texts).ok_or("no map")?;
-        let spans = spans_of(alloc, hosts)?;
-        let found = ids_into(alloc, &map, &spans)?;
-        let wanted = spans_of(alloc, into)?;
-        assert_eq!(rt;
-            found.as_slice(),
-            wanted.as_slice(),
-            "into {hosts:?}: {texts:?}"
-        );
-        let found = ids_astray(alloc, &map, &spans)?;
-        let wanted = spans_of(alloc, astray)?;
-        assert_eq!(rt;
-            found.as_slice(),
-            wanted.as_slice(),
-            "besides {hosts:?}: {texts:?}"
-        );
+        let (found, other) = extents_of(rt.alloc(), texts, hosts)?;
+        assert!(rt; are_ends(&found, into), "into {hosts:?}: {texts:?}");
+        assert!(rt; are_ends(&other, astray), "besides {hosts:?}: {texts:?}");
     }
     Ok(())
+}
+
+fn extents_of(alloc: Global, texts: &str, hosts: Ends) -> Result<(Vec<Span>, Vec<Span>), Fail> {
+    let map = users_of(alloc, texts).ok_or("no map")?;
+    let spans = spans_of(alloc, hosts)?;
+    let into = ids_into(alloc, &map, &spans)?;
+    Ok((into, ids_astray(alloc, &map, &spans)?))
+}
+
+/// Whether these are the first and last ids of the spans.
+fn are_ends(spans: &[Span], ends: &[(u32, u32)]) -> bool {
+    let mut pairs = spans.iter().zip(ends);
+    spans.len() == ends.len() && pairs.all(|(span, &end)| (span.first, span.last) == end)
 }
 
 fn spans_of(alloc: Global, ends: &[(u32, u32)]) -> Result<Vec<Span>, Fail> {
@@ -240,60 +253,44 @@ fn mended_texts(alloc: Global, texts: &str, bad: &[(u32, u32)]) -> Result<String
 /// What is asked of a map.
 #[derive(Clone, Copy, Debug)]
 enum Asked {
-    /// Which id does not come back, what it becomes on the host, and what that becomes.
     Back,
-    /// Which id has no id of the host of its own, with which one it shares, and that id.
     Own,
     /// Which id becomes one from the first to the last.
     Reaches(u32, u32),
     /// Which id becomes one that the map of these texts reaches too.
     ApartFrom(&'static str),
-    /// Whether some id becomes this one.
-    IsReached(u32),
-    /// Which id becomes one of two spans.
-    ReachesAny([(u32, u32); 2]),
+    Reached,
+    /// Which id becomes one of the spans.
+    ReachesAny(Ends),
 }
 
-fn told(alloc: Global, texts: &str, asked: Asked) -> Result<Vec<u32>, Fail> {
+fn told(alloc: Global, texts: &str, asked: Asked) -> Result<String, Fail> {
     let map = users_of(alloc, texts).ok_or("no map")?;
-    let found = match asked {
-        Back => return wandering(alloc, comes_back(&map)),
-        Own => return sharing(alloc, is_alone(alloc, &map)?),
-        Reaches(first, last) => reaches(&map, HostUid::from(first), HostUid::from(last)),
-        ApartFrom(others) => {
-            let other = users_of(alloc, others).ok_or("no map")?;
-            match ids_apart(alloc, &map, &other)? {
-                IdAudit::Yes => None,
-                IdAudit::No(guest) => Some(guest),
-            }
+    match asked {
+        Back => printed(alloc, &comes_back(&map)),
+        Own => printed(alloc, &is_alone(alloc, &map)),
+        Reaches(first, last) => {
+            printed(
+                alloc,
+                &reaches(&map, HostUid::from(first), HostUid::from(last)),
+            )
         }
-        IsReached(host) => {
-            let spans = reached(alloc, &map)?;
-            let is_in = spans
-                .iter()
-                .any(|span| span.first <= host && host <= span.last);
-            is_in.then_some(GuestUid::from(host))
-        }
-        ReachesAny(spans) => {
-            let spans = spans.map(|(first, last)| Span { first, last });
-            reaches_any(alloc, &map, &spans)?
-        }
-    };
-    Ok(found.iter().map(|id| id.into_inner()).collect(alloc)?)
+        ApartFrom(others) => apart(alloc, &map, others),
+        Reached => printed(alloc, &reached(alloc, &map)),
+        ReachesAny(ends) => any(alloc, &map, ends),
+    }
 }
 
-fn wandering(alloc: Global, audit: IdAudit<Astray<GuestUid, HostUid>>) -> Result<Vec<u32>, Fail> {
-    let IdAudit::No(Astray { guest, host, back }) = audit else {
-        return Ok(Vec::new(alloc));
-    };
-    let numbers = [guest.into_inner(), host.into_inner(), back.into_inner()];
-    Ok(Vec::from_slice(alloc, &numbers)?)
+fn apart(alloc: Global, map: &Users, others: &str) -> Result<String, Fail> {
+    let other = users_of(alloc, others).ok_or("no map")?;
+    printed(alloc, &ids_apart(alloc, map, &other))
 }
 
-fn sharing(alloc: Global, audit: IdAudit<Shared<GuestUid, HostUid>>) -> Result<Vec<u32>, Fail> {
-    let IdAudit::No(Shared { guest, other, host }) = audit else {
-        return Ok(Vec::new(alloc));
-    };
-    let numbers = [guest.into_inner(), other.into_inner(), host.into_inner()];
-    Ok(Vec::from_slice(alloc, &numbers)?)
+fn any(alloc: Global, map: &Users, ends: Ends) -> Result<String, Fail> {
+    let spans = spans_of(alloc, ends)?;
+    printed(alloc, &reaches_any(alloc, map, &spans))
+}
+
+fn printed<T: Debug>(alloc: Global, answer: &T) -> Result<String, Fail> {
+    Ok(format!(in alloc; "{answer:?}")?)
 }

@@ -78,14 +78,33 @@ where
     G: GuestId<HostType = H>,
     H: HostId<GuestType = G>,
 {
-    let guest: G = made(n);
-    let host: H = made(n);
-    assert!(rt; number_of(guest) == n && number_of(host) == n);
-    assert!(rt; guest.is_root() == (n == 0) && host.is_root() == (n == 0));
-    assert!(rt; counted_again(guest.into_inner()).to_u32() == n);
-    assert!(rt; guest.id_mapped() == host && host.id_mapped() == guest);
-    assert!(rt; made_again(guest) == guest && is_mapped_back(guest));
-    assert!(rt; taken_again::<H>(host.into_inner()) == host.into_inner());
-    assert!(rt; is_same(guest, made(n)) && (host < made(1000)) == (n < 1000));
-    assert_eq!(rt; guest.cmp(&made(1000)), n.cmp(&1000));
+    assert!(rt;
+        keeps::<G>(n) && keeps::<H>(n) && is_paired::<G, H>(n),
+        "{n}"
+    );
+}
+
+/// Whether an id has its number, and is made again and compared by it.
+fn keeps<I: Id>(n: u32) -> bool {
+    let id: I = made(n);
+    let is_kept = number_of(id) == n && made_again(id) == id && is_same(id, made(n));
+    is_kept && id.is_root() == (n == 0) && is_counted::<I>(id) && is_ordered::<I>(id, n)
+}
+
+fn is_counted<I: Id>(id: I) -> bool {
+    let inner = id.into_inner();
+    taken_again::<I>(inner) == inner && counted_again(inner).to_u32() == number_of(id)
+}
+
+fn is_ordered<I: Id>(id: I, n: u32) -> bool {
+    (id < made(1000)) == (n < 1000) && id.cmp(&made(1000)) == n.cmp(&1000)
+}
+
+fn is_paired<G, H>(n: u32) -> bool
+where
+    G: GuestId<HostType = H>,
+    H: HostId<GuestType = G>,
+{
+    let (guest, host): (G, H) = (made(n), made(n));
+    guest.id_mapped() == host && host.id_mapped() == guest && is_mapped_back(guest)
 }

@@ -2,7 +2,7 @@
 
 mod errors;
 
-use crate::common::{specs_of, users_of};
+use crate::common::{map_of, specs_of, users_of};
 use std::alloc::Global;
 use std::process::Abort;
 use std::test::Fail;
@@ -10,7 +10,7 @@ use virtiofs_map::id_types::{GuestGid, GuestId, GuestUid, HostGid, HostId, HostU
 use virtiofs_map::soft_idmap::Direction::{self, GuestToHost, HostToGuest};
 use virtiofs_map::soft_idmap::Outcome::{AllToOne, Forbidden, Kept, OneToOne};
 use virtiofs_map::soft_idmap::image::{Answer, look_up, most_words, write_image};
-use virtiofs_map::soft_idmap::{IdMap, Outcome, Piece};
+use virtiofs_map::soft_idmap::{IdMap, IdMapRef, Outcome};
 use virtiofs_map::{Steps, cmdline};
 use virtiofs_map_callers::pairs::{made, number_of};
 use virtiofs_map_callers::projects::{GuestProject, HostProject};
@@ -28,7 +28,11 @@ const TEN_BACK: &[Becomes] = &[(1005, Some(5))];
 
 const SAME: &[Becomes] = &[(0, Some(0)), (5, Some(5)), (4294967295, Some(4294967295))];
 
-static KNOWN: [Known; 11] = [
+const ORDERED: &[Becomes] = &[(22, Some(7)), (9, Some(1009))];
+
+const ORDERED_BACK: &[Becomes] = &[(1009, Some(9)), (5001, Some(2)), (5002, Some(5002))];
+
+static KNOWN: [Known; 17] = [
     ("map:0:1000:10", TEN, TEN_BACK),
     ("host:1000:0:10|guest:0:1000:10", TEN, TEN_BACK),
     ("guest:0:1000:10|host:1000:0:10", TEN, TEN_BACK),
@@ -59,6 +63,37 @@ static KNOWN: [Known; 11] = [
             (4294967295, Some(4294967295)),
         ],
     ),
+    // One list in all orders.
+    (
+        "squash-guest:20:7:5|map:0:1000:10|host:5000:1:2",
+        ORDERED,
+        ORDERED_BACK,
+    ),
+    (
+        "squash-guest:20:7:5|host:5000:1:2|map:0:1000:10",
+        ORDERED,
+        ORDERED_BACK,
+    ),
+    (
+        "map:0:1000:10|squash-guest:20:7:5|host:5000:1:2",
+        ORDERED,
+        ORDERED_BACK,
+    ),
+    (
+        "map:0:1000:10|host:5000:1:2|squash-guest:20:7:5",
+        ORDERED,
+        ORDERED_BACK,
+    ),
+    (
+        "host:5000:1:2|squash-guest:20:7:5|map:0:1000:10",
+        ORDERED,
+        ORDERED_BACK,
+    ),
+    (
+        "host:5000:1:2|map:0:1000:10|squash-guest:20:7:5",
+        ORDERED,
+        ORDERED_BACK,
+    ),
 ];
 
 #[test]
@@ -71,27 +106,6 @@ fn maps_known_ids(rt: HostRuntime) -> Result<(), Fail> {
     Ok(())
 }
 
-/// One list in all orders.
-const ORDERS: [&str; 6] = [
-    "squash-guest:20:7:5|map:0:1000:10|host:5000:1:2",
-    "squash-guest:20:7:5|host:5000:1:2|map:0:1000:10",
-    "map:0:1000:10|squash-guest:20:7:5|host:5000:1:2",
-    "map:0:1000:10|host:5000:1:2|squash-guest:20:7:5",
-    "host:5000:1:2|squash-guest:20:7:5|map:0:1000:10",
-    "host:5000:1:2|map:0:1000:10|squash-guest:20:7:5",
-];
-
-#[test]
-fn means_the_same_in_every_order(rt: HostRuntime) -> Result<(), Fail> {
-    let guests = [(22, Some(7)), (9, Some(1009))];
-    let hosts = [(1009, Some(9)), (5001, Some(2)), (5002, Some(5002))];
-    for texts in ORDERS {
-        let map = users_of(rt.alloc(), texts).ok_or("no map")?;
-        check_map(&rt, &map, &guests, &hosts);
-    }
-    Ok(())
-}
-
 #[test]
 fn images_answer_as_maps_do(rt: HostRuntime) -> Result<(), Fail> {
     for &(texts, guests, hosts) in &KNOWN {
@@ -100,6 +114,7 @@ fn images_answer_as_maps_do(rt: HostRuntime) -> Result<(), Fail> {
         check_image(&rt, &words, HostToGuest, hosts);
     }
     assert!(rt; look_up(&[], GuestToHost, 5) == Answer::NoImage);
+    assert!(rt; IdMapRef::of(&[]).is_none());
     Ok(())
 }
 
@@ -180,20 +195,15 @@ static PIECES: [(&str, Direction, &[Row]); 2] = [
 fn pieces_are_the_longest(rt: HostRuntime) -> Result<(), Fail> {
     for &(texts, direction, wanted) in &PIECES {
         let map = users_of(rt.alloc(), texts).ok_or("no map")?;
-        assert_eq!(rt; map.pieces(direction).count(), wanted.len());
-        for (piece, &(first, last, becomes)) in map.pieces(direction).zip(wanted) {
-            assert!(rt;
-                piece
-                    == Piece {
-                        first,
-                        last,
-                        becomes
-                    },
-                "{piece:?}"
-            );
-        }
+        assert!(rt; are_pieces(&map, direction, wanted), "of {texts:?}");
     }
     Ok(())
+}
+
+fn are_pieces(map: &IdMap<GuestUid, HostUid>, direction: Direction, wanted: &[Row]) -> bool {
+    let mut pairs = map.pieces(direction).zip(wanted);
+    pairs.all(|(piece, &row)| (piece.first, piece.last, piece.becomes) == row)
+        && map.pieces(direction).count() == wanted.len()
 }
 
 #[test]
@@ -212,29 +222,37 @@ where
     Host: HostId<GuestType = Guest>,
 {
     let (texts, guests, hosts) = *known;
-    let specs = specs_of(alloc, texts).ok_or("a text is no specification")?;
-    let map: IdMap<Guest, Host> = IdMap::try_from(alloc, specs)?;
-    check_map(rt, &map, guests, hosts);
+    let map: IdMap<Guest, Host> = map_of(alloc, texts).ok_or("no map")?;
+    check_guests(rt, &map, guests);
+    check_hosts(rt, &map, hosts);
     Ok(())
 }
 
-fn check_map<Guest, Host>(
-    rt: &impl Abort,
-    map: &IdMap<Guest, Host>,
-    guests: &[Becomes],
-    hosts: &[Becomes],
-)
+fn check_guests<Guest, Host>(rt: &impl Abort, map: &IdMap<Guest, Host>, guests: &[Becomes])
 where
     Guest: GuestId<HostType = Host>,
     Host: HostId<GuestType = Guest>,
 {
     for &(n, wanted) in guests {
-        let host = map.map_guest(made(n)).ok();
-        assert!(rt; host.map(|id| number_of(id)) == wanted, "guest {n}");
+        let host = match map.map_guest(made(n)) {
+            Ok(id) => Some(number_of(id)),
+            Err(_) => None,
+        };
+        assert!(rt; host == wanted, "guest {n}");
     }
+}
+
+fn check_hosts<Guest, Host>(rt: &impl Abort, map: &IdMap<Guest, Host>, hosts: &[Becomes])
+where
+    Guest: GuestId<HostType = Host>,
+    Host: HostId<GuestType = Guest>,
+{
     for &(n, wanted) in hosts {
-        let guest = map.map_host(made(n)).ok();
-        assert!(rt; guest.map(|id| number_of(id)) == wanted, "host {n}");
+        let guest = match map.map_host(made(n)) {
+            Ok(id) => Some(number_of(id)),
+            Err(_) => None,
+        };
+        assert!(rt; guest == wanted, "host {n}");
     }
 }
 
@@ -264,17 +282,25 @@ fn check_counted(
     hosts: &[Counted],
 ) {
     for &(n, wanted, least, most) in guests {
-        let mut steps = Steps::new();
-        let host = map.map_guest_counted(GuestUid::from(n), &mut steps).ok();
+        let (host, taken) = guest_counted(map, n);
         assert!(rt; host == Some(HostUid::from(wanted)), "guest {n}");
-        let taken = steps.count();
         assert!(rt; least <= taken && taken <= most, "guest {n}");
     }
     for &(n, wanted, least, most) in hosts {
-        let mut steps = Steps::new();
-        let guest = map.map_host_counted(HostUid::from(n), &mut steps).ok();
+        let (guest, taken) = host_counted(map, n);
         assert!(rt; guest == Some(GuestUid::from(wanted)), "host {n}");
-        let taken = steps.count();
         assert!(rt; least <= taken && taken <= most, "host {n}");
     }
+}
+
+fn guest_counted(map: &IdMap<GuestUid, HostUid>, number: u32) -> (Option<HostUid>, u64) {
+    let mut steps = Steps::new();
+    let host = map.map_guest_counted(GuestUid::from(number), &mut steps);
+    (host.ok(), steps.count())
+}
+
+fn host_counted(map: &IdMap<GuestUid, HostUid>, number: u32) -> (Option<GuestUid>, u64) {
+    let mut steps = Steps::new();
+    let guest = map.map_host_counted(HostUid::from(number), &mut steps);
+    (guest.ok(), steps.count())
 }

@@ -3,17 +3,16 @@
 //! `refused`.
 
 use crate::common::users_of;
-use crate::refused::Heap;
 use rationed::Rationed;
-use std::process::Abort;
+use std::alloc::{Allocator, Global};
+use std::test::Fail;
 use virtiofs_map::Steps;
 use virtiofs_map::id_audit::{Astray, IdAudit, comes_back, reaches};
 use virtiofs_map::id_types::{GuestUid, HostUid};
 use virtiofs_map::soft_idmap::{Direction, IdMap};
 use virtiofs_map::xattrmap::{Side, XattrMap, XattrName};
 
-/// A map of users with the memory of these tests.
-type Users<'h> = IdMap<GuestUid, HostUid, Heap<'h>>;
+type Users<A> = IdMap<GuestUid, HostUid, A>;
 
 /// A number, what it is on the host as a guest's and in the guest as a host's; `None` where its use
 /// fails.
@@ -32,79 +31,109 @@ static MAPPED: [Numbers; 4] = [
 const RULES: &str = ":map:trusted.:user.virtiofs.:";
 
 /// A name, and the first of `RULES` that decides it on either side.
-static DECIDED: [(&[u8], Option<usize>, Option<usize>); 3] = [
+type Decided = (&'static [u8], Option<usize>, Option<usize>);
+
+static DECIDED: [Decided; 3] = [
     (b"trusted.a", Some(0), Some(1)),
     (b"user.virtiofs.a", Some(1), Some(0)),
     (b"", Some(2), Some(2)),
 ];
 
 #[test]
-fn ids_are_looked_up(rt: HostRuntime) {
+fn ids_are_looked_up(rt: HostRuntime) -> Result<(), Fail> {
     let heap = Rationed::new(rt.alloc(), u64::MAX);
-    let Some(map) = users_of(&heap, SPECIFICATIONS) else {
-        panic!(rt; "the texts are refused");
-    };
+    assert!(rt; are_looked_up(&heap)?);
+    assert!(rt; heap.refused() == 0);
+    Ok(())
+}
+
+fn are_looked_up(heap: &Rationed<Global>) -> Result<bool, Fail> {
+    let map = users_of(heap, SPECIFICATIONS).ok_or("no map")?;
     heap.stop();
-    let before = heap.asked();
-    assert_ids(&rt, &map, &MAPPED);
-    assert_audited(&rt, &map);
-    assert!(rt; heap.asked() == before);
+    Ok(are_mapped(&map, &MAPPED) && is_audited(&map))
 }
 
 #[test]
 fn the_empty_map_is_made_and_asked(rt: HostRuntime) {
     let heap = Rationed::new(rt.alloc(), 0);
-    let map = Users::empty(&heap);
-    assert_ids(&rt, &map, &[(1000, Some(1000), Some(1000))]);
+    assert!(rt; are_mapped(&Users::empty(&heap), &[(1000, Some(1000), Some(1000))]));
     assert!(rt; heap.asked() == 0);
 }
 
 #[test]
-fn names_are_looked_up(rt: HostRuntime) {
+fn names_are_looked_up(rt: HostRuntime) -> Result<(), Fail> {
     let heap = Rationed::new(rt.alloc(), u64::MAX);
-    let Ok(map) = XattrMap::try_from(&heap, RULES) else {
-        panic!(rt; "the rules are refused");
-    };
+    let listed = listed(rt.alloc(), &heap)?;
+    assert_eq!(rt; listed.as_str(), "Some(Ok([97])) Some(Ok([99])) None");
+    assert!(rt; heap.refused() == 0);
+    Ok(())
+}
+
+fn listed(alloc: Global, heap: &Rationed<Global>) -> Result<String, Fail> {
+    let map = XattrMap::try_from(heap, RULES).ok().ok_or("no map")?;
     heap.stop();
-    let before = heap.asked();
-    for &(name, client, server) in &DECIDED {
-        let Some(name) = XattrName::new(name) else {
-            panic!(rt; "the name holds a zero");
-        };
-        let mut steps = Steps::new();
-        assert!(rt; map.first_rule(Side::Client, name, &mut steps) == client);
-        assert!(rt; map.first_rule(Side::Server, name, &mut steps) == server);
-    }
-    assert!(rt; map.is_terminated() && map.rule_count() == 3 && map.most_added() == 14);
-    assert!(rt; map.decides(0) && map.decides(2) && !map.decides(3));
+    are_decided(&map)
+        .then_some(())
+        .ok_or("a rule is not the first")?;
+    names_of(alloc, &map)
+}
+
+/// The names that a list of the host has for the guest.
+fn names_of<A: Allocator>(alloc: Global, map: &XattrMap<A>) -> Result<String, Fail> {
     let mut names = map.listed_names(b"trusted.b\0user.virtiofs.a\0c");
-    assert!(rt; names.next() == Some(Ok(b"a".as_slice())));
-    assert!(rt; names.next() == Some(Ok(b"c".as_slice())));
-    assert!(rt; names.next().is_none());
-    assert!(rt; heap.asked() == before);
+    let (first, second) = (names.next(), names.next());
+    Ok(format!(in alloc; "{first:?} {second:?} {:?}", names.next())?)
+}
+
+fn are_decided<A: Allocator>(map: &XattrMap<A>) -> bool {
+    let is_whole = map.is_terminated() && map.rule_count() == 3 && map.most_added() == 14;
+    let is_decided = map.decides(0) && map.decides(2) && !map.decides(3);
+    is_whole && is_decided && DECIDED.iter().all(|row| is_first(map, row))
+}
+
+fn is_first<A: Allocator>(map: &XattrMap<A>, row: &Decided) -> bool {
+    let (name, client, server) = *row;
+    let Some(name) = XattrName::new(name) else {
+        return false;
+    };
+    let mut steps = Steps::new();
+    let first = map.first_rule(Side::Client, name, &mut steps);
+    first == client && map.first_rule(Side::Server, name, &mut steps) == server
 }
 
 /// Looks up numbers on both sides, with steps and without.
-fn assert_ids(rt: &impl Abort, map: &Users<'_>, wanted: &[Numbers]) {
+fn are_mapped<A: Allocator>(map: &Users<A>, rows: &[Numbers]) -> bool {
+    rows.iter().all(|row| is_mapped(map, row))
+}
+
+fn is_mapped<A: Allocator>(map: &Users<A>, row: &Numbers) -> bool {
+    let (number, host, guest) = *row;
+    let wanted = (host.map(HostUid::from), guest.map(GuestUid::from));
+    looked_up(map, number) == wanted && counted(map, number) == wanted
+}
+
+fn looked_up<A: Allocator>(map: &Users<A>, number: u32) -> (Option<HostUid>, Option<GuestUid>) {
+    let host = map.map_guest(GuestUid::from(number)).ok();
+    (host, map.map_host(HostUid::from(number)).ok())
+}
+
+fn counted<A: Allocator>(map: &Users<A>, number: u32) -> (Option<HostUid>, Option<GuestUid>) {
     let mut steps = Steps::new();
-    for &(number, host, guest) in wanted {
-        let (id, host) = (GuestUid::from(number), host.map(HostUid::from));
-        assert!(rt; map.map_guest(id).ok() == host, "guest {number}");
-        assert!(rt; map.map_guest_counted(id, &mut steps).ok() == host);
-        let (id, guest) = (HostUid::from(number), guest.map(GuestUid::from));
-        assert!(rt; map.map_host(id).ok() == guest, "host {number}");
-        assert!(rt; map.map_host_counted(id, &mut steps).ok() == guest);
-    }
-    assert!(rt; steps.count() < 100);
+    let host = map
+        .map_guest_counted(GuestUid::from(number), &mut steps)
+        .ok();
+    (
+        host,
+        map.map_host_counted(HostUid::from(number), &mut steps).ok(),
+    )
 }
 
 /// Asks a map for its pieces and about all its ids.
-fn assert_audited(rt: &impl Abort, map: &Users<'_>) {
-    let first = map.pieces(Direction::GuestToHost).next();
-    assert!(rt; first.is_some_and(|piece| piece.last == 9));
+fn is_audited<A: Allocator>(map: &Users<A>) -> bool {
     let (guest, host) = (GuestUid::from(1000), HostUid::from(1000));
     let back = GuestUid::from(0);
-    assert!(rt; comes_back(map) == IdAudit::No(Astray { guest, host, back }));
-    let reached = reaches(map, HostUid::from(21), HostUid::from(30));
-    assert!(rt; reached == Some(GuestUid::from(22)));
+    let first = map.pieces(Direction::GuestToHost).next();
+    first.is_some_and(|piece| piece.last == 9)
+        && comes_back(map) == IdAudit::No(Astray { guest, host, back })
+        && reaches(map, HostUid::from(21), HostUid::from(30)) == Some(GuestUid::from(22))
 }

@@ -18,7 +18,7 @@ use Rattle.virtiofs_map.specs.declared.soft_idmap.entry.Direction.TheVariants.{G
 use Rattle.virtiofs_map.specs.declared.soft_idmap.piece.Outcome.TheVariants.{Kept, OneToOne, AllToOne, Forbidden}
 use Rattle.virtiofs_map.specs.declared.soft_idmap.piece.Outcome.{Outcome}
 use Rattle.virtiofs_map.specs.declared.soft_idmap.piece.Piece.{Piece}
-use Rattle.virtiofs_mapaudit.specs.FindingJson.{ids_word, finding_data, named_data, fault_data, span_data, ids_data, acting_data}
+use Rattle.virtiofs_mapaudit.specs.FindingJson.{count_if, ids_word, finding_data, named_data, fault_data, span_data, ids_data, acting_data}
 use Rattle.virtiofs_mapaudit.specs.FindingKinds.{kind_of, name_of}
 use Rattle.virtiofs_mapaudit.specs.IdJson.{piece_data, outcome_data, namespace_data, id_table, IsIdTable}
 use Rattle.virtiofs_mapaudit.specs.NameJson.{name_data, answer_data, least_data, becomes_data, stands_data}
@@ -225,10 +225,14 @@ table_none true IsTable none (Some set) table is = none set table is
 table_none true IsTable none None table is = rw is refl
 table_none false IsTable none set table is = rw is refl
 
+process_none : (process : Option ℕ) → HasNone (count_if process)
+process_none None = refl
+process_none (Some pid) = refl
+
 guest_none : {A : Type 0} (asked : Asked) (number : ℕ) (set : SetUp A) (guest : Data) → IsGuest asked number set guest
     → HasNone guest
 guest_none asked number set guest is =
-    rw (is.whole, table_none asked.ids IsIdTable (λ ids table of. rw of.whole (id_table_none of.from_guest of.from_host ids.ranges.items)) set.users is.of_users is.users, table_none asked.ids IsIdTable (λ ids table of. rw of.whole (id_table_none of.from_guest of.from_host ids.ranges.items)) set.groups is.of_groups is.groups, table_none asked.names IsNamesOf (λ names table of. rw of.2 (name_table_none names.map of.0)) set.names is.of_names is.names) refl
+    rw (is.whole, table_none asked.ids IsIdTable (λ ids table of. rw of.whole (id_table_none of.from_guest of.from_host ids.ranges.items)) set.users is.of_users is.users, table_none asked.ids IsIdTable (λ ids table of. rw of.whole (id_table_none of.from_guest of.from_host ids.ranges.items)) set.groups is.of_groups is.groups, table_none asked.names IsNamesOf (λ names table of. rw of.2 (name_table_none names.map of.0)) set.names is.of_names is.names, process_none set.process) refl
 
 guests_none : {A : Type 0} (asked : Asked) (number : ℕ) (sets : List (SetUp A)) (guests : List Data)
     → AreGuests asked number sets guests → HaveNone guests

@@ -16,10 +16,9 @@ use Rattle.virtiofs_map.specs.declared.soft_idmap.entry.Direction.TheVariants.{G
 use Rattle.virtiofs_map.specs.declared.soft_idmap.piece.Piece.{Piece}
 use Rattle.virtiofs_options.specs.declared.guest.Guest.{Guest}
 use Rattle.virtiofs_mapaudit.specs.Lists.{joined}
-use Rattle.virtiofs_mapaudit.specs.AlikeGuests.{numbers_text}
 use Rattle.virtiofs_mapaudit.specs.declared.alike.Alike.{Alike}
 use Rattle.virtiofs_mapaudit.specs.SummaryText.{is_moved, is_kept, clause, moved_text, kept_word, kept_place, kept_text}
-use Rattle.virtiofs_mapaudit.specs.SummaryText.{namespace_text, ids_text, SumsUpIds, SumsUpSet, SumsUp, names_text, lists_text}
+use Rattle.virtiofs_mapaudit.specs.SummaryText.{namespace_text, ids_text, SumsUpIds, SumsUpSet, SumsUp, heading, names_text, lists_text}
 use Rattle.virtiofs_mapaudit.specs.declared.setup.SetUp.{SetUp}
 use Rattle.virtiofs_mapaudit.proofs.SamePiecesLemmas.{ArePieces-one}
 
@@ -181,7 +180,7 @@ summed_up (Err e) specs ranges moved is_any_kept old first second new counts wri
 
 pub summary_written : {A V E : Type 0} (r : Result V E) (alike : Alike) (guest : Guest A) (set : SetUp A)
     (old numbered begun of_users between_kinds of_groups before_names of_names lists new : List ℕ)
-    → numbered ≡ old ++ numbers_text alike → begun ≡ numbered ++ codes "\n  users: "
+    → numbered ≡ old ++ heading alike set.process → begun ≡ numbered ++ codes "\n  users: "
     → ((shown : List ℕ) × SumsUpSet set.users shown × (of_users ≡ begun ++ shown))
     → between_kinds ≡ of_users ++ codes "\n  groups: "
     → ((shown : List ℕ) × SumsUpSet set.groups shown × (of_groups ≡ between_kinds ++ shown))
@@ -191,11 +190,11 @@ pub summary_written : {A V E : Type 0} (r : Result V E) (alike : Alike) (guest :
     → OnOk r ((summary : List ℕ) × SumsUp alike guest set summary × (new ≡ old ++ summary))
 summary_written (Ok done) alike guest set old numbered begun of_users between_kinds of_groups before_names of_names
     lists new first begins (users, sum_users, second) third (groups, sum_groups, fourth) fifth sixth is last = (
-      joined (numbers_text alike ∷ codes "\n  users: " ∷ users ∷ codes "\n  groups: " ∷ groups
+      joined (heading alike set.process ∷ codes "\n  users: " ∷ users ∷ codes "\n  groups: " ∷ groups
           ∷ codes "\n  names: " ∷ names_text guest.xattrmap set.names ∷ lists_text guest.posix_acl ∷ []),
       record { of_users = users; of_groups = groups; users = sum_users; groups = sum_groups; whole = refl },
       last ∙ ap (λ x. of_names ++ x) is ∙ ap (λ x. x ++ lists_text guest.posix_acl) sixth
-          ∙ gathered old (numbers_text alike) (codes "\n  users: ") users (codes "\n  groups: ") groups
+          ∙ gathered old (heading alike set.process) (codes "\n  users: ") users (codes "\n  groups: ") groups
           (codes "\n  names: ") (names_text guest.xattrmap set.names) (lists_text guest.posix_acl) numbered begun of_users
           between_kinds of_groups before_names first begins second third fourth fifth,
     ) where

@@ -2,6 +2,7 @@
 use Rattle.std.specs.Prelude.{◌≡◌, ◌≢◌, ◌⊎◌, ◌↔◌, ℕ, Bool, ◌||◌, List, [], Contains, length, nat_lt, IsTrue, Option, Some, None, option_map}
 use Rattle.std.specs.Borrow.{Bor}
 use Rattle.std.specs.List.{AllZip}
+use Rattle.std.specs.Option.{option_and_then}
 use Rattle.std.specs.Str.{chars}
 use Rattle.virtiofs_map.specs.Build.{Accepted}
 use Rattle.virtiofs_map.specs.NamespaceText.{SaysNamespace, NamespaceFault, HasNamespaceFault}
@@ -56,6 +57,10 @@ users_of guest = option_map (λ runner. runner.now.users) guest.runner
 abbrev pub groups_of : {A : Type 0} → Guest A → Option (Bounds A)
 groups_of guest = option_map (λ runner. runner.now.groups) guest.runner
 
+-- the process of the daemon of a guest, if it runs already
+abbrev pub process_of : {A : Type 0} → Guest A → Option ℕ
+process_of guest = option_and_then (λ runner. runner.now.process) guest.runner
+
 -- the daemon sets up a namespace: it has ranges of users or of groups, or it is not root who starts it
 abbrev pub sets_up_namespace : {A : Type 0} → Guest A → Bool
 sets_up_namespace guest =
@@ -90,6 +95,7 @@ pub record SetsUp {A : Type 0} (guest : Guest A) (set : SetUp A) : Type 0 where
       (texts_of guest.gid_map.items) set.groups
   pub names : ReadsNames guest.xattrmap set.names
   pub acl : set.posix_acl ≡ guest.posix_acl
+  pub process : set.process ≡ process_of guest
   pub lists : IsTrue set.translates_lists ↔ (IsTrue guest.posix_acl × Translates guest)
 
 -- some text of the guest is refused

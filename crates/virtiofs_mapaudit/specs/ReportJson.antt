@@ -4,7 +4,7 @@ use Rattle.std.specs.Borrow.{Bor}
 use Rattle.serde_json.specs.Data.{Data, null, string, array, object, member, no_members}
 use Rattle.serde_json.specs.View.{items_of}
 use Rattle.serde_json.specs.Written.{compact_text}
-use Rattle.virtiofs_mapaudit.specs.FindingJson.{finding_data}
+use Rattle.virtiofs_mapaudit.specs.FindingJson.{count_if, finding_data}
 use Rattle.virtiofs_mapaudit.specs.IdJson.{count, IsIdTable}
 use Rattle.virtiofs_mapaudit.specs.NameJson.{IsNameTable}
 use Rattle.virtiofs_mapaudit.specs.RefusalText.{refusal_text}
@@ -27,13 +27,14 @@ IsTableIf false IsTable set table = table ≡ null
 abbrev pub IsNamesOf : {A : Type 0} → NamesSetUp A → Data → Type 0
 IsNamesOf set = IsNameTable set.map
 
--- the guest of that number, and its tables
-abbrev pub guest_data : ℕ → Data → Data → Data → Data
-guest_data number users groups names =
+-- the guest of that number, its process, and its tables
+abbrev pub guest_data : ℕ → Option ℕ → Data → Data → Data → Data
+guest_data number process users groups names =
     object (member (codes "groups") groups
     (member (codes "guest") (count number)
     (member (codes "names") names
-    (member (codes "users") users no_members))))
+    (member (codes "process") (count_if process)
+    (member (codes "users") users no_members)))))
 
 -- the guest of that number, with the tables that were asked for
 pub record IsGuest {A : Type 0} (asked : Asked) (number : ℕ) (set : SetUp A) (guest : Data) : Type 0 where
@@ -43,7 +44,7 @@ pub record IsGuest {A : Type 0} (asked : Asked) (number : ℕ) (set : SetUp A) (
   pub users : IsTableIf asked.ids IsIdTable set.users of_users
   pub groups : IsTableIf asked.ids IsIdTable set.groups of_groups
   pub names : IsTableIf asked.names IsNamesOf set.names of_names
-  pub whole : guest ≡ guest_data number of_users of_groups of_names
+  pub whole : guest ≡ guest_data number set.process of_users of_groups of_names
 
 -- each guest, from that number on
 abbrev pub AreGuests : {A : Type 0} → Asked → ℕ → List (SetUp A) → List Data → Type 0

@@ -144,12 +144,21 @@ abbrev pub lists_text : Bool → List ℕ
 lists_text true = codes "\n  ACLs: on\n"
 lists_text false = codes "\n"
 
+-- the process of the daemon, if it runs already
+abbrev pub process_text : Option ℕ → List ℕ
+process_text (Some pid) = codes ", process " ++ decimal pid
+process_text None = []
+
+-- the numbers of guests, and the process
+abbrev pub heading : Alike → Option ℕ → List ℕ
+heading alike process = numbers_text alike ++ process_text process
+
 -- these guests, and what is set up for the users, groups and names of each
 pub record SumsUp {A : Type 0} (alike : Alike) (guest : Guest A) (set : SetUp A) (text : List ℕ) : Type 0 where
   pub of_users : List ℕ
   pub of_groups : List ℕ
   pub users : SumsUpSet set.users of_users
   pub groups : SumsUpSet set.groups of_groups
-  pub whole : text ≡ joined (numbers_text alike ∷ codes "\n  users: " ∷ of_users
+  pub whole : text ≡ joined (heading alike set.process ∷ codes "\n  users: " ∷ of_users
       ∷ codes "\n  groups: " ∷ of_groups ∷ codes "\n  names: " ∷ names_text guest.xattrmap set.names
       ∷ lists_text guest.posix_acl ∷ [])

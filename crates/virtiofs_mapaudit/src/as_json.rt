@@ -62,7 +62,10 @@ fn guest_value(alloc: Global, asked: Asked, number: usize, set: &SetUp<Global>) 
     let users = shown_ids(alloc, asked.ids, &set.users)?;
     let groups = shown_ids(alloc, asked.ids, &set.groups)?;
     let names = shown_names(alloc, asked.names, &set.names)?;
-    json!(in alloc; {"guest": number, "users": users, "groups": groups, "names": names})
+    let process = set.process;
+    json!(in alloc; {
+        "guest": number, "process": process, "users": users, "groups": groups, "names": names
+    })
 }
 
 /// What was asked to be shown of each guest.

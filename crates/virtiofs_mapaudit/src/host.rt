@@ -117,6 +117,7 @@ fn runner_of(rt: &HostRuntime, pid: u32, place: usize) -> Result<Runner<Global>,
     Ok(Runner {
         users: bounds_shown(uid, users),
         groups: bounds_shown(gid, groups),
+        process: Some(pid),
         place,
     })
 }
@@ -180,6 +181,7 @@ fn starter(
     Ok(Runner {
         users: bounds_given(uid, uid == 0, uids),
         groups: bounds_given(gid, uid == 0, gids),
+        process: None,
         place,
     })
 }

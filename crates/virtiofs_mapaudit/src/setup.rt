@@ -6,7 +6,7 @@ ghost use Rattle.virtiofs_map.specs.Build.{BuildFault, build_fault_of};
 ghost use Rattle.virtiofs_map.specs.RulesFault.{RulesFault, HasRulesFault, rules_fault_of};
 ghost use Rattle.virtiofs_map.specs.SpecificationText.{SpecificationFault, specification_fault_of};
 ghost use Rattle.std.specs.Option.{option_map};
-ghost use Rattle.virtiofs_mapaudit.specs.Guests.{ReadsSpecs, ReadsRanges, ReadsIds, RunsIn, users_of, groups_of, sets_up_namespace, ReadsText, ReadsNames, SetsUp, Translates};
+ghost use Rattle.virtiofs_mapaudit.specs.Guests.{ReadsSpecs, ReadsRanges, ReadsIds, RunsIn, users_of, groups_of, process_of, sets_up_namespace, ReadsText, ReadsNames, SetsUp, Translates};
 ghost use Rattle.virtiofs_map.specs.Printed.{build_error_text, rules_error_text};
 ghost use Rattle.virtiofs_mapaudit.specs.Lists.{Adds};
 ghost use Rattle.virtiofs_mapaudit.specs.Refusals.{IsAt, TellsPlace, TellsBuildFault, TellsSpecsFault, TellsSpecs, TellsRanges, TellsIds, TellsNames, TellsGuest};
@@ -65,6 +65,8 @@ pub(crate) struct SetUp<A: Allocator> {
     pub(crate) posix_acl: bool,
     /// Whether they are while ids are translated.
     pub(crate) translates_lists: bool,
+    /// The process of the daemon, if it runs already.
+    pub(crate) process: Option<u32>,
 }
 
 /// Tells that a text of an option of a guest is refused, and why. Its place among the texts of the
@@ -401,6 +403,16 @@ fn groups_of<'g, A: Allocator>(guest: &'g Guest<'g, A>) -> Option<&'g Bounds<A>>
     }
 }
 
+/// The process of the daemon of a guest, if it runs already.
+fn process_of<A: Allocator>(guest: &Guest<'_, A>) -> Option<u32>
+    ensures { result ≡ process_of guest.now }
+{
+    match guest.runner {
+        Some(runner) => runner.process,
+        None => None,
+    }
+}
+
 /// Whether the daemon of a guest sets up a namespace: it has ranges, or it is not root who starts it.
 fn sets_up_namespace<A: Allocator>(guest: &Guest<'_, A>) -> bool
     ensures { result ≡ sets_up_namespace guest.now }
@@ -447,5 +459,6 @@ pub(crate) fn set_up<A: Allocator + Copy>(
         names,
         posix_acl: guest.posix_acl,
         translates_lists: translates_lists(guest),
+        process: process_of(guest),
     })
 }

@@ -1,6 +1,6 @@
 //! What the options of a guest set up, in a few lines.
 ghost use Rattle.std.specs.Prelude.{◌≡◌, List, ℕ, ◌++◌, OnOk, string_bytes};
-ghost use Rattle.virtiofs_mapaudit.specs.SummaryText.{SumsUpSet, SumsUp, rules_text, names_text, lists_text};
+ghost use Rattle.virtiofs_mapaudit.specs.SummaryText.{SumsUpSet, SumsUp, process_text, heading, rules_text, names_text, lists_text};
 
 use crate::alike::{Alike, push_numbers};
 use crate::setup::{IdSetUp, NamesSetUp, SetUp};
@@ -11,8 +11,6 @@ use virtiofs_options::guest::Guest;
 mod ids;
 mod namespace;
 mod spans;
-#[cfg(test)]
-mod tests;
 
 /// Writes what ids of one kind become at the end of a text.
 fn push_set<A: Allocator>(text: &mut String<A>, set: &Option<IdSetUp<A>>) -> Result<(), AllocError>
@@ -59,7 +57,31 @@ fn lists_text(posix_acl: bool) -> &'static str
     if posix_acl { "\n  ACLs: on\n" } else { "\n" }
 }
 
-/// Writes what the options of guests set up that have the same at the end of a text: their numbers,
+/// Writes the process of a daemon, if it runs already, at the end of a text.
+fn push_process<A: Allocator>(text: &mut String<A>, process: Option<u32>) -> Result<(), AllocError>
+    ensures { OnOk result
+        (string_bytes text.new ≡ string_bytes text.old ++ process_text process) }
+{
+    match process {
+        Some(pid) => write!(text, ", process {pid}"),
+        None => Ok(()),
+    }
+}
+
+/// Writes the numbers of guests, and the process of the daemon, at the end of a text.
+fn push_heading<A: Allocator>(
+    text: &mut String<A>,
+    alike: Alike,
+    process: Option<u32>,
+) -> Result<(), AllocError>
+    ensures { OnOk result
+        (string_bytes text.new ≡ string_bytes text.old ++ heading alike process) }
+{
+    push_numbers(text, alike)?;
+    push_process(text, process)
+}
+
+/// Writes what the options of guests set up that have the same at the end of a text: their heading,
 /// a line each for users, groups and names, and one more if access control lists are on.
 pub(crate) fn push_summary<A: Allocator>(
     text: &mut String<A>,
@@ -70,7 +92,7 @@ pub(crate) fn push_summary<A: Allocator>(
     ensures { OnOk result ((summary : List ℕ) × SumsUp alike guest.now set.now summary
         × (string_bytes text.new ≡ string_bytes text.old ++ summary)) }
 {
-    push_numbers(text, alike)?;
+    push_heading(text, alike, set.process)?;
     text.push_str("\n  users: ")?;
     push_set(text, &set.users)?;
     text.push_str("\n  groups: ")?;

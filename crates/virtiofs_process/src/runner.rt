@@ -27,6 +27,8 @@ pub struct Runner<A: Allocator> {
     pub users: Bounds<A>,
     /// Of groups.
     pub groups: Bounds<A>,
+    /// The process, if it runs already.
+    pub process: Option<u32>,
     /// The place of this runner among those that the words name: two guests have the same one where
     /// this is the same.
     pub place: usize,

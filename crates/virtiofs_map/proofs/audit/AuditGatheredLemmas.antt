@@ -1,7 +1,7 @@
 -- Each name that an audit has to try is made of what was gathered from the rules.
 use Rattle.std.proofs.Common.{◌≡◌, ◌⊎◌, ℕ, zero, suc, ◌+◌, Bool, true, false, cond, List, [], ◌∷◌, ◌++◌, drop}
 use Rattle.std.proofs.Common.{Contains, Option, Some, None, inl, inr, refl, sym, ap, ◌∙◌, append_assoc, append-nil}
-use Rattle.std.proofs.Common.{arith}
+use Rattle.std.proofs.Common.{All, arith, subst}
 use Rattle.std.specs.List.{cons_option, filter_map, flat_map, slice_get}
 use Rattle.std.specs.List.Sorted.{IsPermutation}
 use Rattle.std.specs.Option.{option_map_or, option_and_then}
@@ -37,6 +37,12 @@ gathered_more f rules i rule names end found here h e =
     push_option names rest found ∙ ap (λ o. names ++ cons_option o rest) e
     ∙ ap (λ r. names ++ cons_option (f r) rest) is
     ∙ sym (at_drop_more (λ ys. names ++ filter_map f ys) rules i rule l) ∙ h
+
+-- what holds of each rule holds of the one at a place
+pub rule_has : (P : MappingRule → Type 0) (rules : List MappingRule) (i : ℕ) (rule : MappingRule) → All P rules
+    → Some rule ≡ slice_get rules i → P rule
+rule_has P rules i rule all here =
+    subst P (get_or_from_slice_get rules i rule rule (sym here)) (all i rule (slice_get_within rules i rule (sym here)))
 
 pub gathered_some : (f : MappingRule → Option (List ℕ)) (rules : List MappingRule) (i : ℕ) (rule : MappingRule)
     (names new end : List (List ℕ)) (found : Option (List ℕ)) (name : List ℕ) → Some rule ≡ slice_get rules i

@@ -10,7 +10,7 @@ use Rattle.virtiofs_map.specs.Image.{IsImage, image_length, IsWritten}
 use Rattle.virtiofs_map.specs.LookupSteps.{covers_some, acting}
 use Rattle.virtiofs_map.specs.Mapping.{entry_of}
 use Rattle.virtiofs_map.specs.RangeParts.{PlacesInOrder, ArePlaced}
-use Rattle.virtiofs_map.specs.WordParts.{AreFirstsBelow, AreRowsBelow, KeepsBefore, IsAt, HasRanges}
+use Rattle.virtiofs_map.specs.WordParts.{AreFirstsBelow, AreRowsBelow, KeepsBefore, IsAt, HasRanges, table_in}
 use Rattle.virtiofs_map.specs.declared.cmdline.IdMap.{IdMap}
 use Rattle.virtiofs_map.specs.declared.soft_idmap.entry.Direction.{Direction}
 use Rattle.virtiofs_map.specs.declared.soft_idmap.entry.Direction.TheVariants.{GuestToHost, HostToGuest}
@@ -82,16 +82,15 @@ IsImage-written specs guests hosts words accepted from_guest from_host kind many
     host_firsts guest_rows host_rows = record {
       kind = kind;
       room = omega arith;
-      held = record {
-        accepted = accepted;
-        room = λ some. omega arith;
-        guests =
-            has_ranges specs GuestToHost guests words 3 _ _ accepted from_guest (sym many_guests) guest_firsts
-            (rw (many_guests, many_hosts) guest_rows);
-        hosts = has_ranges specs HostToGuest hosts words _ _ _ accepted from_host (sym many_hosts)
-            (rw many_guests host_firsts) (rw (many_guests, many_hosts) host_rows);
-      };
-    }
+      accepted = accepted;
+      ranges = ranges;
+    } where
+      ranges : (direction : Direction) → HasRanges specs direction (table_in words direction)
+      ranges GuestToHost =
+          has_ranges specs GuestToHost guests words 3 _ _ accepted from_guest (sym many_guests) guest_firsts
+          (rw (many_guests, many_hosts) guest_rows)
+      ranges HostToGuest = has_ranges specs HostToGuest hosts words _ _ _ accepted from_host (sym many_hosts)
+          (rw many_guests host_firsts) (rw (many_guests, many_hosts) host_rows)
 
 -- what is placed is less than a word can count
 pub placed-count : (specs : List IdMap) (direction : Direction) (placed : List Placed) → Accepted specs

@@ -8,8 +8,9 @@ use Rattle.std.proofs.lemmas.List.{take-append-le, drop-append-le, map-append, l
 use Rattle.std.proofs.lemmas.List.Elements.{All-head, All-tail, All-push}
 use Rattle.std.proofs.lemmas.Option.{slice_get-map, slice_get_within, get_or_from_slice_get}
 use Rattle.virtiofs_map.specs.BranchParts.{AreSpans, IsSpan}
+use Rattle.virtiofs_map.specs.NamesImage.{pattern_bytes}
 use Rattle.virtiofs_map.specs.Rule.{MappingRule, same_rule, same_rules}
-use Rattle.virtiofs_map.specs.RuleParts.{rule_with, rule_meant, rule_kept, IsAmong}
+use Rattle.virtiofs_map.specs.RuleParts.{rule_with, rule_meant, rule_kept, AreKept, IsAmong}
 use Rattle.virtiofs_map.specs.declared.xattrmap.rules.RuleEntry.{RuleEntry}
 use Rattle.virtiofs_map.specs.declared.xattrmap.rules.RuleKind.{RuleKind}
 use Rattle.virtiofs_map.specs.declared.xattrmap.rules.RuleRef.{RuleRef}
@@ -62,20 +63,25 @@ list_more bytes more (entry ∷ entries) all =
     (list_more bytes more entries (All-tail (IsAmong bytes) entry entries all))
 
 -- more bytes, and no rule more
-pub among_grown : (bytes new : List ℕ) (entries : List RuleEntry) (grown : (more : List ℕ) × (new ≡ bytes ++ more))
+among_grown : (bytes new : List ℕ) (entries : List RuleEntry) (grown : (more : List ℕ) × (new ≡ bytes ++ more))
     → All (IsAmong bytes) entries → All (IsAmong new) entries
 among_grown bytes new entries (more, are) all =
     subst (λ b. All (IsAmong b) entries) (sym are) (all_more bytes more entries all)
 
+pattern_bytes_more : (rules : List MappingRule) (rule : MappingRule)
+    → pattern_bytes (rules ++ rule ∷ []) ≡ pattern_bytes rules + length rule.key + length rule.prepend
+pattern_bytes_more [] rule = omega arith
+pattern_bytes_more (one ∷ rules) rule = let more = pattern_bytes_more rules rule in omega (arith, more)
+
 -- more bytes, and a rule more
 module _ (bytes new : List ℕ) (entries entries' : List RuleEntry) (entry : RuleEntry) (key prepend : List ℕ)
     (grown : (more : List ℕ) × (new ≡ bytes ++ more)) (pushed : entries' ≡ entries ++ entry ∷ [])
-    (all : All (IsAmong bytes) entries)
+    (kept : AreKept bytes entries) (longer : length new ≡ length bytes + length key + length prepend)
     (span : IsSpan new (rule_with entry.kind entry.scope key prepend) entry.span) where
-  pub among_pushed : All (IsAmong new) entries'
+  among_pushed : All (IsAmong new) entries'
   among_pushed =
       subst (All (IsAmong new)) (sym pushed)
-      (All-push (IsAmong new) entries entry (among_grown bytes new entries grown all)
+      (All-push (IsAmong new) entries entry (among_grown bytes new entries grown kept.among)
       (record { key = refl; prepend = refl; rising = span.rising; rising_on = span.rising_on; within = span.within }))
 
   pub list_pushed : map (rule_kept new) entries' ≡ map (rule_kept bytes) entries
@@ -84,9 +90,18 @@ module _ (bytes new : List ℕ) (entries entries' : List RuleEntry) (entry : Rul
       let (more, are) = grown in
       ap (map (rule_kept new)) pushed ∙ map-append (rule_kept new) entries (entry ∷ [])
       ∙ ap (λ rules. rules ++ rule_kept new entry ∷ [])
-      (ap (λ b. map (rule_kept b) entries) are ∙ list_more bytes more entries all)
+      (ap (λ b. map (rule_kept b) entries) are ∙ list_more bytes more entries kept.among)
       ∙ ap (λ rule. map (rule_kept bytes) entries ++ rule ∷ [])
       (same_patterns entry.kind entry.scope _ _ _ _ span.key span.prepend)
+
+  pub kept_pushed : AreKept new entries'
+  kept_pushed = record {
+    among = among_pushed;
+    whole =
+        (let list = ap pattern_bytes list_pushed in
+        let more = pattern_bytes_more (map (rule_kept bytes) entries) (rule_with entry.kind entry.scope key prepend) in
+        omega (arith, list, more, longer, kept.whole));
+  }
 
 -- where the patterns of each rule stand
 span_is : (bytes : List ℕ) (entries : List RuleEntry) (place : ℕ) (rule : MappingRule) (span : Span)

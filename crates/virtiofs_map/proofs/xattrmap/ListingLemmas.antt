@@ -1,6 +1,6 @@
 -- What the guest sees of a list of names, a name at a time, and the list that these items make.
 use Rattle.std.proofs.Common.{◌≡◌, ℕ, Bool, true, false, cond, ◌&&◌, if◌then◌else◌, List, [], ◌∷◌, ◌++◌, map, Option}
-use Rattle.std.proofs.Common.{Some, None, Result, Ok, Err, is_ok, length, refl, sym, ap, ◌∙◌, arith}
+use Rattle.std.proofs.Common.{Some, None, Result, Ok, Err, is_ok, length, inl, inr, refl, sym, ap, ◌∙◌, arith}
 use Rattle.std.specs.Iterator.{item_count, MakesProgress}
 use Rattle.std.specs.List.{take_while, list_all, filter_map, cons_option}
 use Rattle.std.specs.Result.{result_ok}
@@ -14,8 +14,10 @@ use Rattle.virtiofs_map.specs.Names.{names, as_list, server_answer}
 use Rattle.virtiofs_map.specs.Rule.{MappingRule}
 use Rattle.virtiofs_map.specs.declared.xattrmap.errors.Error.{Error}
 use Rattle.virtiofs_map.specs.declared.xattrmap.errors.ErrorKind.TheVariants.{UnterminatedMapping}
-use Rattle.virtiofs_map.proofs.ServerListLemmas.{IsCut, is_name, names_step_name, names_step_none, shown}
-use Rattle.virtiofs_map.proofs.ServerListLemmas.{with_zeros}
+use Rattle.virtiofs_map.specs.NamesImageParts.{IsFirstSeen, IsSeenAs}
+use Rattle.virtiofs_map.specs.declared.xattrmap.listed.Seen.{Seen}
+use Rattle.virtiofs_map.specs.declared.xattrmap.listed.Seen.TheVariants.{NoMap, Undecided, Hidden, Listed}
+use Rattle.virtiofs_map.proofs.ServerListLemmas.{shown, with_zeros}
 
 -- an item that is given, with the bytes of its name
 abbrev pub Item : Type 0 → Type 0
@@ -70,30 +72,33 @@ items_step {A} rules name parts =
     (filter_map-cond (shown rules) (has_rule rules name) name before)
     ∙ step_of-item (host_answer rules name) (filter_map (shown rules) before) (list_all (has_rule rules) parts)
 
-pub listing_name : {A : Type 0} (rules : List MappingRule) (list name rest : List ℕ) → IsCut list name rest
-    → is_name name ≡ true → listing {A = A} rules list ≡ item_of (host_answer rules name) (listing rules rest)
-listing_name rules list name rest cut e = ap (items rules) (names_step_name list name rest cut e)
-    ∙ items_step rules name (names rest)
+-- what the guest sees of a name, but that the map is none
+abbrev told : Seen → HostAnswer
+told NoMap = IsHidden
+told Undecided = IsUndecided
+told Hidden = IsHidden
+told (Listed shown) = IsListed shown.now
 
-pub listing_none : {A : Type 0} (rules : List MappingRule) (list name rest : List ℕ) → IsCut list name rest
-    → is_name name ≡ false → listing {A = A} rules list ≡ listing rules rest
-listing_none rules list name rest cut e = ap (items rules) (names_step_none list name rest cut e)
+told_is : (answer : HostAnswer) (seen : Seen) → IsSeenAs answer seen → answer ≡ told seen
+told_is answer NoMap is = absurd is
+told_is answer Undecided is = is
+told_is answer Hidden is = is
+told_is answer (Listed shown) is = is
 
-pub listing_shown : {A : Type 0} (rules : List MappingRule) (list name rest sees : List ℕ) → IsCut list name rest
-    → is_name name ≡ true → host_answer rules name ≡ IsListed sees
-    → listing {A = A} rules list ≡ Ok sees ∷ listing rules rest
-listing_shown {A} rules list name rest sees cut named e = listing_name {A = A} rules list name rest cut named
-    ∙ ap (λ answer. item_of answer (listing {A = A} rules rest)) e
+-- the items of a list, of whose first name that is seen
+pub listing_seen : {A : Type 0} (rules : List MappingRule) (list : List ℕ) (seen : Seen) (rest : List ℕ)
+    → IsFirstSeen rules list seen rest → listing {A = A} rules list ≡ item_of (told seen) (listing rules rest)
+listing_seen {A} rules list seen rest (inl none) =
+    ap (items {A = A} rules) none.0
+    ∙ ap (λ s. item_of (told s) (listing {A = A} rules rest)) (sym none.1)
+listing_seen {A} rules list seen rest (inr one) =
+    ap (items {A = A} rules) one.1
+    ∙ items_step {A = A} rules one.0 (names rest)
+    ∙ ap (λ answer. item_of answer (listing {A = A} rules rest)) (told_is (host_answer rules one.0) seen one.2)
 
-pub listing_hidden : {A : Type 0} (rules : List MappingRule) (list name rest : List ℕ) → IsCut list name rest
-    → is_name name ≡ true → host_answer rules name ≡ IsHidden → listing {A = A} rules list ≡ listing rules rest
-listing_hidden {A} rules list name rest cut named e = listing_name {A = A} rules list name rest cut named
-    ∙ ap (λ answer. item_of answer (listing {A = A} rules rest)) e
-
-pub listing_undecided : {A : Type 0} (rules : List MappingRule) (list name rest : List ℕ) → IsCut list name rest
-    → is_name name ≡ true → host_answer rules name ≡ IsUndecided → listing {A = A} rules list ≡ undecided ∷ []
-listing_undecided {A} rules list name rest cut named e = listing_name {A = A} rules list name rest cut named
-    ∙ ap (λ answer. item_of answer (listing {A = A} rules rest)) e
+pub no_map_unseen : (rules : List MappingRule) (list rest : List ℕ) → IsFirstSeen rules list NoMap rest → ⊥
+no_map_unseen rules list rest (inl none) = cc
+no_map_unseen rules list rest (inr one) = one.2
 
 -- ---- the list that the items make
 

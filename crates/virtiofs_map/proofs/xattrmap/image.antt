@@ -1,1 +1,1 @@
-mod RuleRowLemmas
+mod ImageLengthLemmas

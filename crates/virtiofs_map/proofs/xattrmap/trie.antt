@@ -1,2 +1,9 @@
+mod BranchOfLemmas
+mod HeadLemmas
+mod LabelLemmas
+mod LevelOrderLemmas
+mod NodeLemmas
 mod PatternLemmas
+mod PatternTrieLemmas
+mod SameTextsLemmas
 mod SharedLemmas

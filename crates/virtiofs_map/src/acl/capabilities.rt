@@ -1,18 +1,19 @@
 //! The capability of a file, tested and then written.
-ghost use Rattle.std.specs.Prelude.{◌≡◌, ◌≢◌, ◌↔◌, IfErr, IfOk, IfSome, IsNone, OnOk, OnErr, Some};
+ghost use Rattle.std.specs.Prelude.{◌≡◌, ◌≢◌, ◌↔◌, List, IfErr, IfOk, IfSome, IsNone, OnOk, OnErr, Some};
 ghost use Rattle.virtiofs_map.specs.AclLaws.{AreBytes};
-ghost use Rattle.virtiofs_map.specs.AclParts.{OfRanges};
 ghost use Rattle.virtiofs_map.specs.Capability.{IsRevision, HasSize, root_of, IsCapability, IsInRevision3};
 ghost use Rattle.virtiofs_map.specs.Capability.{HasRootFault};
 ghost use Rattle.virtiofs_map.specs.CapabilityParts.{IsFaultOfAny};
+ghost use Rattle.virtiofs_map.specs.Image.{IsImage};
 ghost use Rattle.virtiofs_map.specs.Mapping.{Becomes};
 ghost use Rattle.virtiofs_map.specs.ValueChanges.{ChangesRoot, WritesRevision3};
 ghost use Rattle.virtiofs_map.specs.declared.acl.errors.CapabilityError.TheVariants.{RootMoves};
+ghost use Rattle.virtiofs_map.specs.declared.cmdline.IdMap.{IdMap as Specification};
 
 use crate::acl::errors::CapabilityError;
 use crate::acl::little_endian::{read_four, write_four};
 use crate::acl::ways::becomes;
-use crate::soft_idmap::Ranges;
+use crate::soft_idmap::{Direction, IdMapRef};
 
 /// How many bytes the values of a revision have, if there is such a revision.
 fn size_of(revision: u8) -> Option<usize>
@@ -55,29 +56,38 @@ fn root_of(value: &[u8]) -> Result<u32, CapabilityError>
 }
 
 /// What the id of root becomes.
-fn new_root(users: &Ranges<'_>, value: &[u8]) -> Result<u32, CapabilityError>
-    ensures root { OfRanges users.now (λ specs direction. IfOk result (λ root.
-        Becomes specs direction (root_of value.now) (Some root))) }
+fn new_root(
+    users: &IdMapRef<'_>,
+    direction: Direction,
+    value: &[u8],
+) -> Result<u32, CapabilityError>
+    ensures root { (specs : List Specification) → IsImage specs users.now
+        → IfOk result (λ root. Becomes specs direction (root_of value.now) (Some root)) }
     ensures capability { OnOk result (IsCapability value.now) }
-    ensures refused { OfRanges users.now (λ specs direction.
-        IfErr result (HasRootFault specs direction value.now)) }
+    ensures refused { (specs : List Specification) → IsImage specs users.now
+        → IfErr result (HasRootFault specs direction value.now) }
     ensures has_field { IfErr result (λ e. e ≢ RootMoves) }
     ensures bytes { AreBytes value.now }
 {
     let root = root_of(value)?;
-    match becomes(users, root) {
+    match becomes(users, direction, root) {
         Some(new_root) => Ok(new_root),
         None => Err(CapabilityError::Forbidden),
     }
 }
 
-/// Tests a capability, and writes what the id of root becomes where it has no fault.
-pub(crate) fn translate_root(users: &Ranges<'_>, value: &mut [u8]) -> Result<(), CapabilityError>
-    ensures change { OfRanges users.now (λ specs direction.
-        ChangesRoot specs direction value.old value.new result) }
+/// Changes a capability as [`capability_to_host`](crate::acl::capability_to_host) and
+/// [`capability_to_guest`](crate::acl::capability_to_guest) do, by a map that is lent as words.
+pub fn translate_capability(
+    users: &IdMapRef<'_>,
+    direction: Direction,
+    value: &mut [u8],
+) -> Result<(), CapabilityError>
+    ensures change { (specs : List Specification) → IsImage specs users.now
+        → ChangesRoot specs direction value.old value.new result }
     ensures unchanged { OnErr result (value.new ≡ value.old) }
 {
-    let root = new_root(users, value)?;
+    let root = new_root(users, direction, value)?;
     if value.len() == 24 {
         write_four(value, 20, root);
     } else if root != 0 {
@@ -98,18 +108,22 @@ fn write_with_root(value: &[u8], root: u32, written: &mut [u8; 24])
     write_four(written, 20, root);
 }
 
-/// Tests a capability, and writes it in revision 3, with what the id of root becomes.
-pub(crate) fn write_revision_3(
-    users: &Ranges<'_>,
+/// Writes a capability in revision 3 as
+/// [`capability_to_host_in_revision_3`](crate::acl::capability_to_host_in_revision_3) and
+/// [`capability_to_guest_in_revision_3`](crate::acl::capability_to_guest_in_revision_3) do, by a
+/// map that is lent as words.
+pub fn write_revision_3(
+    users: &IdMapRef<'_>,
+    direction: Direction,
     value: &[u8],
     written: &mut [u8; 24],
 ) -> Result<(), CapabilityError>
-    ensures change { OfRanges users.now (λ specs direction.
-        WritesRevision3 specs direction value.now written.new result) }
+    ensures change { (specs : List Specification) → IsImage specs users.now
+        → WritesRevision3 specs direction value.now written.new result }
     ensures has_field { IfErr result (λ e. e ≢ RootMoves) }
     ensures unchanged { OnErr result (written.new ≡ written.old) }
 {
-    let root = new_root(users, value)?;
+    let root = new_root(users, direction, value)?;
     write_with_root(value, root, written);
     Ok(())
 }

@@ -75,9 +75,9 @@ fn is_tag(tag: u16) -> bool
 /// What is wrong with an entry by itself, if anything is.
 fn fault_at(ways: &Ways<'_>, value: &[u8], k: usize) -> Option<EntryFault>
     requires { 12 + 8 * k ≤ length value.now }
-    ensures sound { OfWays ways.now.users ways.now.groups (λ users groups direction.
+    ensures sound { OfWays ways.now (λ users groups direction.
         IfNone result (IsSound users groups direction value.now k)) }
-    ensures wrong { OfWays ways.now.users ways.now.groups (λ users groups direction.
+    ensures wrong { OfWays ways.now (λ users groups direction.
         IfSome result (IsEntryFault users groups direction value.now k)) }
 {
     let entry = entry_at(value, k);
@@ -102,9 +102,9 @@ fn fault_at(ways: &Ways<'_>, value: &[u8], k: usize) -> Option<EntryFault>
 /// Tests each entry by itself, in order.
 pub(crate) fn test_entries(ways: &Ways<'_>, value: &[u8], count: usize) -> Result<(), AclError>
     requires { 4 + 8 * count ≤ length value.now }
-    ensures sound { OfWays ways.now.users ways.now.groups (λ users groups direction.
+    ensures sound { OfWays ways.now (λ users groups direction.
         OnOk result (AllSoundBelow users groups direction value.now count)) }
-    ensures refused { OfWays ways.now.users ways.now.groups (λ users groups direction.
+    ensures refused { OfWays ways.now (λ users groups direction.
         IfErr result (IsUnsoundBelow users groups direction value.now count)) }
 {
     for k in 0..count {

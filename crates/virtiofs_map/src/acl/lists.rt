@@ -1,18 +1,21 @@
 //! An access control list, tested as a whole and then written.
-ghost use Rattle.std.specs.Prelude.{◌≡◌, ◌+◌, ◌*◌, ◌≤◌, OnErr, length};
+ghost use Rattle.std.specs.Prelude.{◌≡◌, ◌+◌, ◌*◌, ◌≤◌, List, OnErr, length};
 ghost use Rattle.virtiofs_map.specs.AclParts.{AllSoundBelow, IsWritten, OfWays};
+ghost use Rattle.virtiofs_map.specs.Image.{IsImage};
 ghost use Rattle.virtiofs_map.specs.ValueChanges.{ChangesList};
+ghost use Rattle.virtiofs_map.specs.declared.cmdline.IdMap.{IdMap as Specification};
 
 use crate::acl::entries::{count_entries, entry_at, test_entries};
 use crate::acl::errors::{AclError, EntryFault};
 use crate::acl::little_endian::write_four;
 use crate::acl::merges::{EntryRoom, first_merged};
 use crate::acl::ways::Ways;
+use crate::soft_idmap::{Direction, IdMapRef};
 
 /// Writes what each id becomes in its place.
 fn write_entries(ways: &Ways<'_>, value: &mut [u8], count: usize)
     requires { 4 + 8 * count ≤ length value.old }
-    ensures { OfWays ways.now.users ways.now.groups (λ users groups direction.
+    ensures { OfWays ways.now (λ users groups direction.
         AllSoundBelow users groups direction value.old count
         → IsWritten users groups direction value.old value.new count) }
 {
@@ -26,24 +29,33 @@ fn write_entries(ways: &Ways<'_>, value: &mut [u8], count: usize)
     }
 }
 
-/// Tests a list, and writes what its ids become where it has no fault.
-pub(crate) fn translate(
-    ways: &Ways<'_>,
+/// Changes an access control list as [`acl_to_host`](crate::acl::acl_to_host) and
+/// [`acl_to_guest`](crate::acl::acl_to_guest) do, by maps that are lent as words.
+pub fn translate_acl(
+    users: &IdMapRef<'_>,
+    groups: &IdMapRef<'_>,
+    direction: Direction,
     value: &mut [u8],
     room: &mut [EntryRoom],
 ) -> Result<(), AclError>
-    ensures change { OfWays ways.now.users ways.now.groups (λ users groups direction.
-        ChangesList users groups direction (length room.old) value.old value.new result) }
+    ensures change { (specs others : List Specification) → IsImage specs users.now
+        → IsImage others groups.now
+        → ChangesList specs others direction (length room.old) value.old value.new result }
     ensures unchanged { OnErr result (value.new ≡ value.old) }
 {
+    let ways = Ways {
+        users,
+        groups,
+        direction,
+    };
     let count = count_entries(value, room.len())?;
-    test_entries(ways, value, count)?;
-    if let Some(entry) = first_merged(ways, value, count, room) {
+    test_entries(&ways, value, count)?;
+    if let Some(entry) = first_merged(&ways, value, count, room) {
         return Err(AclError::Entry {
             entry,
             fault: EntryFault::Merges,
         });
     }
-    write_entries(ways, value, count);
+    write_entries(&ways, value, count);
     Ok(())
 }

@@ -39,7 +39,7 @@ fn place(ways: &Ways<'_>, value: &[u8], count: usize, room: &mut [EntryRoom]) ->
     requires fits { count ≤ length room.old }
     ensures within { result ≤ count }
     ensures entries { All (λ one. one.entry < count) (take result room.new) }
-    ensures placed { OfWays ways.now.users ways.now.groups (λ users groups direction.
+    ensures placed { OfWays ways.now (λ users groups direction.
         AllSoundBelow users groups direction value.now count
         → Places users groups direction value.now count (take result room.new)) }
 {
@@ -109,10 +109,10 @@ pub(crate) fn first_merged(
 ) -> Option<usize>
     requires in_value { 4 + 8 * count ≤ length value.now }
     requires fits { count ≤ length room.old }
-    ensures none { OfWays ways.now.users ways.now.groups (λ users groups direction.
+    ensures none { OfWays ways.now (λ users groups direction.
         AllSoundBelow users groups direction value.now count
         → IfNone result (NoneMerges users groups direction value.now count)) }
-    ensures first { OfWays ways.now.users ways.now.groups (λ users groups direction.
+    ensures first { OfWays ways.now (λ users groups direction.
         AllSoundBelow users groups direction value.now count
         → IfSome result (IsFirstToMerge users groups direction value.now count)) }
 {

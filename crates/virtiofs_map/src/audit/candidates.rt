@@ -11,18 +11,19 @@
 //! The patterns that begin with a prepend stand together in the order of their bytes. So no more
 //! names are tried than the patterns have bytes, and rules that put the same before a name are one.
 
-ghost use Rattle.std.specs.Prelude.{◌≢◌, ◌<◌, ◌*◌, ◌++◌, ◌∷◌, All, Contains, IfOk, OnOk, length};
-ghost use Rattle.virtiofs_map.specs.AuditParts.{bad, Finds, FindsLeast, Tries, IsRestOf, IsRest};
+ghost use Rattle.std.specs.Prelude.{◌≢◌, ◌<◌, ◌*◌, ◌++◌, ◌∷◌, List, All, Contains, IfOk, OnOk, length};
+ghost use Rattle.virtiofs_map.specs.AuditParts.{AreMaps, bad, Finds, FindsLeast, Tries, IsRestOf, IsRest};
 ghost use Rattle.virtiofs_map.specs.AuditParts.{guest_names, most_guest_names, host_names, IsWholeOf, IsWhole};
 ghost use Rattle.virtiofs_map.specs.AuditParts.{one_byte_names};
-ghost use Rattle.virtiofs_map.specs.Rule.{HasNoZero};
+ghost use Rattle.virtiofs_map.specs.NamesImage.{IsMapOf};
+ghost use Rattle.virtiofs_map.specs.Rule.{MappingRule};
 
 use crate::audit::answer::Audit;
 use crate::audit::gathered::{Part, gathered};
 use crate::audit::least::Tried;
 use crate::audit::ordered::Ordered;
 use crate::audit::questions::{Question, is_cut};
-use crate::xattrmap::{Side, XattrMap, XattrName};
+use crate::xattrmap::{Side, XattrMapRef, XattrName};
 use std::alloc::{AllocError, Allocator};
 
 /// The least bad name of the guest, among those that the question is about: `map` passes
@@ -32,13 +33,14 @@ use std::alloc::{AllocError, Allocator};
 pub(crate) fn least_guest_name<A: Allocator + Copy>(
     alloc: A,
     question: &Question<'_, A>,
-    map: &XattrMap<A>,
-    other: &XattrMap<A>,
+    map: XattrMapRef<'_>,
+    other: XattrMapRef<'_>,
     side: Side,
 ) -> Result<Audit<A>, AllocError>
-    ensures least { IfOk result (FindsLeast (bad question.now) (question.now.beginning.bytes.now
-        ∷ guest_names side other.now map.now ++ one_byte_names)) }
-    ensures no_zero { OnOk result (All HasNoZero map.now) }
+    ensures { IfOk result (λ answer. (rules others : List MappingRule)
+        → IsMapOf rules map.entry → IsMapOf others other.entry → AreMaps question.now.asked
+        → FindsLeast (bad question.now) (question.now.beginning.bytes.now
+        ∷ guest_names side others rules ++ one_byte_names) answer) }
 {
     let mut tried = Tried::new(alloc);
     tried.try_name(alloc, question, question.beginning)?;
@@ -51,16 +53,16 @@ pub(crate) fn least_guest_name<A: Allocator + Copy>(
 pub(crate) fn try_guest_names<A: Allocator + Copy>(
     alloc: A,
     question: &Question<'_, A>,
-    map: &XattrMap<A>,
-    other: &XattrMap<A>,
+    map: XattrMapRef<'_>,
+    other: XattrMapRef<'_>,
     side: Side,
     tried: &mut Tried<A>,
 ) -> Result<(), AllocError>
-    ensures tried { OnOk result (Tries (bad question.now)
-        (Contains (guest_names side other.now map.now ++ one_byte_names))
-        (most_guest_names side other.now map.now) tried.old tried.new) }
+    ensures tried { OnOk result ((rules others : List MappingRule)
+        → IsMapOf rules map.entry → IsMapOf others other.entry → AreMaps question.now.asked
+        → Tries (bad question.now) (Contains (guest_names side others rules ++ one_byte_names))
+        (most_guest_names side others rules) tried.old tried.new) }
     ensures counted { OnOk result (0 < tried.new.count) }
-    ensures no_zero { OnOk result (All HasNoZero map.now) }
 {
     let keys = gathered(alloc, map, Part::Key)?;
     let fronts = gathered(alloc, map, Part::Front(Side::Client))?;
@@ -77,8 +79,8 @@ fn try_all<A: Allocator + Copy>(
     names: &Ordered<A>,
     tried: &mut Tried<A>,
 ) -> Result<(), AllocError>
-    ensures { OnOk result
-        (Tries (bad question.now) (Contains names.now) (length names.now) tried.old tried.new) }
+    ensures { OnOk result (AreMaps question.now.asked
+        → Tries (bad question.now) (Contains names.now) (length names.now) tried.old tried.new) }
 {
     for place in 0..names.len() {
         let Some(name) = names.get(place) else {
@@ -97,7 +99,8 @@ fn try_rests<A: Allocator + Copy>(
     patterns: &Ordered<A>,
     tried: &mut Tried<A>,
 ) -> Result<(), AllocError>
-    ensures { OnOk result (Tries (bad question.now) (IsRest fronts.now patterns.now)
+    ensures { OnOk result (AreMaps question.now.asked
+        → Tries (bad question.now) (IsRest fronts.now patterns.now)
         (length fronts.now * length patterns.now) tried.old tried.new) }
 {
     for place in 0..fronts.len() {
@@ -120,7 +123,8 @@ fn try_rests_of<A: Allocator + Copy>(
     added: &[u8],
     tried: &mut Tried<A>,
 ) -> Result<(), AllocError>
-    ensures { OnOk result (Tries (bad question.now) (IsRestOf patterns.now added.now)
+    ensures { OnOk result (AreMaps question.now.asked
+        → Tries (bad question.now) (IsRestOf patterns.now added.now)
         (length patterns.now) tried.old tried.new) }
 {
     let start = patterns.count_before(added);
@@ -141,10 +145,12 @@ fn try_rests_of<A: Allocator + Copy>(
 pub(crate) fn least_host_name<A: Allocator + Copy>(
     alloc: A,
     question: &Question<'_, A>,
-    map: &XattrMap<A>,
+    map: XattrMapRef<'_>,
 ) -> Result<Audit<A>, AllocError>
-    ensures { IfOk result (FindsLeast (bad question.now) (question.now.beginning.bytes.now
-        ∷ host_names map.now map.now ++ one_byte_names)) }
+    ensures { IfOk result (λ answer. (rules : List MappingRule) → IsMapOf rules map.entry
+        → AreMaps question.now.asked
+        → FindsLeast (bad question.now) (question.now.beginning.bytes.now
+        ∷ host_names rules rules ++ one_byte_names) answer) }
 {
     let mut tried = Tried::new(alloc);
     tried.try_name(alloc, question, question.beginning)?;
@@ -156,11 +162,12 @@ pub(crate) fn least_host_name<A: Allocator + Copy>(
 fn try_host_names<A: Allocator + Copy>(
     alloc: A,
     question: &Question<'_, A>,
-    map: &XattrMap<A>,
+    map: XattrMapRef<'_>,
     tried: &mut Tried<A>,
 ) -> Result<(), AllocError>
-    ensures { OnOk result (Finds (bad question.now)
-        (Contains (host_names map.now map.now ++ one_byte_names)) tried.old tried.new) }
+    ensures { OnOk result ((rules : List MappingRule) → IsMapOf rules map.entry
+        → AreMaps question.now.asked → Finds (bad question.now)
+        (Contains (host_names rules rules ++ one_byte_names)) tried.old tried.new) }
 {
     let prepends = gathered(alloc, map, Part::Host(Side::Server))?;
     let cuts = gathered(alloc, map, Part::Front(Side::Server))?;
@@ -174,13 +181,14 @@ fn try_host_names<A: Allocator + Copy>(
 fn try_wholes<A: Allocator + Copy>(
     alloc: A,
     question: &Question<'_, A>,
-    map: &XattrMap<A>,
+    map: XattrMapRef<'_>,
     cuts: &Ordered<A>,
     keys: &Ordered<A>,
     tried: &mut Tried<A>,
 ) -> Result<(), AllocError>
-    ensures { OnOk result
-        (Finds (bad question.now) (IsWhole map.now cuts.now keys.now) tried.old tried.new) }
+    ensures { OnOk result ((rules : List MappingRule) → IsMapOf rules map.entry
+        → AreMaps question.now.asked
+        → Finds (bad question.now) (IsWhole rules cuts.now keys.now) tried.old tried.new) }
 {
     for place in 0..cuts.len() {
         if cuts.is_repeated(place) {
@@ -209,8 +217,8 @@ fn try_wholes_of<A: Allocator + Copy>(
     tried: &mut Tried<A>,
 ) -> Result<(), AllocError>
     requires { All (λ byte. byte ≢ 0) cut.now }
-    ensures { OnOk result
-        (Finds (bad question.now) (IsWholeOf cut.now keys.now) tried.old tried.new) }
+    ensures { OnOk result (AreMaps question.now.asked
+        → Finds (bad question.now) (IsWholeOf cut.now keys.now) tried.old tried.new) }
 {
     for place in 0..keys.len() {
         let Some(key) = keys.get(place) else {
@@ -232,8 +240,8 @@ fn try_one_byte_names<A: Allocator + Copy>(
     question: &Question<'_, A>,
     tried: &mut Tried<A>,
 ) -> Result<(), AllocError>
-    ensures tried { OnOk result
-        (Tries (bad question.now) (Contains one_byte_names) 255 tried.old tried.new) }
+    ensures tried { OnOk result (AreMaps question.now.asked
+        → Tries (bad question.now) (Contains one_byte_names) 255 tried.old tried.new) }
     ensures counted { OnOk result (0 < tried.new.count) }
 {
     for byte in 1..=u8::MAX {

@@ -2,15 +2,15 @@
 
 ghost use Rattle.std.specs.List.Sorted.{IsPermutation};
 ghost use Rattle.std.specs.List.{filter_map};
-ghost use Rattle.std.specs.Option.{option_map};
-ghost use Rattle.std.specs.Prelude.{◌≡◌, All, IfOk, OnOk};
+ghost use Rattle.std.specs.Prelude.{◌≡◌, ◌≢◌, List, All, IfOk, Some};
 ghost use Rattle.virtiofs_map.specs.GatheredParts.{part_of, host_pattern};
-ghost use Rattle.virtiofs_map.specs.Rule.{HasNoZero};
+ghost use Rattle.virtiofs_map.specs.NamesImage.{IsMapOf};
+ghost use Rattle.virtiofs_map.specs.Rule.{HasNoZero, MappingRule};
 ghost use Rattle.virtiofs_map.specs.RuleParts.{rule_meant};
 
 use crate::audit::ordered::Ordered;
 use crate::xattrmap::rules::RuleRef;
-use crate::xattrmap::{Side, XattrMap, XattrName, XattrNameBuf};
+use crate::xattrmap::{Side, XattrMapRef, XattrName, XattrNameBuf};
 use std::alloc::{AllocError, Allocator};
 
 /// What an audit takes from a rule.
@@ -24,6 +24,19 @@ pub(crate) enum Part {
     Host(Side),
 }
 
+/// The name of these bytes, in memory of its own; `None` where one of them is zero.
+fn copied<A: Allocator + Copy>(
+    alloc: A,
+    bytes: &[u8],
+) -> Result<Option<XattrNameBuf<A>>, AllocError>
+    ensures { IfOk result (λ found. All (λ byte. byte ≢ 0) bytes.now → found ≡ Some bytes.now) }
+{
+    match XattrName::new(bytes) {
+        Some(name) => Ok(Some(XattrNameBuf::copy_of(alloc, name.bytes)?)),
+        None => Ok(None),
+    }
+}
+
 /// What a name of the host begins with: for the server the prepend, and for the client what the rule
 /// puts before a name, and then its key. `None` where the rule lets no name of the client through.
 fn host_pattern<A: Allocator + Copy>(
@@ -31,18 +44,20 @@ fn host_pattern<A: Allocator + Copy>(
     rule: RuleRef<'_>,
     side: Side,
 ) -> Result<Option<XattrNameBuf<A>>, AllocError>
-    requires { HasNoZero (rule_meant rule) }
-    ensures { IfOk result (λ found. found ≡ host_pattern side (rule_meant rule.entry)) }
+    ensures { IfOk result (λ found. HasNoZero (rule_meant rule.entry)
+        → found ≡ host_pattern side (rule_meant rule.entry)) }
 {
     let added = match side {
-        Side::Server => return Ok(Some(XattrNameBuf::copy_of(alloc, rule.prepend)?)),
+        Side::Server => return copied(alloc, rule.prepend),
         Side::Client => rule.front(),
     };
     let Some(bytes) = added else {
         return Ok(None);
     };
-    let key = XattrName { bytes: rule.key };
-    Ok(Some(key.prefixed_with(alloc, XattrName { bytes })?))
+    let (Some(key), Some(added)) = (XattrName::new(rule.key), XattrName::new(bytes)) else {
+        return Ok(None);
+    };
+    Ok(Some(key.prefixed_with(alloc, added)?))
 }
 
 /// That part of a rule, where it has one.
@@ -51,8 +66,8 @@ fn part_of<A: Allocator + Copy>(
     rule: RuleRef<'_>,
     part: Part,
 ) -> Result<Option<XattrNameBuf<A>>, AllocError>
-    requires { HasNoZero (rule_meant rule) }
-    ensures { IfOk result (λ found. found ≡ part_of part (rule_meant rule.entry)) }
+    ensures { IfOk result (λ found. HasNoZero (rule_meant rule.entry)
+        → found ≡ part_of part (rule_meant rule.entry)) }
 {
     let side = match part {
         Part::Key => Side::Client,
@@ -69,17 +84,17 @@ fn part_of<A: Allocator + Copy>(
     let Some(bytes) = found else {
         return Ok(None);
     };
-    Ok(Some(XattrNameBuf::copy_of(alloc, bytes)?))
+    copied(alloc, bytes)
 }
 
 /// That part of each rule which has one, in the order of the bytes.
 pub(crate) fn gathered<A: Allocator + Copy>(
     alloc: A,
-    map: &XattrMap<A>,
+    map: XattrMapRef<'_>,
     part: Part,
 ) -> Result<Ordered<A>, AllocError>
-    ensures parts { IfOk result (IsPermutation (filter_map (part_of part) map.now)) }
-    ensures no_zero { OnOk result (All HasNoZero map.now) }
+    ensures { IfOk result (λ parts. (rules : List MappingRule) → IsMapOf rules map.entry
+        → IsPermutation (filter_map (part_of part) rules) parts) }
 {
     let mut names = Vec::new(alloc);
     for place in 0..map.len() {

@@ -1,8 +1,9 @@
 //! The least bad name of those that were tried.
 
 ghost use Rattle.std.specs.Prelude.{◌≡◌, OnOk, All, option_to_list};
-ghost use Rattle.virtiofs_map.specs.AuditParts.{bad, none_tried, is_first, try_one, told};
+ghost use Rattle.virtiofs_map.specs.AuditParts.{AreMaps, bad, none_tried, is_first, try_one, told};
 ghost use Rattle.virtiofs_map.specs.MapRule.{IsName};
+ghost use Rattle.virtiofs_map.specs.Steps.{count_after};
 
 use crate::audit::answer::Audit;
 use crate::audit::questions::Question;
@@ -51,8 +52,9 @@ impl<A: Allocator + Copy> Tried<A> {
         question: &Question<'_, A>,
         name: XattrName<'_>,
     ) -> Result<(), AllocError>
-        ensures { OnOk result
-            (self.new ≡ try_one (bad question.now) self.old name.entry.bytes.now) }
+        ensures tried { OnOk result (AreMaps question.now.asked
+            → self.new ≡ try_one (bad question.now) self.old name.entry.bytes.now) }
+        ensures counted { OnOk result (self.new.count ≡ count_after self.old.count 1) }
     {
         self.steps.tick();
         if self.is_first(name) && question.is_bad(&mut self.room, name.bytes)? {

@@ -3,12 +3,15 @@
 ghost use Rattle.std.specs.Prelude.{◌≡◌, ◌++◌, false, ℕ, List, Some, None, MatchOption, IfOk, OnOk, IsFalse};
 ghost use Rattle.virtiofs_map.specs.AuditParts.{front, is_lost, is_hidden, is_seen, is_shared, is_cut};
 ghost use Rattle.virtiofs_map.specs.GatheredParts.{front_of};
-ghost use Rattle.virtiofs_map.specs.AuditParts.{is_stray};
+ghost use Rattle.virtiofs_map.specs.AuditParts.{is_stray, IsReachOf};
+ghost use Rattle.virtiofs_map.specs.NamesImage.{IsMapOf};
+ghost use Rattle.virtiofs_map.specs.Rule.{MappingRule};
 ghost use Rattle.virtiofs_map.specs.RuleParts.{rule_meant};
 
 use crate::audit::reach::Reach;
+use crate::xattrmap::image::Decision;
 use crate::xattrmap::rules::{RuleKind, RuleRef};
-use crate::xattrmap::{Side, XattrMap, XattrName};
+use crate::xattrmap::{Side, XattrMapRef, XattrName};
 use std::alloc::{AllocError, Allocator};
 
 /// What an audit asks about one name. If the answer is yes, the name is bad, and the audit as a
@@ -16,27 +19,27 @@ use std::alloc::{AllocError, Allocator};
 #[derive(Drop)]
 pub(crate) enum Asked<'m, A: Allocator> {
     /// Does the name pass without being listed back?
-    Lost(&'m XattrMap<A>),
+    Lost(XattrMapRef<'m>),
     /// Does the name pass by the first map as a name that the second does not hide?
-    Seen(&'m XattrMap<A>, &'m XattrMap<A>),
+    Seen(XattrMapRef<'m>, XattrMapRef<'m>),
     /// Does the name pass by the first map as a name that the second reaches?
-    Shared(&'m XattrMap<A>, &'m Reach<'m, A>),
+    Shared(XattrMapRef<'m>, &'m Reach<'m, A>),
     /// Is this name of the host listed under a name that does not pass as it?
-    Stray(&'m XattrMap<A>),
+    Stray(XattrMapRef<'m>),
 }
 
 impl<A: Allocator> Asked<'_, A> {
-    ghost use Rattle.virtiofs_map.specs.AuditParts.{holds_of};
+    ghost use Rattle.virtiofs_map.specs.AuditParts.{AreMaps, holds_of};
 
     /// Whether the answer is yes for the name. `room` is where a name of the host is put together.
     fn holds_of(&self, room: &mut Vec<u8, A>, name: &[u8]) -> Result<bool, AllocError>
-        ensures { IfOk result (λ answer. answer ≡ holds_of self.now name.now) }
+        ensures { IfOk result (λ answer. AreMaps self.now → answer ≡ holds_of self.now name.now) }
     {
         match self {
-            Asked::Lost(map) => is_lost(map, room, name),
-            Asked::Seen(map, other) => is_seen(map, other, room, name),
-            Asked::Shared(map, other) => is_shared(map, other, room, name),
-            Asked::Stray(map) => Ok(is_stray(map, name)),
+            Asked::Lost(map) => is_lost(*map, room, name),
+            Asked::Seen(map, other) => is_seen(*map, *other, room, name),
+            Asked::Shared(map, other) => is_shared(*map, other, room, name),
+            Asked::Stray(map) => Ok(is_stray(*map, name)),
         }
     }
 }
@@ -50,11 +53,11 @@ pub(crate) struct Question<'m, A: Allocator> {
 }
 
 impl<A: Allocator> Question<'_, A> {
-    ghost use Rattle.virtiofs_map.specs.AuditParts.{bad};
+    ghost use Rattle.virtiofs_map.specs.AuditParts.{AreMaps, bad};
 
     /// Whether the name is bad. `room` is where a name of the host is put together.
     pub(crate) fn is_bad(&self, room: &mut Vec<u8, A>, name: &[u8]) -> Result<bool, AllocError>
-        ensures { IfOk result (λ answer. answer ≡ bad self.now name.now) }
+        ensures { IfOk result (λ answer. AreMaps self.now.asked → answer ≡ bad self.now name.now) }
     {
         if !name.starts_with(self.beginning.bytes) {
             return Ok(false);
@@ -91,17 +94,16 @@ impl<'m> RuleRef<'m> {
 
 /// What a host's name has before the guest's by the first rule that fits the name on that side;
 /// `None` where that rule lets no name through, or no rule fits.
-pub(crate) fn front<'m, A: Allocator>(
-    map: &'m XattrMap<A>,
-    side: Side,
-    name: &[u8],
-) -> Option<&'m [u8]>
-    ensures { MatchOption result (front side map.now name.now ≡ None)
-        (λ found. front side map.now name.now ≡ Some found.now) }
+pub(crate) fn front<'m>(map: XattrMapRef<'m>, side: Side, name: &[u8]) -> Option<&'m [u8]>
+    ensures { (rules : List MappingRule) → IsMapOf rules map.entry
+        → MatchOption result (front side rules name.now ≡ None)
+        (λ found. front side rules name.now ≡ Some found.now) }
 {
-    match map.deciding(side, name) {
-        Some(rule) => rule.front(),
-        None => None,
+    let (decision, _) = map.decide(side, name);
+    match decision {
+        Decision::Okay => Some(&[]),
+        Decision::Prefix(prepend) => Some(prepend),
+        Decision::Bad | Decision::Unsupported | Decision::Undecided | Decision::NoMap => None,
     }
 }
 
@@ -120,11 +122,12 @@ pub(crate) fn put_together<A: Allocator>(
 
 /// Whether the name passes and is not listed back.
 fn is_lost<A: Allocator>(
-    map: &XattrMap<A>,
+    map: XattrMapRef<'_>,
     room: &mut Vec<u8, A>,
     name: &[u8],
 ) -> Result<bool, AllocError>
-    ensures { IfOk result (λ answer. answer ≡ is_lost map.now name.now) }
+    ensures { IfOk result (λ answer. (rules : List MappingRule) → IsMapOf rules map.entry
+        → answer ≡ is_lost rules name.now) }
 {
     if name.is_empty() {
         return Ok(false);
@@ -140,23 +143,24 @@ fn is_lost<A: Allocator>(
 }
 
 /// Whether a rule decides the name of the host, and hides it.
-fn is_hidden<A: Allocator>(map: &XattrMap<A>, host: &[u8]) -> bool
-    ensures { result ≡ is_hidden map.now host.now }
+fn is_hidden(map: XattrMapRef<'_>, host: &[u8]) -> bool
+    ensures { (rules : List MappingRule) → IsMapOf rules map.entry
+        → result ≡ is_hidden rules host.now }
 {
-    match map.deciding(Side::Server, host) {
-        Some(rule) => rule.front().is_none(),
-        None => false,
-    }
+    let (decision, _) = map.decide(Side::Server, host);
+    matches!(decision, Decision::Bad | Decision::Unsupported)
 }
 
 /// Whether the name passes by the first map as a name, not empty, that the second does not hide.
 fn is_seen<A: Allocator>(
-    map: &XattrMap<A>,
-    other: &XattrMap<A>,
+    map: XattrMapRef<'_>,
+    other: XattrMapRef<'_>,
     room: &mut Vec<u8, A>,
     name: &[u8],
 ) -> Result<bool, AllocError>
-    ensures { IfOk result (λ answer. answer ≡ is_seen map.now other.now name.now) }
+    ensures { IfOk result (λ answer. (rules others : List MappingRule)
+        → IsMapOf rules map.entry → IsMapOf others other.entry
+        → answer ≡ is_seen rules others name.now) }
 {
     let Some(added) = front(map, Side::Client, name) else {
         return Ok(false);
@@ -168,12 +172,14 @@ fn is_seen<A: Allocator>(
 
 /// Whether the name passes by the first map as a name, not empty, that the second reaches.
 fn is_shared<A: Allocator>(
-    map: &XattrMap<A>,
+    map: XattrMapRef<'_>,
     other: &Reach<'_, A>,
     room: &mut Vec<u8, A>,
     name: &[u8],
 ) -> Result<bool, AllocError>
-    ensures { IfOk result (λ answer. answer ≡ is_shared map.now other.now name.now) }
+    ensures { IfOk result (λ answer. (rules others : List MappingRule)
+        → IsMapOf rules map.entry → IsReachOf others other.now
+        → answer ≡ is_shared rules others name.now) }
 {
     let Some(added) = front(map, Side::Client, name) else {
         return Ok(false);
@@ -184,8 +190,8 @@ fn is_shared<A: Allocator>(
 }
 
 /// Whether the server's rules take that off a name of the host, from one that begins with it.
-pub(crate) fn is_cut<A: Allocator>(map: &XattrMap<A>, cut: &[u8]) -> bool
-    ensures { result ≡ is_cut map.now cut.now }
+pub(crate) fn is_cut(map: XattrMapRef<'_>, cut: &[u8]) -> bool
+    ensures { (rules : List MappingRule) → IsMapOf rules map.entry → result ≡ is_cut rules cut.now }
 {
     if cut.is_empty() {
         return true;
@@ -197,8 +203,9 @@ pub(crate) fn is_cut<A: Allocator>(map: &XattrMap<A>, cut: &[u8]) -> bool
 }
 
 /// Whether the name of the host, not empty, is listed under a name that does not pass as it.
-fn is_stray<A: Allocator>(map: &XattrMap<A>, host: &[u8]) -> bool
-    ensures { result ≡ is_stray map.now host.now }
+fn is_stray(map: XattrMapRef<'_>, host: &[u8]) -> bool
+    ensures { (rules : List MappingRule) → IsMapOf rules map.entry
+        → result ≡ is_stray rules host.now }
 {
     if host.is_empty() {
         return false;
@@ -206,7 +213,10 @@ fn is_stray<A: Allocator>(map: &XattrMap<A>, host: &[u8]) -> bool
     let Some(cut) = front(map, Side::Server, host) else {
         return false;
     };
-    let Some(added) = front(map, Side::Client, &host[cut.len()..]) else {
+    let Some((_, listed)) = host.split_at_checked(cut.len()) else {
+        return false;
+    };
+    let Some(added) = front(map, Side::Client, listed) else {
         return true;
     };
     added != cut

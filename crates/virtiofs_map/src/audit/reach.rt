@@ -2,46 +2,31 @@
 
 ghost use Rattle.std.specs.List.{filter_map};
 ghost use Rattle.std.specs.List.Sorted.{IsPermutation};
-ghost use Rattle.std.specs.Prelude.{◌≡◌, IfOk};
-ghost use Rattle.virtiofs_map.specs.AuditParts.{is_reached, passes_with};
+ghost use Rattle.std.specs.Prelude.{◌≡◌, List, IfOk};
+ghost use Rattle.virtiofs_map.specs.AuditParts.{IsReachOf, is_reached, passes_with};
 ghost use Rattle.virtiofs_map.specs.GatheredParts.{part_of};
+ghost use Rattle.virtiofs_map.specs.NamesImage.{IsMapOf};
+ghost use Rattle.virtiofs_map.specs.Rule.{MappingRule};
 ghost use Rattle.virtiofs_map.specs.declared.audit.gathered.Part.TheVariants.{Front};
 ghost use Rattle.virtiofs_map.specs.declared.xattrmap.scopes.Side.TheVariants.{Client};
 
 use crate::audit::gathered::{Part, gathered};
 use crate::audit::ordered::Ordered;
 use crate::audit::questions::front;
-use crate::xattrmap::{Side, XattrMap, shared_length};
+use crate::xattrmap::{Side, XattrMapRef, shared_length};
 use std::alloc::{AllocError, Allocator};
-use std::marker::Model;
 
 /// A map, and what its rules for the client put before names.
 #[derive(Drop)]
 pub(crate) struct Reach<'m, A: Allocator> {
-    map: &'m XattrMap<A>,
+    map: XattrMapRef<'m>,
     fronts: Ordered<A>,
 }
 
-impl<'m, A: Allocator> Model for Reach<'m, A> {
-    ghost use Rattle.std.specs.List.{filter_map};
-    ghost use Rattle.std.specs.List.Sorted.{IsPermutation};
-    ghost use Rattle.std.specs.Prelude.{List};
-    ghost use Rattle.virtiofs_map.specs.GatheredParts.{part_of};
-    ghost use Rattle.virtiofs_map.specs.Rule.{MappingRule};
-    ghost use Rattle.virtiofs_map.specs.declared.audit.gathered.Part.TheVariants.{Front};
-    ghost use Rattle.virtiofs_map.specs.declared.xattrmap.scopes.Side.TheVariants.{Client};
-
-    ghost Value = { List MappingRule };
-
-    ghost view = { λ reach. reach.map.now };
-
-    ghost invariant = { λ reach.
-        IsPermutation (filter_map (part_of (Front Client)) reach.map.now) reach.fronts };
-}
-
 /// Whether what is left of the name of the host after that front is a name before which that is put.
-fn passes_with<A: Allocator>(map: &XattrMap<A>, host: &[u8], added: &[u8]) -> bool
-    ensures { result ≡ passes_with map.now host.now added.now }
+fn passes_with(map: XattrMapRef<'_>, host: &[u8], added: &[u8]) -> bool
+    ensures { (rules : List MappingRule) → IsMapOf rules map.entry
+        → result ≡ passes_with rules host.now added.now }
 {
     let Some(name) = host.strip_prefix(added) else {
         return false;
@@ -54,9 +39,10 @@ fn passes_with<A: Allocator>(map: &XattrMap<A>, host: &[u8], added: &[u8]) -> bo
 ///
 /// What is put before such a name begins the name of the host. So of the fronts that begin it each is
 /// tried, the longest first.
-fn is_reached<A: Allocator>(map: &XattrMap<A>, fronts: &Ordered<A>, host: &[u8]) -> bool
-    requires { IsPermutation (filter_map (part_of (Front Client)) map.now) fronts.now }
-    ensures { result ≡ is_reached map.now host.now }
+fn is_reached<A: Allocator>(map: XattrMapRef<'_>, fronts: &Ordered<A>, host: &[u8]) -> bool
+    ensures { (rules : List MappingRule) → IsMapOf rules map.entry
+        → IsPermutation (filter_map (part_of (Front Client)) rules) fronts.now
+        → result ≡ is_reached rules host.now }
 {
     let mut rest = host;
     while let Some(last) = fronts.last_up_to(rest) {
@@ -78,8 +64,9 @@ fn is_reached<A: Allocator>(map: &XattrMap<A>, fronts: &Ordered<A>, host: &[u8])
 
 impl<'m, A: Allocator + Copy> Reach<'m, A> {
     /// What the map reaches.
-    pub(crate) fn new(alloc: A, map: &'m XattrMap<A>) -> Result<Reach<'m, A>, AllocError>
-        ensures { IfOk result (λ reach. reach ≡ map.now) }
+    pub(crate) fn new(alloc: A, map: XattrMapRef<'m>) -> Result<Reach<'m, A>, AllocError>
+        ensures { IfOk result (λ reach. (rules : List MappingRule) → IsMapOf rules map.entry
+            → IsReachOf rules reach) }
     {
         let fronts = gathered(alloc, map, Part::Front(Side::Client))?;
         Ok(Reach { map, fronts })
@@ -89,7 +76,8 @@ impl<'m, A: Allocator + Copy> Reach<'m, A> {
 impl<A: Allocator> Reach<'_, A> {
     /// Whether some name passes as the name of the host.
     pub(crate) fn reaches(&self, host: &[u8]) -> bool
-        ensures { result ≡ is_reached self.now host.now }
+        ensures { (rules : List MappingRule) → IsReachOf rules self.now
+            → result ≡ is_reached rules host.now }
     {
         is_reached(self.map, &self.fronts, host)
     }

@@ -1,9 +1,11 @@
 //! Whether each name has a rule.
 
-ghost use Rattle.std.specs.Prelude.{◌↔◌, IsTrue};
+ghost use Rattle.std.specs.Prelude.{◌↔◌, List, IsTrue};
 ghost use Rattle.virtiofs_map.specs.Audit.{Terminated};
+ghost use Rattle.virtiofs_map.specs.NamesImage.{IsMapOf};
+ghost use Rattle.virtiofs_map.specs.Rule.{MappingRule};
 
-use crate::xattrmap::{Side, XattrMap};
+use crate::xattrmap::{Side, XattrMap, XattrMapRef};
 use std::alloc::Allocator;
 
 impl<A: Allocator> XattrMap<A> {
@@ -16,11 +18,21 @@ impl<A: Allocator> XattrMap<A> {
     pub fn is_terminated(&self) -> bool
         ensures { IsTrue result ↔ Terminated self.now }
     {
-        if self.deciding(Side::Client, b"").is_none() {
+        self.as_ref().is_terminated()
+    }
+}
+
+impl XattrMapRef<'_> {
+    /// Whether no name is ever left without a rule, as [`XattrMap::is_terminated`] says it.
+    pub(crate) fn is_terminated(self) -> bool
+        ensures { (rules : List MappingRule) → IsMapOf rules self.entry
+            → IsTrue result ↔ Terminated rules }
+    {
+        if !self.is_decided(Side::Client, b"") {
             return false;
         }
         for byte in 1..=u8::MAX {
-            if self.deciding(Side::Server, &[byte]).is_none() {
+            if !self.is_decided(Side::Server, &[byte]) {
                 return false;
             }
         }

@@ -3,14 +3,14 @@ ghost use Rattle.std.specs.Prelude.{◌↔◌, ◌≤◌, All, IsTrue, MatchResu
 ghost use Rattle.virtiofs_map.specs.Mapping.{entry_of};
 ghost use Rattle.virtiofs_map.specs.Build.{Accepted, Fits, HasFirstFault, build_fault_of};
 ghost use Rattle.virtiofs_map.specs.BuildParts.{EntryMeets, EntryMeetsEarlier, IsFaultHere};
+ghost use Rattle.virtiofs_map.specs.Image.{IsImage};
 ghost use Rattle.virtiofs_map.specs.RangeParts.{PlacesInOrder, ArePlaced, HasRoom, HasRoomBothWays, IsLongestAccepted};
 ghost use Rattle.virtiofs_map.specs.Refusal.{OutOfMemoryOr};
-ghost use Rattle.virtiofs_map.specs.WordParts.{IsOfWords};
 ghost use Rattle.virtiofs_map.specs.declared.soft_idmap.entry.Direction.TheVariants.{GuestToHost, HostToGuest};
 
 use super::entry::{Entry, entry_of};
 use super::placed::{Placed, keep_apart, place};
-use super::words::Words;
+use super::write::write_words;
 use super::{Direction, IdMapBuildError, RangeEnd};
 use crate::cmdline::IdMap;
 use std::alloc::Allocator;
@@ -177,12 +177,13 @@ pub(crate) fn placed_both<A: Allocator + Copy>(
 pub(crate) fn words_of<A: Allocator + Copy>(
     alloc: A,
     specs: &[IdMap],
-) -> Result<Words<A>, IdMapBuildError>
+) -> Result<Vec<u32, A>, IdMapBuildError>
     ensures { MatchResult result
-        (IsOfWords specs.now)
+        (λ words. IsImage specs.now words.items)
         (λ e. OutOfMemoryOr (build_fault_of e) (HasFirstFault specs.now)) }
 {
     let (guests, hosts) = placed_both(alloc, specs)?;
-    let words = Words::of(alloc, &guests, &hosts)?;
+    let mut words = Vec::from_elem(alloc, 0, 3 + 4 * guests.len() + 4 * hosts.len())?;
+    write_words(&mut words, &guests, &hosts);
     Ok(words)
 }

@@ -1,7 +1,8 @@
 //! A map of ids as plain numbers: an image, which any number of threads may read at once.
 //!
-//! [`write_image`] writes an image into the caller's memory, and [`look_up`] only reads it. What
-//! the numbers mean is private, and may change with the version of the library.
+//! [`write_image`] writes an image into the caller's memory, and [`look_up`] only reads it. As a
+//! map it is an [`IdMapRef`]. What the numbers mean is private, and may change with the version of
+//! the library.
 ghost use Rattle.std.specs.Prelude.{◌≡◌, ℕ, ◌+◌, ◌*◌, ◌≤◌, List, length, min, Option, IfOk, IfErr, OnOk, OnErr};
 ghost use Rattle.std.specs.Prelude.{MatchResult, ⊤};
 ghost use Rattle.virtiofs_map.specs.Build.{Accepted, BuildFault, HasFirstFault, build_fault_of};
@@ -14,7 +15,7 @@ ghost use Rattle.virtiofs_map.specs.declared.cmdline.IdMap.{IdMap as Specificati
 
 use super::build::placed_both;
 pub use super::row::Answer;
-use super::words::image_ranges;
+use super::words::IdMapRef;
 use super::write::write_words;
 use super::{Direction, IdMapBuildError, lookup};
 use crate::Steps;
@@ -79,8 +80,8 @@ pub fn look_up(words: &[u32], direction: Direction, n: u32) -> Answer
         → IsMappedBothWays specs direction n → SaysLeadsBack specs direction n result }
     ensures no_image { (¬ HasKind words.now) → result ≡ Answer.NoImage }
 {
-    let Some(ranges) = image_ranges(words, direction) else {
+    let Some(map) = IdMapRef::of(words) else {
         return Answer::NoImage;
     };
-    lookup::look_up(&ranges, n, &mut Steps::new())
+    lookup::look_up(&map.ranges(direction), n, &mut Steps::new())
 }

@@ -4,37 +4,38 @@
 //! are from guest to host, and the third how many from host to guest. Then come the first numbers
 //! of the ranges from guest to host, in order, and of those from host to guest: a search reads
 //! these alone. The rows of the ranges follow, in the same order (`row.rt`).
-ghost use Rattle.std.specs.Prelude.{◌≡◌, ◌+◌, ◌*◌, ◌-◌, ◌<◌, ◌≤◌, List, [], length, slice_index, IfOk, IfSome, IsSome};
-ghost use Rattle.virtiofs_map.specs.Build.{Accepted, HasTarget};
+ghost use Rattle.std.specs.Prelude.{◌≡◌, ◌+◌, ◌<◌, ◌≤◌, List, slice_index, IfSome, IsSome};
+ghost use Rattle.virtiofs_map.specs.Build.{HasTarget};
 ghost use Rattle.virtiofs_map.specs.Image.{HasKind, IsImage};
-ghost use Rattle.virtiofs_map.specs.RangeParts.{HasNumbers, PlacesInOrder};
+ghost use Rattle.virtiofs_map.specs.RangeParts.{HasNumbers};
 ghost use Rattle.virtiofs_map.specs.Steps.{count_after};
-ghost use Rattle.virtiofs_map.specs.WordParts.{Table, IsTable, IsAt, HasWords, table_in, IsOfWords, SaysEntry};
+ghost use Rattle.virtiofs_map.specs.WordParts.{Table, IsTable, IsAt, HasWords, words_lent, table_in, SaysEntry};
 ghost use Rattle.virtiofs_map.specs.declared.cmdline.IdMap.{IdMap as Specification};
-ghost use Rattle.virtiofs_map.specs.declared.soft_idmap.entry.Direction.TheVariants.{GuestToHost, HostToGuest};
 ghost use Rattle.virtiofs_map.specs.declared.soft_idmap.entry.Entry.{Entry};
 
 use super::Direction;
 use super::entry::Entry;
-use super::placed::Placed;
 use super::row::{Answer, entry_of_row, ones_if_below, say};
-use super::write::{KIND, write_words};
+use super::write::KIND;
 use crate::Steps;
-use std::alloc::{AllocError, Allocator};
 use std::marker::Model;
 
-/// The words of both directions. The map of no specification may have no word at all.
+/// A map of ids that is lent as words: those of an [`IdMap`](super::IdMap), or words that
+/// [`IdMapRef::of`] takes. In contracts it is its words.
 #[derive(Drop)]
-pub(crate) struct Words<A: Allocator> {
-    items: Vec<u32, A>,
+pub struct IdMapRef<'m> {
+    words: &'m [u32],
 }
 
-impl<A: Allocator> Model for Words<A> {
+impl<'m> Model for IdMapRef<'m> {
     ghost use Rattle.std.specs.Prelude.{List, ℕ};
+    ghost use Rattle.virtiofs_map.specs.WordParts.{HasWords};
 
     ghost Value = { List ℕ };
 
-    ghost view = { λ words. words.items.items };
+    ghost view = { λ map. map.words.now };
+
+    ghost invariant = { λ map. HasWords map.words.now };
 }
 
 /// The ranges of a direction, as they stand in words.
@@ -80,84 +81,60 @@ pub(crate) struct Last {
     place: usize,
 }
 
-impl<A: Allocator> Words<A> {
-    /// No word at all. It takes no memory.
-    pub(crate) fn none(alloc: A) -> Self
-        ensures { result ≡ [] }
+/// The words of the map of no specification, which keeps none.
+static NO_RANGES: [u32; 3] = [KIND, 0, 0];
+
+impl<'m> IdMapRef<'m> {
+    /// The map whose image the words are. `None` if they do not begin with the first word of an
+    /// image of this version, or are too few for the ranges that they announce. Of other words that
+    /// are no image, a map is made that may answer anything.
+    pub fn of(words: &'m [u32]) -> Option<IdMapRef<'m>>
+        ensures kind { IsSome result → HasKind words.now }
+        ensures words { IfSome result (λ map. map ≡ words.now) }
+        ensures image { (specs : List Specification) → IsImage specs words.now → IsSome result }
     {
-        Words {
-            items: Vec::new(alloc),
+        if words.len() < 3 || words[0] != KIND {
+            return None;
         }
+        if words.len() < 3 + 4 * words[1] as usize + 4 * words[2] as usize {
+            return None;
+        }
+        Some(IdMapRef { words })
     }
 
-    /// The words of the entries of both directions.
-    pub(crate) fn of(alloc: A, guests: &[Placed], hosts: &[Placed]) -> Result<Self, AllocError>
-        requires guests { length guests.now < 4294967296 }
-        requires hosts { length hosts.now < 4294967296 }
-        ensures { IfOk result (λ words. (specs : List Specification) → Accepted specs
-            → PlacesInOrder specs GuestToHost guests.now
-            → PlacesInOrder specs HostToGuest hosts.now → IsOfWords specs words) }
+    /// The words of a map that a list of specifications made.
+    pub(crate) fn lent(words: &'m [u32]) -> IdMapRef<'m>
+        requires { HasWords (words_lent words.now) }
+        ensures { result ≡ words_lent words.now }
     {
-        let mut items = Vec::from_elem(alloc, 0, 3 + 4 * guests.len() + 4 * hosts.len())?;
-        write_words(&mut items, guests, hosts);
-        Ok(Words { items })
+        if words.is_empty() {
+            return IdMapRef { words: &NO_RANGES };
+        }
+        IdMapRef { words }
     }
 
     /// The ranges of a direction.
-    pub(crate) fn ranges(&self, direction: Direction) -> Ranges<'_>
-        requires { HasWords self.now }
+    pub(crate) fn ranges(&self, direction: Direction) -> Ranges<'m>
         ensures { result ≡ table_in self.now direction }
     {
-        if self.items.is_empty() {
-            return Ranges {
-                words: &self.items,
+        let words = self.words;
+        let guests = words[1] as usize;
+        let hosts = words[2] as usize;
+        let rows = 3 + guests + hosts;
+        match direction {
+            Direction::GuestToHost => Ranges {
+                words,
                 firsts: 3,
-                rows: 3,
-                count: 0,
-            };
+                rows,
+                count: guests,
+            },
+            Direction::HostToGuest => Ranges {
+                words,
+                firsts: 3 + guests,
+                rows: rows + 3 * guests,
+                count: hosts,
+            },
         }
-        ranges_in(&self.items, direction)
-    }
-}
-
-/// The ranges of a direction, in any words; `None` where these are no image.
-pub(crate) fn image_ranges(words: &[u32], direction: Direction) -> Option<Ranges<'_>>
-    ensures kind { IsSome result → HasKind words.now }
-    ensures ranges { IfSome result (λ ranges. ranges ≡ table_in words.now direction) }
-    ensures image { (specs : List Specification) → IsImage specs words.now → IsSome result }
-{
-    if words.len() < 3 || words[0] != KIND {
-        return None;
-    }
-    if words.len() < 3 + 4 * words[1] as usize + 4 * words[2] as usize {
-        return None;
-    }
-    Some(ranges_in(words, direction))
-}
-
-/// The ranges of a direction, in words that have room for them.
-fn ranges_in(words: &[u32], direction: Direction) -> Ranges<'_>
-    requires some { 1 ≤ length words.now }
-    requires room { 3 + 4 * slice_index words.now 1 + 4 * slice_index words.now 2
-        ≤ length words.now }
-    ensures { result ≡ table_in words.now direction }
-{
-    let guests = words[1] as usize;
-    let hosts = words[2] as usize;
-    let rows = 3 + guests + hosts;
-    match direction {
-        Direction::GuestToHost => Ranges {
-            words,
-            firsts: 3,
-            rows,
-            count: guests,
-        },
-        Direction::HostToGuest => Ranges {
-            words,
-            firsts: 3 + guests,
-            rows: rows + 3 * guests,
-            count: hosts,
-        },
     }
 }
 

@@ -1,11 +1,13 @@
 //! What becomes of a name that the guest uses.
 
-ghost use Rattle.std.specs.Prelude.{◌≡◌};
+ghost use Rattle.std.specs.Prelude.{◌≡◌, ◌++◌, IfOk, IfErr};
+ghost use Rattle.virtiofs_map.specs.LookupAnswers.{meaning, of_no_rule, IsOwned};
+ghost use Rattle.virtiofs_map.specs.Names.{Passes};
 
 use crate::xattrmap::XattrMap;
 use crate::xattrmap::errors::{Error, ErrorKind};
+use crate::xattrmap::image::Decision;
 use crate::xattrmap::names::{XattrName, XattrNameBuf};
-use crate::xattrmap::rules::RuleKind;
 use crate::xattrmap::scopes::Side;
 use std::alloc::{Allocator, Global};
 
@@ -75,9 +77,9 @@ impl<A: Allocator> Eq for PassedName<'_, A> {
 }
 
 impl<A: Allocator + Copy> XattrMap<A> {
-    ghost use Rattle.std.specs.Prelude.{◌↔◌, ◌⊎◌, ◌++◌, IfOk, IfErr, IsSome, IsSomeAnd, slice_get};
-    ghost use Rattle.virtiofs_map.specs.LookupAnswers.{meaning, of_no_rule, IsDecidedBy, IsOwned};
-    ghost use Rattle.virtiofs_map.specs.Names.{client_answer, IsUnterminated, Passes};
+    ghost use Rattle.std.specs.Prelude.{◌↔◌, ◌⊎◌};
+    ghost use Rattle.virtiofs_map.specs.LookupAnswers.{IsDecidedBy};
+    ghost use Rattle.virtiofs_map.specs.Names.{client_answer, IsUnterminated};
     ghost use Rattle.virtiofs_map.specs.Rule.{Okay, Prefix};
 
     /// Finds out what becomes of a name that the guest uses. The first rule decides that acts on
@@ -117,36 +119,30 @@ impl<A: Allocator + Copy> XattrMap<A> {
         ensures memory { result ≡ Err (of_no_rule ErrorKind.OutOfMemory)
             → IsDecidedBy Prefix self.now name.entry.bytes.now }
     {
-        let (found, _) = self.deciding_type(Side::Client, name.bytes);
-        match found {
-            None => Err(Error::from(ErrorKind::UnterminatedMapping)),
-            Some((RuleKind::Okay, _)) => Ok(AppliedRule::Pass(PassedName::Borrowed(name))),
-            Some((RuleKind::Prefix, place)) => self.with_prepend(alloc, place, name),
-            Some((RuleKind::Bad, _)) => Ok(AppliedRule::Deny),
-            Some((RuleKind::Unsupported, _)) => Ok(AppliedRule::Unsupported),
+        let (decision, _) = self.as_ref().decide(Side::Client, name.bytes);
+        match decision {
+            Decision::Undecided | Decision::NoMap => {
+                Err(Error::from(ErrorKind::UnterminatedMapping))
+            }
+            Decision::Okay => Ok(AppliedRule::Pass(PassedName::Borrowed(name))),
+            Decision::Prefix(bytes) => with_prepend(alloc, XattrName { bytes }, name),
+            Decision::Bad => Ok(AppliedRule::Deny),
+            Decision::Unsupported => Ok(AppliedRule::Unsupported),
         }
     }
+}
 
-    /// The name, with the prepend of the rule at a place before it.
-    fn with_prepend<'a>(
-        &self,
-        alloc: A,
-        place: usize,
-        name: XattrName<'a>,
-    ) -> Result<AppliedRule<'a, A>, Error<A>>
-        requires { IsSome (slice_get self.now place) }
-        ensures passes { IfOk result (λ applied. IsSomeAnd (slice_get self.now place) (λ rule.
-            meaning applied ≡ Passes (rule.prepend ++ name.entry.bytes.now))) }
-        ensures owned { IfOk result IsOwned }
-        ensures memory { IfErr result (λ error. error ≡ of_no_rule ErrorKind.OutOfMemory) }
-    {
-        let Some(rule) = self.rule(place) else {
-            unreachable!();
-        };
-        let prepend = XattrName {
-            bytes: rule.prepend,
-        };
-        let name = name.prefixed_with(alloc, prepend)?;
-        Ok(AppliedRule::Pass(PassedName::Owned(name)))
-    }
+/// The name, with a prepend before it.
+fn with_prepend<'a, A: Allocator>(
+    alloc: A,
+    prepend: XattrName<'_>,
+    name: XattrName<'a>,
+) -> Result<AppliedRule<'a, A>, Error<A>>
+    ensures passes { IfOk result (λ applied.
+        meaning applied ≡ Passes (prepend.entry.bytes.now ++ name.entry.bytes.now)) }
+    ensures owned { IfOk result IsOwned }
+    ensures memory { IfErr result (λ error. error ≡ of_no_rule ErrorKind.OutOfMemory) }
+{
+    let name = name.prefixed_with(alloc, prepend)?;
+    Ok(AppliedRule::Pass(PassedName::Owned(name)))
 }

@@ -7,25 +7,24 @@
 //! bytes, and read nothing outside them: bytes that do not begin as an image does are no map.
 
 ghost use Rattle.std.specs.List.{before_first};
-ghost use Rattle.std.specs.Prelude.{◌≡◌, ◌==◌, ◌↔◌, List, IfSome, IsSomeAnd, IsTrue, IsNone};
+ghost use Rattle.std.specs.Prelude.{◌≡◌, ◌+◌, ◌*◌, ◌<◌, ◌≤◌, ◌==◌, ◌↔◌, ℕ, List, length, min, IfNone, IfSome, IsSomeAnd, IsTrue, IsNone};
+ghost use Rattle.std.specs.Str.{IsUtf8, chars};
 ghost use Rattle.virtiofs_map.specs.Audit.{Terminated};
-ghost use Rattle.virtiofs_map.specs.NamesImage.{HasImage, IsImage, IsNoImage, Says, WritesImage};
+ghost use Rattle.virtiofs_map.specs.NamesImage.{HasImage, IsImage, IsNoImage, Says, WritesImage, image_length, longest_image};
 ghost use Rattle.virtiofs_map.specs.Rule.{MappingRule};
+ghost use Rattle.virtiofs_map.specs.RuleText.{SaysRules};
 
 mod fill;
-mod header;
+pub(crate) mod header;
 mod list;
-mod made;
-pub(crate) mod parts;
-mod stored;
-mod write;
+pub(crate) mod stored;
+pub(crate) mod write;
 
-use crate::xattrmap::XattrMap;
 use crate::xattrmap::scopes::Side;
+use crate::xattrmap::{XattrMap, XattrMapRef};
+use fill::put;
 pub use list::write_list;
-use parts::Parts;
 use std::alloc::Allocator;
-use write::{places_of, write_parts};
 
 /// What an image decides for a name.
 #[derive(Clone, Copy, PartialEq, Eq, Debug)]
@@ -70,15 +69,26 @@ pub enum ListWritten {
     NoRoom(usize),
 }
 
+/// The most bytes that the image of a map has that was read from a text of that many bytes.
+///
+/// If the result does not fit into `usize`, it is [`usize::MAX`]. No text can be that long.
+pub fn most_bytes(text_len: usize) -> usize
+    ensures value { result ≡ min (512 + 64 * text_len) 18446744073709551615 }
+    ensures enough { (text : List ℕ) (rules : List MappingRule) → IsUtf8 text
+        → SaysRules (chars text) rules → length text ≤ text_len
+        → min (image_length rules) 18446744073709551615 ≤ result }
+{
+    text_len.saturating_mul(64).saturating_add(512)
+}
+
 impl<A: Allocator> XattrMap<A> {
     /// How many bytes an image of the map has; `None` if these are more than an image may have,
     /// which is 281474976710655.
     pub fn image_len(&self) -> Option<usize>
-        ensures { IfSome result (HasImage self.now) }
+        ensures count { IfSome result (HasImage self.now) }
+        ensures none { IfNone result (longest_image < image_length self.now) }
     {
-        let (client, server) = (self.client.as_slice(), self.server.as_slice());
-        let places = places_of(client, server, &self.rules)?;
-        Some(places.end)
+        Some(self.bytes.len())
     }
 
     /// Writes an image of the map to the beginning of `out`, and leaves the rest unchanged. It does
@@ -86,15 +96,12 @@ impl<A: Allocator> XattrMap<A> {
     pub fn write_image(&self, out: &mut [u8]) -> ImageWritten
         ensures { WritesImage self.now out.old out.new result }
     {
-        let (client, server) = (self.client.as_slice(), self.server.as_slice());
-        let Some(places) = places_of(client, server, &self.rules) else {
-            return ImageWritten::TooLong;
-        };
-        if out.len() < places.end {
-            return ImageWritten::NoRoom(places.end);
+        let image = self.bytes.as_slice();
+        if out.len() < image.len() {
+            return ImageWritten::NoRoom(image.len());
         }
-        write_parts(client, server, &self.rules, places, out);
-        ImageWritten::Written(places.end)
+        put(out, 0, image);
+        ImageWritten::Written(image.len())
     }
 }
 
@@ -111,9 +118,9 @@ pub fn decide<'m>(image: &'m [u8], side: Side, name: &[u8]) -> Decision<'m>
     ensures before_zero { (rules : List MappingRule) → IsImage rules image.now
         → Says side rules (before_first (λ byte. byte == 0) name.now) result }
 {
-    match Parts::of(image, side) {
-        Some(parts) => {
-            let (decision, _) = parts.decide(name);
+    match XattrMapRef::of(image) {
+        Some(map) => {
+            let (decision, _) = map.decide(side, name);
             decision
         }
         None => Decision::NoMap,
@@ -122,27 +129,11 @@ pub fn decide<'m>(image: &'m [u8], side: Side, name: &[u8]) -> Decision<'m>
 
 /// Whether no name is ever left without a rule; `None` if the bytes do not begin as an image does.
 /// For other bytes that are no image, the result has no meaning. It does not allocate.
-///
-/// A rule that fits a name fits all names that start with it. So it is enough to look up the empty
-/// name for the guest, and the names of one byte for the host, whose names are not empty.
 pub fn is_terminated(image: &[u8]) -> Option<bool>
     ensures closed { IsNoImage image.now → IsNone result }
     ensures terminated { (rules : List MappingRule) → IsImage rules image.now
         → IsSomeAnd result (λ terminated. IsTrue terminated ↔ Terminated rules) }
 {
-    let Some(client) = Parts::of(image, Side::Client) else {
-        return None;
-    };
-    let Some(server) = Parts::of(image, Side::Server) else {
-        return None;
-    };
-    if !client.is_decided(b"") {
-        return Some(false);
-    }
-    for byte in 1..=u8::MAX {
-        if !server.is_decided(&[byte]) {
-            return Some(false);
-        }
-    }
-    Some(true)
+    let map = XattrMapRef::of(image)?;
+    Some(map.is_terminated())
 }

@@ -2,20 +2,21 @@
 //! without copying, and the list that the guest gets.
 
 ghost use Rattle.std.specs.List.{before_first, after_first};
-ghost use Rattle.std.specs.Option.{option_map};
 ghost use Rattle.std.specs.Prelude.{◌≡◌, ◌≢◌, ◌==◌, ◌⊎◌, ◌+◌, ◌<◌, ◌≤◌, ℕ, List, [], ◌∷◌, ◌++◌, None, Some, length};
-ghost use Rattle.std.specs.Prelude.{take, drop, slice_get, position, vec_len, All, IfOk, IfErr, IsErr, OnOk, IfSome};
-ghost use Rattle.std.specs.Prelude.{IsSome, IsSomeAnd, MatchOption, MatchResult};
+ghost use Rattle.std.specs.Prelude.{take, position, vec_len, All, IfOk, IfErr, IsErr, OnOk, MatchResult};
 ghost use Rattle.virtiofs_map.specs.Listing.{listing, list_of};
 ghost use Rattle.virtiofs_map.specs.LookupAnswers.{of_no_rule};
 ghost use Rattle.virtiofs_map.specs.MapRule.{KeepsGuestsApart};
-ghost use Rattle.virtiofs_map.specs.Names.{IsListed, IsHidden, IsUndecided, deciding, host_answer, server_answer};
-ghost use Rattle.virtiofs_map.specs.RuleParts.{type_of};
+ghost use Rattle.virtiofs_map.specs.Names.{host_answer, server_answer};
+ghost use Rattle.virtiofs_map.specs.NamesImage.{IsMapOf, Says};
+ghost use Rattle.virtiofs_map.specs.NamesImageParts.{IsFirstSeen, IsSeenAs, seen_length};
+ghost use Rattle.virtiofs_map.specs.Rule.{MappingRule};
+ghost use Rattle.virtiofs_map.specs.declared.xattrmap.scopes.Side.TheVariants.{Server};
 
-use crate::xattrmap::XattrMap;
 use crate::xattrmap::errors::{Error, ErrorKind};
-use crate::xattrmap::rules::RuleKind;
+use crate::xattrmap::image::Decision;
 use crate::xattrmap::scopes::Side;
+use crate::xattrmap::{XattrMap, XattrMapRef};
 use std::alloc::{Allocator, Global};
 use std::iter::FusedIterator;
 use std::marker::Model;
@@ -49,45 +50,61 @@ pub(crate) fn cut_name(list: &[u8], passed: usize) -> (&[u8], &[u8])
     }
 }
 
+/// What the guest sees of a name of the host. `NoMap`: the bytes of the map are no image.
+#[derive(Clone, Copy)]
+pub(crate) enum Seen<'n> {
+    NoMap,
+    Undecided,
+    Hidden,
+    Listed(&'n [u8]),
+}
+
+/// What the guest sees of a name of the host, by what decides it. What is listed is no longer than
+/// the name.
+#[inline(always)]
+fn seen_as<'n>(decision: Decision<'_>, name: &'n [u8]) -> Seen<'n>
+    ensures seen { (rules : List MappingRule) → Says Server rules name.now decision.entry
+        → IsSeenAs (host_answer rules name.now) result }
+    ensures short { seen_length result ≤ length name.now }
+{
+    match decision {
+        Decision::NoMap => Seen::NoMap,
+        Decision::Undecided => Seen::Undecided,
+        Decision::Okay => Seen::Listed(name),
+        Decision::Prefix(prepend) => {
+            if prepend.len() <= name.len() {
+                Seen::Listed(&name[prepend.len()..])
+            } else {
+                Seen::NoMap
+            }
+        }
+        Decision::Bad => Seen::Hidden,
+        Decision::Unsupported => Seen::Hidden,
+    }
+}
+
+impl XattrMapRef<'_> {
+    /// What the guest sees of the first name of a list, and the rest of the list. An empty name is
+    /// no name, and hidden.
+    #[inline(always)]
+    pub(crate) fn first_seen<'n>(self, list: &'n [u8]) -> (Seen<'n>, &'n [u8])
+        ensures first { (rules : List MappingRule) → IsMapOf rules self.entry
+            → IsFirstSeen rules list.now result.0 result.1.now }
+        ensures shorter { 0 < length list.now → length result.1.now < length list.now }
+        ensures within { seen_length result.0 + length result.1.now ≤ length list.now }
+        ensures zero { 0 < length result.1.now
+            → seen_length result.0 + length result.1.now < length list.now }
+    {
+        let (decision, passed) = self.decide(Side::Server, list);
+        let (name, rest) = cut_name(list, passed);
+        if name.is_empty() {
+            return (Seen::Hidden, rest);
+        }
+        (seen_as(decision, name), rest)
+    }
+}
+
 impl<A: Allocator> XattrMap<A> {
-    /// A name of the host without the prepend of the rule at a place, which decides it.
-    fn without_prepend<'n>(&self, place: usize, name: &'n [u8]) -> &'n [u8]
-        requires some { IsSome (slice_get self.now place) }
-        requires decides { deciding Side.Server self.now name.now ≡ slice_get self.now place }
-        ensures { IsSomeAnd (slice_get self.now place) (λ rule.
-            result.now ≡ drop (length rule.prepend) name.now) }
-    {
-        match self.rule(place) {
-            Some(rule) => &name[rule.prepend.len()..],
-            None => unreachable!(),
-        }
-    }
-
-    /// What the guest sees of a name of the host, by the type and the place of the rule that decides
-    /// it: `None` where it is hidden.
-    fn listed_as<'n>(
-        &self,
-        found: Option<(RuleKind, usize)>,
-        name: &'n [u8],
-    ) -> Result<Option<&'n [u8]>, ErrorKind<A>>
-        requires kind { option_map (λ rule. rule.kind) (deciding Side.Server self.now name.now)
-            ≡ option_map (λ found. type_of found.0) found }
-        requires place { IfSome found (λ found.
-            deciding Side.Server self.now name.now ≡ slice_get self.now found.1) }
-        ensures decided { IfOk result (λ shown. MatchOption shown
-            (host_answer self.now name.now ≡ IsHidden)
-            (λ listed. host_answer self.now name.now ≡ IsListed listed.now)) }
-        ensures undecided { IfErr result (λ _. host_answer self.now name.now ≡ IsUndecided) }
-        ensures error { IfErr result (λ cause. cause ≡ ErrorKind.UnterminatedMapping) }
-    {
-        match found {
-            None => Err(ErrorKind::UnterminatedMapping),
-            Some((RuleKind::Okay, _)) => Ok(Some(name)),
-            Some((RuleKind::Prefix, place)) => Ok(Some(self.without_prepend(place, name))),
-            Some((RuleKind::Bad | RuleKind::Unsupported, _)) => Ok(None),
-        }
-    }
-
     /// Iterates over the names of the host's list that the guest may see, in order. Each item is
     /// the name as the guest sees it, without a terminating zero. In the list, a zero follows each
     /// name; the last name needs none, and empty names are ignored.
@@ -151,18 +168,14 @@ impl<'m, 'a, A: Allocator> Iterator for ListedNames<'m, 'a, A> {
 
     fn next(&mut self) -> Option<Result<&'a [u8], Error<A>>> {
         'names: while !self.rest.is_empty() {
-            let (found, passed) = self.map.deciding_type(Side::Server, self.rest);
-            let (name, rest) = cut_name(self.rest, passed);
+            let (seen, rest) = self.map.as_ref().first_seen(self.rest);
             self.rest = rest;
-            if name.is_empty() {
-                continue;
-            }
-            match self.map.listed_as(found, name) {
-                Ok(Some(listed)) => return Some(Ok(listed)),
-                Ok(None) => {}
-                Err(cause) => {
+            match seen {
+                Seen::Listed(listed) => return Some(Ok(listed)),
+                Seen::Hidden => {}
+                Seen::Undecided | Seen::NoMap => {
                     self.rest = &[];
-                    return Some(Err(Error::from(cause)));
+                    return Some(Err(Error::from(ErrorKind::UnterminatedMapping)));
                 }
             }
         }

@@ -178,6 +178,5 @@ pub(crate) fn read_rules<A: Allocator + Copy>(
     if rules.is_empty() {
         return Err(Error::from(ErrorKind::NoRulesProvided));
     }
-    rules.trim();
     Ok((rules, number))
 }

@@ -1,17 +1,18 @@
-//! The rules of a map, as lookups use them. Each `map` rule stands as the two or three rules that
-//! it is short for. The patterns of all rules stand in one memory.
+//! The rules of a text, as they are read before a map is made of them. Each `map` rule stands as the
+//! two or three rules that it is short for. The patterns of all rules stand in one memory.
 
 ghost use Rattle.std.specs.Option.{option_map};
-ghost use Rattle.std.specs.Prelude.{◌≡◌, ◌<◌, ◌==◌, ℕ, List, ◌++◌, ◌∷◌, [], length, slice_get, IfOk, IsSomeAnd};
+ghost use Rattle.std.specs.Prelude.{◌≡◌, ◌+◌, ◌<◌, ◌==◌, ℕ, List, ◌++◌, ◌∷◌, [], length, slice_get, IfOk, IsSomeAnd};
 ghost use Rattle.std.specs.Prelude.{MatchOption, OnOk};
 ghost use Rattle.virtiofs_map.specs.BranchParts.{AreSpans, IsSpan};
 ghost use Rattle.virtiofs_map.specs.FirstRule.{acts, pattern};
-ghost use Rattle.virtiofs_map.specs.Rule.{MappingRule, same_rule, same_rules};
+ghost use Rattle.virtiofs_map.specs.NamesImage.{pattern_bytes};
+ghost use Rattle.virtiofs_map.specs.Rule.{MappingRule, same_rule};
 ghost use Rattle.virtiofs_map.specs.RuleParts.{rule_meant, rule_with};
 
 use crate::xattrmap::scopes::{Scope, Side};
 use crate::xattrmap::spans::Span;
-use std::alloc::{AllocError, Allocator, Global};
+use std::alloc::{AllocError, Allocator};
 use std::marker::Model;
 
 /// What a rule does with the names that it decides.
@@ -81,7 +82,7 @@ impl<'m> RuleRef<'m> {
     }
 
     /// Whether the two rules are the same.
-    fn is_same(self, other: RuleRef<'_>) -> bool
+    pub(crate) fn is_same(self, other: RuleRef<'_>) -> bool
         ensures { result ≡ same_rule (rule_meant self.entry) (rule_meant other.entry) }
     {
         self.kind == other.kind
@@ -93,7 +94,7 @@ impl<'m> RuleRef<'m> {
 }
 
 /// A rule as it is kept.
-#[derive(Clone, Copy, Debug)]
+#[derive(Clone, Copy)]
 pub(crate) struct RuleEntry {
     kind: RuleKind,
     scope: Scope,
@@ -103,16 +104,15 @@ pub(crate) struct RuleEntry {
 /// The rules in order. A contract sees them as their list, the bytes of all patterns, and where
 /// those of each rule stand among them.
 #[derive(Drop)]
-#[derive_where(Debug)]
-pub(crate) struct Rules<A: Allocator = Global> {
+pub(crate) struct Rules<A: Allocator> {
     /// The patterns, one after the other.
     bytes: Vec<u8, A>,
     entries: Vec<RuleEntry, A>,
 }
 
 impl<A: Allocator> Model for Rules<A> {
-    ghost use Rattle.std.specs.Prelude.{All, map};
-    ghost use Rattle.virtiofs_map.specs.RuleParts.{KeptRules, IsAmong, rule_kept};
+    ghost use Rattle.std.specs.Prelude.{map};
+    ghost use Rattle.virtiofs_map.specs.RuleParts.{AreKept, KeptRules, rule_kept};
 
     ghost Value = { KeptRules };
 
@@ -122,7 +122,7 @@ impl<A: Allocator> Model for Rules<A> {
       spans = map (λ entry. entry.span) rules.entries.items;
     } };
 
-    ghost invariant = { λ rules. All (IsAmong rules.bytes.items) rules.entries.items };
+    ghost invariant = { λ rules. AreKept rules.bytes.items rules.entries.items };
 }
 
 impl<A: Allocator> Rules<A> {
@@ -159,6 +159,7 @@ impl<A: Allocator> Rules<A> {
     pub(crate) fn bytes(&self) -> &[u8]
         ensures bytes { result.now ≡ self.now.bytes }
         ensures spans { AreSpans self.now.bytes self.now.list self.now.spans }
+        ensures whole { length self.now.bytes ≡ pattern_bytes self.now.list }
     {
         self.bytes.as_slice()
     }
@@ -175,24 +176,6 @@ impl<A: Allocator> Rules<A> {
         Some(entry.span)
     }
 
-    /// Whether the rules are the same, one by one.
-    pub(crate) fn are_same(&self, other: &Rules<A>) -> bool
-        ensures { result ≡ same_rules self.now.list other.now.list }
-    {
-        if self.len() != other.len() {
-            return false;
-        }
-        for place in 0..self.len() {
-            let (Some(one), Some(other)) = (self.get(place), other.get(place)) else {
-                return false;
-            };
-            if !one.is_same(other) {
-                return false;
-            }
-        }
-        true
-    }
-
     /// Appends a rule.
     pub(crate) fn push(
         &mut self,
@@ -204,17 +187,16 @@ impl<A: Allocator> Rules<A> {
         ensures { OnOk result (self.new.list
             ≡ self.old.list ++ rule_with kind scope key.now prepend.now ∷ []) }
     {
-        let span = push_patterns(&mut self.bytes, key, prepend)?;
-        self.entries.push(RuleEntry { kind, scope, span })?;
+        let start = self.bytes.len();
+        let Ok(span) = push_patterns(&mut self.bytes, key, prepend) else {
+            self.bytes.truncate(start);
+            return Err(AllocError);
+        };
+        let Ok(()) = self.entries.push(RuleEntry { kind, scope, span }) else {
+            self.bytes.truncate(start);
+            return Err(AllocError);
+        };
         Ok(())
-    }
-
-    /// Gives back the memory that no rule needs.
-    pub(crate) fn trim(&mut self)
-        ensures { self.new ≡ self.old }
-    {
-        self.bytes.shrink_to_fit();
-        self.entries.shrink_to_fit();
     }
 }
 
@@ -228,16 +210,6 @@ impl<A: Allocator + Copy> Rules<A> {
             entries: Vec::new(alloc),
         }
     }
-
-    /// The same rules, in memory of their own.
-    pub(crate) fn copied(&self, alloc: A) -> Result<Rules<A>, AllocError>
-        ensures { IfOk result (λ rules. rules ≡ self.now) }
-    {
-        Ok(Rules {
-            bytes: Vec::from_slice(alloc, self.bytes.as_slice())?,
-            entries: Vec::from_slice(alloc, self.entries.as_slice())?,
-        })
-    }
 }
 
 /// Appends the patterns of a rule. Where memory is refused, a part of them may have been appended.
@@ -247,6 +219,8 @@ fn push_patterns<A: Allocator>(
     prepend: &[u8],
 ) -> Result<Span, AllocError>
     ensures more { (more : List ℕ) × (bytes.new.items ≡ bytes.old.items ++ more) }
+    ensures longer { OnOk result (length bytes.new.items
+        ≡ length bytes.old.items + length key.now + length prepend.now) }
     ensures span { IfOk result (λ span. (rule : MappingRule) → rule.key ≡ key.now
         → rule.prepend ≡ prepend.now → IsSpan bytes.new.items rule span) }
 {

@@ -1,7 +1,7 @@
 //! Where the patterns of rules stand among the bytes of all of them.
 
 /// Where the patterns of a rule stand.
-#[derive(Clone, Copy, Debug)]
+#[derive(Clone, Copy)]
 pub(crate) struct Span {
     /// Where the key begins.
     pub(crate) key: usize,

@@ -1,23 +1,27 @@
 //! What lookups of names and audits tell C.
-ghost use Rattle.std.specs.Prelude.{◌≡◌, false, MatchResult};
+ghost use Rattle.std.specs.List.{before_first};
+ghost use Rattle.std.specs.Prelude.{◌≡◌, ◌==◌, false, MatchResult};
 ghost use Rattle.virtiofs_map_c.specs.Codes.{no_memory};
 ghost use Rattle.virtiofs_map_c.specs.Names.{TellsDecision, TellsFound, TellsNo};
 
 use crate::buffer::{nothing, write, write_joined};
+use crate::bytes::before_zero;
 use crate::codes::{AS_IT_IS, DENIED, NO_MAP, NO_MEMORY, OK, UNSUPPORTED, UNTERMINATED};
 use std::alloc::AllocError;
 use virtiofs_map::audit::Audit;
 use virtiofs_map::xattrmap::image::Decision;
 
-/// Tells what becomes of a name that the guest asks for.
+/// Tells what becomes of a name that the guest asks for, which stands before the first zero.
+#[inline(always)]
 pub fn tell_client(decision: Decision<'_>, name: &[u8], out: &mut [u8], len: &mut usize) -> u32
-    ensures { TellsDecision decision.entry name.now out.old result len.new out.new }
+    ensures { TellsDecision decision.entry (before_first (λ byte. byte == 0) name.now)
+        out.old result len.new out.new }
 {
     match decision {
         Decision::NoMap => nothing(NO_MAP, len),
         Decision::Undecided => nothing(UNTERMINATED, len),
         Decision::Okay => nothing(AS_IT_IS, len),
-        Decision::Prefix(prepend) => write_joined(prepend, name, out, len),
+        Decision::Prefix(prepend) => write_joined(prepend, before_zero(name), out, len),
         Decision::Bad => nothing(DENIED, len),
         Decision::Unsupported => nothing(UNSUPPORTED, len),
     }

@@ -1,6 +1,7 @@
 //! What calls on values tell C.
 ghost use Rattle.std.specs.Prelude.{◌≡◌};
-ghost use Rattle.virtiofs_map_c.specs.Values.{value_told, version_told, acl_told, acl_code, capability_told, capability_code, entry_kind, IsAclTold, IsCapabilityTold, IsAnswerTold};
+ghost use Rattle.virtiofs_map_c.specs.Codes.{no_map};
+ghost use Rattle.virtiofs_map_c.specs.Values.{value_told, version_told, acl_told, acl_code, capability_told, capability_code, entry_kind, IsAclTold, IsCapabilityTold, IsCode, IsAnswerTold};
 
 use crate::buffer::Quoted;
 use crate::codes::{
@@ -10,15 +11,22 @@ use crate::codes::{
 use crate::fault::Fault;
 use virtiofs_map::acl::{AclError, CapabilityError, EntryFault};
 
+/// Tells that words are no map.
+pub fn tell_no_map(fault: &mut Fault) -> u32
+    ensures { IsCode no_map result fault.new }
+{
+    *fault = Fault::none();
+    NO_MAP
+}
+
 /// Tells what became of a list, for which room was lent for that many entries.
-pub fn tell_acl(answer: Option<Result<(), AclError>>, lent: usize, fault: &mut Fault) -> u32
+pub fn tell_acl(answer: Result<(), AclError>, lent: usize, fault: &mut Fault) -> u32
     ensures { IsAnswerTold (IsAclTold lent) answer result fault.new }
 {
     *fault = Fault::none();
     match answer {
-        None => NO_MAP,
-        Some(Ok(())) => OK,
-        Some(Err(error)) => {
+        Ok(()) => OK,
+        Err(error) => {
             *fault = told_of_acl(error, lent);
             code_of_acl(error)
         }
@@ -26,14 +34,13 @@ pub fn tell_acl(answer: Option<Result<(), AclError>>, lent: usize, fault: &mut F
 }
 
 /// Tells what became of a capability.
-pub fn tell_capability(answer: Option<Result<(), CapabilityError>>, fault: &mut Fault) -> u32
+pub fn tell_capability(answer: Result<(), CapabilityError>, fault: &mut Fault) -> u32
     ensures { IsAnswerTold IsCapabilityTold answer result fault.new }
 {
     *fault = Fault::none();
     match answer {
-        None => NO_MAP,
-        Some(Ok(())) => OK,
-        Some(Err(error)) => {
+        Ok(()) => OK,
+        Err(error) => {
             *fault = told_of_capability(error);
             code_of_capability(error)
         }

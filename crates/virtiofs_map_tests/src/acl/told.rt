@@ -1,18 +1,18 @@
 //! What the calls make of values, by maps and by their images.
 
-use crate::common::{specs_of, users_of};
+use crate::common::{map_of, users_of};
 use crate::soft_idmap::image_of;
 use std::alloc::{AllocError, Global};
 use std::process::Abort;
 use std::test::Fail;
-use virtiofs_map::acl::image::{translate_acl, translate_capability, write_revision_3};
 use virtiofs_map::acl::{
     AclError, CapabilityError, EntryRoom, acl_to_guest, acl_to_host, capability_to_guest,
     capability_to_guest_in_revision_3, capability_to_host, capability_to_host_in_revision_3,
+    translate_acl, translate_capability, write_revision_3,
 };
 use virtiofs_map::id_types::{GuestGid, HostGid};
 use virtiofs_map::soft_idmap::Direction::{self, GuestToHost, HostToGuest};
-use virtiofs_map::soft_idmap::IdMap;
+use virtiofs_map::soft_idmap::{IdMap, IdMapRef};
 
 /// The specifications of users and of groups, with a bar between each two.
 #[derive(Clone, Copy)]
@@ -46,23 +46,42 @@ pub(super) fn check_list(
     to: &[u8],
     refusal: Option<AclError>,
 ) -> Result<(), Fail> {
-    let users = users_of(alloc, maps.users).ok_or("no map")?;
-    let specs = specs_of(alloc, maps.groups).ok_or("no specification")?;
-    let groups: IdMap<GuestGid, HostGid> = IdMap::try_from(alloc, specs)?;
-    let mut room = [EntryRoom::new(); 16];
     let mut value = from.to_vec(alloc)?;
-    let done = match direction {
-        GuestToHost => acl_to_host(&users, &groups, value.as_mut_slice(), &mut room),
-        HostToGuest => acl_to_guest(&users, &groups, value.as_mut_slice(), &mut room),
-    };
-    assert!(rt; value.as_slice() == to && done.err() == refusal, "{from:?}");
-    let users = image_of(alloc, maps.users)?;
-    let groups = image_of(alloc, maps.groups)?;
+    let told = list_by_maps(alloc, maps, direction, &mut value)?;
+    assert!(rt; value.as_slice() == to && told == refusal, "{from:?}");
     let mut value = from.to_vec(alloc)?;
-    let done = translate_acl(&users, &groups, direction, value.as_mut_slice(), &mut room);
-    let told = done.ok_or("no image")?.err();
+    let told = list_by_images(alloc, maps, direction, &mut value)?;
     assert!(rt; value.as_slice() == to && told == refusal, "{from:?}");
     Ok(())
+}
+
+fn list_by_maps(
+    alloc: Global,
+    maps: Maps,
+    direction: Direction,
+    value: &mut [u8],
+) -> Result<Option<AclError>, Fail> {
+    let users = users_of(alloc, maps.users).ok_or("no map")?;
+    let groups: IdMap<GuestGid, HostGid> = map_of(alloc, maps.groups).ok_or("no map")?;
+    let mut room = [EntryRoom::new(); 16];
+    let done = match direction {
+        GuestToHost => acl_to_host(&users, &groups, value, &mut room),
+        HostToGuest => acl_to_guest(&users, &groups, value, &mut room),
+    };
+    Ok(done.err())
+}
+
+fn list_by_images(
+    alloc: Global,
+    maps: Maps,
+    direction: Direction,
+    value: &mut [u8],
+) -> Result<Option<AclError>, Fail> {
+    let (users, groups) = (image_of(alloc, maps.users)?, image_of(alloc, maps.groups)?);
+    let users = IdMapRef::of(&users).ok_or("no image")?;
+    let groups = IdMapRef::of(&groups).ok_or("no image")?;
+    let mut room = [EntryRoom::new(); 16];
+    Ok(translate_acl(&users, &groups, direction, value, &mut room).err())
 }
 
 /// Sees that a capability becomes another, or stays where it is refused: by a map and by an image.
@@ -75,18 +94,38 @@ pub(super) fn check_capability(
     to: &[u8],
     refusal: Option<CapabilityError>,
 ) -> Result<(), Fail> {
-    let map = users_of(alloc, users).ok_or("no map")?;
     let mut value = from.to_vec(alloc)?;
-    let done = match direction {
-        GuestToHost => capability_to_host(&map, value.as_mut_slice()),
-        HostToGuest => capability_to_guest(&map, value.as_mut_slice()),
-    };
-    assert!(rt; value.as_slice() == to && done.err() == refusal, "{from:?}");
-    let image = image_of(alloc, users)?;
+    let told = capability_by_map(alloc, users, direction, &mut value)?;
+    assert!(rt; value.as_slice() == to && told == refusal, "{from:?}");
     let mut value = from.to_vec(alloc)?;
-    let done = translate_capability(&image, direction, value.as_mut_slice()).ok_or("no image")?;
-    assert!(rt; value.as_slice() == to && done.err() == refusal, "{from:?}");
+    let told = capability_by_image(alloc, users, direction, &mut value)?;
+    assert!(rt; value.as_slice() == to && told == refusal, "{from:?}");
     Ok(())
+}
+
+fn capability_by_map(
+    alloc: Global,
+    users: &str,
+    direction: Direction,
+    value: &mut [u8],
+) -> Result<Option<CapabilityError>, Fail> {
+    let map = users_of(alloc, users).ok_or("no map")?;
+    let done = match direction {
+        GuestToHost => capability_to_host(&map, value),
+        HostToGuest => capability_to_guest(&map, value),
+    };
+    Ok(done.err())
+}
+
+fn capability_by_image(
+    alloc: Global,
+    users: &str,
+    direction: Direction,
+    value: &mut [u8],
+) -> Result<Option<CapabilityError>, Fail> {
+    let words = image_of(alloc, users)?;
+    let map = IdMapRef::of(&words).ok_or("no image")?;
+    Ok(translate_capability(&map, direction, value).err())
 }
 
 /// Sees that a capability is written in revision 3 as another, or that nothing is written over the
@@ -100,22 +139,40 @@ pub(super) fn check_written(
     to: &[u8],
     refusal: Option<CapabilityError>,
 ) -> Result<(), Fail> {
+    let (written, told) = written_by_map(alloc, users, direction, from)?;
+    assert!(rt; written.as_slice() == to && told == refusal, "{from:?}");
+    let (written, told) = written_by_image(alloc, users, direction, from)?;
+    assert!(rt; written.as_slice() == to && told == refusal, "{from:?}");
+    Ok(())
+}
+
+/// The bytes of revision 3, and why they are not written.
+type Written = ([u8; 24], Option<CapabilityError>);
+
+fn written_by_map(
+    alloc: Global,
+    users: &str,
+    direction: Direction,
+    from: &[u8],
+) -> Result<Written, Fail> {
     let map = users_of(alloc, users).ok_or("no map")?;
     let mut written = [255; 24];
     let done = match direction {
         GuestToHost => capability_to_host_in_revision_3(&map, from, &mut written),
         HostToGuest => capability_to_guest_in_revision_3(&map, from, &mut written),
     };
-    assert!(rt;
-        written.as_slice() == to && done.err() == refusal,
-        "{from:?}"
-    );
-    let image = image_of(alloc, users)?;
+    Ok((written, done.err()))
+}
+
+fn written_by_image(
+    alloc: Global,
+    users: &str,
+    direction: Direction,
+    from: &[u8],
+) -> Result<Written, Fail> {
+    let words = image_of(alloc, users)?;
+    let map = IdMapRef::of(&words).ok_or("no image")?;
     let mut written = [255; 24];
-    let done = write_revision_3(&image, direction, from, &mut written).ok_or("no image")?;
-    assert!(rt;
-        written.as_slice() == to && done.err() == refusal,
-        "{from:?}"
-    );
-    Ok(())
+    let done = write_revision_3(&map, direction, from, &mut written);
+    Ok((written, done.err()))
 }

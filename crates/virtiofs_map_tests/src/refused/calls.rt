@@ -1,24 +1,23 @@
 //! The calls, each with its words, and what one comes to.
 
 use crate::common::{specs_of, users_of};
+use Names::{
+    Apart, ApartWithin, Audit, AuditCounted, AuditListed, Client, Cloned, ListedWithin, Server,
+    Shares, SharesWithin, Within,
+};
 use rationed::{Call, Ended, Rationed};
-use std::alloc::{AllocError, Global};
+use std::alloc::{Allocator, Global};
 use std::fmt::Debug;
 use virtiofs_map::id_audit::{
     Span, ids_apart, ids_astray, ids_into, is_alone, mended, reached, reaches_any,
 };
 use virtiofs_map::id_types::{GuestUid, HostUid};
+use virtiofs_map::soft_idmap::IdMap;
 use virtiofs_map::soft_idmap::image::write_image;
-use virtiofs_map::soft_idmap::{IdMap, IdMapBuildError, SpecsError};
-use virtiofs_map::xattrmap::{Error, XattrMap, XattrName};
+use virtiofs_map::xattrmap::{XattrMap, XattrName};
 use virtiofs_map::{Steps, audit, cmdline};
 
-/// The allocator of these tests.
-pub(crate) type Heap<'h> = &'h Rationed<Global>;
-
-type Users<'h> = IdMap<GuestUid, HostUid, Heap<'h>>;
-
-type Map<'h> = XattrMap<Heap<'h>>;
+type Users<A> = IdMap<GuestUid, HostUid, A>;
 
 /// A call by its name, with its words. Texts of specifications have a bar between each two.
 #[derive(Clone, Copy, Debug)]
@@ -27,94 +26,83 @@ pub(super) enum Asked {
     TryFrom(&'static str),
     WriteImage(&'static str),
     FromSpecs(&'static str),
-    IsAlone(&'static str),
-    IdsApart(&'static str, &'static str),
-    Reached(&'static str),
-    ReachesAny(&'static str),
-    IdsInto(&'static str),
-    IdsAstray(&'static str),
-    Mended(&'static str),
     /// `XattrMap::try_from`.
     Rules(&'static str),
     WrittenRules(&'static str),
-    /// A question to the map of these rules.
-    Of(&'static str, Question),
+    /// A question to the map of these specifications, which may be about the map of others.
+    Ids(Ids, &'static str, &'static str),
+    /// A question to the map of these rules, which may be about the map of others.
+    Of(&'static str, Names, &'static str),
 }
 
-/// What is asked of a map of names: about a name, a list, names that begin with some bytes, and the
-/// map of other rules.
+/// What is asked of a map of ids.
 #[derive(Clone, Copy, Debug)]
-pub(super) enum Question {
+pub(super) enum Ids {
+    IsAlone,
+    IdsApart,
+    Reached,
+    ReachesAny,
+    IdsInto,
+    IdsAstray,
+    Mended,
+}
+
+/// What is asked of a map of names: about a name, a list, or names that begin with some bytes.
+#[derive(Clone, Copy, Debug)]
+pub(super) enum Names {
     Cloned,
     Client(&'static str),
     Server(&'static str),
     Audit,
     AuditCounted,
     AuditListed,
-    Apart(&'static str),
-    Shares(&'static str),
+    Apart,
+    Shares,
     Within(&'static str),
     ListedWithin(&'static str),
-    ApartWithin(&'static str, &'static str),
-    SharesWithin(&'static str, &'static str),
-}
-
-/// What a call came to.
-#[derive(PartialEq, Drop)]
-enum Told<'h> {
-    /// A request for memory was refused.
-    OutOfMemory,
-    /// The call was answered, or refused for another reason; the text has all of it.
-    Answer(String<Heap<'h>>),
+    ApartWithin(&'static str),
+    SharesWithin(&'static str),
 }
 
 impl Call for Asked {
     fn run<'h>(&self, ample: &'h Rationed<Global>, scarce: &'h Rationed<Global>) -> Ended {
-        match (self.told(ample, scarce), self.told(ample, ample)) {
-            (Some(Told::OutOfMemory), _) => Ended::OutOfMemory,
-            (Some(Told::Answer(text)), Some(Told::Answer(wanted))) => Ended::of(text == wanted),
-            _ => Ended::Wrong,
+        let Some(text) = self.told(ample, scarce) else {
+            return Ended::Wrong;
+        };
+        if is_refusal(text.as_str()) {
+            return Ended::OutOfMemory;
         }
+        Ended::of(self.told(ample, ample) == Some(text))
     }
 }
 
+/// Whether an answer is out of memory, in the form of one of the calls.
+fn is_refusal(text: &str) -> bool {
+    REFUSALS.iter().any(|refusal| *refusal == text)
+        || text.starts_with("Err(Spec { index: ") && text.ends_with(", cause: OutOfMemory })")
+}
+
+/// Out of memory blames no rule.
+static REFUSALS: [&str; 4] = [
+    "Err(AllocError)",
+    "Err(OutOfMemory)",
+    "Err(Build(OutOfMemory))",
+    "Err(Error { cause: OutOfMemory, rule: None })",
+];
+
 impl Asked {
-    /// What the call comes to with the memory of `alloc`; `None` where the test itself goes wrong.
-    /// All that is done beside the call has its memory from `ample`.
-    fn told<'h>(&self, ample: Heap<'h>, alloc: Heap<'h>) -> Option<Told<'h>> {
+    /// What the call comes to with the memory of `alloc`, as a text; `None` where the test itself
+    /// goes wrong. All that is done beside the call has its memory from `ample`.
+    fn told<A: Allocator + Copy + Debug>(&self, ample: A, alloc: A) -> Option<String<A>> {
         match *self {
-            Asked::FromStr(text) => match cmdline::IdMap::from_str(alloc, text) {
-                Err(cmdline::IdMapError::OutOfMemory) => Some(Told::OutOfMemory),
-                answer => answered(ample, &answer),
-            },
-            Asked::TryFrom(texts) => match Users::try_from(alloc, specs_of(ample, texts)?) {
-                Ok(map) => lookups(ample, &map),
-                Err(IdMapBuildError::OutOfMemory) => Some(Told::OutOfMemory),
-                Err(error) => answered(ample, &error),
-            },
+            Asked::FromStr(text) => printed(ample, &cmdline::IdMap::from_str(alloc, text)),
+            Asked::TryFrom(texts) => try_from(ample, alloc, texts),
             Asked::WriteImage(texts) => image(ample, alloc, texts),
             Asked::FromSpecs(texts) => from_specs(ample, alloc, texts),
-            Asked::IsAlone(texts) => audited(ample, &is_alone(alloc, &users_of(ample, texts)?)),
-            Asked::IdsApart(texts, others) => {
-                let other = users_of(ample, others)?;
-                audited(ample, &ids_apart(alloc, &users_of(ample, texts)?, &other))
-            }
-            Asked::Reached(texts) => audited(ample, &reached(alloc, &users_of(ample, texts)?)),
-            Asked::ReachesAny(texts) => {
-                audited(ample, &reaches_any(alloc, &users_of(ample, texts)?, &SPANS))
-            }
-            Asked::IdsInto(texts) => {
-                audited(ample, &ids_into(alloc, &users_of(ample, texts)?, &SPANS))
-            }
-            Asked::IdsAstray(texts) => {
-                audited(ample, &ids_astray(alloc, &users_of(ample, texts)?, &SPANS))
-            }
-            Asked::Mended(texts) => {
-                audited(ample, &mended(alloc, &users_of(ample, texts)?, &SPANS))
-            }
-            Asked::Rules(text) => named(ample, &XattrMap::try_from(alloc, text)),
-            Asked::WrittenRules(text) => named(ample, &XattrMap::written_rules(alloc, text)),
-            Asked::Of(rules, question) => ask_twice(ample, alloc, rules, question),
+            Asked::Rules(text) => printed(ample, &XattrMap::try_from(alloc, text)),
+            Asked::WrittenRules(text) => printed(ample, &XattrMap::written_rules(alloc, text)),
+            Asked::Ids(asked, texts, others) => about_ids(ample, alloc, asked, texts, others),
+            Asked::Of(rules, asked, others) => about_names(ample, alloc, asked, rules, others),
         }
     }
 }
@@ -133,123 +121,184 @@ static SPANS: [Span; 3] = [
 ];
 
 /// The numbers for which a map that was made is asked, on both sides.
-const NUMBERS: [u32; 12] = [0, 5, 7, 9, 22, 100, 105, 1000, 1009, 5001, 5002, 4294967295];
+static NUMBERS: [u32; 12] = [0, 5, 7, 9, 22, 100, 105, 1000, 1009, 5001, 5002, 4294967295];
 
-/// An answer that is not out of memory, as a text.
-fn answered<'h, T: Debug>(ample: Heap<'h>, answer: &T) -> Option<Told<'h>> {
-    Some(Told::Answer(format!(in ample; "{answer:?}").ok()?))
+fn printed<T: Debug, A: Allocator + Copy>(ample: A, answer: &T) -> Option<String<A>> {
+    format!(in ample; "{answer:?}").ok()
 }
 
-fn audited<'h, T: Debug>(ample: Heap<'h>, answer: &Result<T, AllocError>) -> Option<Told<'h>> {
+fn try_from<A: Allocator + Copy>(ample: A, alloc: A, texts: &str) -> Option<String<A>> {
+    made(ample, &Users::try_from(alloc, specs_of(ample, texts)?))
+}
+
+fn from_specs<A: Allocator + Copy + Debug>(ample: A, alloc: A, texts: &str) -> Option<String<A>> {
+    let texts = texts.split('|').collect::<Vec<&str, A>>(ample).ok()?;
+    made(ample, &Users::from_specs(alloc, texts.as_slice()))
+}
+
+/// What a map that was made makes of the numbers, or why none was made.
+fn made<E: Debug, A: Allocator + Copy>(
+    ample: A,
+    answer: &Result<Users<A>, E>,
+) -> Option<String<A>> {
     match answer {
-        Ok(answer) => answered(ample, answer),
-        Err(AllocError) => Some(Told::OutOfMemory),
+        Ok(map) => lookups(ample, map),
+        Err(error) => format!(in ample; "Err({error:?})").ok(),
     }
 }
 
-/// Out of memory blames no rule.
-fn named<'h, T: Debug>(ample: Heap<'h>, answer: &Result<T, Error<Heap<'h>>>) -> Option<Told<'h>> {
-    match answer {
-        Err(error) if *error == Error::from(AllocError) => Some(Told::OutOfMemory),
-        answer => answered(ample, answer),
-    }
-}
-
-/// Writes an image, which a refusal leaves unwritten.
-fn image<'h>(ample: Heap<'h>, alloc: Heap<'h>, texts: &str) -> Option<Told<'h>> {
-    let mut words = [0; 40];
-    match write_image(alloc, &specs_of(ample, texts)?, &mut words) {
-        Err(IdMapBuildError::OutOfMemory) if words == [0; 40] => Some(Told::OutOfMemory),
-        Err(IdMapBuildError::OutOfMemory) => None,
-        answer => answered(ample, &answer),
-    }
-}
-
-fn from_specs<'h>(ample: Heap<'h>, alloc: Heap<'h>, texts: &str) -> Option<Told<'h>> {
-    let texts = texts.split('|').collect::<Vec<&str, Heap<'h>>>(ample).ok()?;
-    match Users::from_specs(alloc, texts.as_slice()) {
-        Ok(map) => lookups(ample, &map),
-        Err(SpecsError::Build(IdMapBuildError::OutOfMemory)) => Some(Told::OutOfMemory),
-        Err(
-            SpecsError::Spec {
-                index,
-                cause: cmdline::IdMapError::OutOfMemory,
-            },
-        ) if index < texts.len() => Some(Told::OutOfMemory),
-        Err(error) => answered(ample, &error),
-    }
-}
-
-/// What a map makes of the numbers.
-fn lookups<'h>(ample: Heap<'h>, map: &Users<'h>) -> Option<Told<'h>> {
+fn lookups<A: Allocator + Copy>(ample: A, map: &Users<A>) -> Option<String<A>> {
     let mut text = String::new(ample);
-    for number in NUMBERS {
+    for &number in &NUMBERS {
         let host = map.map_guest(GuestUid::from(number));
         let guest = map.map_host(HostUid::from(number));
         write!(text, "{number}: {host:?} {guest:?}; ").ok()?;
     }
-    Some(Told::Answer(text))
+    Some(text)
 }
 
-/// Asks a question of the map of these rules, and asks it again with ample memory. The map stays
-/// what it was, and makes of names what it did. The second answer is the first if there is one.
-fn ask_twice<'h>(
-    ample: Heap<'h>,
-    alloc: Heap<'h>,
-    rules: &str,
-    question: Question,
-) -> Option<Told<'h>> {
-    let map = XattrMap::try_from(ample, rules).ok()?;
-    let before = seen(ample, &map)?;
-    let told = ask(ample, alloc, &map, question)?;
-    let again = ask(ample, ample, &map, question)?;
-    let is_same = told == Told::OutOfMemory || told == again;
-    if !is_same || again == Told::OutOfMemory || seen(ample, &map)? != before {
-        return None;
+/// Writes an image, which a refusal leaves unwritten.
+fn image<A: Allocator + Copy>(ample: A, alloc: A, texts: &str) -> Option<String<A>> {
+    let specs = specs_of(ample, texts)?;
+    let mut words = [0; 40];
+    let answer = write_image(alloc, &specs, &mut words);
+    let is_whole = answer.is_ok() || words == [0; 40];
+    is_whole.then_some(())?;
+    printed(ample, &answer)
+}
+
+fn about_ids<A: Allocator + Copy>(
+    ample: A,
+    alloc: A,
+    asked: Ids,
+    texts: &str,
+    others: &str,
+) -> Option<String<A>> {
+    let map = users_of(ample, texts)?;
+    let other = users_of(ample, others)?;
+    ask_ids(ample, alloc, asked, &map, &other)
+}
+
+fn ask_ids<A: Allocator + Copy>(
+    ample: A,
+    alloc: A,
+    asked: Ids,
+    map: &Users<A>,
+    other: &Users<A>,
+) -> Option<String<A>> {
+    match asked {
+        Ids::IsAlone => printed(ample, &is_alone(alloc, map)),
+        Ids::IdsApart => printed(ample, &ids_apart(alloc, map, other)),
+        Ids::Reached => printed(ample, &reached(alloc, map)),
+        Ids::ReachesAny => printed(ample, &reaches_any(alloc, map, &SPANS)),
+        Ids::IdsInto => printed(ample, &ids_into(alloc, map, &SPANS)),
+        Ids::IdsAstray => printed(ample, &ids_astray(alloc, map, &SPANS)),
+        Ids::Mended => printed(ample, &mended(alloc, map, &SPANS)),
     }
-    Some(told)
 }
 
-fn ask<'h>(ample: Heap<'h>, alloc: Heap<'h>, map: &Map<'h>, asked: Question) -> Option<Told<'h>> {
-    let answer = match asked {
-        Question::Cloned => return audited(ample, &map.clone(alloc)),
-        Question::Client(name) => {
-            return named(ample, &map.map_client_xattr(alloc, name_of(name)?));
+/// Asks a question of the map of these rules. The map stays what it was, and makes of names what it
+/// did.
+fn about_names<A: Allocator + Copy>(
+    ample: A,
+    alloc: A,
+    asked: Names,
+    rules: &str,
+    others: &str,
+) -> Option<String<A>> {
+    let map = XattrMap::try_from(ample, rules).ok()?;
+    let other = XattrMap::try_from(ample, others).ok()?;
+    ask_and_see(ample, alloc, asked, &map, &other)
+}
+
+fn ask_and_see<A: Allocator + Copy>(
+    ample: A,
+    alloc: A,
+    asked: Names,
+    map: &XattrMap<A>,
+    other: &XattrMap<A>,
+) -> Option<String<A>> {
+    let before = seen(ample, map)?;
+    let told = ask(ample, alloc, asked, map, other)?;
+    let is_same = seen(ample, map) == Some(before);
+    is_same.then_some(told)
+}
+
+fn ask<A: Allocator + Copy>(
+    ample: A,
+    alloc: A,
+    asked: Names,
+    map: &XattrMap<A>,
+    other: &XattrMap<A>,
+) -> Option<String<A>> {
+    match asked {
+        Cloned => printed(ample, &map.clone(alloc)),
+        Client(name) => client(ample, alloc, map, name),
+        Server(list) => server(ample, alloc, map, list.as_bytes()),
+        Audit => printed(ample, &audit::audit(alloc, map)),
+        AuditCounted => printed(ample, &audit::audit_counted(alloc, map, &mut Steps::new())),
+        AuditListed => printed(ample, &audit::audit_listed(alloc, map)),
+        Apart => printed(ample, &audit::keeps_apart(alloc, map, other)),
+        Shares => printed(ample, &audit::shares_no_name(alloc, map, other)),
+        Within(front) | ListedWithin(front) | ApartWithin(front) | SharesWithin(front) => {
+            let front = XattrName::new(front.as_bytes())?;
+            ask_within(ample, alloc, asked, map, other, front)
         }
-        Question::Server(list) => {
-            let list = Vec::from_slice(ample, list.as_bytes()).ok()?;
-            return named(ample, &map.map_server_xattrlist(alloc, list));
-        }
-        Question::Audit => audit::audit(alloc, map),
-        Question::AuditCounted => audit::audit_counted(alloc, map, &mut Steps::new()),
-        Question::AuditListed => audit::audit_listed(alloc, map),
-        Question::Apart(other) => audit::keeps_apart(alloc, map, &rules_of(ample, other)?),
-        Question::Shares(other) => audit::shares_no_name(alloc, map, &rules_of(ample, other)?),
-        Question::Within(front) => audit::audit_within(alloc, map, name_of(front)?),
-        Question::ListedWithin(front) => audit::audit_listed_within(alloc, map, name_of(front)?),
-        Question::ApartWithin(front, other) => {
-            audit::keeps_apart_within(alloc, map, &rules_of(ample, other)?, name_of(front)?)
-        }
-        Question::SharesWithin(front, other) => {
-            audit::shares_no_name_within(alloc, map, &rules_of(ample, other)?, name_of(front)?)
-        }
-    };
-    audited(ample, &answer)
+    }
+}
+
+/// Asks about names that begin with some bytes.
+fn ask_within<A: Allocator + Copy>(
+    ample: A,
+    alloc: A,
+    asked: Names,
+    map: &XattrMap<A>,
+    other: &XattrMap<A>,
+    front: XattrName<'_>,
+) -> Option<String<A>> {
+    match asked {
+        Within(_) => printed(ample, &audit::audit_within(alloc, map, front)),
+        ListedWithin(_) => printed(ample, &audit::audit_listed_within(alloc, map, front)),
+        ApartWithin(_) => printed(ample, &audit::keeps_apart_within(alloc, map, other, front)),
+        _ => printed(
+            ample,
+            &audit::shares_no_name_within(alloc, map, other, front),
+        ),
+    }
+}
+
+/// What a map makes of a name of the guest.
+fn client<A: Allocator + Copy>(
+    ample: A,
+    alloc: A,
+    map: &XattrMap<A>,
+    name: &str,
+) -> Option<String<A>> {
+    let name = XattrName::new(name.as_bytes())?;
+    printed(ample, &map.map_client_xattr(alloc, name))
+}
+
+/// What a map makes of a list of the host.
+fn server<A: Allocator + Copy>(
+    ample: A,
+    alloc: A,
+    map: &XattrMap<A>,
+    list: &[u8],
+) -> Option<String<A>> {
+    let list = Vec::from_slice(ample, list).ok()?;
+    printed(ample, &map.map_server_xattrlist(alloc, list))
 }
 
 /// What a map is, and what it makes of some names.
-fn seen<'h>(ample: Heap<'h>, map: &Map<'h>) -> Option<String<Heap<'h>>> {
-    let passed = map.map_client_xattr(ample, name_of("trusted.a")?);
-    let denied = map.map_client_xattr(ample, name_of("user.virtiofs.a")?);
-    let list = Vec::from_slice(ample, b"user.virtiofs.a\0trusted.b\0c\0").ok()?;
-    let listed = map.map_server_xattrlist(ample, list);
-    format!(in ample; "{map:?} {passed:?} {denied:?} {listed:?}").ok()
+fn seen<A: Allocator + Copy>(ample: A, map: &XattrMap<A>) -> Option<String<A>> {
+    let text = printed(ample, map)?;
+    let text = and(text, client(ample, ample, map, "trusted.a"))?;
+    let text = and(text, client(ample, ample, map, "user.virtiofs.a"))?;
+    let list = b"user.virtiofs.a\0trusted.b\0c\0";
+    and(text, server(ample, ample, map, list))
 }
 
-fn name_of(name: &str) -> Option<XattrName<'_>> {
-    XattrName::new(name.as_bytes())
-}
-
-fn rules_of<'h>(ample: Heap<'h>, rules: &str) -> Option<Map<'h>> {
-    XattrMap::try_from(ample, rules).ok()
+fn and<A: Allocator>(mut text: String<A>, more: Option<String<A>>) -> Option<String<A>> {
+    text.push_str(more?.as_str()).ok()?;
+    Some(text)
 }

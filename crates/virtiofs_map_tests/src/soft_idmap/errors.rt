@@ -58,6 +58,7 @@ fn prints_meeting_ranges(rt: HostRuntime) -> Result<(), Fail> {
 
 #[test]
 fn prints_overflowing_ranges(rt: HostRuntime) -> Result<(), Fail> {
+    let kind = FaultKind::InvalidInput;
     for &(spec_text, direction, range_end) in &OVERFLOWING {
         let (fault, spec) = fault_of(rt.alloc(), spec_text)?;
         let index = 0;
@@ -67,15 +68,12 @@ fn prints_overflowing_ranges(rt: HostRuntime) -> Result<(), Fail> {
             direction,
             range_end,
         };
-        let text = format!(in rt.alloc(); "Parameter {spec_text}: Range overflow")?;
         assert!(rt; fault == wanted, "{fault:?}");
-        assert_eq!(rt; fault.kind(), FaultKind::InvalidInput);
-        assert!(rt; fault.to_string(rt.alloc())? == text, "{text}");
+        let text = format!(in rt.alloc(); "Parameter {spec_text}: Range overflow")?;
+        check_said(&rt, rt.alloc(), &fault, text.as_str(), kind)?;
     }
-    let fault = IdMapBuildError::OutOfMemory;
-    assert_eq!(rt; fault.to_string(rt.alloc())?.as_str(), "Out of memory");
-    assert_eq!(rt; fault.kind(), FaultKind::OutOfMemory);
-    Ok(())
+    let (fault, kind) = (IdMapBuildError::OutOfMemory, FaultKind::OutOfMemory);
+    check_said(&rt, rt.alloc(), &fault, "Out of memory", kind)
 }
 
 /// The text has the number of the id, whatever the printed form of the id.
@@ -89,18 +87,20 @@ fn prints_forbidden_ids(rt: HostRuntime) -> Result<(), Fail> {
 #[test]
 fn reads_every_text_before_it_builds(rt: HostRuntime) -> Result<(), Fail> {
     let texts = ["guest:0:100:10", "guest:5:200:1", "map:1:2"];
-    let made: Result<Users, SpecsError> = IdMap::from_specs(rt.alloc(), &texts);
-    let Err(SpecsError::Spec { index: 2, cause }) = made else {
-        panic!(rt; "the last text is not told");
-    };
-    let said = "Invalid ID map length (expected 3 elements, got 2 elements)";
-    assert_eq!(rt; cause.to_string(rt.alloc())?.as_str(), said);
-    let made: Result<Users, SpecsError> = IdMap::from_specs(rt.alloc(), &texts[..2]);
-    let Err(SpecsError::Build(fault)) = made else {
-        panic!(rt; "the second text is not told");
-    };
-    assert_eq!(rt; fault.kind(), FaultKind::Other);
+    let said = refusal_of(rt.alloc(), &texts)?;
+    let length = "InvalidLength { expected: 3, seen: 2 }";
+    let wanted = format!(in rt.alloc(); "Spec {{ index: 2, cause: {length} }}")?;
+    assert_eq!(rt; said.as_str(), wanted.as_str());
+    let said = refusal_of(rt.alloc(), &texts[..2])?;
+    assert!(rt; said.starts_with("Build(Intersects { "));
     Ok(())
+}
+
+/// Why no map can be made of the texts.
+fn refusal_of(alloc: Global, texts: &[&str]) -> Result<String, Fail> {
+    let made: Result<Users, SpecsError> = IdMap::from_specs(alloc, texts);
+    let error = made.err().ok_or("accepted")?;
+    Ok(format!(in alloc; "{error:?}")?)
 }
 
 /// The fault of a list, and its last specification.
@@ -126,10 +126,21 @@ fn check_meeting(
         index,
         direction,
     };
-    let text = format!(in alloc; "{front} intersects previously added entry")?;
     assert!(rt; fault == wanted, "{fault:?}");
-    assert_eq!(rt; fault.kind(), FaultKind::Other);
-    assert!(rt; fault.to_string(alloc)? == text, "{text}");
+    let text = format!(in alloc; "{front} intersects previously added entry")?;
+    check_said(rt, alloc, &fault, text.as_str(), FaultKind::Other)
+}
+
+/// Sees what is printed of a fault, and its kind.
+fn check_said(
+    rt: &impl Abort,
+    alloc: Global,
+    fault: &IdMapBuildError,
+    text: &str,
+    kind: FaultKind,
+) -> Result<(), Fail> {
+    assert!(rt; fault.kind() == kind, "{fault:?}");
+    assert_eq!(rt; fault.to_string(alloc)?.as_str(), text);
     Ok(())
 }
 
@@ -139,9 +150,20 @@ where
     Host: HostId<GuestType = Guest>,
 {
     let map: IdMap<Guest, Host> = IdMap::from_specs(alloc, &["FORBID-GUEST:7:3"])?;
+    let text = forbidden(alloc, &map)?;
+    let wanted = "Use of ID 8 has been configured to fail: PermissionDenied";
+    assert_eq!(rt; text.as_str(), wanted);
+    Ok(())
+}
+
+/// What is printed of the use of 8, and the kind of that fault.
+fn forbidden<Guest, Host>(alloc: Global, map: &IdMap<Guest, Host>) -> Result<String, Fail>
+where
+    Guest: GuestId<HostType = Host>,
+    Host: HostId<GuestType = Guest>,
+{
     let fault = map.map_guest(made(8)).err().ok_or("mapped")?;
     let text = text_of(alloc, &fault)?;
-    assert_eq!(rt; text.as_str(), "Use of ID 8 has been configured to fail");
-    assert_eq!(rt; FaultKind::from(fault), FaultKind::PermissionDenied);
-    Ok(())
+    let kind = FaultKind::from(fault);
+    Ok(format!(in alloc; "{text}: {kind:?}")?)
 }

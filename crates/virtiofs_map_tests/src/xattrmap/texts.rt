@@ -5,7 +5,7 @@ use std::alloc::{AllocError, Global};
 use std::process::Abort;
 use std::test::Fail;
 use virtiofs_map::xattrmap::Side::{self, Client, Server};
-use virtiofs_map::xattrmap::{Error, ErrorKind, PatternField, XattrMap};
+use virtiofs_map::xattrmap::{Error, ErrorKind, XattrMap};
 
 /// Texts that mean the same, and not the same as those of other rows.
 static ALIKE: [&[&str]; 11] = [
@@ -52,87 +52,84 @@ fn compares_by_what_rules_mean(rt: HostRuntime) -> Result<(), Fail> {
     Ok(())
 }
 
-const INCOMPLETE: &str = "the rule is incomplete";
-
-const LAST: &str = "a map rule has to stand last";
-
-/// A text that says no rules, the number of the rule at fault, and what is printed of it.
-static FAULTS: [(&str, usize, &str); 17] = [
-    (":", 1, INCOMPLETE),
+/// A text that says no rules, and what is printed of its first fault.
+static FAULTS: [(&str, &str); 24] = [
+    (" ", "there are no rules"),
+    (":", "rule 1: the rule is incomplete"),
     (
         ":ok:all:::\u{a0}ok\u{a0}all\u{a0}\u{a0}\u{a0}",
-        2,
-        INCOMPLETE,
+        "rule 2: the rule is incomplete",
     ),
-    (":prefix:all:a:b", 1, INCOMPLETE),
+    (":prefix:all:a:b", "rule 1: the rule is incomplete"),
     (
         ":map:trusted.:virtiofs.user.::map:trusted.:virtiofs.user.:",
-        1,
-        LAST,
+        "rule 1: a map rule has to stand last",
     ),
-    (":bad:all:x:y: :map::P: :ok:all:::", 2, LAST),
-    (":ok:all:a\0:", 1, "Key holds NUL"),
-    (":ok:all:a\0", 1, INCOMPLETE),
-    (":map:a\0:b\0:", 1, "Key holds NUL"),
-    (":map:a:b\0:", 1, "Prepend holds NUL"),
-    (":prefix:all:a:b\0", 1, INCOMPLETE),
-    (":map::P: x", 1, LAST),
-    (":map:all:x:y:", 1, LAST),
-    (":ok:all:::\u{b}ok\u{b}all\u{b}\u{b}\u{b}", 2, INCOMPLETE),
-    (":ok:all:::\u{feff}", 2, INCOMPLETE),
-    ("\u{feff}:ok:all:::", 1, INCOMPLETE),
-    (":map::P:\u{200b}", 1, LAST),
-    (":prefix:client:hi", 1, INCOMPLETE),
-];
-
-/// A text of which the first rule has no such type, and what stands there.
-static TYPES: [(&str, &str); 3] = [
-    (":\u{170}refix:all:::", "\u{170}refix"),
-    ("ookoallooo", ""),
-    (":TOMATOPIRATE:trusted.:virtiofs.user.:", "TOMATOPIRATE"),
-];
-
-/// A text, the number of the rule that has no such scope, and what stands there.
-static SCOPES: [(&str, usize, &str); 3] = [
-    (":ok:all::::bad:nope:::", 2, "nope"),
-    (":ok:all::: :bad:nope\0:::", 2, "nope\0"),
-    ("/prefix/helloworld///", 1, "helloworld"),
+    (
+        ":bad:all:x:y: :map::P: :ok:all:::",
+        "rule 2: a map rule has to stand last",
+    ),
+    (":ok:all:a\0:", "rule 1: Key holds NUL"),
+    (":ok:all:a\0", "rule 1: the rule is incomplete"),
+    (":map:a\0:b\0:", "rule 1: Key holds NUL"),
+    (":map:a:b\0:", "rule 1: Prepend holds NUL"),
+    (":prefix:all:a:b\0", "rule 1: the rule is incomplete"),
+    (":map::P: x", "rule 1: a map rule has to stand last"),
+    (":map:all:x:y:", "rule 1: a map rule has to stand last"),
+    (
+        ":ok:all:::\u{b}ok\u{b}all\u{b}\u{b}\u{b}",
+        "rule 2: the rule is incomplete",
+    ),
+    (":ok:all:::\u{feff}", "rule 2: the rule is incomplete"),
+    ("\u{feff}:ok:all:::", "rule 1: the rule is incomplete"),
+    (":map::P:\u{200b}", "rule 1: a map rule has to stand last"),
+    (":prefix:client:hi", "rule 1: the rule is incomplete"),
+    (
+        ":\u{170}refix:all:::",
+        "rule 1: invalid type '\u{170}refix', expected one of: prefix, ok, bad, map",
+    ),
+    (
+        "ookoallooo",
+        "rule 1: invalid type '', expected one of: prefix, ok, bad, map",
+    ),
+    (
+        ":TOMATOPIRATE:trusted.:virtiofs.user.:",
+        "rule 1: invalid type 'TOMATOPIRATE', expected one of: prefix, ok, bad, map",
+    ),
+    (
+        ":ok:all::::bad:nope:::",
+        "rule 2: invalid scope 'nope', expected one of: all, client, server",
+    ),
+    (
+        ":ok:all::: :bad:nope\0:::",
+        "rule 2: invalid scope 'nope\0', expected one of: all, client, server",
+    ),
+    (
+        "/prefix/helloworld///",
+        "rule 1: invalid scope 'helloworld', expected one of: all, client, server",
+    ),
 ];
 
 #[test]
 fn tells_the_first_fault(rt: HostRuntime) -> Result<(), Fail> {
-    let alloc = rt.alloc();
-    assert_fault(&rt, alloc, " ", "there are no rules")?;
-    for &(text, rule, cause) in &FAULTS {
-        let printed = format!(in alloc; "rule {rule}: {cause}")?;
-        assert_fault(&rt, alloc, text, printed.as_str())?;
-    }
-    for &(text, got) in &TYPES {
-        let types = "prefix, ok, bad, map";
-        let printed = format!(in alloc; "rule 1: invalid type '{got}', expected one of: {types}")?;
-        assert_fault(&rt, alloc, text, printed.as_str())?;
-    }
-    for &(text, rule, got) in &SCOPES {
-        let front = format!(in alloc; "rule {rule}: invalid scope '{got}'")?;
-        let printed = format!(in alloc; "{front}, expected one of: all, client, server")?;
-        assert_fault(&rt, alloc, text, printed.as_str())?;
+    for &(text, printed) in &FAULTS {
+        let (error, uncounted) = errors_of(rt.alloc(), text)?;
+        assert!(rt;
+            error == uncounted && error.as_str() == printed,
+            "of {text:?}"
+        );
     }
     Ok(())
 }
 
 #[test]
 fn prints_other_errors(rt: HostRuntime) -> Result<(), Fail> {
-    let pattern = PatternField::Key;
-    let cause = ErrorKind::NulInPattern { pattern };
-    let rule = Some(1);
-    let error = XattrMap::try_from(rt.alloc(), ":ok:all:a\0:").err();
-    assert!(rt; error == Some(Error { cause, rule }));
-    let text = Error::from(ErrorKind::<Global>::UnterminatedMapping).to_string(rt.alloc())?;
-    assert_eq!(rt; text.as_str(), "no rule fits the name");
-    let text = Error::<Global>::from(AllocError).to_string(rt.alloc())?;
-    assert_eq!(rt; text.as_str(), "Out of memory");
-    let text = ErrorKind::<Global>::InvalidDelimiter.to_string(rt.alloc())?;
-    assert_eq!(rt; text.as_str(), "the delimiter is not the rule's first");
+    let unterminated = Error::from(ErrorKind::<Global>::UnterminatedMapping);
+    let memory = Error::<Global>::from(AllocError);
+    let delimiter = ErrorKind::<Global>::InvalidDelimiter;
+    let text = format!(in rt.alloc(); "{unterminated}; {memory}; {delimiter}")?;
+    let wanted = "no rule fits the name; Out of memory; the delimiter is not the rule's first";
+    assert_eq!(rt; text.as_str(), wanted);
     Ok(())
 }
 
@@ -177,26 +174,34 @@ static ASKED: [(&str, Side, &str, Option<usize>, u64); 16] = [
 fn finds_the_first_rule(rt: HostRuntime) -> Result<(), Fail> {
     for &(text, side, name, position, steps) in &ASKED {
         let map = XattrMap::try_from(rt.alloc(), text)?;
-        let found = first(&map, side, name)?;
-        assert_eq!(rt; found, (position, steps), "{name:?} of {text:?}");
-        let copy = map.clone(rt.alloc())?;
-        assert_eq!(rt; first(&copy, side, name)?, found, "{name:?}");
+        assert_eq!(rt;
+            first(&map, side, name)?,
+            (position, steps),
+            "{name:?} of {text:?}"
+        );
     }
     Ok(())
 }
 
 #[test]
 fn counts_along_a_long_pattern(rt: HostRuntime) -> Result<(), Fail> {
-    let key = "a".repeat(rt.alloc(), 20000)?;
-    let text = format!(in rt.alloc(); ":bad:all:{key}:{key}: :ok:all:::")?;
-    let map = XattrMap::try_from(rt.alloc(), text.as_str())?;
-    let longer = "a".repeat(rt.alloc(), 20001)?;
-    let found = first(&map, Client, longer.as_str())?;
-    assert_eq!(rt; found, (Some(0), 20001));
-    let shorter = "a".repeat(rt.alloc(), 19999)?;
-    let found = first(&map, Client, shorter.as_str())?;
-    assert_eq!(rt; found, (Some(1), 20000));
+    let map = long(rt.alloc())?;
+    assert_eq!(rt; first_along(rt.alloc(), &map, 20001)?, (Some(0), 20001));
+    assert_eq!(rt; first_along(rt.alloc(), &map, 19999)?, (Some(1), 20000));
     Ok(())
+}
+
+/// A map whose first pattern has one byte 20,000 times.
+fn long(alloc: Global) -> Result<XattrMap, Fail> {
+    let key = "a".repeat(alloc, 20000)?;
+    let text = format!(in alloc; ":bad:all:{key}:{key}: :ok:all:::")?;
+    Ok(XattrMap::try_from(alloc, text.as_str())?)
+}
+
+/// The first rule of a name that has one byte so many times, and how many steps that is.
+fn first_along(alloc: Global, map: &XattrMap, len: usize) -> Result<(Option<usize>, u64), Fail> {
+    let name = "a".repeat(alloc, len)?;
+    first(map, Client, name.as_str())
 }
 
 /// Sees that a map is that of the texts of its row, and of no other row.
@@ -210,11 +215,9 @@ fn assert_alike(rt: &impl Abort, alloc: Global, map: &XattrMap, row: usize) -> R
     Ok(())
 }
 
-/// Sees that a text is read, and its rules counted, with the error that is printed so.
-fn assert_fault(rt: &impl Abort, alloc: Global, text: &str, printed: &str) -> Result<(), Fail> {
+/// What is printed where a text is to be read, and where its rules are to be counted.
+fn errors_of(alloc: Global, text: &str) -> Result<(String, String), Fail> {
     let error = XattrMap::try_from(alloc, text).err().ok_or("read")?;
-    assert_eq!(rt; error.to_string(alloc)?.as_str(), printed);
-    let uncounted = XattrMap::written_rules(alloc, text).err();
-    assert!(rt; uncounted == Some(error), "of {text:?}");
-    Ok(())
+    let uncounted = XattrMap::written_rules(alloc, text).err().ok_or("counted")?;
+    Ok((error.to_string(alloc)?, uncounted.to_string(alloc)?))
 }

@@ -18,8 +18,6 @@ ghost use Rattle.virtiofs_mapaudit.specs.Report.{FindsNamesOf};
 mod chase;
 mod sides;
 mod steps;
-#[cfg(test)]
-mod tests;
 mod texts;
 mod works;
 

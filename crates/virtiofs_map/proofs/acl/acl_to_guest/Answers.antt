@@ -2,7 +2,7 @@ use Rattle.virtiofs_map.proofs.acl.acl_to_guest.Goals as goal
 
 pub returns : goal.returns
 returns g c =
-    let change = c.translate.ensures.change _ _ _ c.of_maps-ways.ensures in
+    let change = c.translate_acl.ensures.change _ _ c.lent-users.ensures c.lent-groups.ensures in
     record {
       users = change.user_ids;
       groups = change.group_ids;

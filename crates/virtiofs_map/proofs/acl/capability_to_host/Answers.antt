@@ -2,7 +2,7 @@ use Rattle.virtiofs_map.proofs.acl.capability_to_host.Goals as goal
 
 pub returns : goal.returns
 returns g c =
-    let change = c.translate_root.ensures.change _ _ c.ranges-ranges.ensures.accepted c.ranges-ranges.ensures.ranges in
+    let change = c.translate_capability.ensures.change _ c.lent.ensures in
     record {
       root = change.root;
       front = change.front;

@@ -2,8 +2,7 @@ use Rattle.virtiofs_map.proofs.acl.capability_to_host_in_revision_3.Goals as goa
 
 pub returns : goal.returns
 returns g c =
-    let change =
-    c.write_revision_3.ensures.change _ _ c.ranges-ranges.ensures.accepted c.ranges-ranges.ensures.ranges in
+    let change = c.write_revision_3.ensures.change _ c.lent.ensures in
     record {
       root = change.root;
       same = change.same;

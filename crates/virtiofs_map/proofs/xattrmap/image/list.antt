@@ -1,2 +1,1 @@
-mod NamesDecisionLemmas
 mod NamesListLemmas

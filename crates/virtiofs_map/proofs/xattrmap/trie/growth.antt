@@ -1,9 +1,14 @@
 mod AnswerLemmas
 mod ChildrenLemmas
+mod ExactLemmas
 mod GrownTrieLemmas
 mod GrowthLemmas
 mod GrowthTextLemmas
+mod HeadsLemmas
 mod KidLemmas
+mod KidNodeLemmas
 mod LevelLemmas
+mod OrderedLemmas
+mod PartNodeLemmas
 mod PatternOrderLemmas
 mod PlaceLemmas

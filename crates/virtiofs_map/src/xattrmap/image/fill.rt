@@ -1,7 +1,6 @@
 //! Bytes written one after the other into a place of the caller's.
 
 ghost use Rattle.std.specs.Prelude.{◌≡◌, ◌+◌, ◌++◌, ◌≤◌, ℕ, List, length};
-ghost use Rattle.virtiofs_map.specs.ByteWordParts.{word_bytes};
 ghost use Rattle.virtiofs_map.specs.NamesImageParts.{Holds};
 
 /// Writes bytes at a place.
@@ -12,14 +11,4 @@ pub(crate) fn put(out: &mut [u8], at: usize, bytes: &[u8])
     ensures same { length out.new ≡ length out.old }
 {
     out[at..at + bytes.len()].copy_from_slice(bytes);
-}
-
-/// Writes the bytes of a number at a place.
-pub(crate) fn put_word(out: &mut [u8], at: usize, word: u64)
-    requires room { at + 8 ≤ length out.old }
-    ensures holds { (so_far first : List ℕ) → Holds so_far first out.old → at ≡ length so_far
-        → Holds (so_far ++ word_bytes word) first out.new }
-    ensures same { length out.new ≡ length out.old }
-{
-    put(out, at, &word.to_le_bytes());
 }

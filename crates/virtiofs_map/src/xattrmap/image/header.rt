@@ -1,6 +1,6 @@
 //! The beginning of an image: what it is, and where its parts stand.
 
-ghost use Rattle.std.specs.Prelude.{◌≡◌, ◌<◌, ◌≤◌, ◌↔◌, length, IfSome, IsSome, IsFalse};
+ghost use Rattle.std.specs.Prelude.{◌≡◌, ◌<◌, ◌≤◌, ◌↔◌, length, IsFalse};
 ghost use Rattle.virtiofs_map.specs.NamesImage.{HasPart, IsNoImage, part};
 
 use crate::xattrmap::words::word_at;
@@ -19,21 +19,21 @@ pub(crate) fn is_image(image: &[u8]) -> bool
     image.len() >= HEADER && word_at(image, 0) == KIND
 }
 
-/// The part of that number; `None` where it is not all there.
+/// The part of that number; nothing where it is not all there.
 #[inline(always)]
-pub(crate) fn part(image: &[u8], which: usize) -> Option<&[u8]>
+pub(crate) fn part(image: &[u8], which: usize) -> &[u8]
     requires { which < 4 }
-    ensures part { IfSome result (λ bytes. bytes.now ≡ part image.now which) }
-    ensures there { 48 ≤ length image.now → HasPart image.now which → IsSome result }
+    ensures { 48 ≤ length image.now → HasPart image.now which
+        → result.now ≡ part image.now which }
 {
     if image.len() < HEADER {
-        return None;
+        return &[];
     }
     let from = word_at(image, 8 * which + 8) as usize;
     let to = word_at(image, 8 * which + 16) as usize;
     if from <= to && to <= image.len() {
-        Some(&image[from..to])
+        &image[from..to]
     } else {
-        None
+        &[]
     }
 }

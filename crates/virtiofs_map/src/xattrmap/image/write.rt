@@ -1,20 +1,18 @@
-//! Writes an image of a map of names.
+//! Writes the image of a map of names.
 
-ghost use Rattle.std.specs.Prelude.{◌≡◌, ◌+◌, ◌*◌, ◌<◌, ◌≤◌, ◌++◌, ℕ, List, All, IfSome, drop, length, take};
-ghost use Rattle.virtiofs_map.specs.BranchParts.{IsTrieIn};
-ghost use Rattle.virtiofs_map.specs.NamesImage.{HasImage, IsImage, acts_number, rule_row, rule_rows};
-ghost use Rattle.virtiofs_map.specs.NamesImageParts.{ArePlaces, Holds, header_of};
+ghost use Rattle.std.specs.Prelude.{◌≡◌, ◌+◌, ◌*◌, ◌<◌, ◌≤◌, ◌++◌, All, IfNone, IfOk, IfSome, OnOk, length};
+ghost use Rattle.virtiofs_map.specs.NamesImage.{acts_number, longest_image, rule_row, rule_rows};
+ghost use Rattle.virtiofs_map.specs.NamesImageParts.{ArePlaces, IsWholeImage, header_of};
 ghost use Rattle.virtiofs_map.specs.Rule.{HasNoZero};
 ghost use Rattle.virtiofs_map.specs.RuleParts.{rule_meant};
-ghost use Rattle.virtiofs_map.specs.declared.xattrmap.scopes.Side.TheVariants.{Client, Server};
 
-use crate::xattrmap::image::fill::{put, put_word};
 use crate::xattrmap::image::header::{HEADER, KIND};
 use crate::xattrmap::rules::{RuleRef, Rules};
 use crate::xattrmap::scopes::Side;
 use crate::xattrmap::spans::Span;
-use crate::xattrmap::trie::{ROW, SHARE};
-use std::alloc::Allocator;
+use crate::xattrmap::trie::{ROW, SHARE, trie_rows};
+use crate::xattrmap::words::push_word;
+use std::alloc::{AllocError, Allocator};
 
 /// Every place of an image is below this.
 const LIMIT: usize = 281474976710656;
@@ -31,30 +29,23 @@ pub(crate) struct Places {
 /// Where a part ends that begins at `from` and has `count` elements of that size; `None` where no
 /// image reaches so far.
 fn end_of(from: usize, count: usize, size: usize) -> Option<usize>
-    ensures { IfSome result (λ end. (end ≡ from + count * size) × (end < 281474976710656)) }
+    ensures end { IfSome result (λ end. end ≡ from + count * size) }
+    ensures short { IfSome result (λ end. end ≤ longest_image) }
+    ensures long { IfNone result (longest_image < from + count * size) }
 {
     let end = from.saturating_add(count.saturating_mul(size));
     if end < LIMIT { Some(end) } else { None }
 }
 
-/// Where the parts of the image of a map stand.
-pub(crate) fn places_of<A: Allocator>(
-    client: &[u8],
-    server: &[u8],
-    rules: &Rules<A>,
-) -> Option<Places>
-    ensures places { IfSome result (λ places. ArePlaces (length client.now) (length server.now)
-        (length rules.now.list) (length rules.now.bytes) places) }
-    ensures image { All HasNoZero rules.now.list
-        → IsTrieIn Client rules.now.list client.now rules.now.bytes
-        → IsTrieIn Server rules.now.list server.now rules.now.bytes
-        → IfSome result (λ places. HasImage rules.now.list places.end) }
+/// Where the parts of an image stand, of tries with so many bytes and of rules.
+fn places_of<A: Allocator>(client: usize, server: usize, rules: &Rules<A>) -> Option<Places>
+    ensures { IfSome result (ArePlaces client server
+        (length rules.now.list) (length rules.now.bytes)) }
 {
-    let patterns = rules.bytes();
-    let first = end_of(HEADER, client.len(), 1)?;
-    let second = end_of(first, server.len(), 1)?;
+    let first = end_of(HEADER, client, 1)?;
+    let second = end_of(first, server, 1)?;
     let third = end_of(second, rules.len(), ROW)?;
-    let end = end_of(third, patterns.len(), 1)?;
+    let end = end_of(third, rules.bytes().len(), 1)?;
     Some(Places {
         server: first,
         rules: second,
@@ -63,59 +54,56 @@ pub(crate) fn places_of<A: Allocator>(
     })
 }
 
-/// Writes the image of a map.
-pub(crate) fn write_parts<A: Allocator>(
-    client: &[u8],
-    server: &[u8],
+/// The image of a map of the rules. An image that would be too long is answered as out of memory:
+/// no process has memory for as many bytes.
+pub(crate) fn image_of<A: Allocator + Copy>(
+    alloc: A,
     rules: &Rules<A>,
-    places: Places,
-    out: &mut [u8],
-)
-    requires places { ArePlaces (length client.now) (length server.now)
-        (length rules.now.list) (length rules.now.bytes) places }
-    requires room { places.end ≤ length out.old }
-    ensures image { All HasNoZero rules.now.list
-        → IsTrieIn Client rules.now.list client.now rules.now.bytes
-        → IsTrieIn Server rules.now.list server.now rules.now.bytes
-        → IsImage rules.now.list (take places.end out.new) }
-    ensures rest { drop places.end out.new ≡ drop places.end out.old }
+) -> Result<Vec<u8, A>, AllocError>
+    requires { All HasNoZero rules.now.list }
+    ensures { IfOk result (λ image. IsWholeImage rules.now.list image.items) }
 {
+    let client = trie_rows(alloc, rules, Side::Client)?;
+    let server = trie_rows(alloc, rules, Side::Server)?;
     let patterns = rules.bytes();
-    write_header(out, places);
-    put(out, HEADER, client);
-    put(out, places.server, server);
-    write_rules(out, places.rules, rules);
-    put(out, places.bytes, patterns);
+    let Some(places) = places_of(client.len(), server.len(), rules) else {
+        return Err(AllocError);
+    };
+    let mut image = Vec::with_capacity(alloc, places.end)?;
+    push_header(&mut image, places)?;
+    image.extend_from_slice(client.as_slice())?;
+    image.extend_from_slice(server.as_slice())?;
+    push_rules(&mut image, rules)?;
+    image.extend_from_slice(patterns)?;
+    Ok(image)
 }
 
-/// Writes what an image is, and where its parts stand.
-fn write_header(out: &mut [u8], places: Places)
-    requires room { 48 ≤ length out.old }
-    ensures header { Holds (header_of places) out.old out.new }
+/// Appends what an image is, and where its parts stand.
+fn push_header<A: Allocator>(image: &mut Vec<u8, A>, places: Places) -> Result<(), AllocError>
+    ensures { OnOk result (image.new.items ≡ image.old.items ++ header_of places) }
 {
-    put_word(out, 0, KIND);
-    put_word(out, 8, HEADER as u64);
-    put_word(out, 16, places.server as u64);
-    put_word(out, 24, places.rules as u64);
-    put_word(out, 32, places.bytes as u64);
-    put_word(out, 40, places.end as u64);
+    push_word(image, KIND)?;
+    push_word(image, HEADER as u64)?;
+    push_word(image, places.server as u64)?;
+    push_word(image, places.rules as u64)?;
+    push_word(image, places.bytes as u64)?;
+    push_word(image, places.end as u64)
 }
 
-/// Writes the rows of rules from a place on.
-fn write_rules<A: Allocator>(out: &mut [u8], from: usize, rules: &Rules<A>)
-    requires room { from + 24 * length rules.now.list ≤ length out.old }
+/// Appends the rows of rules.
+fn push_rules<A: Allocator>(image: &mut Vec<u8, A>, rules: &Rules<A>) -> Result<(), AllocError>
     requires short { length rules.now.bytes < 281474976710656 }
     requires counted { length rules.now.spans ≡ length rules.now.list }
-    ensures holds { (so_far first : List ℕ) → Holds so_far first out.old → from ≡ length so_far
-        → Holds (so_far ++ rule_rows rules.now.list rules.now.spans) first out.new }
-    ensures same { length out.new ≡ length out.old }
+    ensures { OnOk result (image.new.items
+        ≡ image.old.items ++ rule_rows rules.now.list rules.now.spans) }
 {
     for place in 0..rules.len() {
         let (Some(rule), Some(span)) = (rules.get(place), rules.span(place)) else {
-            return;
+            return Ok(());
         };
-        write_rule(out, from + ROW * place, rule, span);
+        push_rule(image, rule, span)?;
     }
+    Ok(())
 }
 
 /// What a rule does and on which sides, as a number.
@@ -127,15 +115,17 @@ fn acts_number(rule: RuleRef<'_>) -> u64
     rule.kind.number() + client + server
 }
 
-/// Writes the row of a rule at a place.
-fn write_rule(out: &mut [u8], at: usize, rule: RuleRef<'_>, span: Span)
-    requires room { at + 24 ≤ length out.old }
-    requires short { span.key < 281474976710656 }
-    ensures holds { (so_far first : List ℕ) → Holds so_far first out.old → at ≡ length so_far
-        → Holds (so_far ++ rule_row (rule_meant rule.entry) span) first out.new }
-    ensures same { length out.new ≡ length out.old }
+/// Appends the row of a rule.
+fn push_rule<A: Allocator>(
+    image: &mut Vec<u8, A>,
+    rule: RuleRef<'_>,
+    span: Span,
+) -> Result<(), AllocError>
+    requires { span.key < 281474976710656 }
+    ensures { OnOk result (image.new.items
+        ≡ image.old.items ++ rule_row (rule_meant rule.entry) span) }
 {
-    put_word(out, at, span.key as u64 + SHARE * acts_number(rule));
-    put_word(out, at + 8, span.prepend as u64);
-    put_word(out, at + 16, span.end as u64);
+    push_word(image, span.key as u64 + SHARE * acts_number(rule))?;
+    push_word(image, span.prepend as u64)?;
+    push_word(image, span.end as u64)
 }

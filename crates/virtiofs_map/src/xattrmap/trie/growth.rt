@@ -1,12 +1,15 @@
 //! The making of a trie's branches, level by level.
 
-ghost use Rattle.std.specs.Prelude.{◌≡◌, ◌≢◌, ◌<◌, ◌≤◌, ◌+◌, ◌-◌, ℕ, List, take, length, slice_index, All, IfOk, OnOk};
-ghost use Rattle.virtiofs_map.specs.BranchParts.{AreFew, ArePatterns, IsTrie, IsBounded};
+ghost use Rattle.std.specs.Prelude.{◌≡◌, ◌≢◌, ◌<◌, ◌≤◌, ◌+◌, ◌-◌, ◌++◌, ℕ, List, map, take, length, slice_get, slice_index, All, Some, IfOk, OnOk};
+ghost use Rattle.virtiofs_map.specs.BranchParts.{AreFew, ArePatterns};
 ghost use Rattle.virtiofs_map.specs.GrowthParts.{text, number, start_of, AreReady, IsLeast, IsLeastOf, IsUpto, IsPart};
-ghost use Rattle.virtiofs_map.specs.GrowthParts.{ArePlaces, AreAdded, AreHoles, IsBranched, AreGrown, AreDeep};
-ghost use Rattle.virtiofs_map.specs.GrowthParts.{childless_of};
+ghost use Rattle.virtiofs_map.specs.GrowthParts.{ArePlaces, IsPlace, AreAdded, AreHoles, IsBranched, AreGrown, AreDeep};
+ghost use Rattle.virtiofs_map.specs.GrowthParts.{AreExact, childless_of, node_of, path_of_part};
+ghost use Rattle.virtiofs_map.specs.PatternTrie.{are_sparse, next_bytes};
+ghost use Rattle.virtiofs_map.specs.TrieParts.{IsTrieOf, branch_with, children_of, texts_of};
 ghost use Rattle.virtiofs_map.specs.Rule.{MappingRule};
 ghost use Rattle.virtiofs_map.specs.declared.xattrmap.scopes.Side.{Side};
+ghost use Rattle.virtiofs_map.specs.declared.xattrmap.trie.growth.Part.{Part};
 
 use crate::xattrmap::trie::branch::{Branch, NO_ANSWER};
 use crate::xattrmap::trie::patterns::Pattern;
@@ -72,6 +75,9 @@ fn shared(one: &[u8], other: &[u8], depth: usize) -> usize
     ensures within { depth + result ≤ length one.now }
     ensures same { take depth one.now ≡ take depth other.now
         → take (depth + result) one.now ≡ take (depth + result) other.now }
+    ensures stops { result < 65535 → depth + result < length one.now
+        → depth + result < length other.now
+        → slice_index one.now (depth + result) ≢ slice_index other.now (depth + result) }
 {
     let most = (one.len().min(other.len()).max(depth) - depth).min(65535);
     let mut count = 0;
@@ -159,6 +165,10 @@ fn child(patterns: &[Pattern<'_>], depth: usize, low: usize, high: usize, answer
         ≡ take (depth + 1) (text patterns.now (high - 1))
         → take result.depth (text patterns.now low)
         ≡ take result.depth (text patterns.now (high - 1)) }
+    ensures stops { result.length < 65535 → result.depth < length (text patterns.now low)
+        → result.depth < length (text patterns.now (high - 1))
+        → slice_index (text patterns.now low) result.depth
+        ≢ slice_index (text patterns.now (high - 1)) result.depth }
 {
     let first = bytes_of(patterns, low);
     let length = if high - low == 1 {
@@ -178,21 +188,26 @@ fn child(patterns: &[Pattern<'_>], depth: usize, low: usize, high: usize, answer
 
 /// Whether the children of a part are so far apart that they stand side by side without holes: the
 /// bytes from the lowest to the highest are more than 4, and 2 more for each child.
-fn are_scattered(patterns: &[Pattern<'_>], from: usize, high: usize, depth: usize) -> bool
-    requires within { high ≤ length patterns.now }
-    requires some { from < high }
-    requires rising { (i j : ℕ) → from ≤ i → i ≤ j → j < high
-        → slice_index (text patterns.now i) depth ≤ slice_index (text patterns.now j) depth }
+fn are_scattered(patterns: &[Pattern<'_>], part: Part, from: usize) -> bool
+    requires ready { AreReady usize.MAX patterns.now }
+    requires part { IsPart patterns.now part }
+    requires from { part.low ≤ from }
+    requires some { from < part.high }
+    requires ended { (i : ℕ) → part.low ≤ i → i < from → length (text patterns.now i) ≡ part.depth }
+    requires longer { part.depth < length (text patterns.now from) }
+    ensures { result
+        ≡ are_sparse (next_bytes (texts_of patterns.now) (path_of_part patterns.now part)) }
 {
-    let lowest = byte_of(patterns, from, depth);
-    let highest = byte_of(patterns, high - 1, depth);
-    let mut left = usize::from(highest.max(lowest) - lowest) + 1;
+    let lowest = byte_of(patterns, from, part.depth);
+    let highest = byte_of(patterns, part.high - 1, part.depth);
+    let span = usize::from(highest.max(lowest) - lowest) + 1;
     let mut low = from;
-    while low < high && left > 4 {
-        low = group_end(patterns, low, high, depth);
-        left -= 2;
+    let mut count = 0;
+    while low < part.high {
+        low = group_end(patterns, low, part.high, part.depth);
+        count += 1;
     }
-    left > 4
+    span > 2 * count + 4
 }
 
 /// Appends holes until there are `count` places from `first` on.
@@ -230,15 +245,19 @@ fn add_children<A: Allocator>(
     scattered: bool,
 ) -> Result<(), AllocError>
     requires ready { AreReady usize.MAX patterns.now }
-    requires root { 0 < length parts.old.items }
     requires part { IsPart patterns.now part }
     requires from { part.low ≤ from }
     requires some { from < part.high }
     requires ended { (i : ℕ) → part.low ≤ i → i < from → length (text patterns.now i) ≡ part.depth }
     requires longer { part.depth < length (text patterns.now from) }
     requires least { IsLeast patterns.now (IsUpto patterns.now part) answer }
-    ensures { OnOk result (AreAdded patterns.now parts.old.items parts.new.items part
-        (slice_index (text patterns.now from) part.depth) scattered part.high) }
+    requires sparse { scattered
+        ≡ are_sparse (next_bytes (texts_of patterns.now) (path_of_part patterns.now part)) }
+    ensures added { OnOk result
+        (AreAdded patterns.now parts.old.items parts.new.items part) }
+    ensures nodes { OnOk result (map (node_of patterns.now) parts.new.items
+        ≡ map (node_of patterns.now) parts.old.items
+        ++ children_of patterns.now (node_of patterns.now part)) }
 {
     let first = parts.len();
     let lowest = byte_of(patterns, from, part.depth);
@@ -275,14 +294,19 @@ fn childless(part: Part, first: usize, answer: u64, label: usize) -> Branch
 fn branch_of<A: Allocator>(
     patterns: &[Pattern<'_>],
     parts: &mut Vec<Part, A>,
-    at: usize,
+    part: Part,
 ) -> Result<Branch, AllocError>
     requires ready { AreReady usize.MAX patterns.now }
     requires places { ArePlaces patterns.now parts.old.items }
-    requires within { at < length parts.old.items }
-    ensures { IfOk result (IsBranched patterns.now parts.old.items parts.new.items at) }
+    requires place { IsPlace patterns.now part }
+    ensures branched { IfOk result
+        (IsBranched patterns.now parts.old.items parts.new.items part) }
+    ensures nodes { OnOk result (map (node_of patterns.now) parts.new.items
+        ≡ map (node_of patterns.now) parts.old.items
+        ++ children_of patterns.now (node_of patterns.now part)) }
+    ensures exact { IfOk result (λ branch. branch ≡ branch_with patterns.now branch.answer
+        (length parts.old.items) (node_of patterns.now part)) }
 {
-    let part = parts[at];
     let first = parts.len();
     if part.low == part.high {
         return Ok(childless(part, first, part.answer, 0));
@@ -294,7 +318,7 @@ fn branch_of<A: Allocator>(
         return Ok(bare);
     }
     let low = byte_of(patterns, from, part.depth);
-    let scattered = are_scattered(patterns, from, part.high, part.depth);
+    let scattered = are_scattered(patterns, part, from);
     add_children(patterns, parts, part, from, answer, scattered)?;
     let width = parts.len() - first;
     Ok(Branch {
@@ -314,14 +338,17 @@ fn grow_level<A: Allocator>(
     requires ready { AreReady usize.MAX patterns.now }
     requires places { ArePlaces patterns.now parts.old.items }
     requires grown { AreGrown patterns.now parts.old.items branches.old.items }
+    requires exact { AreExact patterns.now parts.old.items branches.old.items }
     ensures places { OnOk result (ArePlaces patterns.now parts.new.items) }
     ensures grown { OnOk result (AreGrown patterns.now parts.new.items branches.new.items) }
+    ensures exact { OnOk result (AreExact patterns.now parts.new.items branches.new.items) }
     ensures deeper { OnOk result ((depth : ℕ)
         → AreDeep parts.old.items (length branches.old.items) depth
         → AreDeep parts.new.items (length branches.new.items) (depth + 1)) }
 {
     for at in branches.len()..parts.len() {
-        branches.push(branch_of(patterns, parts, at)?)?;
+        let part = parts[at];
+        branches.push(branch_of(patterns, parts, part)?)?;
     }
     Ok(())
 }
@@ -333,11 +360,9 @@ pub(crate) fn grow<A: Allocator + Copy>(
     bytes: &[u8],
 ) -> Result<Vec<Branch, A>, AllocError>
     requires { AreReady (length bytes.now) patterns.now }
-    ensures trie { IfOk result (λ branches. (side : Side) (rules : List MappingRule)
+    ensures { IfOk result (λ branches. (side : Side) (rules : List MappingRule)
         → ArePatterns side rules bytes.now patterns.now → AreFew rules
-        → IsTrie side rules branches.items bytes.now) }
-    ensures bounded { IfOk result (λ branches.
-        All (IsBounded branches.items bytes.now) branches.items) }
+        → IsTrieOf side rules bytes.now patterns.now branches.items) }
 {
     // Most often there are not many more branches than patterns.
     let most = patterns.len().saturating_add(patterns.len() / 4);

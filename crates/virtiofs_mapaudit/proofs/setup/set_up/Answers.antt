@@ -10,6 +10,7 @@ returns-clause-sets_up g c = record {
       at c.in_ok-groups.ensures.read;
   names = c.in_ok-names.ensures.read;
   acl = refl;
+  process = c.process_of.ensures;
   lists = c.translates_lists.ensures;
 }
 

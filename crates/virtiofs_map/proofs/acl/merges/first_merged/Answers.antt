@@ -10,16 +10,16 @@ pub least_clash-requires-clause-in_order : goal.least_clash-requires-clause-in_o
 least_clash-requires-clause-in_order c = AreInOrder-sorted c.sort_unstable.new.self c.sort_unstable.ensures.sorted
 
 pub returns-clause-none : goal.returns-clause-none
-returns-clause-none c = λ users groups direction are sound.
-    none_found users groups direction _ _ _ _ are.users_accepted are.groups_accepted
+returns-clause-none c = λ users groups of_users of_groups sound.
+    none_found users groups _ _ _ _ _ of_users.accepted of_groups.accepted
     (AreInOrder-sorted c.sort_unstable.new.self c.sort_unstable.ensures.sorted)
-    (Places-permutation users groups direction _ _ _ _ c.sort_unstable.ensures.permutation
-    (c.place-used.ensures.placed users groups direction are sound)) c.least_clash.ensures.least
+    (Places-permutation users groups _ _ _ _ _ c.sort_unstable.ensures.permutation
+    (c.place-used.ensures.placed users groups of_users of_groups sound)) c.least_clash.ensures.least
 
 pub returns-clause-first : goal.returns-clause-first
-returns-clause-first c = λ users groups direction are sound.
-    first_found users groups direction _ _ _ _ are.users_accepted are.groups_accepted
+returns-clause-first c = λ users groups of_users of_groups sound.
+    first_found users groups _ _ _ _ _ of_users.accepted of_groups.accepted
     (AreInOrder-sorted c.sort_unstable.new.self c.sort_unstable.ensures.sorted)
-    (Places-permutation users groups direction _ _ _ _ c.sort_unstable.ensures.permutation
-    (c.place-used.ensures.placed users groups direction are sound)) c.least_clash.ensures.least
+    (Places-permutation users groups _ _ _ _ _ c.sort_unstable.ensures.permutation
+    (c.place-used.ensures.placed users groups of_users of_groups sound)) c.least_clash.ensures.least
     c.least_clash.ensures.found

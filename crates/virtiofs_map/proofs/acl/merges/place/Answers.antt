@@ -19,35 +19,35 @@ loop-k-preserved c =
             entries =
                 rw (w.used-is, w.room-is, take_more_set c.loop-k.room c.loop-k.used _ fits)
                 (entries-push k _ _ c.loop-k.invariant.entries (omega arith));
-            placed = λ users groups direction are sound.
+            placed = λ users groups of_users of_groups sound.
                 rw (w.used-is, w.room-is, take_more_set c.loop-k.room c.loop-k.used _ fits)
-                (Places-push users groups direction value k _ _
-                (c.loop-k.invariant.placed users groups direction are (λ j below. sound j (omega arith))) refl
+                (Places-push users groups _ value k _ _
+                (c.loop-k.invariant.placed users groups of_users of_groups (λ j below. sound j (omega arith))) refl
                 (c.has_id.ensures.0 w.if-has_id.true) entry.tag
-                (rw (entry.tag, entry.id) at (w.in-Some.ensures users groups direction are)));
+                (rw (entry.tag, entry.id) at (w.in-Some.ensures users groups of_users of_groups)));
           }
       | then-has_id+in_default w ↦
           record {
             within = omega arith;
             entries = rw (w.used-is, w.room-is) (entries-more k _ c.loop-k.invariant.entries);
-            placed = λ users groups direction are sound.
-                absurd (Becomes-forbidden _ _ _ _ (Accepted-for users groups _ are.users_accepted are.groups_accepted)
+            placed = λ users groups of_users of_groups sound.
+                absurd (Becomes-forbidden _ _ _ _ (Accepted-for users groups _ of_users.accepted of_groups.accepted)
                 ((sound k (omega arith)).goes (rw entry.tag at (c.has_id.ensures.0 w.if-has_id.true))).1
-                (rw (entry.tag, entry.id) at (w.in_default.ensures users groups direction are)));
+                (rw (entry.tag, entry.id) at (w.in_default.ensures users groups of_users of_groups)));
           }
       | else-has_id w ↦
           record {
             within = omega arith;
             entries = rw (w.used-is, w.room-is) (entries-more k _ c.loop-k.invariant.entries);
-            placed = λ users groups direction are sound.
+            placed = λ users groups of_users of_groups sound.
                 rw (w.used-is, w.room-is)
-                (Places-pass users groups direction value k _
-                (c.loop-k.invariant.placed users groups direction are (λ j below. sound j (omega arith)))
+                (Places-pass users groups _ value k _
+                (c.loop-k.invariant.placed users groups of_users of_groups (λ j below. sound j (omega arith)))
                 (λ has_id. false≢true (sym w.if-has_id.false ∙ c.has_id.ensures.1 (rw entry.tag has_id))));
           }
     ]
 
 pub returns-clause-placed : goal.returns-clause-placed
-returns-clause-placed c = λ users groups direction are sound.
+returns-clause-placed c = λ users groups of_users of_groups sound.
     let whole : c.loop-k.k ≡ c.args.count = omega arith in
-    rw whole at (c.loop-k.invariant.placed users groups direction are (λ k below. sound k (omega arith)))
+    rw whole at (c.loop-k.invariant.placed users groups of_users of_groups (λ k below. sound k (omega arith)))

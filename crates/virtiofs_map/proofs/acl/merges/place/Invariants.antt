@@ -7,7 +7,7 @@ abbrev pub invariant-loop-k : goal.invariant-loop-k
 invariant-loop-k l = record {
   within : l.used ≤ l.k;
   entries : All (λ one. one.entry < l.k) (take l.used l.room);
-  placed : OfWays l.ways.users l.ways.groups
+  placed : OfWays l.ways
       (λ users groups direction. AllSoundBelow users groups direction l.value l.k
       → Places users groups direction l.value l.k (take l.used l.room));
 }

@@ -4,12 +4,12 @@ use Rattle.virtiofs_map.proofs.audit.AuditLeastLemmas.{finds_first, finds_from_n
 use Rattle.virtiofs_map.proofs.audit.candidates.least_host_name.Goals as goal
 
 pub returns : goal.returns
-returns g c =
+returns g c = λ rules is maps.
     let b = bad c.args.question.now in
     let beginning = c.args.question.now.beginning.bytes.now in
-    let names = host_names c.args.map.now c.args.map.now ++ one_byte_names in
-    let first : c.try_name.new.self ≡ try_one b none_tried beginning = c.in_ok-try_name.ensures
+    let names = host_names rules rules ++ one_byte_names in
+    let first : c.try_name.new.self ≡ try_one b none_tried beginning = c.in_ok-try_name.ensures.tried maps
     ∙ ap (λ t. try_one b t beginning) c.new-tried.ensures in
     finds_from_none b (beginning ∷ names) c.try_host_names.new.tried c.into_answer.result
     (finds_first b beginning names c.try_name.new.self c.try_host_names.new.tried first
-    c.in_ok-try_host_names.ensures) c.into_answer.ensures.found c.into_answer.ensures.name
+    (c.in_ok-try_host_names.ensures rules is maps)) c.into_answer.ensures.found c.into_answer.ensures.name

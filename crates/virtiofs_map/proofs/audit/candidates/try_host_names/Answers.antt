@@ -8,17 +8,18 @@ use Rattle.virtiofs_map.proofs.audit.candidates.try_host_names.Goals as goal
 pub returns : goal.returns
 returns g c =
     let b = bad c.args.question.now in
-    let map = c.args.map.now in
     let prepends = c.in_ok-prepends.prepends in
     let cuts = c.in_ok-cuts.cuts in
     let keys = c.in_ok-keys.keys in
-    let both = λ (name : List ℕ). Contains prepends name ⊎ IsWhole map cuts keys name in
-    let first =
-    finds_join b (Contains prepends) (IsWhole map cuts keys) both c.args.tried.now c.try_all.new.tried
-    c.try_wholes.new.tried c.in_ok-try_all.ensures.finds c.in_ok-try_wholes.ensures (λ name one. one) in
     on_ok_weaker c.try_one_byte_names.result
-    (λ last. finds_join b both (Contains one_byte_names) (Contains (host_names map map ++ one_byte_names))
-    c.args.tried.now c.try_wholes.new.tried c.try_one_byte_names.new.tried first last.finds
-    (host_cover map prepends cuts keys c.in_ok-prepends.ensures.parts c.in_ok-cuts.ensures.parts
-    c.in_ok-keys.ensures.parts))
+    (λ last rules is maps.
+    let both = λ (name : List ℕ). Contains prepends name ⊎ IsWhole rules cuts keys name in
+    let first =
+    finds_join b (Contains prepends) (IsWhole rules cuts keys) both c.args.tried.now c.try_all.new.tried
+    c.try_wholes.new.tried (c.in_ok-try_all.ensures maps).finds (c.in_ok-try_wholes.ensures rules is maps)
+    (λ name one. one) in
+    finds_join b both (Contains one_byte_names) (Contains (host_names rules rules ++ one_byte_names))
+    c.args.tried.now c.try_wholes.new.tried c.try_one_byte_names.new.tried first (last maps).finds
+    (host_cover rules prepends cuts keys (c.in_ok-prepends.ensures rules is) (c.in_ok-cuts.ensures rules is)
+    (c.in_ok-keys.ensures rules is)))
     c.try_one_byte_names.ensures.tried

@@ -6,70 +6,65 @@ use Rattle.virtiofs_map.proofs.audit.AuditTriedLemmas.{cuts_dead, cuts_all, whol
 use Rattle.virtiofs_map.proofs.audit.candidates.try_wholes.Goals as goal
 
 pub loop-place-init : goal.loop-place-init
-loop-place-init g c =
-    finds_nothing (bad c.args.question.now) (CutWhole c.args.map.now c.args.cuts.now c.args.keys.now 0)
-    c.args.tried.now (λ name one. absurd (cuts_none c.args.map.now c.args.cuts.now c.args.keys.now name one))
+loop-place-init g c = λ rules is maps.
+    finds_nothing (bad c.args.question.now) (CutWhole rules c.args.cuts.now c.args.keys.now 0)
+    c.args.tried.now (λ name one. absurd (cuts_none rules c.args.cuts.now c.args.keys.now name one))
 
 pub loop-place-preserved : goal.loop-place-preserved
-loop-place-preserved g c =
+loop-place-preserved g c = λ rules is maps.
     let place = c.loop-place.place in
-    let rules = c.args.map.now in
     let cuts = c.args.cuts.now in
     let keys = c.args.keys.now in
     let cut = c.in-Some.cut.bytes.now in
     finds_join (bad c.args.question.now) (CutWhole rules cuts keys place) (IsWholeOf cut keys)
     (CutWhole rules cuts keys (place + 1)) c.args.tried.now c.loop-place.tried c.try_wholes_of.new.tried
-    c.loop-place.invariant c.in_ok-try_wholes_of.ensures
+    (c.loop-place.invariant rules is maps) (c.in_ok-try_wholes_of.ensures maps)
     (λ name one. cuts_more rules cuts keys place name cut (sym c.in-Some.ensures) one)
 
 pub loop-place-preserved-then-not-may_begin_with : goal.loop-place-preserved-then-not-may_begin_with
-loop-place-preserved-then-not-may_begin_with g c =
+loop-place-preserved-then-not-may_begin_with g c = λ rules is maps.
     let place = c.loop-place.place in
-    let rules = c.args.map.now in
     let cuts = c.args.cuts.now in
     let keys = c.args.keys.now in
     let cut = c.in-Some.cut.bytes.now in
     finds_join (bad c.args.question.now) (CutWhole rules cuts keys place) (IsWholeOf cut keys)
     (CutWhole rules cuts keys (place + 1)) c.args.tried.now c.loop-place.tried c.loop-place.tried
-    c.loop-place.invariant
+    (c.loop-place.invariant rules is maps)
     (wholes_not_bad (bad c.args.question.now) cut keys c.loop-place.tried
     (c.may_begin_with.ensures c.if-not-may_begin_with.true))
     (λ name one. cuts_more rules cuts keys place name cut (sym c.in-Some.ensures) one)
 
 pub loop-place-preserved-then-not-is_cut : goal.loop-place-preserved-then-not-is_cut
-loop-place-preserved-then-not-is_cut g c =
+loop-place-preserved-then-not-is_cut g c = λ rules is maps.
     let place = c.loop-place.place in
-    let rules = c.args.map.now in
     let cuts = c.args.cuts.now in
     let keys = c.args.keys.now in
     finds_fewer (bad c.args.question.now) (CutWhole rules cuts keys place) (CutWhole rules cuts keys (place + 1))
-    c.args.tried.now c.loop-place.tried c.loop-place.invariant
+    c.args.tried.now c.loop-place.tried (c.loop-place.invariant rules is maps)
     (λ name one. cuts_dead rules cuts keys place name c.in-Some.cut.bytes.now (sym c.in-Some.ensures)
-    (sym c.is_cut.ensures ∙ c.if-not-is_cut.true) one)
+    (sym (c.is_cut.ensures rules is) ∙ c.if-not-is_cut.true) one)
 
 pub loop-place-preserved-in_default : goal.loop-place-preserved-in_default
-loop-place-preserved-in_default g c =
+loop-place-preserved-in_default g c = λ rules is maps.
     let place = c.loop-place.place in
-    let rules = c.args.map.now in
     let cuts = c.args.cuts.now in
     let keys = c.args.keys.now in
     finds_fewer (bad c.args.question.now) (CutWhole rules cuts keys place) (CutWhole rules cuts keys (place + 1))
-    c.args.tried.now c.loop-place.tried c.loop-place.invariant
+    c.args.tried.now c.loop-place.tried (c.loop-place.invariant rules is maps)
     (λ name one. cuts_same rules cuts keys place name (sym c.in_default.ensures) one)
 
 pub loop-place-preserved-then-is_repeated : goal.loop-place-preserved-then-is_repeated
-loop-place-preserved-then-is_repeated g c =
+loop-place-preserved-then-is_repeated g c = λ rules is maps.
     let place = c.loop-place.place in
-    let rules = c.args.map.now in
     let cuts = c.args.cuts.now in
     let keys = c.args.keys.now in
     finds_fewer (bad c.args.question.now) (CutWhole rules cuts keys place) (CutWhole rules cuts keys (place + 1))
-    c.args.tried.now c.loop-place.tried c.loop-place.invariant
+    c.args.tried.now c.loop-place.tried (c.loop-place.invariant rules is maps)
     (λ name one. cuts_repeated rules cuts keys place name (c.is_repeated.ensures c.if-is_repeated.true) one)
 
 pub returns : goal.returns
-returns g c =
-    finds_fewer (bad c.args.question.now) (CutWhole c.args.map.now c.args.cuts.now c.args.keys.now c.loop-place.place) _
-    c.args.tried.now c.loop-place.tried c.loop-place.invariant
-    (λ name whole. cuts_all c.args.map.now c.args.cuts.now c.args.keys.now c.loop-place.place name
+returns g c = λ rules is maps.
+    finds_fewer (bad c.args.question.now) (CutWhole rules c.args.cuts.now c.args.keys.now c.loop-place.place) _
+    c.args.tried.now c.loop-place.tried (c.loop-place.invariant rules is maps)
+    (λ name whole. cuts_all rules c.args.cuts.now c.args.keys.now c.loop-place.place name
     (omega (arith, c.len-place-end.ensures.count, c.loop-place-test.false)) whole)

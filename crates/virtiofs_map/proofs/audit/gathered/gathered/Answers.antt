@@ -1,17 +1,43 @@
+use Rattle.std.proofs.Common.{◌≡◌, List, ℕ, ◌++◌, append-nil, sym, ap, subst, ◌∙◌, arith}
+use Rattle.std.proofs.lemmas.List.{drop_all}
+use Rattle.std.specs.List.{filter_map}
+use Rattle.std.specs.List.Sorted.{IsPermutation}
 use Rattle.virtiofs_map.specs.GatheredParts.{part_of}
+use Rattle.virtiofs_map.specs.Rule.{HasNoZero}
 use Rattle.virtiofs_map.specs.RuleParts.{rule_meant}
 use Rattle.virtiofs_map.proofs.AuditFrontLemmas.{none_is}
-use Rattle.virtiofs_map.proofs.audit.AuditGatheredLemmas.{gathered_some, gathered_none}
+use Rattle.virtiofs_map.proofs.RuleRowLemmas.{there}
+use Rattle.virtiofs_map.proofs.audit.AuditGatheredLemmas.{gathered_some, gathered_none, rule_has}
 use Rattle.virtiofs_map.proofs.audit.gathered.gathered.Goals as goal
 
 pub loop-place-preserved : goal.loop-place-preserved
-loop-place-preserved g c =
-    gathered_some (part_of c.args.part) c.args.map.now c.loop-place.place (rule_meant c.in-Some.rule)
-    c.loop-place.names.items _ _ c.in_ok-name.field-0 c.in-Some-2.name c.in-Some.ensures.here c.loop-place.invariant
-    c.in_ok-name.ensures c.in-Some-2.is c.in_ok-push.ensures.items
+loop-place-preserved g c = λ rules is.
+    let here = c.in-Some.ensures rules is in
+    gathered_some (part_of c.args.part) rules c.loop-place.place (rule_meant c.in-Some.rule)
+    c.loop-place.names.items _ _ c.in_ok-name.field-0 c.in-Some-2.name here (c.loop-place.invariant rules is)
+    (c.in_ok-name.ensures (rule_has HasNoZero rules c.loop-place.place (rule_meant c.in-Some.rule) is.no_zero here))
+    c.in-Some-2.is c.in_ok-push.ensures.items
+
+pub loop-place-preserved-in_default : goal.loop-place-preserved-in_default
+loop-place-preserved-in_default g c = λ rules is.
+    (let here = there rules c.loop-place.place (omega (arith, c.len-place-end.ensures rules is)) in
+    let none = c.in_default.ensures rules is in
+    absurd (cc (here.1, none)))
 
 pub loop-place-preserved-in_default-2 : goal.loop-place-preserved-in_default-2
-loop-place-preserved-in_default-2 g c =
-    gathered_none (part_of c.args.part) c.args.map.now c.loop-place.place (rule_meant c.in-Some.rule)
-    c.loop-place.names.items _ c.in_ok-name.field-0 c.in-Some.ensures.here c.loop-place.invariant c.in_ok-name.ensures
+loop-place-preserved-in_default-2 g c = λ rules is.
+    let here = c.in-Some.ensures rules is in
+    gathered_none (part_of c.args.part) rules c.loop-place.place (rule_meant c.in-Some.rule)
+    c.loop-place.names.items _ c.in_ok-name.field-0 here (c.loop-place.invariant rules is)
+    (c.in_ok-name.ensures (rule_has HasNoZero rules c.loop-place.place (rule_meant c.in-Some.rule) is.no_zero here))
     (none_is c.in_ok-name.field-0 c.in_default-2.not-Some)
+
+pub returns : goal.returns
+returns g c = λ rules is.
+    let f = part_of c.args.part in
+    let names = c.loop-place.names.items in
+    let behind =
+    drop_all c.loop-place.place rules (omega (arith, c.len-place-end.ensures rules is, c.loop-place-test.false)) in
+    let whole : names ≡ filter_map f rules = sym (append-nil names) ∙ ap (λ l. names ++ filter_map f l) (sym behind)
+    ∙ c.loop-place.invariant rules is in
+    subst (λ (l : List (List ℕ)). IsPermutation l c.new.result) whole c.new.ensures

@@ -6,7 +6,7 @@ use Rattle.virtiofs_map.proofs.audit.AuditReachLemmas.{not_reached_empty}
 use Rattle.virtiofs_map.proofs.audit.reach.is_reached.Goals as goal
 
 pub loop-last-init : goal.loop-last-init
-loop-last-init g c = left_first c.args.map.now c.args.fronts.now c.args.host.now
+loop-last-init g c = λ rules is fronts. left_first rules c.args.fronts.now c.args.host.now
 
 pub slice_bounds-rest-end : goal.slice_bounds-rest-end
 slice_bounds-rest-end g c =
@@ -28,26 +28,26 @@ loop-last-smaller-then-count-last g c =
     omega (arith, c.shared_length-count.ensures)
 
 pub loop-last-preserved-then-count-last : goal.loop-last-preserved-then-count-last
-loop-last-preserved-then-count-last g c =
+loop-last-preserved-then-count-last g c = λ rules is fronts.
     let rest = c.loop-last.rest.now in
-    left_shared c.args.map.now c.args.fronts.now c.args.host.now rest c.in-Some.last.bytes.now
-    (take c.shared_length-count.result rest) c.shared_length-count.result c.loop-last.invariant c.in-Some.ensures
+    left_shared rules c.args.fronts.now c.args.host.now rest c.in-Some.last.bytes.now
+    (take c.shared_length-count.result rest) c.shared_length-count.result (c.loop-last.invariant rules is fronts) c.in-Some.ensures
     c.shared_length-count.ensures refl
 
 pub returns-then-passes_with : goal.returns-then-passes_with
-returns-then-passes_with g c =
-    sym (reached_where c.args.map.now c.args.host.now c.in-Some.last.bytes.now
-    (sym c.passes_with.ensures ∙ c.if-passes_with.true))
+returns-then-passes_with g c = λ rules is fronts.
+    sym (reached_where rules c.args.host.now c.in-Some.last.bytes.now
+    (sym (c.passes_with.ensures rules is) ∙ c.if-passes_with.true))
 
 pub returns-then-count-eq0 : goal.returns-then-count-eq0
-returns-then-count-eq0 g c =
+returns-then-count-eq0 g c = λ rules is fronts.
     let rest = c.loop-last.rest.now in
     let last = c.in-Some.last.bytes.now in
     let none : shared last rest ≡ 0 = omega (arith, c.shared_length-count.ensures, c.if-count-eq0.true) in
     let whole : length last ≤ shared last rest =
     omega (arith, c.shared_length-count.ensures, c.if-count-last.false) in
-    sym (not_reached_empty c.args.map.now c.args.fronts.now c.args.host.now rest last c.requires c.loop-last.invariant
-    c.in-Some.ensures none whole (sym c.passes_with.ensures ∙ c.if-passes_with.false))
+    sym (not_reached_empty rules c.args.fronts.now c.args.host.now rest last fronts (c.loop-last.invariant rules is fronts)
+    c.in-Some.ensures none whole (sym (c.passes_with.ensures rules is) ∙ c.if-passes_with.false))
 
 pub slice_bounds-rest-length : goal.slice_bounds-rest-length
 slice_bounds-rest-length g c =
@@ -65,15 +65,15 @@ loop-last-smaller g c =
     omega (arith, c.shared_length-count.ensures, c.if-count-eq0.false)
 
 pub loop-last-preserved : goal.loop-last-preserved
-loop-last-preserved g c =
+loop-last-preserved g c = λ rules is fronts.
     let rest = c.loop-last.rest.now in
     let count = c.shared_length-count.result in
-    left_shorter c.args.map.now c.args.fronts.now c.args.host.now rest c.in-Some.last.bytes.now
-    (take (count - 1) rest) count c.loop-last.invariant c.in-Some.ensures c.shared_length-count.ensures
-    (omega (arith, c.if-count-last.false)) (sym c.passes_with.ensures ∙ c.if-passes_with.false)
+    left_shorter rules c.args.fronts.now c.args.host.now rest c.in-Some.last.bytes.now
+    (take (count - 1) rest) count (c.loop-last.invariant rules is fronts) c.in-Some.ensures c.shared_length-count.ensures
+    (omega (arith, c.if-count-last.false)) (sym (c.passes_with.ensures rules is) ∙ c.if-passes_with.false)
     (omega (arith, c.if-count-eq0.false)) refl
 
 pub returns : goal.returns
-returns g c =
-    sym (not_reached_past c.args.map.now c.args.fronts.now c.args.host.now c.loop-last.rest.now c.requires
-    c.loop-last.invariant c.in_default.ensures)
+returns g c = λ rules is fronts.
+    sym (not_reached_past rules c.args.fronts.now c.args.host.now c.loop-last.rest.now fronts
+    (c.loop-last.invariant rules is fronts) c.in_default.ensures)

@@ -1,4 +1,11 @@
-use Rattle.std.proofs.Common.{length}
+use Rattle.std.proofs.Common.{List, length}
+use Rattle.std.specs.List.{filter_map}
+use Rattle.std.specs.List.Sorted.{IsPermutation}
+use Rattle.virtiofs_map.specs.GatheredParts.{part_of}
+use Rattle.virtiofs_map.specs.NamesImage.{IsMapOf}
+use Rattle.virtiofs_map.specs.Rule.{MappingRule}
+use Rattle.virtiofs_map.specs.declared.audit.gathered.Part.TheVariants.{Front}
+use Rattle.virtiofs_map.specs.declared.xattrmap.scopes.Side.TheVariants.{Client}
 use Rattle.virtiofs_map.proofs.audit.AuditReachLemmas.{IsLeft}
 use Rattle.virtiofs_map.proofs.audit.reach.is_reached.Given as goal
 
@@ -6,4 +13,5 @@ abbrev pub decreases-loop-last : goal.decreases-loop-last
 decreases-loop-last g l = length l.rest
 
 abbrev pub invariant-loop-last : goal.invariant-loop-last
-invariant-loop-last g l = IsLeft l.map l.fronts l.host l.rest
+invariant-loop-last g l = (rules : List MappingRule) → IsMapOf rules l.map
+    → IsPermutation (filter_map (part_of (Front Client)) rules) l.fronts → IsLeft rules l.fronts l.host l.rest

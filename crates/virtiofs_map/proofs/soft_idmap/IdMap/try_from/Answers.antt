@@ -3,6 +3,7 @@ use Rattle.virtiofs_map.specs.Build.{HasFirstFault}
 use Rattle.virtiofs_map.proofs.BuildFaultLemmas.{Accepted-no_fault, HasFirstFault-one}
 use Rattle.virtiofs_map.proofs.MappingLawLemmas.{IsOrderFree-accepted, KeepsGreatest-accepted}
 use Rattle.virtiofs_map.proofs.ReaderLemmas.{out_of_memory, told_fault}
+use Rattle.virtiofs_map.proofs.WordLemmas.{IsImage-lent}
 use Rattle.virtiofs_map.proofs.soft_idmap.IdMap.try_from.Goals as goal
 
 pub returns-in_err-words-clause-complete : goal.returns-in_err-words-clause-complete
@@ -21,7 +22,7 @@ returns-in_err-words-clause-faulty g c = λ fault has.
     (told_fault _ (HasFirstFault specs) fault refused (λ other told. HasFirstFault-one specs other fault told has))
 
 pub invariant_of-result : goal.invariant_of-result
-invariant_of-result g c = rw c.deref.ensures.value at c.in_ok-words.ensures
+invariant_of-result g c = IsImage-lent _ _ (rw c.deref.ensures.value at c.in_ok-words.ensures)
 
 pub returns-clause-accepted : goal.returns-clause-accepted
 returns-clause-accepted g c = (rw c.deref.ensures.value at c.in_ok-words.ensures).accepted

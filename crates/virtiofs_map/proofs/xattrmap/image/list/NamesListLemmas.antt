@@ -2,14 +2,15 @@
 use Rattle.std.proofs.Common.{◌≡◌, ◌≢◌, ℕ, zero, suc, ◌+◌, ◌<◌, ◌≤◌, true, false, if◌then◌else◌, List, [], ◌∷◌, ◌++◌}
 use Rattle.std.proofs.Common.{length, drop, Some, None, refl, sym, ap, subst, ◌∙◌, arith, append-nil, length-append}
 use Rattle.virtiofs_map.specs.Listing.{listing}
-use Rattle.virtiofs_map.specs.Names.{IsListed, IsHidden, IsUndecided, as_list, host_answer, server_answer}
-use Rattle.virtiofs_map.specs.NamesImageParts.{Holds}
+use Rattle.virtiofs_map.specs.Names.{as_list, server_answer}
+use Rattle.virtiofs_map.specs.NamesImageParts.{Holds, IsFirstSeen}
+use Rattle.virtiofs_map.specs.declared.xattrmap.listed.Seen.TheVariants.{Undecided, Hidden, Listed}
+use Rattle.std.specs.Borrow.{Bor}
 use Rattle.virtiofs_map.specs.Rule.{MappingRule}
 use Rattle.virtiofs_map.proofs.xattrmap.ListingLemmas.{IsSoFar, IsSoFar-first, IsSoFar-name, Item, all_ok, names_of}
 use Rattle.virtiofs_map.proofs.xattrmap.ListingLemmas.{zeros_of}
-use Rattle.virtiofs_map.proofs.xattrmap.ListingLemmas.{list_of-listing, listing_none, listing_shown, listing_hidden}
-use Rattle.virtiofs_map.proofs.xattrmap.ListingLemmas.{listing_undecided}
-use Rattle.virtiofs_map.proofs.ServerListLemmas.{IsCut, is_name, with_zeros}
+use Rattle.virtiofs_map.proofs.xattrmap.ListingLemmas.{list_of-listing, listing_seen}
+use Rattle.virtiofs_map.proofs.ServerListLemmas.{with_zeros}
 
 -- any type serves for the allocator that errors name
 abbrev Items : List MappingRule → List ℕ → List (Item ℕ)
@@ -30,51 +31,40 @@ listed_first rules list old = record {
   left = IsSoFar-first {A = ℕ} rules list [] (Items rules list) refl refl;
 }
 
-module _ (rules : List MappingRule) (list rest name left : List ℕ) (count : ℕ) (old new : List ℕ)
-    (cut : IsCut rest name left) (so_far : IsListedSoFar rules list rest count old new) where
-  -- an empty name
-  pub listed_none : is_name name ≡ false → IsListedSoFar rules list left count old new
-  listed_none none = record {
+module _ (rules : List MappingRule) (list rest left : List ℕ) (count : ℕ) (old new : List ℕ)
+    (so_far : IsListedSoFar rules list rest count old new) where
+  -- nothing is seen
+  pub listed_hidden : IsFirstSeen rules rest Hidden left → IsListedSoFar rules list left count old new
+  listed_hidden first = record {
     so_far = so_far.so_far;
     counted = so_far.counted;
     holds = so_far.holds;
-    left = subst (IsSoFar {A = ℕ} rules list so_far.so_far) (listing_none {A = ℕ} rules rest name left cut none)
+    left = subst (IsSoFar {A = ℕ} rules list so_far.so_far) (listing_seen {A = ℕ} rules rest Hidden left first)
         so_far.left;
   }
 
-  -- a hidden name
-  pub listed_hidden : is_name name ≡ true → host_answer rules name ≡ IsHidden
-      → IsListedSoFar rules list left count old new
-  listed_hidden named hidden = record {
-    so_far = so_far.so_far;
-    counted = so_far.counted;
-    holds = so_far.holds;
-    left = subst (IsSoFar {A = ℕ} rules list so_far.so_far)
-        (listing_hidden {A = ℕ} rules rest name left cut named hidden) so_far.left;
-  }
-
   -- a name that is listed, and was written with a zero behind what stood there
-  pub listed_shown : (shown : List ℕ) (next : ℕ) (after : List ℕ) → is_name name ≡ true
-      → host_answer rules name ≡ IsListed shown
-      → next ≡ count + length shown + 1
+  pub listed_shown : (shown : Bor (List ℕ)) (next : ℕ) (after : List ℕ) → IsFirstSeen rules rest (Listed shown) left
+      → next ≡ count + length shown.now + 1
       → ((so_far first : List ℕ) → Holds so_far first new → count ≡ length so_far
-      → Holds (so_far ++ shown ++ 0 ∷ []) first after)
+      → Holds (so_far ++ shown.now ++ 0 ∷ []) first after)
       → IsListedSoFar rules list left next old after
-  listed_shown shown next after named seen behind put =
-      let a = length-append so_far.so_far shown in
-      let b = length-append (so_far.so_far ++ shown) (0 ∷ []) in
+  listed_shown shown next after first behind put =
+      let a = length-append so_far.so_far shown.now in
+      let b = length-append (so_far.so_far ++ shown.now) (0 ∷ []) in
       record {
-        so_far = so_far.so_far ++ shown ++ 0 ∷ [];
+        so_far = so_far.so_far ++ shown.now ++ 0 ∷ [];
         counted = omega (arith, behind, so_far.counted, a, b);
         holds = put so_far.so_far old so_far.holds so_far.counted;
-        left = IsSoFar-name {A = ℕ} rules list so_far.so_far (so_far.so_far ++ shown ++ 0 ∷ []) shown (Items rules rest)
-            (Items rules left) so_far.left (listing_shown {A = ℕ} rules rest name left shown cut named seen) refl;
+        left = IsSoFar-name {A = ℕ} rules list so_far.so_far (so_far.so_far ++ shown.now ++ 0 ∷ []) shown.now
+            (Items rules rest)
+            (Items rules left) so_far.left (listing_seen {A = ℕ} rules rest (Listed shown) left first) refl;
       }
 
   -- a name that no rule decides leaves no list
-  pub listed_undecided : is_name name ≡ true → host_answer rules name ≡ IsUndecided → server_answer rules list ≡ None
-  listed_undecided named seen =
-      let last = listing_undecided {A = ℕ} rules rest name left cut named seen in
+  pub listed_undecided : IsFirstSeen rules rest Undecided left → server_answer rules list ≡ None
+  listed_undecided first =
+      let last = listing_seen {A = ℕ} rules rest Undecided left first in
       let none : all_ok (Items rules list) ≡ false = sym so_far.left.ok ∙ ap all_ok last in
       sym (list_of-listing ℕ rules list)
       ∙ ap (λ b. if b then Some (as_list (names_of (Items rules list))) else None) none
@@ -168,21 +158,21 @@ module _ (rules : List MappingRule) (list old new : List ℕ) (count : ℕ) (who
 
 -- ---- how long it is
 
--- a name more, of a list with so many bytes left, of which these are the name and what is behind it
-pub short_more : (count name left rest list shown next : ℕ) → next ≡ count + shown + 1 → shown ≤ name → 0 < rest
+-- a name more, of a list with so many bytes left
+pub short_more : (count left rest list shown next : ℕ) → next ≡ count + shown + 1 → 0 < rest
     → (0 < rest → count + rest ≤ list)
-    → name + left ≤ rest → (0 < left → name + left < rest) → next + left ≤ list + 1
-short_more count name zero rest list shown next is short some room within apart = let b = room some in
-    omega (arith, is, short, within, b)
-short_more count name (suc left) rest list shown next is short some room within apart =
+    → shown + left ≤ rest → (0 < left → shown + left < rest) → next + left ≤ list + 1
+short_more count zero rest list shown next is some room within apart =
+    let b = room some in omega (arith, is, within, b)
+short_more count (suc left) rest list shown next is some room within apart =
     let a = apart (omega arith) in
     let b = room some in
-    omega (arith, is, short, a, b)
+    omega (arith, is, a, b)
 
-pub shorter_more : (count name left rest list shown next : ℕ) → next ≡ count + shown + 1 → shown ≤ name → 0 < rest
+pub shorter_more : (count left rest list shown next : ℕ) → next ≡ count + shown + 1 → 0 < rest
     → (0 < rest → count + rest ≤ list)
-    → (0 < left → name + left < rest) → 0 < left → next + left ≤ list
-shorter_more count name left rest list shown next is short some room apart more =
+    → (0 < left → shown + left < rest) → 0 < left → next + left ≤ list
+shorter_more count left rest list shown next is some room apart more =
     let a = apart more in
     let b = room some in
-    omega (arith, is, short, a, b)
+    omega (arith, is, a, b)

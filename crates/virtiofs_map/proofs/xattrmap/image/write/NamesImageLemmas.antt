@@ -5,14 +5,15 @@ use Rattle.std.proofs.Math.Seq.{drop-append_seam, take-append_seam}
 use Rattle.std.proofs.lemmas.List.Elements.{All-cons, All-nil}
 use Rattle.virtiofs_map.specs.BranchParts.{AreSpans, IsTrieIn}
 use Rattle.virtiofs_map.specs.ByteWordParts.{word_at}
-use Rattle.virtiofs_map.specs.NamesImage.{HasImage, HasPart, IsImage, image_kind, part, part_end, part_start, rule_rows}
-use Rattle.virtiofs_map.specs.NamesImageParts.{ArePlaces, Holds, header_of, numbers_of}
+use Rattle.virtiofs_map.specs.NamesImage.{HasPart, IsImage, image_kind, image_length, part, part_end, part_start}
+use Rattle.virtiofs_map.specs.NamesImage.{pattern_bytes, rule_rows}
+use Rattle.virtiofs_map.specs.NamesImageParts.{ArePlaces, IsWholeImage, header_of, numbers_of}
 use Rattle.virtiofs_map.specs.Rule.{MappingRule, HasNoZero}
 use Rattle.virtiofs_map.specs.declared.xattrmap.image.write.Places.{Places}
 use Rattle.virtiofs_map.specs.declared.xattrmap.scopes.Side.TheVariants.{Client, Server}
 use Rattle.virtiofs_map.specs.declared.xattrmap.spans.Span.{Span}
-use Rattle.virtiofs_map.proofs.xattrmap.ByteWordLemmas.{length-words, word_of_words}
-use Rattle.virtiofs_map.proofs.xattrmap.image.RuleRowLemmas.{length-rule_rows}
+use Rattle.virtiofs_map.proofs.ByteWordLemmas.{length-rows_of, length-words, word_of_words}
+use Rattle.virtiofs_map.proofs.RuleRowLemmas.{length-rule_rows}
 
 -- ---- parts, as they are written
 
@@ -136,13 +137,26 @@ module _ (places : Places) (client server rows bytes : List ℕ) (rules : ℕ)
   every_part (suc (suc (suc zero))) below = fourth_part.has
   every_part (suc (suc (suc (suc n)))) below = absurd (omega arith)
 
+-- what tries, rules and patterns have together
+pub parts_length : (rules : List MappingRule) (client server bytes : List ℕ) → IsTrieIn Client rules client bytes
+    → IsTrieIn Server rules server bytes → length bytes ≡ pattern_bytes rules
+    → 48 + length client + length server + 24 * length rules + length bytes ≡ image_length rules
+unfolding image_length
+parts_length rules client server bytes clients servers whole =
+    let one = length-rows_of client clients.branches clients.rows_of in
+    let two = length-rows_of server servers.branches servers.rows_of in
+    omega (arith, one, two, clients.counted, servers.counted, whole)
+
 module _ (rules : List MappingRule) (spans : List Span) (client server bytes : List ℕ) (places : Places)
     (are : ArePlaces (length client) (length server) (length rules) (length bytes) places)
-    (stand : AreSpans bytes rules spans)
+    (stand : AreSpans bytes rules spans) (whole : length bytes ≡ pattern_bytes rules)
     (no_zero : All HasNoZero rules) (clients : IsTrieIn Client rules client bytes)
     (servers : IsTrieIn Server rules server bytes) where
   rows_long : length (rule_rows rules spans) ≡ 24 * length rules
   rows_long = length-rule_rows rules spans stand.counted
+
+  ends_there : places.end ≡ image_length rules
+  ends_there = omega (arith, parts_length rules client server bytes clients servers whole, are.first, are.second, are.third, are.last)
 
   -- it is an image of the map
   pub content_image : IsImage rules (content places client server (rule_rows rules spans) bytes)
@@ -157,6 +171,9 @@ module _ (rules : List MappingRule) (spans : List Span) (client server bytes : L
         begun = omega (arith, size, are.first, are.second, are.third, are.last);
         kind = content_kind places client server rows bytes (length rules) are rows_long;
         parts = every_part places client server rows bytes (length rules) are rows_long;
+        first = content_word places client server rows bytes (length rules) are rows_long 1 (omega arith);
+        last = content_word places client server rows bytes (length rules) are rows_long 5 (omega arith) ∙ ends_there;
+        short = omega (arith, ends_there, are.short);
         client = rw (one.is, four.is) clients;
         server = rw (two.is, four.is) servers;
         stored =
@@ -165,75 +182,25 @@ module _ (rules : List MappingRule) (spans : List Span) (client server bytes : L
         no_zero = no_zero;
       }
 
-  pub has_image : HasImage rules places.end
-  has_image = (
-    content places client server (rule_rows rules spans) bytes,
-    content_length places client server (rule_rows rules spans) bytes (length rules) are rows_long,
-    content_image,
-  )
+  -- and nothing follows it
+  pub content_whole : IsWholeImage rules (content places client server (rule_rows rules spans) bytes)
+  content_whole = record {
+    image = content_image;
+    whole =
+        content_length places client server (rule_rows rules spans) bytes (length rules) are rows_long ∙ ends_there;
+  }
 
-  module _ (old new : List ℕ) (room : places.end ≤ length old)
-      (holds : Holds (content places client server (rule_rows rules spans) bytes) old new) where
-    -- where it was written, it stands at the front
-    pub image_written : IsImage rules (take places.end new)
-    image_written =
-        let all : List ℕ = content places client server (rule_rows rules spans) bytes in
-        let size = content_length places client server (rule_rows rules spans) bytes (length rules) are rows_long in
-        let whole = holds.are (omega (arith, size, room)) in
-        subst (IsImage rules)
-        (sym (ap (take places.end) whole ∙ ap (λ (n : ℕ). take n (all ++ drop (length all) old)) (sym size)
-        ∙ take-append_seam all (drop (length all) old)))
-        content_image
-
--- and what was behind it stays
-pub rest_kept : (places : Places) (client server rows bytes : List ℕ) (rules : ℕ)
-    → ArePlaces (length client) (length server) rules (length bytes) places → length rows ≡ 24 * rules
-    → (old new : List ℕ) → places.end ≤ length old → Holds (content places client server rows bytes) old new
-    → drop places.end new ≡ drop places.end old
-rest_kept places client server rows bytes rules are long old new room holds =
-    let all : List ℕ = content places client server rows bytes in
-    let size = content_length places client server rows bytes rules are long in
-    let whole = holds.are (omega (arith, size, room)) in
-    ap (drop places.end) whole
-    ∙ ap (λ (n : ℕ). drop n (all ++ drop (length all) old)) (sym size)
-    ∙ drop-append_seam all (drop (length all) old)
-    ∙ ap (λ (n : ℕ). drop n old) size
-
--- ---- what is written, part by part
-
--- before anything is written
-pub holds_none : (old : List ℕ) → Holds [] old old
-holds_none old = record { same = refl; are = λ _. refl }
-
--- the bytes were appended at that place, whatever stood before them
-abbrev pub Puts : ℕ → List ℕ → List ℕ → List ℕ → Type 0
-Puts at bytes before after = (so_far first : List ℕ) → Holds so_far first before → at ≡ length so_far
-    → Holds (so_far ++ bytes) first after
-
-pub puts_same : (at : ℕ) (bytes other before after : List ℕ) → bytes ≡ other → Puts at bytes before after
-    → Puts at other before after
-puts_same at bytes other before after same puts so_far first holds place =
-    subst (λ (l : List ℕ). Holds (so_far ++ l) first after) same (puts so_far first holds place)
-
--- the parts, one after the other
-pub parts_written : (rules : List MappingRule) (spans : List Span) (client server bytes : List ℕ) (places : Places)
-    → ArePlaces (length client) (length server) (length rules) (length bytes) places → AreSpans bytes rules spans
-    → (old one two three four five : List ℕ) → Holds (header_of places) old one
-    → Puts 48 client one two → Puts places.server server two three
-    → Puts places.rules (rule_rows rules spans) three four → Puts places.bytes bytes four five
-    → Holds (content places client server (rule_rows rules spans) bytes) old five
-parts_written rules spans client server bytes places are stand old one two three four five header first second third
-    fourth =
-    let rows : List ℕ = rule_rows rules spans in
-    let long = length-rule_rows rules spans stand.counted in
-    let size = header_length places client server rows bytes (length rules) are long in
-    let a = length-append (header_of places) client in
-    let b = length-append (header_of places ++ client) server in
-    let c = length-append (header_of places ++ client ++ server) rows in
-    let with_client = first (header_of places) old header (omega (arith, size)) in
-    let with_server = second (header_of places ++ client) old with_client (omega (arith, size, a, are.first)) in
-    let with_rules =
-    third (header_of places ++ client ++ server) old with_server
-    (omega (arith, size, a, b, are.first, are.second)) in
-    fourth (header_of places ++ client ++ server ++ rows) old with_rules
-    (omega (arith, size, a, b, c, long, are.first, are.second, are.third))
+-- what was appended part by part
+pub content_is : (places : Places) (client server rows bytes none begun one two three all : List ℕ)
+    (clients servers patterns : List ℕ) → none ≡ [] → begun ≡ none ++ header_of places → one ≡ begun ++ clients
+    → two ≡ one ++ servers → three ≡ two ++ rows → all ≡ three ++ patterns → clients ≡ client → servers ≡ server
+    → patterns ≡ bytes
+    → all ≡ content places client server rows bytes
+content_is places client server rows bytes none begun one two three all clients servers patterns a b c d e f g h i =
+    f ∙ ap (λ (l : List ℕ). l ++ patterns) e ∙ ap (λ (l : List ℕ). l ++ rows ++ patterns) d
+    ∙ ap (λ (l : List ℕ). l ++ servers ++ rows ++ patterns) c
+    ∙ ap (λ (l : List ℕ). l ++ clients ++ servers ++ rows ++ patterns) b
+    ∙ ap (λ (l : List ℕ). l ++ header_of places ++ clients ++ servers ++ rows ++ patterns) a
+    ∙ ap (λ (l : List ℕ). header_of places ++ l ++ servers ++ rows ++ patterns) g
+    ∙ ap (λ (l : List ℕ). header_of places ++ client ++ l ++ rows ++ patterns) h
+    ∙ ap (λ (l : List ℕ). header_of places ++ client ++ server ++ rows ++ l) i

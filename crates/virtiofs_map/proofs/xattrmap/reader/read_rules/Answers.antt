@@ -65,7 +65,7 @@ returns-clause-read g c =
     let whole =
     finish _ _ _ _ c.loop-number.invariant.1 (chars_empty _ _ c.is_empty.ensures c.loop-number-test.false)
     (items_some _ _ _ (search rules) c.is_empty-2.ensures c.if-is_empty.false) in
-    subst (λ (kept : KeptRules). SaysRules (chars c.args.text.now) kept.list) (sym c.trim.ensures) whole.0
+    whole.0
 
 pub returns-clause-counted : goal.returns-clause-counted
 returns-clause-counted g c =

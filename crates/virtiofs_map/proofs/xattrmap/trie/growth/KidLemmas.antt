@@ -1,9 +1,9 @@
 -- The child of a part to which a byte leads: the patterns of the part that go on with the byte.
-use Rattle.std.proofs.Common.{◌≡◌, ℕ, ◌+◌, ◌-◌, ◌<◌, ◌≤◌, List, length, take, get_or, inl, inr, sym, ap, subst, ◌∙◌}
+use Rattle.std.proofs.Common.{◌≡◌, ◌≢◌, ℕ, ◌+◌, ◌-◌, ◌<◌, ◌≤◌, List, length, take, get_or, inl, inr, sym, ap, subst, ◌∙◌}
 use Rattle.std.proofs.Common.{arith}
 use Rattle.std.proofs.lemmas.Bool.{cases_lt}
 use Rattle.std.proofs.lemmas.List.{take-take, take_more_same}
-use Rattle.virtiofs_map.specs.GrowthParts.{text, AreReady, IsLeast, IsInside, IsUpto, IsPart, IsPlace, IsKid}
+use Rattle.virtiofs_map.specs.GrowthParts.{text, AreReady, IsLeast, IsInside, IsUpto, IsPart, IsPlace}
 use Rattle.virtiofs_map.specs.declared.xattrmap.trie.growth.Part.{Part}
 use Rattle.virtiofs_map.specs.declared.xattrmap.trie.patterns.Pattern.{Pattern}
 use Rattle.virtiofs_map.proofs.xattrmap.trie.growth.AnswerLemmas.{IsLeast-same}
@@ -21,6 +21,9 @@ pub record IsCut (patterns : List Pattern) (part kid : Part) (answer : ℕ) : Ty
   pub long : kid.depth ≤ length (text patterns kid.low)
   pub same : take (part.depth + 1) (text patterns kid.low) ≡ take (part.depth + 1) (text patterns (kid.high - 1))
       → take kid.depth (text patterns kid.low) ≡ take kid.depth (text patterns (kid.high - 1))
+  pub stops : kid.length < 65535 → kid.depth < length (text patterns kid.low)
+      → kid.depth < length (text patterns (kid.high - 1))
+      → get_or (text patterns kid.low) kid.depth 0 ≢ get_or (text patterns (kid.high - 1)) kid.depth 0
   pub bytes : (i : ℕ) → kid.low ≤ i → i < kid.high
       → get_or (text patterns i) part.depth 0 ≡ get_or (text patterns kid.low) part.depth 0
   pub group : (i : ℕ) → part.low ≤ i → i < part.high
@@ -120,7 +123,7 @@ module _ (most : ℕ) (patterns : List Pattern) (ready : AreReady most patterns)
         omega (arith, long, short))
   ]
 
-  kid_part : IsPart patterns kid
+  pub kid_part : IsPart patterns kid
   kid_part = record {
     some = inr cut.some;
     rising = let s = cut.some in omega (arith, s);
@@ -132,8 +135,8 @@ module _ (most : ℕ) (patterns : List Pattern) (ready : AreReady most patterns)
         (subst (IsLeast patterns (IsUpto patterns part)) (sym cut.answered) least) to_kid from_kid;
   }
 
-  pub kid_place : (at : ℕ) → IsPlace patterns at kid
-  kid_place at = record {
+  pub kid_place : IsPlace patterns kid
+  kid_place = record {
     is = inl kid_part;
     deep = inr
         (record {
@@ -146,14 +149,4 @@ module _ (most : ℕ) (patterns : List Pattern) (ready : AreReady most patterns)
     size = cut.size;
     answer = let t = least.top in let e = cut.answered in omega (arith, t, e);
     empty = λ e. absurd (let s = cut.some in omega (arith, s, e));
-  }
-
-  pub kid_is : IsKid patterns part kid
-  kid_is = record {
-    from = cut.from;
-    some = cut.some;
-    upto = cut.upto;
-    depth = cut.depth;
-    head = sym cut.head;
-    group = λ i l u e. cut.group i l u (e ∙ cut.head);
   }

@@ -12,80 +12,49 @@ use Rattle.virtiofs_map.specs.GrowthParts.{IsBranched}
 use Rattle.virtiofs_map.specs.declared.xattrmap.trie.branch.Branch.{Branch}
 use Rattle.virtiofs_map.specs.declared.xattrmap.trie.growth.Part.{Part}
 use Rattle.virtiofs_map.specs.declared.xattrmap.trie.patterns.Pattern.{Pattern}
-use Rattle.virtiofs_map.proofs.xattrmap.trie.growth.ChildrenLemmas.{still_kid}
+use Rattle.virtiofs_map.proofs.xattrmap.trie.NodeLemmas.{slice_get-drop}
 use Rattle.virtiofs_map.proofs.xattrmap.trie.growth.PatternOrderLemmas.{ends}
 use Rattle.virtiofs_map.proofs.xattrmap.trie.growth.PlaceLemmas.{push_cases}
 
--- what holds of a branch holds still where places were appended
-still_grown : (patterns : List Pattern) (old new : List Part) (at : ℕ) (part : Part) (branch : Branch)
-    → IsLonger old new → IsGrown patterns old at part branch → IsGrown patterns new at part branch
-still_grown patterns old new at part branch longer grown = record {
-  answer = grown.answer;
-  head = grown.head;
-  size = grown.size;
-  label = grown.label;
-  bare = grown.bare;
-  within = let w = grown.within in let l = longer.longer in omega (arith, w, l);
-  low = grown.low;
-  high = grown.high;
-  least = grown.least;
-  kids = λ is. record {
-    kids = λ k kid b h e ne. (grown.kids is).kids k kid b h
-        (sym (longer.same k (let w = grown.within in omega (arith, h, w))) ∙ e) ne;
-    complete =
-        λ i a b m. still_kid patterns old new part branch.first (branch.first + branch.width)
-        (branch.first + branch.width) i longer (omega arith) ((grown.kids is).complete i a b m);
-    placed =
-        λ s k kid h e ne. (grown.kids is).placed s k kid h
-        (sym (longer.same (branch.first + k) (let w = grown.within in omega (arith, h, w))) ∙ e) ne;
-  };
-}
-
 -- one branch more
-pub grown_more : (patterns : List Pattern) (old new : List Part) (branches : List Branch) (branch : Branch) (at : ℕ)
-    → at ≡ length branches → at < length old
-    → AreGrown patterns old branches → IsBranched patterns old new at branch
+pub grown_more : (patterns : List Pattern) (old new : List Part) (branches : List Branch) (part : Part)
+    (branch : Branch) (at : ℕ) → at ≡ length branches → slice_get old at ≡ Some part
+    → AreGrown patterns old branches → IsBranched patterns old new part branch
     → AreGrown patterns new (branches ++ branch ∷ [])
-grown_more patterns old new branches branch at is below grown made = record {
-  counted = let s = length_push branches branch in let l = made.longer.longer in omega (arith, s, l, is, below);
-  each = λ k part one e f. elim (push_cases branches branch k one f) [
-    | inl (l, h) ↦
-        still_grown patterns old new k part one made.longer
-        (grown.each k part one (sym (made.longer.same k (omega (arith, l, is, below))) ∙ e) h)
-    | inr (l, h) ↦
-        (let same : k ≡ at = omega (arith, l, is) in
-        let here = sym (made.longer.same at below) ∙ ap (slice_get new) (sym same) ∙ e in
-        subst (λ b. IsGrown patterns new k part b) h
-        (subst (λ n. IsGrown patterns new n part branch) (sym same) (made.grown part here)))
-  ];
-}
+grown_more patterns old new branches part branch at is here grown made =
+    let below = slice_get_within old at part here in
+    record {
+      counted = let s = length_push branches branch in let l = made.longer.longer in omega (arith, s, l, is, below);
+      each = λ k one other e f. elim (push_cases branches branch k other f) [
+        | inl (l, h) ↦ grown.each k one other (sym (made.longer.same k (omega (arith, l, is, below))) ∙ e) h
+        | inr (l, h) ↦
+            (let same : k ≡ at = omega (arith, l, is) in
+            let stands : slice_get old at ≡ Some one =
+            sym (made.longer.same at below) ∙ ap (slice_get new) (sym same) ∙ e in
+            let this : part ≡ one = cc in
+            subst (IsGrown patterns one) h (subst (λ p. IsGrown patterns p branch) this made.grown))
+      ];
+    }
 
 -- the places after it are as deep as before
-pub deep_more : (patterns : List Pattern) (old new : List Part) (branch : Branch) (at depth : ℕ) → at < length old
-    → IsBranched patterns old new at branch → AreDeep old at depth → AreDeep new (at + 1) depth
-deep_more patterns old new branch at depth below made deep = record {
-  deep = λ k part l e. elim (cases_lt k (length old)) [
-    | inl b ↦ deep.deep k part (omega (arith, l)) (sym (made.longer.same k b) ∙ e)
-    | inr g ↦ elim (slice_get_cases old at).1 [
-      | inr (past, _) ↦ absurd (omega (arith, below, past))
-      | inl (one, _, here, _) ↦ (let d = deep.deep at one (omega arith) here in let m =
-          (made.deeper one here).deep k part g e in omega (arith, d, m))
-    ]
+pub deep_more : (patterns : List Pattern) (old new : List Part) (part : Part) (branch : Branch) (at depth : ℕ)
+    → slice_get old at ≡ Some part → IsBranched patterns old new part branch → AreDeep old at depth
+    → AreDeep new (at + 1) depth
+deep_more patterns old new part branch at depth here made deep = record {
+  deep = λ k one l e. elim (cases_lt k (length old)) [
+    | inl b ↦ deep.deep k one (omega (arith, l)) (sym (made.longer.same k b) ∙ e)
+    | inr g ↦ (let d = deep.deep at part (omega arith) here in let m = made.deeper.deep k one g e in omega (arith, d, m))
   ];
 }
 
 -- and the children are deeper
-pub deeper_more : (patterns : List Pattern) (old new : List Part) (branch : Branch) (at end depth : ℕ) → at < length old
-    → IsBranched patterns old new at branch → AreDeep old at depth → AreDeep old end (depth + 1)
-    → AreDeep new end (depth + 1)
-deeper_more patterns old new branch at end depth below made deep deeper = record {
-  deep = λ k part l e. elim (cases_lt k (length old)) [
-    | inl b ↦ deeper.deep k part l (sym (made.longer.same k b) ∙ e)
-    | inr g ↦ elim (slice_get_cases old at).1 [
-      | inr (past, _) ↦ absurd (omega (arith, below, past))
-      | inl (one, _, here, _) ↦ (let d = deep.deep at one (omega arith) here in let m =
-          (made.deeper one here).deep k part g e in omega (arith, d, m))
-    ]
+pub deeper_more : (patterns : List Pattern) (old new : List Part) (part : Part) (branch : Branch) (at end depth : ℕ)
+    → slice_get old at ≡ Some part → IsBranched patterns old new part branch → AreDeep old at depth
+    → AreDeep old end (depth + 1) → AreDeep new end (depth + 1)
+deeper_more patterns old new part branch at end depth here made deep deeper = record {
+  deep = λ k one l e. elim (cases_lt k (length old)) [
+    | inl b ↦ deeper.deep k one l (sym (made.longer.same k b) ∙ e)
+    | inr g ↦ (let d = deep.deep at part (omega arith) here in let m = made.deeper.deep k one g e in omega (arith, d, m))
   ];
 }
 
@@ -118,7 +87,7 @@ pub root_places : (patterns : List Pattern) → ArePlaces patterns (root (length
 root_places patterns = record {
   each = λ at part e. elim (push_cases [] (root (length patterns)) at part e) [
     | inl (l, _) ↦ absurd (omega (arith, l))
-    | inr (_, h) ↦ subst (IsPlace patterns at) h (record {
+    | inr (_, h) ↦ subst (IsPlace patterns) h (record {
       is = inl (root_part patterns);
       deep = inl refl;
       label = omega arith;
@@ -127,8 +96,6 @@ root_places patterns = record {
       empty = λ _. refl;
     })
   ];
-  some = omega arith;
-  root = λ part e. cc;
 }
 
 pub root_grown : (patterns : List Pattern) (parts : List Part) → AreGrown patterns parts []
@@ -168,12 +135,6 @@ all_shallow most depth (p ∷ parts) l deep =
     let d = deep 0 p refl in
     omega (arith, h, d)
 
-get-drop : {X : Type 0} (n : ℕ) (xs : List X) (k : ℕ) → slice_get (drop n xs) k ≡ slice_get xs (n + k)
-get-drop zero xs k = let e : k ≡ zero + k = omega arith in ap (slice_get xs) e
-get-drop (suc n) [] k = refl
-get-drop (suc n) (x ∷ xs) k = let e : suc (n + k) ≡ suc n + k = omega arith in get-drop n xs k
-    ∙ ap (slice_get (x ∷ xs)) e
-
 -- a level less is left: each place without a branch is deeper than it was, and none is deeper than the bytes are long
 pub levels_fall : (most : ℕ) (patterns : List Pattern) (old new : List Part) (from next : ℕ) → AreReady most patterns
     → ArePlaces patterns old → from < length old
@@ -186,7 +147,7 @@ levels_fall most patterns old new from next ready places below deeper =
           (let deep : AreDeep old from (shallowest (most + 1) (drop from old)) = record {
             deep = λ k one l e. let same : from + (k - from) ≡ k = omega (arith, l) in
                 shallow_at (most + 1) (drop from old) (k - from) one
-                (get-drop from old (k - from) ∙ ap (slice_get old) same ∙ e);
+                (slice_get-drop from old (k - from) ∙ ap (slice_get old) same ∙ e);
           } in
           let first = deep.deep from part (omega arith) here in
           let reach : part.depth ≤ most = elim (places.each from part here).deep [
@@ -197,6 +158,6 @@ levels_fall most patterns old new from next ready places below deeper =
           let low =
           all_shallow (most + 1) (shallowest (most + 1) (drop from old) + 1) (drop next new)
           (omega (arith, first, reach))
-          (λ k one e. then.deep (next + k) one (omega arith) (sym (get-drop next new k) ∙ e)) in
+          (λ k one e. then.deep (next + k) one (omega arith) (sym (slice_get-drop next new k) ∙ e)) in
           omega (arith, low, first, reach))
     ]

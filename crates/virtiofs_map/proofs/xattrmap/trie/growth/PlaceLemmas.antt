@@ -3,7 +3,6 @@ use Rattle.std.proofs.Common.{◌≡◌, ◌⊎◌, ℕ, zero, suc, ◌<◌, Lis
 use Rattle.std.proofs.Common.{arith}
 use Rattle.std.specs.List.{slice_get}
 use Rattle.std.proofs.lemmas.List.{length_push}
-use Rattle.std.proofs.lemmas.Option.{slice_get_within}
 use Rattle.virtiofs_map.specs.GrowthParts.{IsLonger}
 use Rattle.virtiofs_map.specs.declared.xattrmap.trie.growth.Part.{Part}
 
@@ -22,10 +21,6 @@ push_keeps [] y k l = absurd (omega (arith, l))
 push_keeps (x ∷ xs) y zero l = refl
 push_keeps (x ∷ xs) y (suc k) l = push_keeps xs y k (omega (arith, l))
 
-pub push_last : {X : Type 0} (xs : List X) (y : X) → slice_get (xs ++ y ∷ []) (length xs) ≡ Some y
-push_last [] y = refl
-push_last (x ∷ xs) y = push_last xs y
-
 pub IsLonger-refl : (parts : List Part) → IsLonger parts parts
 IsLonger-refl parts = record { longer = omega arith; same = λ at l. refl }
 
@@ -40,8 +35,3 @@ IsLonger-trans old mid new a b = record {
   longer = let l = a.longer in let m = b.longer in omega (arith, l, m);
   same = λ at l. let m = a.longer in b.same at (omega (arith, l, m)) ∙ a.same at l;
 }
-
--- a place that was there is there still
-pub still_there : (old new : List Part) → IsLonger old new → (at : ℕ) (part : Part) → slice_get old at ≡ Some part
-    → slice_get new at ≡ Some part
-still_there old new longer at part e = longer.same at (slice_get_within old at part e) ∙ e

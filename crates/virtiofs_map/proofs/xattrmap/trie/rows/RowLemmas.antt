@@ -5,8 +5,8 @@ use Rattle.std.proofs.lemmas.Bool.Decides.{nat_tests}
 use Rattle.virtiofs_map.specs.BranchParts.{HasBytes, IsSmall, row_of}
 use Rattle.virtiofs_map.specs.ByteWordParts.{word_at, word_bytes}
 use Rattle.virtiofs_map.specs.declared.xattrmap.trie.branch.Branch.{Branch}
-use Rattle.virtiofs_map.proofs.xattrmap.ByteWordLemmas.{first_of_three, second_of_three, third_of_three, length-three}
-use Rattle.virtiofs_map.proofs.xattrmap.ByteWordLemmas.{shared_low, shared_high, shared_fits}
+use Rattle.virtiofs_map.proofs.ByteWordLemmas.{first_of_three, second_of_three, third_of_three}
+use Rattle.virtiofs_map.proofs.ByteWordLemmas.{shared_low, shared_high, shared_fits}
 
 -- the numbers of a row
 abbrev first_word : Branch → ℕ
@@ -17,10 +17,6 @@ second_word branch = branch.first + 281474976710656 * (branch.width + (if branch
 
 abbrev third_word : Branch → ℕ
 third_word branch = branch.answer + 281474976710656 * (branch.low + 256 * branch.head)
-
-pub length-row_of : (branch : Branch) → length (row_of branch) ≡ 24
-unfolding row_of
-length-row_of branch = length-three (first_word branch) (second_word branch) (third_word branch)
 
 flag_fits : (width : ℕ) (scattered : Bool) → width < 32768 → width + (if scattered then 32768 else 0) < 65536
 flag_fits width true small = omega arith

@@ -2,10 +2,9 @@ use Rattle.std.proofs.lemmas.Bool.{ne_eqb}
 use Rattle.virtiofs_map.proofs.acl.ways.Ways.becomes.Goals as goal
 
 pub returns-then-tag-eq2 : goal.returns-then-tag-eq2
-returns-then-tag-eq2 c = λ users groups direction are.
-    rw c.if-tag-eq2.true (c.becomes.ensures users direction are.users_accepted are.of_users)
+returns-then-tag-eq2 c =
+    λ users groups of_users of_groups. rw c.if-tag-eq2.true (c.becomes.ensures users of_users)
 
 pub returns-else-tag-eq2 : goal.returns-else-tag-eq2
-returns-else-tag-eq2 c = λ users groups direction are.
-    rw (ne_eqb c.args.tag 2 c.if-tag-eq2.false)
-    (c.becomes-else-tag-eq2.ensures groups direction are.groups_accepted are.of_groups)
+returns-else-tag-eq2 c = λ users groups of_users of_groups.
+    rw (ne_eqb c.args.tag 2 c.if-tag-eq2.false) (c.becomes-else-tag-eq2.ensures groups of_groups)

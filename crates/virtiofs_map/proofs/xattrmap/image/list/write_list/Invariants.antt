@@ -1,14 +1,13 @@
 use Rattle.std.proofs.Common.{◌≡◌, ◌+◌, ◌<◌, ◌≤◌, List, length}
-use Rattle.virtiofs_map.specs.NamesImageParts.{ArePartsOf}
+use Rattle.virtiofs_map.specs.NamesImage.{IsMapOf}
 use Rattle.virtiofs_map.specs.Rule.{MappingRule}
-use Rattle.virtiofs_map.specs.declared.xattrmap.scopes.Side.TheVariants.{Server}
 use Rattle.virtiofs_map.proofs.xattrmap.image.list.NamesListLemmas.{IsListedSoFar}
 use Rattle.virtiofs_map.proofs.xattrmap.image.list.write_list.Given as goal
 
 -- what was written, with the names that are left, comes to the whole list
 abbrev pub invariant-names : goal.invariant-names
 invariant-names l = record {
-  listed : (rules : List MappingRule) → ArePartsOf Server rules l.parts
+  listed : (rules : List MappingRule) → IsMapOf rules l.map
       → IsListedSoFar rules l.list l.rest l.end l.initial.out l.out;
   same : length l.out ≡ length l.initial.out;
   short : l.end + length l.rest ≤ length l.list + 1;

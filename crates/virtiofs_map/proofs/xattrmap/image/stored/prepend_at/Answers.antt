@@ -1,7 +1,7 @@
 use Rattle.std.proofs.Common.{ap, sym, ◌∙◌}
 use Rattle.std.specs.Option.{option_map}
 use Rattle.virtiofs_map.specs.Rule.{MappingRule}
-use Rattle.virtiofs_map.proofs.xattrmap.image.RuleRowLemmas.{rule_there, rule_gone}
+use Rattle.virtiofs_map.proofs.RuleRowLemmas.{rule_there, rule_gone}
 use Rattle.virtiofs_map.proofs.xattrmap.image.stored.prepend_at.Goals as goal
 
 pub returns-then-at-rows : goal.returns-then-at-rows

@@ -1,5 +1,5 @@
 use Rattle.std.proofs.Common.{Some, ap, arith}
-use Rattle.virtiofs_map.proofs.xattrmap.image.RuleRowLemmas.{prepend_from_words}
+use Rattle.virtiofs_map.proofs.RuleRowLemmas.{prepend_from_words}
 use Rattle.virtiofs_map.proofs.xattrmap.image.stored.prepend_of.Goals as goal
 use Rattle.virtiofs_map.proofs.xattrmap.image.stored.prepend_of.Goals.{else-prepend-end-via-then-prepend-end+else-end-bytes}
 use Rattle.virtiofs_map.proofs.xattrmap.image.stored.prepend_of.Goals.{else-prepend-end-via-else-prepend-end}

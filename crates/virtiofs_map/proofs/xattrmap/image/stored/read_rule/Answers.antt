@@ -1,5 +1,5 @@
 use Rattle.std.proofs.Common.{sym, ◌∙◌}
-use Rattle.virtiofs_map.proofs.xattrmap.image.RuleRowLemmas.{rule_there, rule_gone}
+use Rattle.virtiofs_map.proofs.RuleRowLemmas.{rule_there, rule_gone}
 use Rattle.virtiofs_map.proofs.xattrmap.image.stored.read_rule.Goals as goal
 
 pub returns-then-at-rows : goal.returns-then-at-rows

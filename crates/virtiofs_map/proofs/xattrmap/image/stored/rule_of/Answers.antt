@@ -1,5 +1,5 @@
 use Rattle.std.proofs.Common.{Some, ap, arith}
-use Rattle.virtiofs_map.proofs.xattrmap.image.RuleRowLemmas.{places_of_words, rule_from_words, words_told}
+use Rattle.virtiofs_map.proofs.RuleRowLemmas.{places_of_words, rule_from_words, words_told}
 use Rattle.virtiofs_map.proofs.xattrmap.image.stored.rule_of.Goals as goal
 use Rattle.virtiofs_map.proofs.xattrmap.image.stored.rule_of.Goals.{else-key-prepend-via-then-key-prepend+then-prepend-end+else-end-bytes}
 use Rattle.virtiofs_map.proofs.xattrmap.image.stored.rule_of.Goals.{else-key-prepend-via-then-key-prepend+else-prepend-end}

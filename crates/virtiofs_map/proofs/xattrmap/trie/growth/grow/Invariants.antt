@@ -1,5 +1,5 @@
 use Rattle.std.proofs.Common.{◌+◌, ◌-◌, length, drop}
-use Rattle.virtiofs_map.specs.GrowthParts.{ArePlaces, AreGrown}
+use Rattle.virtiofs_map.specs.GrowthParts.{ArePlaces, AreExact, AreGrown}
 use Rattle.virtiofs_map.proofs.xattrmap.trie.growth.LevelLemmas.{shallowest}
 use Rattle.virtiofs_map.proofs.xattrmap.trie.growth.grow.Given as goal
 
@@ -8,6 +8,7 @@ abbrev pub invariant-loop-parts : goal.invariant-loop-parts
 invariant-loop-parts g l = record {
   places : ArePlaces l.patterns l.parts.items;
   grown : AreGrown l.patterns l.parts.items l.branches.items;
+  exact : AreExact l.patterns l.parts.items l.branches.items;
 }
 
 -- how much deeper a part without a branch may be

@@ -1,0 +1,322 @@
+-- A rule is read back from its row, and the row at a place is that of the rule there.
+use Rattle.std.proofs.Common.{◌≡◌, ℕ, ◌+◌, ◌-◌, ◌*◌, ◌/◌, ◌%◌, ◌^◌, ◌<◌, ◌≤◌, zero, suc, Bool, true, false}
+use Rattle.std.proofs.Common.{if◌then◌else◌, List, [], ◌∷◌, ◌++◌, Some, None, length, get_or, slice_get, take, drop}
+use Rattle.std.proofs.Common.{min, refl, ap, sym, subst, ◌∙◌, arith, append_assoc, append-nil, length-append}
+use Rattle.std.proofs.Common.{length-take}
+use Rattle.std.proofs.Math.Seq.{drop-append-add, take-append_seam}
+use Rattle.std.proofs.lemmas.List.{take_all, take_more}
+use Rattle.std.proofs.lemmas.Option.{get_or_from_slice_get, slice_get_past, slice_get_within}
+use Rattle.virtiofs_map.specs.BranchParts.{IsSpan}
+use Rattle.virtiofs_map.specs.NamesImage.{AreRuleRows, acts_number, rule_row, rule_rows}
+use Rattle.virtiofs_map.specs.RuleParts.{holds}
+use Rattle.virtiofs_map.specs.declared.xattrmap.scopes.Side.TheVariants.{Client, Server}
+use Rattle.virtiofs_map.specs.Rule.{MappingRule, RuleType, Prefix, Okay, Bad, Unsupported, type_number}
+use Rattle.virtiofs_map.specs.ByteWordParts.{word_at, word_bytes}
+use Rattle.virtiofs_map.specs.declared.xattrmap.spans.Span.{Span}
+use Rattle.virtiofs_map.proofs.ByteWordLemmas.{first_of_three, second_of_three, third_of_three, length-three}
+use Rattle.virtiofs_map.proofs.ByteWordLemmas.{shared_low, shared_high, shared_fits}
+
+pub length-rule_row : (rule : MappingRule) (span : Span) → length (rule_row rule span) ≡ 24
+unfolding rule_row
+length-rule_row rule span = length-three (span.key + 281474976710656 * acts_number rule) span.prepend span.end
+
+-- ---- what a rule does, as a number
+
+pub below_four : (kind : RuleType) → type_number kind < 4
+below_four Prefix = omega arith
+below_four Okay = omega arith
+below_four Bad = omega arith
+below_four Unsupported = omega arith
+
+pub same_type : (kind other : RuleType) → type_number kind ≡ type_number other → kind ≡ other
+same_type Prefix Prefix same = refl
+same_type Okay Okay same = refl
+same_type Bad Bad same = refl
+same_type Unsupported Unsupported same = refl
+same_type Prefix Okay same = absurd (omega arith)
+same_type Prefix Bad same = absurd (omega arith)
+same_type Prefix Unsupported same = absurd (omega arith)
+same_type Okay Prefix same = absurd (omega arith)
+same_type Okay Bad same = absurd (omega arith)
+same_type Okay Unsupported same = absurd (omega arith)
+same_type Bad Prefix same = absurd (omega arith)
+same_type Bad Okay same = absurd (omega arith)
+same_type Bad Unsupported same = absurd (omega arith)
+same_type Unsupported Prefix same = absurd (omega arith)
+same_type Unsupported Okay same = absurd (omega arith)
+same_type Unsupported Bad same = absurd (omega arith)
+
+-- three things that share a number
+abbrev packed : ℕ → Bool → Bool → ℕ
+packed kind client server = kind + 4 * (if client then 1 else 0) + 8 * (if server then 1 else 0)
+
+packed_fits : (kind : ℕ) (client server : Bool) → kind < 4 → packed kind client server < 65536
+packed_fits kind true true small = omega arith
+packed_fits kind true false small = omega arith
+packed_fits kind false true small = omega arith
+packed_fits kind false false small = omega arith
+
+kind_of_packed : (kind : ℕ) (client server : Bool) → kind < 4 → packed kind client server % 4 ≡ kind
+kind_of_packed kind true true small = omega arith
+kind_of_packed kind true false small = omega arith
+kind_of_packed kind false true small = omega arith
+kind_of_packed kind false false small = omega arith
+
+sides_of_packed : (kind : ℕ) (client server : Bool) → kind < 4
+    → packed kind client server / 4 % 4 ≡ (if client then 1 else 0) + 2 * (if server then 1 else 0)
+sides_of_packed kind true true small = omega arith
+sides_of_packed kind true false small = omega arith
+sides_of_packed kind false true small = omega arith
+sides_of_packed kind false false small = omega arith
+
+holds_client : (client server : Bool)
+    → holds Client ((if client then 1 else 0) + 2 * (if server then 1 else 0)) ≡ client
+holds_client true true = refl
+holds_client true false = refl
+holds_client false true = refl
+holds_client false false = refl
+
+holds_server : (client server : Bool)
+    → holds Server ((if client then 1 else 0) + 2 * (if server then 1 else 0)) ≡ server
+holds_server true true = refl
+holds_server true false = refl
+holds_server false true = refl
+holds_server false false = refl
+
+-- rules are the same whose fields are
+same_rule_fields : (one other : MappingRule) → one.kind ≡ other.kind → one.client ≡ other.client
+    → one.server ≡ other.server → one.key ≡ other.key → one.prepend ≡ other.prepend → one ≡ other
+same_rule_fields one other kinds clients servers keys prepends = rw (kinds, clients, servers, keys, prepends) refl
+
+-- ---- a row of a rule
+
+-- the numbers of a row, of a rule whose patterns stand among few bytes
+pub record HasWords (bytes : List ℕ) (rule : MappingRule) (span : Span) (first second third : ℕ) : Type 0 where
+  pub first_is : first ≡ span.key + 281474976710656 * acts_number rule
+  pub second_is : second ≡ span.prepend
+  pub third_is : third ≡ span.end
+
+pub words_of_row : (bytes : List ℕ) (rule : MappingRule) (span : Span) → IsSpan bytes rule span
+    → length bytes < 281474976710656
+    → HasWords bytes rule span (word_at (rule_row rule span) 0) (word_at (rule_row rule span) 8)
+    (word_at (rule_row rule span) 16)
+unfolding rule_row
+words_of_row bytes rule span is few =
+    let key : span.key < 281474976710656 = omega (arith, is.rising, is.rising_on, is.within) in
+    let prepend : span.prepend < 2 ^ 64 = omega (arith, is.rising_on, is.within) in
+    let end : span.end < 2 ^ 64 = omega (arith, is.within) in
+    let fits =
+    shared_fits span.key (acts_number rule) key
+    (packed_fits (type_number rule.kind) rule.client rule.server (below_four rule.kind)) in
+    record {
+      first_is = first_of_three _ span.prepend span.end fits;
+      second_is = second_of_three (span.key + 281474976710656 * acts_number rule) _ span.end prepend;
+      third_is = third_of_three (span.key + 281474976710656 * acts_number rule) span.prepend _ end;
+    }
+
+-- the places of a row are those of the span, which stand in order
+pub places_of_words : (bytes : List ℕ) (rule : MappingRule) (span : Span) (first second third : ℕ)
+    → IsSpan bytes rule span → length bytes < 281474976710656
+    → HasWords bytes rule span first second third
+    → (first % 281474976710656 ≡ span.key) × (first % 281474976710656 ≤ second) × (second ≤ third)
+    × (third ≤ length bytes)
+places_of_words bytes rule span first second third is few has =
+    let key : span.key < 281474976710656 = omega (arith, is.rising, is.rising_on, is.within) in
+    let low : first % 281474976710656 ≡ span.key = ap (λ n. n % 281474976710656) has.first_is
+    ∙ shared_low span.key _ key in (
+      low,
+      omega (arith, low, has.second_is, is.rising),
+      omega (arith, has.second_is, has.third_is, is.rising_on),
+      omega (arith, has.third_is, is.within),
+    )
+
+-- the rule of a row
+pub rule_from_words : (bytes : List ℕ) (rule : MappingRule) (span : Span) (first second third : ℕ) (kind : RuleType)
+    (bits : ℕ)
+    → IsSpan bytes rule span → length bytes < 281474976710656 → HasWords bytes rule span first second third
+    → type_number kind ≡ first / 281474976710656 % 4 → bits ≡ first / 281474976710656 / 4 % 4
+    → ◌≡◌ {A = MappingRule} record {
+      kind = kind;
+      client = holds Client bits;
+      server = holds Server bits;
+      key = take (second - first % 281474976710656) (drop (first % 281474976710656) bytes);
+      prepend = take (third - second) (drop second bytes);
+    } rule
+rule_from_words bytes rule span first second third kind bits is few has is_kind are_bits =
+    let small = below_four rule.kind in
+    let key : span.key < 281474976710656 = omega (arith, is.rising, is.rising_on, is.within) in
+    let high : first / 281474976710656 ≡ acts_number rule = ap (λ n. n / 281474976710656) has.first_is
+    ∙ shared_high span.key _ key in
+    let low : first % 281474976710656 ≡ span.key = (places_of_words bytes rule span first second third is few has).0 in
+    let kinds : kind ≡ rule.kind =
+    same_type kind rule.kind (is_kind ∙ ap (λ n. n % 4) high ∙ kind_of_packed _ rule.client rule.server small) in
+    let sides : bits ≡ (if rule.client then 1 else 0) + 2 * (if rule.server then 1 else 0) = are_bits
+    ∙ ap (λ n. n / 4 % 4) high ∙ sides_of_packed _ rule.client rule.server small in
+    let clients : holds Client bits ≡ rule.client = ap (holds Client) sides ∙ holds_client rule.client rule.server in
+    let servers : holds Server bits ≡ rule.server = ap (holds Server) sides ∙ holds_server rule.client rule.server in
+    let keys : take (second - first % 281474976710656) (drop (first % 281474976710656) bytes) ≡ rule.key =
+    rw (low, has.second_is) is.key in
+    let prepends : take (third - second) (drop second bytes) ≡ rule.prepend =
+    rw (has.third_is, has.second_is) is.prepend in
+    same_rule_fields _ rule kinds clients servers keys prepends
+
+-- the prepend of a row
+pub prepend_from_words : (bytes row : List ℕ) (rule : MappingRule) (span : Span) (second third : ℕ)
+    → row ≡ rule_row rule span → IsSpan bytes rule span → length bytes < 281474976710656
+    → second ≡ word_at row 8 → third ≡ word_at row 16
+    → (take (third - second) (drop second bytes) ≡ rule.prepend) × (second ≤ third) × (third ≤ length bytes)
+prepend_from_words bytes row rule span second third are is few is_second is_third =
+    let has = words_of_row bytes rule span is few in
+    let seconds : second ≡ span.prepend = is_second ∙ ap (λ (l : List ℕ). word_at l 8) are ∙ has.second_is in
+    let thirds : third ≡ span.end = is_third ∙ ap (λ (l : List ℕ). word_at l 16) are ∙ has.third_is in
+    (rw (seconds, thirds) is.prepend, omega (arith, seconds, thirds, is.rising_on), omega (arith, thirds, is.within))
+
+-- ---- rows
+
+pub rule_rows-push : (rules : List MappingRule) (spans : List Span) (rule : MappingRule) (span : Span)
+    → length spans ≡ length rules
+    → rule_rows (rules ++ rule ∷ []) (spans ++ span ∷ []) ≡ rule_rows rules spans ++ rule_row rule span
+rule_rows-push [] [] rule span same = simp append-nil
+rule_rows-push [] (one ∷ spans) rule span same = absurd (omega arith)
+rule_rows-push (first ∷ rules) [] rule span same = absurd (omega arith)
+rule_rows-push (first ∷ rules) (one ∷ spans) rule span same =
+    ap (λ (l : List ℕ). rule_row first one ++ l) (rule_rows-push rules spans rule span (omega arith))
+    ∙ sym (append_assoc (rule_row first one) (rule_rows rules spans) (rule_row rule span))
+
+pub length-rule_rows : (rules : List MappingRule) (spans : List Span) → length spans ≡ length rules
+    → length (rule_rows rules spans) ≡ 24 * length rules
+length-rule_rows [] spans same = refl
+length-rule_rows (rule ∷ rules) [] same = absurd (omega arith)
+length-rule_rows (rule ∷ rules) (span ∷ spans) same =
+    let split = length-append (rule_row rule span) (rule_rows rules spans) in
+    let one = length-rule_row rule span in
+    let more = length-rule_rows rules spans (omega arith) in
+    omega arith
+
+drop_row : (rule : MappingRule) (span : Span) (rows : List ℕ) (at : ℕ)
+    → drop (suc at * 24) (rule_row rule span ++ rows) ≡ drop (at * 24) rows
+drop_row rule span rows at =
+    let one = length-rule_row rule span in
+    let places : suc at * 24 ≡ length (rule_row rule span) + at * 24 = omega arith in
+    ap (λ (n : ℕ). drop n (rule_row rule span ++ rows)) places ∙ drop-append-add (rule_row rule span) rows (at * 24)
+
+pub rule_row_at : (rules : List MappingRule) (spans : List Span) (at : ℕ) (rule : MappingRule) (span : Span)
+    → length spans ≡ length rules → at < length rules
+    → take 24 (drop (at * 24) (rule_rows rules spans)) ≡ rule_row (get_or rules at rule) (get_or spans at span)
+rule_row_at [] spans at rule span same below = absurd (omega arith)
+rule_row_at (first ∷ rules) [] at rule span same below = absurd (omega arith)
+rule_row_at (first ∷ rules) (one ∷ spans) zero rule span same below =
+    subst (λ (n : ℕ). take n (rule_row first one ++ rule_rows rules spans) ≡ rule_row first one)
+    (length-rule_row first one) (take-append_seam (rule_row first one) (rule_rows rules spans))
+rule_row_at (first ∷ rules) (one ∷ spans) (suc at) rule span same below =
+    ap (take 24) (drop_row first one (rule_rows rules spans) at)
+    ∙ rule_row_at rules spans at rule span (omega arith) (omega arith)
+
+-- three numbers one after the other are a row
+pub three_written : (rule : MappingRule) (span : Span) (so_far one two : List ℕ) (number : ℕ)
+    → number ≡ acts_number rule → one ≡ so_far ++ word_bytes (span.key + 281474976710656 * number)
+    → two ≡ one ++ word_bytes span.prepend
+    → two ++ word_bytes span.end ≡ so_far ++ rule_row rule span
+unfolding rule_row
+three_written rule span so_far one two number is first second =
+    ap (λ (l : List ℕ). l ++ word_bytes span.end) (second ∙ ap (λ (l : List ℕ). l ++ word_bytes span.prepend) first)
+    ∙ ap (λ (n : ℕ). so_far ++ word_bytes (span.key + 281474976710656 * n) ++ word_bytes span.prepend
+    ++ word_bytes span.end) is
+    ∙ simp append_assoc
+
+-- the rows of one rule more
+pub rule_rows-more : (rules : List MappingRule) (spans : List Span) (at : ℕ) (rule : MappingRule) (span : Span)
+    → length spans ≡ length rules → at < length rules
+    → rule_rows (take (at + 1) rules) (take (at + 1) spans) ≡ rule_rows (take at rules) (take at spans)
+    ++ rule_row (get_or rules at rule) (get_or spans at span)
+rule_rows-more rules spans at rule span same below =
+    let here : at < length spans = omega arith in
+    let even : length (take at spans) ≡ length (take at rules) = length-take at spans ∙ ap (min at) same
+    ∙ sym (length-take at rules) in
+    rw (take_more rules at rule below, take_more spans at span here)
+    (rule_rows-push (take at rules) (take at spans) (get_or rules at rule) (get_or spans at span) even)
+
+-- the numbers that a row was read to have
+pub words_told : (bytes : List ℕ) (rule : MappingRule) (span : Span) (row : List ℕ) (first second third : ℕ)
+    → row ≡ rule_row rule span → IsSpan bytes rule span → length bytes < 281474976710656
+    → first ≡ word_at row 0 → second ≡ word_at row 8 → third ≡ word_at row 16
+    → HasWords bytes rule span first second third
+words_told bytes rule span row first second third are is few is_first is_second is_third =
+    let has = words_of_row bytes rule span is few in
+    record {
+      first_is = is_first ∙ ap (λ (l : List ℕ). word_at l 0) are ∙ has.first_is;
+      second_is = is_second ∙ ap (λ (l : List ℕ). word_at l 8) are ∙ has.second_is;
+      third_is = is_third ∙ ap (λ (l : List ℕ). word_at l 16) are ∙ has.third_is;
+    }
+
+-- an element below the length is there
+pub there : {X : Type 0} (xs : List X) (at : ℕ) → at < length xs → (x : X) × (slice_get xs at ≡ Some x)
+there [] at below = absurd (omega arith)
+there (x ∷ xs) zero below = (x, refl)
+there (x ∷ xs) (suc at) below = there xs at (omega arith)
+
+-- a rule, and the row of it
+pub record IsStoredAt (rules : List MappingRule) (rows bytes : List ℕ) (at : ℕ) : Type 0 where
+  pub rule : MappingRule
+  pub span : Span
+  pub here : slice_get rules at ≡ Some rule
+  pub row : take (at * 24 + 24 - at * 24) (drop (at * 24) rows) ≡ rule_row rule span
+  pub is : IsSpan bytes rule span
+
+-- where there are rows enough, there is a rule
+pub rule_there : (rules : List MappingRule) (rows bytes : List ℕ) (at : ℕ) → AreRuleRows rules rows bytes
+    → at < length rows / 24
+    → IsStoredAt rules rows bytes at
+rule_there rules rows bytes at has here =
+    let long = ap length has.are ∙ length-rule_rows rules has.spans has.stand.counted in
+    let below : at < length rules = omega (arith, long, here) in
+    let under : at < length has.spans = omega (arith, below, has.stand.counted) in
+    let width : at * 24 + 24 - at * 24 ≡ 24 = omega arith in
+    let rule = there rules at below in
+    let span = there has.spans at under in
+    let same_rule : get_or rules at rule.0 ≡ rule.0 = get_or_from_slice_get rules at rule.0 rule.0 rule.1 in
+    let same_span : get_or has.spans at span.0 ≡ span.0 = get_or_from_slice_get has.spans at span.0 span.0 span.1 in
+    let both : rule_row (get_or rules at rule.0) (get_or has.spans at span.0) ≡ rule_row rule.0 span.0 = cc in
+    record {
+      rule = rule.0;
+      span = span.0;
+      here = rule.1;
+      row =
+          ap (λ (n : ℕ). take n (drop (at * 24) rows)) width
+          ∙ ap (λ (l : List ℕ). take 24 (drop (at * 24) l)) has.are
+          ∙ rule_row_at rules has.spans at rule.0 span.0 has.stand.counted below
+          ∙ both;
+      is = has.stand.each at rule.0 span.0 rule.1 span.1;
+    }
+
+-- past the rows there is no rule
+pub rule_gone : (rules : List MappingRule) (rows bytes : List ℕ) (at : ℕ) → AreRuleRows rules rows bytes
+    → length rows / 24 ≤ at
+    → slice_get rules at ≡ None
+rule_gone rules rows bytes at has past =
+    let long = ap length has.are ∙ length-rule_rows rules has.spans has.stand.counted in
+    slice_get_past rules at (omega (arith, long, past))
+
+-- one row more is written
+pub rule_rows-next : (rules : List MappingRule) (spans : List Span) (at : ℕ) (rule : MappingRule) (span : Span)
+    (so_far new more : List ℕ)
+    → length spans ≡ length rules → Some rule ≡ slice_get rules at → Some span ≡ slice_get spans at
+    → new ≡ so_far ++ rule_rows (take at rules) (take at spans) → more ≡ new ++ rule_row rule span
+    → more ≡ so_far ++ rule_rows (take (at + 1) rules) (take (at + 1) spans)
+rule_rows-next rules spans at rule span so_far new more same here there before after =
+    let below = slice_get_within rules at rule (sym here) in
+    let one : get_or rules at rule ≡ rule = get_or_from_slice_get rules at rule rule (sym here) in
+    let two : get_or spans at span ≡ span = get_or_from_slice_get spans at span span (sym there) in
+    after ∙ ap (λ (l : List ℕ). l ++ rule_row rule span) before
+    ∙ append_assoc so_far (rule_rows (take at rules) (take at spans)) (rule_row rule span)
+    ∙ ap (λ (r : MappingRule). so_far ++ (rule_rows (take at rules) (take at spans) ++ rule_row r span)) (sym one)
+    ∙ ap (λ (p : Span). so_far ++ (rule_rows (take at rules) (take at spans) ++ rule_row (get_or rules at rule) p))
+    (sym two)
+    ∙ ap (λ (l : List ℕ). so_far ++ l) (sym (rule_rows-more rules spans at rule span same below))
+
+-- the rows of the first rules are those of all, where there are no more
+pub rule_rows-whole : (rules : List MappingRule) (spans : List Span) (at : ℕ) → length spans ≡ length rules
+    → length rules ≤ at
+    → rule_rows (take at rules) (take at spans) ≡ rule_rows rules spans
+rule_rows-whole rules spans at same past =
+    rw (take_all at rules past, take_all at spans (omega (arith, same, past))) refl

@@ -1,0 +1,319 @@
+-- How many nodes the trie of some texts has at most: with holes, 6 for each text and 1 for each of its bytes.
+use Rattle.std.proofs.Common.{◌≡◌, ℕ, zero, suc, ◌+◌, ◌-◌, ◌*◌, ◌<◌, ◌≤◌, Bool, true, false, ◌&&◌, ◌||◌, cond, eqb, List, []}
+use Rattle.std.proofs.Common.{◌∷◌, ◌++◌, length, drop, map, nat_lt, Option, Some, None, refl, sym, ap, subst, ◌∙◌, arith, inl, inr}
+use Rattle.std.proofs.Common.{◌⊎◌, append_assoc, length-append}
+use Rattle.std.specs.List.{filter, flat_map, list_any, range_with_len}
+use Rattle.std.proofs.lemmas.Bool.{cases_Bool, cases_lt, cond_both, eqb-true, false_from_ne_true, true≢false}
+use Rattle.std.proofs.lemmas.Bool.Decides.{nat_tests}
+use Rattle.virtiofs_map.specs.Names.{begins}
+use Rattle.virtiofs_map.specs.PatternTrie.{Node, root, leads, next_bytes, label_after, node_after, child, children, slots}
+use Rattle.virtiofs_map.specs.PatternTrie.{are_sparse, span, levels, longest_of, nodes}
+use Rattle.virtiofs_map.proofs.BeginsLemmas.{begins_from, begins_length, begins_split}
+use Rattle.virtiofs_map.proofs.xattrmap.SlotLemmas.{Rising, rising_filter, length-range, slots_placed, slots_upto}
+
+-- ---- sums
+
+abbrev pub sum_of : {X : Type 0} → (X → ℕ) → List X → ℕ
+sum_of f [] = 0
+sum_of f (x ∷ xs) = f x + sum_of f xs
+
+module _ {X : Type 0} (f g : X → ℕ) where
+  sum_less : ((x : X) → f x ≤ g x) → (xs : List X) → sum_of f xs ≤ sum_of g xs
+  sum_less less [] = omega arith
+  sum_less less (x ∷ xs) = let here = less x in let rest = sum_less less xs in omega (arith, here, rest)
+
+  sum_both : (xs : List X) → sum_of (λ x. f x + g x) xs ≡ sum_of f xs + sum_of g xs
+  sum_both [] = refl
+  sum_both (x ∷ xs) = let rest = sum_both xs in omega (arith, rest)
+
+module _ {X : Type 0} (f : X → ℕ) where
+  sum_none : ((x : X) → f x ≡ 0) → (xs : List X) → sum_of f xs ≡ 0
+  sum_none none [] = refl
+  sum_none none (x ∷ xs) = let here = none x in let rest = sum_none none xs in omega (arith, here, rest)
+
+  pub sum_append : (xs ys : List X) → sum_of f (xs ++ ys) ≡ sum_of f xs + sum_of f ys
+  sum_append [] ys = omega arith
+  sum_append (x ∷ xs) ys = let rest = sum_append xs ys in omega (arith, rest)
+
+  sum_map : {Y : Type 0} (h : Y → X) (ys : List Y) → sum_of f (map h ys) ≡ sum_of (λ y. f (h y)) ys
+  sum_map h [] = refl
+  sum_map h (y ∷ ys) = let rest = sum_map h ys in omega (arith, rest)
+
+  sum_left : (p : X → Bool) (xs : List X) → sum_of f (filter p xs) ≤ sum_of f xs
+  sum_left p [] = omega arith
+  sum_left p (x ∷ xs) =
+      let rest = sum_left p xs in
+      cond_both (p x) (x ∷ filter p xs) (filter p xs) (λ left. sum_of f left ≤ f x + sum_of f xs)
+      (λ _. omega (arith, rest)) (λ _. omega (arith, rest))
+
+-- as many as are left, each counted seven times
+sum_counted : {X : Type 0} (p : X → Bool) (xs : List X) → sum_of (λ x. cond (p x) 7 0) xs ≡ 7 * length (filter p xs)
+sum_counted p [] = refl
+sum_counted p (x ∷ xs) = by (p x) (sum_counted p xs) where
+  by : (b : Bool) → sum_of (λ x. cond (p x) 7 0) xs ≡ 7 * length (filter p xs)
+      → cond b 7 0 + sum_of (λ x. cond (p x) 7 0) xs ≡ 7 * length (cond b (x ∷ filter p xs) (filter p xs))
+  by true rest = omega (arith, rest)
+  by false rest = omega (arith, rest)
+
+-- a part of a range of numbers
+sum_part : (f : ℕ → ℕ) (from count low n : ℕ) → from ≤ low → low + n ≤ from + count
+    → sum_of f (range_with_len low n) ≤ sum_of f (range_with_len from count)
+sum_part f from count low zero above within = omega arith
+sum_part f from zero low (suc n) above within = absurd (omega (arith, above, within))
+sum_part f from (suc count) low (suc n) above within = elim (cases_lt from low) [
+  | inl l ↦ (let rest = sum_part f (from + 1) count low (suc n) (omega (arith, l)) (omega (arith, within)) in
+      omega (arith, rest))
+  | inr g ↦ (let same : low ≡ from = omega (arith, above, g) in
+      let here = ap f same in
+      let rest = sum_part f (from + 1) count (low + 1) n (omega (arith, above)) (omega (arith, within)) in
+      omega (arith, here, rest))
+]
+
+-- ---- what a text adds
+
+-- a text that begins with the path adds 6, and 1 for each byte after the path
+abbrev pub worth : List ℕ → List ℕ → ℕ
+worth path text = cond (begins path text) (6 + (length text - length path)) 0
+
+abbrev pub held : List (List ℕ) → List ℕ → ℕ
+held texts path = sum_of (worth path) texts
+
+-- it adds as much where it goes on with the byte
+abbrev through : List ℕ → List ℕ → ℕ → ℕ
+through path text byte = cond (begins (path ++ byte ∷ []) text) (6 + (length text - length path)) 0
+
+single_past : (n x low count : ℕ) → x < low → sum_of (λ b. cond (eqb b x && true) n 0) (range_with_len low count) ≡ 0
+single_past n x low zero past = refl
+single_past n x low (suc count) past =
+    let rest = single_past n x (low + 1) count (omega (arith, past)) in
+    let not_here : eqb low x ≡ false = grind (arith, nat_tests, past) in
+    let here = ap (λ b. cond (b && true) n 0) not_here in
+    omega (arith, here, rest)
+
+single : (n x low count : ℕ) → sum_of (λ b. cond (eqb b x && true) n 0) (range_with_len low count) ≤ n
+single n x low zero = omega arith
+single n x low (suc count) = elim (cases_Bool (eqb low x)) [
+  | inl e ↦
+      (let here = ap (λ b. cond (b && true) n 0) e in
+      let same = eqb-true low x e in
+      let rest = single_past n x (low + 1) count (omega (arith, same)) in
+      omega (arith, here, rest))
+  | inr e ↦
+      (let here = ap (λ b. cond (b && true) n 0) e in
+      let rest = single n x (low + 1) count in
+      omega (arith, here, rest))
+]
+
+-- a text goes on with one byte at most
+one_byte : (n low count : ℕ) (path text : List ℕ)
+    → sum_of (λ b. cond (begins (path ++ b ∷ []) text) n 0) (range_with_len low count) ≤ cond (begins path text) n 0
+one_byte n low count [] [] =
+    let none = sum_none (λ (b : ℕ). 0) (λ b. refl) (range_with_len low count) in omega (arith, none)
+one_byte n low count [] (x ∷ text) = single n x low count
+one_byte n low count (p ∷ path) [] =
+    let none = sum_none (λ (b : ℕ). 0) (λ b. refl) (range_with_len low count) in omega (arith, none)
+one_byte n low count (p ∷ path) (x ∷ text) = by (eqb p x) (one_byte n low count path text) where
+  by : (same : Bool)
+      → sum_of (λ b. cond (begins (path ++ b ∷ []) text) n 0) (range_with_len low count) ≤ cond (begins path text) n 0
+      → sum_of (λ b. cond (same && begins (path ++ b ∷ []) text) n 0) (range_with_len low count)
+      ≤ cond (same && begins path text) n 0
+  by true rest = rest
+  by false rest = let none = sum_none (λ (b : ℕ). 0) (λ b. refl) (range_with_len low count) in omega (arith, none)
+
+all_through : (path : List ℕ) (texts : List (List ℕ)) (low count : ℕ)
+    → sum_of (λ b. sum_of (λ t. through path t b) texts) (range_with_len low count) ≤ sum_of (worth path) texts
+all_through path [] low count =
+    let none = sum_none (λ (b : ℕ). 0) (λ b. refl) (range_with_len low count) in omega (arith, none)
+all_through path (text ∷ texts) low count =
+    let both = sum_both (through path text) (λ b. sum_of (λ t. through path t b) texts) (range_with_len low count) in
+    let here = one_byte (6 + (length text - length path)) low count path text in
+    let rest = all_through path texts low count in
+    omega (arith, both, here, rest)
+
+-- ---- what is below a node
+
+module _ (path : List ℕ) (byte : ℕ) (label : List ℕ) where
+  begun_before : (text : List ℕ) → begins (path ++ byte ∷ label) text ≡ true → begins (path ++ byte ∷ []) text ≡ true
+  begun_before text e =
+      begins_from (path ++ byte ∷ []) text (label ++ drop (length (path ++ byte ∷ label)) text)
+      (begins_split (path ++ byte ∷ label) text e
+      ∙ ap (λ front. front ++ drop (length (path ++ byte ∷ label)) text) (sym (append_assoc path (byte ∷ []) label))
+      ∙ append_assoc (path ++ byte ∷ []) label (drop (length (path ++ byte ∷ label)) text))
+
+  -- a text that goes on with the byte adds less after it
+  less_after : (text : List ℕ) → begins (path ++ byte ∷ []) text ≡ true
+      → (worth (path ++ byte ∷ label) text + 1 ≤ through path text byte) × (7 ≤ through path text byte)
+  less_after text e =
+      let here = ap (λ b. cond b (6 + (length text - length path)) 0) e in
+      let long = begins_length (path ++ byte ∷ []) text e in
+      let front = length-append path (byte ∷ []) in
+      let whole = length-append path (byte ∷ label) in
+      let less : worth (path ++ byte ∷ label) text ≤ 6 + (length text - length (path ++ byte ∷ label)) =
+      cond_both (begins (path ++ byte ∷ label) text) (6 + (length text - length (path ++ byte ∷ label))) 0
+      (λ n. n ≤ 6 + (length text - length (path ++ byte ∷ label))) (λ _. omega arith) (λ _. omega arith) in
+      (omega (arith, here, long, front, whole, less), omega (arith, here, long, front))
+
+  no_more : (text : List ℕ) → worth (path ++ byte ∷ label) text ≤ through path text byte
+  no_more text = elim (cases_Bool (begins (path ++ byte ∷ []) text)) [
+    | inl e ↦ (let less = (less_after text e).0 in omega (arith, less))
+    | inr f ↦ (let none : begins (path ++ byte ∷ label) text ≡ false =
+        false_from_ne_true (begins (path ++ byte ∷ label) text)
+        (λ e. true≢false (sym (begun_before text e) ∙ f)) in
+        let here = ap (λ b. cond b (6 + (length text - length (path ++ byte ∷ label))) 0) none in
+        omega (arith, here))
+  ]
+
+  -- so where some text goes on with it, there is less below
+  less_below : (texts : List (List ℕ)) → list_any (begins (path ++ byte ∷ [])) texts ≡ true
+      → (sum_of (worth (path ++ byte ∷ label)) texts + 1 ≤ sum_of (λ t. through path t byte) texts)
+      × (7 ≤ sum_of (λ t. through path t byte) texts)
+  less_below [] led = absurd (true≢false (sym led))
+  less_below (text ∷ texts) led = elim (cases_Bool (begins (path ++ byte ∷ []) text)) [
+    | inl e ↦
+        (let here = less_after text e in
+        let rest = sum_less (worth (path ++ byte ∷ label)) (λ t. through path t byte) no_more texts in
+        (omega (arith, here.0, rest), omega (arith, here.1)))
+    | inr f ↦
+        (let here = no_more text in
+        let rest = less_below texts (sym (ap (λ b. b || list_any (begins (path ++ byte ∷ [])) texts) f) ∙ led) in
+        (omega (arith, here, rest.0), omega (arith, rest.1)))
+  ]
+
+-- ---- places of children
+
+not_less : (a b : ℕ) → nat_lt a b ≡ false → b ≤ a
+not_less a b e = grind (arith, nat_tests)
+
+slot_count : (bytes : List ℕ) → (length (slots bytes) + 6 ≤ 7 * length bytes) ⊎ (slots bytes ≡ [])
+unfolding slots
+slot_count [] = inr refl
+slot_count (low ∷ []) =
+    inl (cond_both (are_sparse (low ∷ [])) (low ∷ []) (range_with_len low (span low [])) (λ left. length left + 6 ≤ 7)
+    (λ _. omega arith) (λ _. let size = length-range low (span low []) in omega (arith, size)))
+slot_count (low ∷ next ∷ bytes) =
+    inl (cond_both (are_sparse (low ∷ next ∷ bytes)) (low ∷ next ∷ bytes) (range_with_len low (span low (next ∷ bytes)))
+    (λ left. length left + 6 ≤ 7 * length (low ∷ next ∷ bytes))
+    (λ _. omega arith)
+    (λ e. let few = not_less (2 * length (low ∷ next ∷ bytes) + 4) (span low (next ∷ bytes)) e in
+    let size = length-range low (span low (next ∷ bytes)) in
+    omega (arith, few, size)))
+
+-- what places between the bytes add, where these add no less than any part of a range
+slot_sum : (f : ℕ → ℕ) (p : ℕ → Bool) (range bytes : List ℕ) → bytes ≡ filter p range → Rising 1 256 bytes
+    → ((low n : ℕ) → 1 ≤ low → low + n ≤ 256 → sum_of f (range_with_len low n) ≤ sum_of f range)
+    → sum_of f (slots bytes) ≤ sum_of f range
+unfolding slots
+slot_sum f p range [] is rising part = omega arith
+slot_sum f p range (low ∷ bytes) is rising part = elim (cases_Bool (are_sparse (low ∷ bytes))) [
+  | inl e ↦
+      (let all = ap (λ b. sum_of f (cond b (low ∷ bytes) (range_with_len low (span low bytes)))) e in
+      let left = ap (sum_of f) is in
+      let less = sum_left f p range in
+      omega (arith, all, left, less))
+  | inr e ↦
+      (let placed = slots_placed low bytes rising e in
+      let upto = slots_upto low bytes rising e in
+      let size = ap length placed ∙ length-range low (span low bytes) in
+      let all = ap (sum_of f) placed in
+      let less = part low (span low bytes) upto.0 (omega (arith, upto.1, size)) in
+      omega (arith, all, less))
+]
+
+sum_ones : {X : Type 0} (xs : List X) → sum_of (λ (x : X). 1) xs ≡ length xs
+sum_ones [] = refl
+sum_ones (x ∷ xs) = let rest = sum_ones xs in omega (arith, rest)
+
+-- ---- all nodes
+
+module _ (most : ℕ) (texts : List (List ℕ)) where
+  -- the most nodes and holes below one
+  abbrev pub below_most : Option Node → ℕ
+  below_most None = 0
+  below_most (Some node) = held texts node.path - 6
+
+  child_most : (path : List ℕ) (byte : ℕ)
+      → below_most (child most texts path byte) + cond (leads texts (path ++ byte ∷ [])) 7 0
+      ≤ sum_of (λ t. through path t byte) texts
+  unfolding child leads
+  child_most path byte =
+      let label = label_after most texts (path ++ byte ∷ []) in
+      elim (cases_Bool (list_any (begins (path ++ byte ∷ [])) texts)) [
+        | inl led ↦
+            (let less = less_below path byte label texts led in
+            subst (λ b. below_most (cond b (Some (node_after path byte label)) None) + cond b 7 0
+            ≤ sum_of (λ t. through path t byte) texts) (sym led) (omega (arith, less.0, less.1)))
+        | inr none ↦
+            subst (λ b. below_most (cond b (Some (node_after path byte label)) None) + cond b 7 0
+            ≤ sum_of (λ t. through path t byte) texts) (sym none) (omega arith)
+      ]
+
+  -- 7 for each byte that leads on, and what is below the children, is no more than the node has
+  range_most : (path range bytes : List ℕ) → bytes ≡ filter (λ b. leads texts (path ++ b ∷ [])) range
+      → Rising 1 256 bytes
+      → ((f : ℕ → ℕ) (low n : ℕ) → 1 ≤ low → low + n ≤ 256 → sum_of f (range_with_len low n) ≤ sum_of f range)
+      → sum_of (λ b. sum_of (λ t. through path t b) texts) range ≤ held texts path
+      → sum_of (λ b. below_most (child most texts path b)) (slots bytes) + 7 * length bytes ≤ held texts path
+  range_most path range bytes is rising part all =
+      let counted = sum_counted (λ b. leads texts (path ++ b ∷ [])) range in
+      let count = ap length is in
+      let both = sum_both (λ b. below_most (child most texts path b)) (λ b. cond (leads texts (path ++ b ∷ [])) 7 0)
+      range in
+      let less = sum_less
+      (λ b. below_most (child most texts path b) + cond (leads texts (path ++ b ∷ [])) 7 0)
+      (λ b. sum_of (λ t. through path t b) texts) (child_most path) range in
+      let slot = slot_sum (λ b. below_most (child most texts path b)) (λ b. leads texts (path ++ b ∷ [])) range bytes is
+      rising (part (λ b. below_most (child most texts path b))) in
+      omega (arith, counted, count, both, less, all, slot)
+
+  slots_most : (path : List ℕ)
+      → sum_of (λ b. below_most (child most texts path b)) (slots (next_bytes texts path))
+      + 7 * length (next_bytes texts path) ≤ held texts path
+  unfolding next_bytes
+  slots_most path =
+      range_most path (range_with_len 1 255) (filter (λ b. leads texts (path ++ b ∷ [])) (range_with_len 1 255)) refl
+      (rising_filter (λ b. leads texts (path ++ b ∷ [])) 1 255) (λ f. sum_part f 1 255) (all_through path texts 1 255)
+
+  -- a node or hole, and the most below it
+  abbrev with_below : Option Node → ℕ
+  with_below of = 1 + below_most of
+
+  children_most : (of : Option Node) → sum_of with_below (children most texts of) ≤ below_most of
+  unfolding children
+  children_most None = omega arith
+  children_most (Some node) =
+      let bytes = next_bytes texts node.path in
+      let below : ℕ → ℕ = λ b. below_most (child most texts node.path b) in
+      let mapped = sum_map with_below (child most texts node.path) (slots bytes) in
+      elim (slot_count bytes) [
+        | inl few ↦
+            (let both = sum_both (λ (b : ℕ). 1) below (slots bytes) in
+            let ones = sum_ones (slots bytes) in
+            let led = slots_most node.path in
+            omega (arith, mapped, few, both, ones, led))
+        | inr none ↦
+            (let empty = ap (sum_of (λ b. with_below (child most texts node.path b))) none in
+            omega (arith, mapped, empty))
+      ]
+
+  level_most : (level : List (Option Node))
+      → length level + sum_of with_below (flat_map (children most texts) level) ≤ sum_of with_below level
+  level_most [] = omega arith
+  level_most (of ∷ level) =
+      let both = sum_append with_below (children most texts of) (flat_map (children most texts) level) in
+      let here = children_most of in
+      let rest = level_most level in
+      omega (arith, both, here, rest)
+
+  levels_most : (n : ℕ) (level : List (Option Node))
+      → length (levels (children most texts) n level) ≤ sum_of with_below level
+  levels_most zero level = omega arith
+  levels_most (suc n) level =
+      let next = flat_map (children most texts) level in
+      let size = length-append level (levels (children most texts) n next) in
+      let below = levels_most n next in
+      let here = level_most level in
+      omega (arith, size, below, here)
+
+  pub nodes_most : length (nodes most texts) ≤ 1 + (held texts [] - 6)
+  unfolding nodes
+  nodes_most = let all = levels_most (suc (longest_of texts)) (Some root ∷ []) in omega (arith, all)

@@ -1,0 +1,12 @@
+use Rattle.std.proofs.Common.{◌≡◌, List, ℕ, subst}
+use Rattle.std.specs.Result.{OnOk}
+use Rattle.virtiofs_map.specs.RuleParts.{rule_meant}
+use Rattle.virtiofs_map.proofs.RuleRowLemmas.{three_written}
+use Rattle.virtiofs_map.proofs.xattrmap.image.write.push_rule.Goals as goal
+
+pub returns : goal.returns
+returns g c =
+    let row =
+    three_written (rule_meant c.args.rule) c.args.span c.args.image.now.items _ _ _ c.acts_number.ensures
+    c.in_ok-push_word.ensures c.in_ok-push_word-2.ensures in
+    subst (λ (to : List ℕ). OnOk c.push_word-3.result (c.push_word-3.new.bytes.items ≡ to)) row c.push_word-3.ensures

@@ -1,0 +1,226 @@
+-- The nodes of a trie do not depend on the order of its texts, nor on how often one stands among them.
+use Rattle.std.proofs.Common.{◌≡◌, ℕ, zero, suc, ◌<◌, Bool, true, false, ◌&&◌, ◌||◌, not, cond, eqb, List, [], ◌∷◌, ◌++◌}
+use Rattle.std.proofs.Common.{length, take, drop, get_or, map, Option, Some, None, refl, sym, ap, ◌∙◌, arith, inl, inr}
+use Rattle.std.proofs.Math.Path.{fun_ext}
+use Rattle.std.specs.List.{filter, flat_map, list_any, range_with_len, slice_get, AllByRecursion}
+use Rattle.std.proofs.lemmas.Bool.{cases_Bool, cond_both, and_parts, eqb-true, false_from_ne_true, or_right, true≢false}
+use Rattle.std.proofs.lemmas.List.Elements.{recursion_from_All}
+use Rattle.virtiofs_map.specs.BranchParts.{ArePatterns, IsPattern, branch_count, patterns_on}
+use Rattle.virtiofs_map.specs.FirstRule.{acts, pattern}
+use Rattle.virtiofs_map.specs.Names.{begins}
+use Rattle.virtiofs_map.specs.PatternTrie.{Node, root, leads, next_bytes, common, label_after, node_after, child, children}
+use Rattle.virtiofs_map.specs.PatternTrie.{longest_label, slots, nodes}
+use Rattle.virtiofs_map.specs.Rule.{MappingRule}
+use Rattle.virtiofs_map.specs.TrieParts.{texts_of}
+use Rattle.virtiofs_map.specs.declared.xattrmap.scopes.Side.{Side}
+use Rattle.virtiofs_map.specs.declared.xattrmap.trie.patterns.Pattern.{Pattern}
+use Rattle.virtiofs_map.proofs.xattrmap.trie.LabelLemmas.{all_common, begun_by, of_left}
+use Rattle.virtiofs_map.proofs.xattrmap.trie.NodeLemmas.{child_some}
+use Rattle.virtiofs_map.proofs.xattrmap.trie.PatternTrieLemmas.{nodes_order, nodes_only}
+
+-- each text of the one list is one of the other: what one of those passes, one of these passes
+pub record AreAmong (texts other : List (List ℕ)) : Type 0 where
+  pub passed : (p : List ℕ → Bool) → list_any p texts ≡ true → list_any p other ≡ true
+
+-- ---- tests of all texts
+
+kept : (x y : Bool) → (x ≡ true → y ≡ true) → (x && not y) ≡ false
+kept false y so = refl
+kept true true so = refl
+kept true false so = absurd (true≢false (sym (so refl)))
+
+keeps : (x y : Bool) → (x && not y) ≡ false → x ≡ true → y ≡ true
+keeps true true e t = refl
+keeps true false e t = absurd (true≢false e)
+keeps false y e t = absurd (true≢false (sym t))
+
+neither : (x y : Bool) → (x || y) ≡ false → (x ≡ false) × (y ≡ false)
+neither true y e = absurd (true≢false e)
+neither false y e = (refl, e)
+
+module _ (a b : List ℕ → Bool) where
+  none_breaks : (texts : List (List ℕ)) → AllByRecursion (λ t. a t ≡ true → b t ≡ true) texts
+      → list_any (λ t. a t && not (b t)) texts ≡ false
+  none_breaks [] all = refl
+  none_breaks (text ∷ texts) all =
+      ap (λ x. x || list_any (λ t. a t && not (b t)) texts) (kept (a text) (b text) all.0) ∙ none_breaks texts all.1
+
+  all_keep : (texts : List (List ℕ)) → list_any (λ t. a t && not (b t)) texts ≡ false
+      → AllByRecursion (λ t. a t ≡ true → b t ≡ true) texts
+  all_keep [] none = tt
+  all_keep (text ∷ texts) none =
+      let apart = neither (a text && not (b text)) (list_any (λ t. a t && not (b t)) texts) none in
+      (keeps (a text) (b text) apart.0, all_keep texts apart.1)
+
+-- what holds of all texts that pass a test holds of all that are among them
+carried : (a b : List ℕ → Bool) (texts other : List (List ℕ)) → AreAmong texts other
+    → AllByRecursion (λ t. a t ≡ true → b t ≡ true) other → AllByRecursion (λ t. a t ≡ true → b t ≡ true) texts
+carried a b texts other among all =
+    all_keep a b texts
+    (false_from_ne_true (list_any (λ t. a t && not (b t)) texts)
+    (λ e. true≢false (sym (among.passed (λ t. a t && not (b t)) e) ∙ none_breaks a b other all)))
+
+-- ---- labels
+
+both_ways : (one other : List ℕ) → begins one other ≡ true → begins other one ≡ true → one ≡ other
+both_ways [] [] there back = refl
+both_ways [] (y ∷ other) there back = absurd (true≢false (sym back))
+both_ways (x ∷ one) [] there back = absurd (true≢false (sym there))
+both_ways (x ∷ one) (y ∷ other) there back =
+    let first = and_parts (eqb x y) (begins one other) there in
+    let second = and_parts (eqb y x) (begins other one) back in
+    ap (λ z. z ∷ one) (eqb-true x y first.0) ∙ ap (λ zs. y ∷ zs) (both_ways one other first.1 second.1)
+
+more_common : (texts other : List (List ℕ)) (front : List ℕ) → AreAmong texts other → leads texts front ≡ true
+    → begins (common (filter (begins front) other)) (common (filter (begins front) texts)) ≡ true
+more_common texts other front among led =
+    let whole = common (filter (begins front) other) in
+    begun_by texts front whole led
+    (carried (begins front) (begins whole) texts other among
+    (of_left (λ t. begins whole t ≡ true) front other (all_common (filter (begins front) other))))
+
+-- ---- nodes
+
+child_none : (most : ℕ) (texts : List (List ℕ)) (path : List ℕ) (byte : ℕ) → leads texts (path ++ byte ∷ []) ≡ false
+    → child most texts path byte ≡ None
+unfolding child
+child_none most texts path byte none =
+    ap (λ b. cond b (Some (node_after path byte (label_after most texts (path ++ byte ∷ [])))) None) none
+
+module _ (most : ℕ) (texts other : List (List ℕ)) (there : AreAmong texts other) (back : AreAmong other texts) where
+  leads_same : (path : List ℕ) → leads texts path ≡ leads other path
+  unfolding leads
+  leads_same path = elim (cases_Bool (list_any (begins path) texts)) [
+    | inl e ↦ e ∙ sym (there.passed (begins path) e)
+    | inr f ↦ f ∙ sym (false_from_ne_true (list_any (begins path) other)
+        (λ t. true≢false (sym (back.passed (begins path) t) ∙ f)))
+  ]
+
+  label_same : (front : List ℕ) → leads texts front ≡ true → label_after most texts front ≡ label_after most other front
+  unfolding label_after
+  label_same front led =
+      ap (λ whole. take most (drop (length front) whole))
+      (both_ways (common (filter (begins front) texts)) (common (filter (begins front) other))
+      (more_common other texts front back (sym (leads_same front) ∙ led))
+      (more_common texts other front there led))
+
+  child_same : (path : List ℕ) (byte : ℕ) → child most texts path byte ≡ child most other path byte
+  child_same path byte = elim (cases_Bool (leads texts (path ++ byte ∷ []))) [
+    | inl led ↦ child_some most texts path byte led
+        ∙ ap (λ label. Some (node_after path byte label)) (label_same (path ++ byte ∷ []) led)
+        ∙ sym (child_some most other path byte (sym (leads_same (path ++ byte ∷ [])) ∙ led))
+    | inr none ↦ child_none most texts path byte none
+        ∙ sym (child_none most other path byte (sym (leads_same (path ++ byte ∷ [])) ∙ none))
+  ]
+
+  next_same : (path : List ℕ) → next_bytes texts path ≡ next_bytes other path
+  unfolding next_bytes
+  next_same path =
+      let same : ◌≡◌ {A = ℕ → Bool} (λ byte. leads texts (path ++ byte ∷ [])) (λ byte. leads other (path ++ byte ∷ [])) =
+      fun_ext (λ byte. leads_same (path ++ byte ∷ [])) in
+      ap (λ p. filter p (range_with_len 1 255)) same
+
+  below_same : (of : Option Node) → children most texts of ≡ children most other of
+  unfolding children
+  below_same None = refl
+  below_same (Some node) =
+      let same : child most texts node.path ≡ child most other node.path = fun_ext (child_same node.path) in
+      ap (λ child_at. map child_at (slots (next_bytes texts node.path))) same
+      ∙ ap (λ bytes. map (child most other node.path) (slots bytes)) (next_same node.path)
+
+  pub nodes_same : nodes most texts ≡ nodes most other
+  nodes_same =
+      let same : children most texts ≡ children most other = fun_ext below_same in
+      nodes_only most other (nodes most texts)
+      (nodes_order most texts ∙ ap (λ below. Some root ∷ flat_map below (nodes most texts)) same)
+
+-- ---- the patterns of a side
+
+-- a rule that acts on the side, and whose pattern passes a test
+record IsPassed (side : Side) (p : List ℕ → Bool) (rules : List MappingRule) : Type 0 where
+  place : ℕ
+  rule : MappingRule
+  here : slice_get rules place ≡ Some rule
+  acting : acts side rule ≡ true
+  passes : p (pattern side rule) ≡ true
+
+module _ (side : Side) (p : List ℕ → Bool) where
+  -- the patterns of one rule, if it acts, and of those after it
+  abbrev patterns_from : Bool → MappingRule → List MappingRule → List (List ℕ)
+  patterns_from acting rule rules =
+      map (pattern side) (cond acting (rule ∷ filter (acts side) rules) (filter (acts side) rules))
+
+  passed_on : (rules : List MappingRule) (place : ℕ) (rule : MappingRule) → slice_get rules place ≡ Some rule
+      → acts side rule ≡ true → p (pattern side rule) ≡ true → list_any p (patterns_on side rules) ≡ true
+  passed_on [] place rule here acting passes = absurd cc
+  passed_on (one ∷ rules) zero rule here acting passes =
+      let same : one ≡ rule = cc in
+      ap (λ b. list_any p (patterns_from b one rules)) (ap (acts side) same ∙ acting)
+      ∙ ap (λ b. b || list_any p (patterns_on side rules)) (ap (λ (r : MappingRule). p (pattern side r)) same ∙ passes)
+  passed_on (one ∷ rules) (suc place) rule here acting passes =
+      let later = passed_on rules place rule here acting passes in
+      cond_both (acts side one) (one ∷ filter (acts side) rules) (filter (acts side) rules)
+      (λ left. list_any p (map (pattern side) left) ≡ true)
+      (λ _. or_right (p (pattern side one)) (list_any p (patterns_on side rules)) later) (λ _. later)
+
+  passed_later : (one : MappingRule) (rules : List MappingRule) → IsPassed side p rules → IsPassed side p (one ∷ rules)
+  passed_later one rules is = record {
+    place = suc is.place;
+    rule = is.rule;
+    here = is.here;
+    acting = is.acting;
+    passes = is.passes;
+  }
+
+  passed_by : (rules : List MappingRule) → list_any p (patterns_on side rules) ≡ true → IsPassed side p rules
+  passed_by [] some = absurd (true≢false (sym some))
+  passed_by (one ∷ rules) some = elim (cases_Bool (acts side one)) [
+    | inl acting ↦
+        (let is = sym (ap (λ b. list_any p (patterns_from b one rules)) acting) ∙ some in
+        elim (cases_Bool (p (pattern side one))) [
+          | inl passes ↦ record { place = 0; rule = one; here = refl; acting = acting; passes = passes }
+          | inr fails ↦ passed_later one rules
+              (passed_by rules (sym (ap (λ b. b || list_any p (patterns_on side rules)) fails) ∙ is))
+        ])
+    | inr idle ↦ passed_later one rules
+        (passed_by rules (sym (ap (λ b. list_any p (patterns_from b one rules)) idle) ∙ some))
+  ]
+
+  passed_at : (patterns : List Pattern) (k : ℕ) (one : Pattern) → k < length patterns → get_or patterns k one ≡ one
+      → p one.bytes.now ≡ true → list_any p (texts_of patterns) ≡ true
+  passed_at [] k one within is passes = absurd (omega (arith, within))
+  passed_at (other ∷ patterns) zero one within is passes =
+      ap (λ b. b || list_any p (texts_of patterns)) (ap (λ (o : Pattern). p o.bytes.now) is ∙ passes)
+  passed_at (other ∷ patterns) (suc k) one within is passes =
+      or_right (p other.bytes.now) (list_any p (texts_of patterns))
+      (passed_at patterns k one (omega (arith, within)) is passes)
+
+  passed_among : (rules : List MappingRule) (bytes : List ℕ) (patterns : List Pattern)
+      → AllByRecursion (IsPattern side rules bytes) patterns → list_any p (texts_of patterns) ≡ true
+      → list_any p (patterns_on side rules) ≡ true
+  passed_among rules bytes [] all some = absurd (true≢false (sym some))
+  passed_among rules bytes (one ∷ patterns) all some = elim (cases_Bool (p one.bytes.now)) [
+    | inl passes ↦
+        (let is = all.0.is in
+        passed_on rules all.0.place is.rule is.here is.acting (sym (ap p is.are) ∙ passes))
+    | inr fails ↦ passed_among rules bytes patterns all.1
+        (sym (ap (λ b. b || list_any p (texts_of patterns)) fails) ∙ some)
+  ]
+
+-- their trie has as many nodes as that of what names are compared with
+pub count_same : (side : Side) (rules : List MappingRule) (bytes : List ℕ) (patterns : List Pattern)
+    → ArePatterns side rules bytes patterns
+    → length (nodes longest_label (texts_of patterns)) ≡ branch_count side rules
+count_same side rules bytes patterns are =
+    ap length
+    (nodes_same longest_label (texts_of patterns) (patterns_on side rules)
+    record {
+      passed = λ p. passed_among side p rules bytes patterns
+          (recursion_from_All (IsPattern side rules bytes) patterns are.each);
+    }
+    record {
+      passed = λ p some.
+          (let is = passed_by side p rules some in
+          let (one, (k, within, here), same, answer) = are.every is.place is.rule is.here is.acting in
+          passed_at side p patterns k one within here (ap p same ∙ is.passes));
+    })

@@ -1,0 +1,6 @@
+use Rattle.std.proofs.Common.{arith}
+use Rattle.virtiofs_map.proofs.RulesInLemmas.{as_many}
+use Rattle.virtiofs_map.proofs.xattrmap.view.XattrMapRef.len.Goals as goal
+
+pub returns : goal.returns
+returns c = λ rules is. rw (c.part.ensures is.begun (is.parts 2 (omega arith))) (as_many rules _ _ is.stored)

@@ -1,0 +1,161 @@
+//! Reading a map of names.
+
+ghost use Rattle.std.specs.List.{before_first};
+ghost use Rattle.std.specs.Option.{option_map};
+ghost use Rattle.std.specs.Prelude.{◌≡◌, ◌≢◌, ◌==◌, ◌↔◌, ◌≤◌, ℕ, List, length, take, slice_get, All, IsNone, IsSomeAnd, is_some};
+ghost use Rattle.virtiofs_map.specs.BranchParts.{IsTrieIn, answer_of};
+ghost use Rattle.virtiofs_map.specs.FirstRule.{CountsFronts, CountsLookup};
+ghost use Rattle.virtiofs_map.specs.Names.{deciding, first};
+ghost use Rattle.virtiofs_map.specs.NamesImage.{IsImage, IsMapOf, IsNoImage, Says};
+ghost use Rattle.virtiofs_map.specs.Rule.{MappingRule, same_rules};
+ghost use Rattle.virtiofs_map.specs.RuleParts.{rule_meant};
+ghost use Rattle.virtiofs_map.specs.declared.xattrmap.scopes.Side.{Side};
+
+use crate::steps::Steps;
+use crate::xattrmap::image::Decision;
+use crate::xattrmap::image::header::{is_image, part};
+use crate::xattrmap::image::stored::{prepend_at, read_rule};
+use crate::xattrmap::rules::RuleRef;
+use crate::xattrmap::scopes::Side;
+use crate::xattrmap::trie::{NO_ANSWER, ROW, Trie, first_place, look_up};
+
+/// A map of names, lent for reading: bytes that begin as the image of a map does.
+///
+/// What its calls answer is known where the bytes are the image of some rules. They read nothing
+/// outside the bytes, whatever these are, and none of them takes memory but those that say so.
+#[derive(Clone, Copy, Debug)]
+pub struct XattrMapRef<'m> {
+    pub(crate) bytes: &'m [u8],
+}
+
+impl<'m> XattrMapRef<'m> {
+    /// The map in these bytes; `None` if they do not begin as an image does.
+    #[inline(always)]
+    pub fn of(bytes: &'m [u8]) -> Option<XattrMapRef<'m>>
+        ensures closed { IsNone result ↔ IsNoImage bytes.now }
+        ensures map { (rules : List MappingRule) → IsImage rules bytes.now
+            → IsSomeAnd result (IsMapOf rules) }
+    {
+        if !is_image(bytes) {
+            return None;
+        }
+        Some(XattrMapRef { bytes })
+    }
+
+    /// The trie of the patterns of that side.
+    #[inline(always)]
+    fn trie(self, side: Side) -> Trie<'m>
+        ensures { (rules : List MappingRule) → IsMapOf rules self.entry
+            → IsTrieIn side rules result.rows.now result.bytes.now }
+    {
+        let bytes = part(self.bytes, 3);
+        match side {
+            Side::Client => Trie::new(part(self.bytes, 0), bytes),
+            Side::Server => Trie::new(part(self.bytes, 1), bytes),
+        }
+    }
+
+    /// How many rules there are.
+    pub(crate) fn len(self) -> usize
+        ensures { (rules : List MappingRule) → IsMapOf rules self.entry → result ≡ length rules }
+    {
+        part(self.bytes, 2).len() / ROW
+    }
+
+    /// The rule at a place.
+    pub(crate) fn rule(self, place: usize) -> Option<RuleRef<'m>>
+        ensures { (rules : List MappingRule) → IsMapOf rules self.entry
+            → option_map rule_meant result ≡ slice_get rules place }
+    {
+        read_rule(part(self.bytes, 2), part(self.bytes, 3), place)
+    }
+
+    /// The prepend of the rule at a place.
+    #[inline(always)]
+    fn prepend(self, place: usize) -> Option<&'m [u8]>
+        ensures { (rules : List MappingRule) → IsMapOf rules self.entry
+            → option_map (λ prepend. prepend.now) result
+            ≡ option_map (λ rule. rule.prepend) (slice_get rules place) }
+    {
+        prepend_at(part(self.bytes, 2), part(self.bytes, 3), place)
+    }
+
+    /// Whether the rules are the same, one by one.
+    pub(crate) fn is_same(self, other: XattrMapRef<'_>) -> bool
+        ensures { (rules others : List MappingRule) → IsMapOf rules self.entry
+            → IsMapOf others other.entry → result ≡ same_rules rules others }
+    {
+        if self.len() != other.len() {
+            return false;
+        }
+        for place in 0..self.len() {
+            let (Some(one), Some(another)) = (self.rule(place), other.rule(place)) else {
+                return false;
+            };
+            if !one.is_same(another) {
+                return false;
+            }
+        }
+        true
+    }
+
+    /// The place of the first rule that fits a name of that side. The steps are those of
+    /// [`XattrMap::first_rule`](crate::xattrmap::XattrMap::first_rule).
+    pub(crate) fn first_rule(self, side: Side, name: &[u8], steps: &mut Steps) -> Option<usize>
+        ensures first { (rules : List MappingRule) → IsMapOf rules self.entry
+            → result ≡ first side rules name.now }
+        ensures steps { (rules : List MappingRule) → IsMapOf rules self.entry
+            → CountsLookup side rules name.now steps.old steps.new }
+        ensures fronts { (rules : List MappingRule) → IsMapOf rules self.entry
+            → CountsFronts side rules name.now steps.old steps.new }
+    {
+        first_place(self.trie(side), name, steps)
+    }
+
+    /// What the answer of a name says. No rule is read but one whose prepend is wanted.
+    #[inline(always)]
+    fn say(self, answer: u64) -> Decision<'m>
+        ensures { (side : Side) (rules : List MappingRule) (name : List ℕ)
+            → IsMapOf rules self.entry → answer ≡ answer_of side rules name
+            → Says side rules name result }
+    {
+        if answer == NO_ANSWER {
+            return Decision::Undecided;
+        }
+        match answer % 4 {
+            0 => match self.prepend((answer / 4) as usize) {
+                Some(prepend) => Decision::Prefix(prepend),
+                None => Decision::NoMap,
+            },
+            1 => Decision::Okay,
+            2 => Decision::Bad,
+            _ => Decision::Unsupported,
+        }
+    }
+
+    /// What the first rule that fits a name of that side does, and how many bytes of the name were
+    /// passed to find it. No zero is among these: the first zero, and what follows it, makes no
+    /// difference.
+    #[inline(always)]
+    pub(crate) fn decide(self, side: Side, name: &[u8]) -> (Decision<'m>, usize)
+        ensures says { (rules : List MappingRule) → IsMapOf rules self.entry
+            → Says side rules name.now result.0 }
+        ensures before_zero { (rules : List MappingRule) → IsMapOf rules self.entry
+            → Says side rules (before_first (λ byte. byte == 0) name.now) result.0 }
+        ensures no_zero { (rules : List MappingRule) → IsMapOf rules self.entry
+            → All (λ byte. byte ≢ 0) (take result.1 name.now) }
+        ensures within { result.1 ≤ length name.now }
+    {
+        let (answer, passed) = look_up(self.trie(side), name);
+        (self.say(answer), passed)
+    }
+
+    /// Whether some rule fits the name.
+    pub(crate) fn is_decided(self, side: Side, name: &[u8]) -> bool
+        ensures { (rules : List MappingRule) → IsMapOf rules self.entry
+            → result ≡ is_some (deciding side rules name.now) }
+    {
+        let (answer, _) = look_up(self.trie(side), name);
+        answer != NO_ANSWER
+    }
+}
