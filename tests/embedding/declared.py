@@ -67,7 +67,7 @@ def compared(top):
     """Each comparison by its name, with what it found."""
     header, rust = text_of([top / "include/virtiofs_map.h"]), text_of(top.glob("bindings/rust/virtiofs_map*.rs"))
     # (one struct is the library's own)
-    crate = text_of([*top.glob("crates/virtiofs_map_c/src/**/*.rt"), top / "crates/virtiofs_map/src/acl/merges.rt"])
+    crate = text_of([*top.glob("crates/virtiofs_map_c/src/**/*.rt"), top / "crates/virtiofs_acl/src/merges.rt"])
     declared = functions(header, IN_C, lambda it: [of_c(it)])
     codes = dict(re.findall(r"\bVIRTIOFS_(\w+)\s*=\s*(\d+)", header))
     uncalled = [it for it in declared if len(re.findall(rf"\b{it}\(", header)) < 2 and it != "virtiofs_map_version"]

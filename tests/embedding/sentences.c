@@ -117,7 +117,8 @@ static const struct { uint32_t code; int number; const char *text; } code_rows[]
     CODE(MERGES, EPERM, "two ids of the value would become the same id"),
     CODE(ROOT_MOVES, EPERM, "the capability has no field for the new id of root"),
     CODE(NO_ID, EINVAL, "4294967295 is no id"),
-    { 14, EINVAL, "there is no such code" }, { UINT32_MAX, EINVAL, "there is no such code" },
+    { 14, EINVAL, "there is no such code" },
+    { UINT32_MAX, EINVAL, "there is no such code" },
 };
 
 /* Where pages end: what is handed in, and what is written to. */

@@ -5,7 +5,7 @@ from textwrap import dedent
 
 PAGES = {"C.md": ("c", "examples/*.c"), "RUST.md": ("rust", "examples/*.rs", "tests/embedding/calls.rs"),
          "RATTLE.md": ("rust", "crates/virtiofs_map_callers/src/*.rt")}
-OF_C = re.compile(r"\bvirtiofs_(?!map\b|mapcheck|mapaudit|map_c)\w*[a-z0-9]\b(?!\.rs)|\bVIRTIOFS_\w+")
+OF_C = re.compile(r"\bvirtiofs_(?!map\b|mapcheck|mapaudit|map_c|acl\b|id_audit\b)\w*[a-z0-9]\b(?!\.rs)|\bVIRTIOFS_\w+")
 
 
 def blocks(page, kind):

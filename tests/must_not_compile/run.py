@@ -31,6 +31,7 @@ UNCOUNTED = (
     ("soft_idmap.rt", "map_host"),
     ("soft_idmap/image.rt", "look_up"),
     ("soft_idmap/stretches.rt", "stretch"),
+    ("soft_idmap/words.rt", "becomes"),
     ("xattrmap/trie/walk.rt", "look_up"),
 )
 LOST = "fn find(steps: &mut Steps) {\n    read(0, &mut Steps::new());\n    let mut spare = Steps::new();\n}\n"

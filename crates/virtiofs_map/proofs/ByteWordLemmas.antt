@@ -1,13 +1,13 @@
 -- A number of eight bytes is read back from its bytes, wherever they stand, and a row of three from its place among
 -- rows.
 use Rattle.std.proofs.Common.{◌≡◌, ℕ, ◌+◌, ◌*◌, ◌/◌, ◌%◌, ◌^◌, ◌<◌, zero, suc, List, [], ◌∷◌, ◌++◌, All, length, get_or}
-use Rattle.std.proofs.Common.{if◌then◌else◌, take, drop, refl, ap, subst, ◌∙◌, arith, append_assoc, append-nil, length-append}
+use Rattle.std.proofs.Common.{take, drop, refl, ap, subst, ◌∙◌, arith, append_assoc, append-nil, length-append}
 use Rattle.std.proofs.Math.Seq.{drop-append-add, take-append_seam}
 use Rattle.std.proofs.lemmas.Nat.{from_le_bytes-to_le_bytes_8}
 use Rattle.std.proofs.lemmas.List.Elements.{All-head, All-tail}
 use Rattle.std.specs.Int.{w64, from_le_bytes}
 use Rattle.std.specs.List.{flat_map}
-use Rattle.virtiofs_map.specs.BranchParts.{AreRowsOf, row_of}
+use Rattle.virtiofs_map.specs.BranchParts.{placed, row_in, row_of}
 use Rattle.virtiofs_map.specs.ByteWordParts.{word_at, word_bytes}
 use Rattle.virtiofs_map.specs.declared.xattrmap.trie.branch.Branch.{Branch}
 
@@ -94,14 +94,11 @@ module _ {X : Type 0} (row : X → List ℕ) (size : (x : X) → length (row x) 
 -- those of branches
 pub length-row_of : (branch : Branch) → length (row_of branch) ≡ 24
 unfolding row_of
-length-row_of branch =
-    length-three (branch.label + 281474976710656 * branch.length)
-    (branch.first + 281474976710656 * (branch.width + (if branch.scattered then 32768 else 0)))
-    (branch.answer + 281474976710656 * (branch.low + 256 * branch.head))
+length-row_of branch = length-three (65536 * branch.label + (256 * branch.head + branch.length)) _ branch.answer
 
-pub length-rows_of : (rows : List ℕ) (branches : List Branch) → AreRowsOf rows branches
-    → length rows ≡ 24 * length branches
-length-rows_of rows branches are = ap length are.are ∙ length-rows row_of length-row_of branches
+pub length-rows_in : (first labels : ℕ) (branches : List Branch)
+    → length (flat_map (row_in first labels) branches) ≡ 24 * length branches
+length-rows_in first labels = length-rows (row_in first labels) (λ branch. length-row_of (placed first labels branch))
 
 -- ---- numbers one after the other
 

@@ -17,6 +17,9 @@ use Rattle.virtiofs_map.proofs.NumeralLemmas.{IsNumeral-one}
 use Rattle.virtiofs_map.proofs.SpecificationLawLemmas.{Says-one, Says-no_fault, HasSpecificationFault-one}
 use Rattle.virtiofs_map.proofs.SpecificationsLemmas.{AllSay-one, AllSay-no_fault, HasSpecsFault-one}
 use Rattle.virtiofs_map.proofs.RuleTextLemmas.{one_value, no_fault, one_fault}
+-- what a number becomes
+pub use Rattle.virtiofs_map.proofs.MappingLawLemmas.{Becomes-one, Becomes-forbidden, LeadsBack-mapped}
+pub use Rattle.virtiofs_map.proofs.MappingLawLemmas.{KeepsGreatest-accepted, Covers-maps}
 -- the first place of a list
 pub use Rattle.virtiofs_map.proofs.ServerListLemmas.{position-Some_is, position-None_is}
 -- lists that go by pairs

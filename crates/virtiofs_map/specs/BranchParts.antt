@@ -177,35 +177,75 @@ pub record AreInOrder (patterns : List Pattern) : Type 0 where
 pub record IsBounded (branches : List Branch) (bytes : List ℕ) (branch : Branch) : Type 0 where
   pub answer : branch.answer ≤ no_answer
   pub label : branch.label ≤ length bytes
-  pub size : branch.length < 65536
+  pub size : branch.length < 256
   pub first : branch.first ≤ length branches
-  pub width : branch.width ≤ 256
+  pub width : branch.width < 256
 
 -- the numbers of a branch fit into its row
 pub record IsSmall (branch : Branch) : Type 0 where
   pub answer : branch.answer < 281474976710656
   pub label : branch.label < 281474976710656
-  pub size : branch.length < 65536
-  pub first : branch.first < 281474976710656
-  pub width : branch.width < 32768
+  pub size : branch.length < 256
+  pub first : branch.first < 140737488355328
+  pub width : branch.width < 256
 
 -- the bytes of a branch are bytes
 pub record HasBytes (branch : Branch) : Type 0 where
   pub low : branch.low < 256
   pub head : branch.head < 256
 
--- the 24 bytes of a branch: three numbers of eight bytes, the lowest byte first, each of which holds two or more
+-- the 24 bytes of a branch: three numbers of eight bytes, the lowest byte first, the first two of which hold three
 unfoldable pub row_of : Branch → List ℕ
 row_of branch =
-    word_bytes (branch.label + 281474976710656 * branch.length)
-    ++ word_bytes (branch.first + 281474976710656 * (branch.width + (if branch.scattered then 32768 else 0)))
-    ++ word_bytes (branch.answer + 281474976710656 * (branch.low + 256 * branch.head))
+    word_bytes (65536 * branch.label + (256 * branch.head + branch.length))
+    ++ word_bytes
+    (65536 * (branch.first + (if branch.scattered then 140737488355328 else 0)) + (256 * branch.width + branch.low))
+    ++ word_bytes branch.answer
 
--- the bytes are the rows of these branches
-pub record AreRowsOf (rows : List ℕ) (branches : List Branch) : Type 0 where
-  pub are : rows ≡ flat_map row_of branches
-  pub small : All IsSmall branches
+-- the branch with the places that it has in an image in which the rows of its trie begin there, counted in eights, and
+-- the bytes among which labels stand there, counted in bytes
+abbrev pub placed : ℕ → ℕ → Branch → Branch
+placed first labels branch =
+    record {
+      answer = branch.answer;
+      label = labels + branch.label;
+      length = branch.length;
+      first = first + 3 * branch.first;
+      width = branch.width;
+      low = branch.low;
+      head = branch.head;
+      scattered = branch.scattered;
+    }
+
+-- the row of a branch in such an image
+abbrev pub row_in : ℕ → ℕ → Branch → List ℕ
+row_in first labels branch = row_of (placed first labels branch)
+
+-- the numbers of a branch fit into its row in such an image
+abbrev pub IsSmallIn : ℕ → ℕ → Branch → Type 0
+IsSmallIn first labels branch = IsSmall (placed first labels branch)
+
+-- from there on the image has the rows of these branches
+pub record HasRows (image : List ℕ) (first labels : ℕ) (branches : List Branch) : Type 0 where
+  pub within : 8 * first + 24 * length branches ≤ length image
+  pub are : take (24 * length branches) (drop (8 * first) image) ≡ flat_map (row_in first labels) branches
+  pub small : All (IsSmallIn first labels) branches
   pub bytes : All HasBytes branches
+
+-- from there on the image has these bytes
+pub record HasBytesAt (image : List ℕ) (start : ℕ) (bytes : List ℕ) : Type 0 where
+  pub within : start + length bytes ≤ length image
+  pub are : take (length bytes) (drop start image) ≡ bytes
+
+-- the row is that of a branch
+pub record IsRowOf (branch : Branch) (row : List ℕ) : Type 0 where
+  pub is : row ≡ row_of branch
+  pub small : IsSmall branch
+  pub bytes : HasBytes branch
+
+-- the row is that of a branch with the places that it has in an image
+abbrev pub IsRow : ℕ → ℕ → Branch → List ℕ → Type 0
+IsRow first labels branch row = IsRowOf (placed first labels branch) row
 
 -- what names of that side are compared with
 abbrev pub patterns_on : Side → List MappingRule → List (List ℕ)
@@ -215,10 +255,23 @@ patterns_on side rules = map (pattern side) (filter (acts side) rules)
 abbrev pub branch_count : Side → List MappingRule → ℕ
 branch_count side rules = length (nodes longest_label (patterns_on side rules))
 
--- the rows are a trie of the patterns of that side, whose labels stand among the bytes, and of few rules
-pub record IsTrieIn (side : Side) (rules : List MappingRule) (rows bytes : List ℕ) : Type 0 where
+-- the branches are a trie of the patterns of that side, whose labels stand among the bytes, and of few rules
+pub record IsTrieWith (side : Side) (rules : List MappingRule) (branches : List Branch) (bytes : List ℕ) : Type 0 where
+  pub trie : IsTrie side rules branches bytes
+  pub bounded : All (IsBounded branches bytes) branches
+  pub counted : length branches ≡ branch_count side rules
+  pub few : AreFew rules
+
+-- between these places the image has the rows of a trie of the patterns of that side, whose labels stand among the
+-- bytes, which begin there, and of few rules
+pub record IsTrieIn (side : Side) (rules : List MappingRule) (image : List ℕ) (start end labels : ℕ) (bytes : List ℕ)
+    : Type 0 where
+  pub first : ℕ
   pub branches : List Branch
-  pub rows_of : AreRowsOf rows branches
+  pub begins_at : start ≡ 8 * first
+  pub ends_at : end ≡ start + 24 * length branches
+  pub rows_of : HasRows image first labels branches
+  pub texts : HasBytesAt image labels bytes
   pub trie : IsTrie side rules branches bytes
   pub counted : length branches ≡ branch_count side rules
   pub few : AreFew rules
@@ -240,7 +293,7 @@ pub record CountsWalk (side : Side) (rules : List MappingRule) (name : List ℕ)
 
 -- the children of a branch are found by their bytes, and their labels stand among the bytes
 pub record IsReadable (branches : List Branch) (bytes : List ℕ) (parent : Branch) : Type 0 where
-  pub small : IsSmall parent
+  pub within : parent.first + parent.width ≤ length branches
   pub placed : parent.scattered ≡ false → 1 ≤ parent.width → AreInSlots branches parent
   pub labels : (byte at : ℕ) (child : Branch) → IsChild branches parent byte at child
       → child.label + child.length ≤ length bytes
@@ -261,6 +314,26 @@ pub record StepsTo (branches : List Branch) (bytes : List ℕ) (parent : Branch)
   pub to : LeadsTo branches parent byte child
   pub passed : rest ≡ byte ∷ label_of bytes child ++ left
   pub counted : after ≡ count_after before (length (label_of bytes child) + 1)
+
+-- the root has that row
+pub record IsRootRow (first labels : ℕ) (branches : List Branch) (row : List ℕ) : Type 0 where
+  pub branch : Branch
+  pub here : slice_get branches 0 ≡ Some branch
+  pub is : IsRow first labels branch row
+
+-- the byte leads to a child of the branch, which has that row
+pub record LeadsToRow (first labels : ℕ) (branches : List Branch) (parent : Branch) (byte : ℕ) (row : List ℕ) : Type
+    0 where
+  pub child : Branch
+  pub is : IsRow first labels child row
+  pub to : LeadsTo branches parent byte child
+
+-- the first byte of the rest and the label of a child were passed, which has that row
+pub record StepsToRow (first labels : ℕ) (branches : List Branch) (bytes : List ℕ) (parent : Branch) (rest row : List ℕ)
+    (left : List ℕ) (before after : ℕ) : Type 0 where
+  pub child : Branch
+  pub is : IsRow first labels child row
+  pub step : StepsTo branches bytes parent rest child left before after
 
 -- nothing is left, or its first byte leads nowhere; nothing was counted
 pub record Ends (branches : List Branch) (parent : Branch) (rest : List ℕ) (before after : ℕ) : Type 0 where

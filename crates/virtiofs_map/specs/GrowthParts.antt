@@ -99,7 +99,7 @@ pub record IsPlace (patterns : List Pattern) (part : Part) : Type 0 where
   pub is : IsPart patterns part ⊎ IsHole part
   pub deep : (part.depth ≡ 0) ⊎ IsReached patterns part.depth
   pub label : part.length ≤ part.depth
-  pub size : part.length < 65536
+  pub size : part.length < 256
   pub answer : part.answer ≤ no_answer
   pub empty : part.low ≡ part.high → part.length ≡ 0
 

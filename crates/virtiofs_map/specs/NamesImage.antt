@@ -19,9 +19,9 @@ use Rattle.virtiofs_map.specs.declared.xattrmap.view.XattrMapRef.{XattrMapRef}
 
 -- ---- parts
 
--- the number with which an image of names begins: the letters vfsname, and the version 1
+-- the number with which an image of names begins: the letters vfsname, and the version 2
 abbrev pub image_kind : ℕ
-image_kind = 100606831918016118
+image_kind = 172664425955944054
 
 -- the start of a part. An image begins with six numbers: its kind, the starts of the four parts, in order, and the
 -- end of the last part.
@@ -97,8 +97,8 @@ pub record IsImage (rules : List MappingRule) (image : List ℕ) : Type 0 where
   pub last : part_end image 3 ≡ image_length rules
   pub short : image_length rules ≤ longest_image
   -- the image has a trie of what names are compared with, for each side
-  pub client : IsTrieIn Client rules (part image 0) (part image 3)
-  pub server : IsTrieIn Server rules (part image 1) (part image 3)
+  pub client : IsTrieIn Client rules image (part_start image 0) (part_end image 0) (part_start image 3) (part image 3)
+  pub server : IsTrieIn Server rules image (part_start image 1) (part_end image 1) (part_start image 3) (part image 3)
   -- the image has the rules themselves, and no pattern holds a zero
   pub stored : AreRuleRows rules (part image 2) (part image 3)
   pub no_zero : All HasNoZero rules

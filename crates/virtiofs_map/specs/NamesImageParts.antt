@@ -5,12 +5,15 @@ use Rattle.std.specs.Prelude.{◌++◌, length, take, drop}
 use Rattle.std.specs.List.{flat_map}
 use Rattle.virtiofs_map.specs.ByteWordParts.{word_at, word_bytes}
 use Rattle.virtiofs_map.specs.Names.{HostAnswer, IsListed, IsHidden, IsUndecided, host_answer, names}
-use Rattle.virtiofs_map.specs.NamesImage.{IsImage, IsMapOf, image_kind, image_length, longest_image, part}
+use Rattle.virtiofs_map.specs.NamesImage.{IsImage, IsMapOf, image_kind, image_length, longest_image, part, part_end}
+use Rattle.virtiofs_map.specs.NamesImage.{part_start}
+use Rattle.virtiofs_map.specs.BranchParts.{IsTrieIn}
 use Rattle.virtiofs_map.specs.Rule.{MappingRule, RuleType, Prefix, Okay, Bad, Unsupported}
 use Rattle.virtiofs_map.specs.RuleParts.{holds}
 use Rattle.virtiofs_map.specs.declared.xattrmap.image.write.Places.{Places}
 use Rattle.virtiofs_map.specs.declared.xattrmap.listed.Seen.{Seen}
 use Rattle.virtiofs_map.specs.declared.xattrmap.listed.Seen.TheVariants.{NoMap, Undecided, Hidden, Listed}
+use Rattle.virtiofs_map.specs.declared.xattrmap.scopes.Side.{Side}
 use Rattle.virtiofs_map.specs.declared.xattrmap.scopes.Side.TheVariants.{Client, Server}
 use Rattle.virtiofs_map.specs.declared.xattrmap.view.XattrMapRef.{XattrMapRef}
 
@@ -48,6 +51,16 @@ rules_of map = rules_in map.bytes.now
 -- the bytes are an image of the rules that they have
 abbrev pub IsMap : XattrMapRef → Type 0
 IsMap map = IsMapOf (rules_of map) map
+
+-- the part that has the trie of a side
+abbrev pub part_of : Side → ℕ
+part_of Client = 0
+part_of Server = 1
+
+-- from there on the bytes of a map have the trie of that side
+abbrev pub HasTrie : Side → List MappingRule → List ℕ → List ℕ → ℕ → Type 0
+HasTrie side rules bytes image root =
+    IsTrieIn side rules image root (part_end bytes (part_of side)) (part_start bytes 3) (part bytes 3)
 
 -- the bytes are an image of these rules, and nothing follows it
 pub record IsWholeImage (rules : List MappingRule) (bytes : List ℕ) : Type 0 where

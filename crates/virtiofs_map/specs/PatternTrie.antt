@@ -27,7 +27,7 @@ common (text ∷ texts) = fold common_of_two text texts
 
 -- the most bytes of a label
 unfoldable pub longest_label : ℕ
-longest_label = 65535
+longest_label = 255
 
 -- what all the texts that begin with the path go on with, but no more than so many bytes
 unfoldable pub label_after : ℕ → List (List ℕ) → List ℕ → List ℕ

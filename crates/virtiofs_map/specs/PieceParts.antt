@@ -1,6 +1,6 @@
 -- What the parts of a piece's making say. Only private functions cite these definitions.
-use Rattle.std.specs.Prelude.{◌≡◌, ◌==◌, ℕ, Bool, true, false, ◌≤◌, List, Option}
-use Rattle.virtiofs_map.specs.Pieces.{value_by, value_in, IsNamed, BecomeBy}
+use Rattle.std.specs.Prelude.{◌≡◌, ◌==◌, ℕ, Bool, true, false, ◌≤◌, List}
+use Rattle.virtiofs_map.specs.Pieces.{value_by, value_in, IsNamed}
 use Rattle.virtiofs_map.specs.WordParts.{Table, IsAt, HasRanges}
 use Rattle.virtiofs_map.specs.declared.cmdline.IdMap.{IdMap}
 use Rattle.virtiofs_map.specs.declared.soft_idmap.entry.Direction.{Direction}
@@ -9,13 +9,6 @@ use Rattle.virtiofs_map.specs.declared.soft_idmap.piece.Outcome.{Outcome}
 use Rattle.virtiofs_map.specs.declared.soft_idmap.piece.Outcome.TheVariants.{Kept, OneToOne, AllToOne, Forbidden}
 use Rattle.virtiofs_map.specs.declared.soft_idmap.piece.Piece.{Piece}
 
--- the piece has the numbers from first to last, and each becomes what values says
-pub record IsMade (first last : ℕ) (values : ℕ → Option ℕ) (piece : Piece) : Type 0 where
-  pub first_is : piece.first ≡ first
-  pub last_is : piece.last ≡ last
-  pub named : IsNamed piece.becomes first last
-  pub value : (n : ℕ) → first ≤ n → n ≤ last → value_in piece n ≡ values n
-
 -- the words are those of the ranges of some specifications, in some direction
 abbrev pub AreOfSome : Table → Type 0
 AreOfSome table = (specs : List IdMap) × (direction : Direction) × HasRanges specs direction table
@@ -23,20 +16,6 @@ AreOfSome table = (specs : List IdMap) × (direction : Direction) × HasRanges s
 -- the range is the one whose words stand at that place
 abbrev pub IsRead : Table → ℕ → Entry → Type 0
 IsRead table at range = (other : Entry) → IsAt table at other → range ≡ other
-
--- a piece of a map in that direction, which may go on after its last number
-pub record IsStretch (specs : List IdMap) (direction : Direction) (piece : Piece) : Type 0 where
-  pub order : piece.first ≤ piece.last
-  pub within : piece.last ≤ 4294967295
-  pub named : IsNamed piece.becomes piece.first piece.last
-  pub becomes : BecomeBy specs direction piece.first piece.last piece.becomes
-
--- the numbers of the piece become numbers one after the other
-abbrev pub is_one_to_one : Outcome → Bool
-is_one_to_one Kept = true
-is_one_to_one (OneToOne to) = true
-is_one_to_one (AllToOne to) = false
-is_one_to_one Forbidden = false
 
 -- the numbers from first to last all become one number
 abbrev pub is_all_to_one : Outcome → ℕ → ℕ → Bool

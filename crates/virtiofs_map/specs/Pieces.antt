@@ -1,5 +1,6 @@
 -- What all numbers become, as pieces that follow one another.
-use Rattle.std.specs.Prelude.{◌≡◌, ◌≢◌, ℕ, ◌+◌, ◌-◌, ◌*◌, ◌<◌, ◌≤◌, List, [], ◌∷◌, length, All, Option, Some, None, ⊤}
+use Rattle.std.specs.Prelude.{◌≡◌, ◌≢◌, ℕ, ◌+◌, ◌-◌, ◌*◌, ◌<◌, ◌≤◌, Bool, true, false, List, [], ◌∷◌, length, All}
+use Rattle.std.specs.Prelude.{Option, Some, None, ⊤}
 use Rattle.std.specs.Iterator.{Count, at_most}
 use Rattle.virtiofs_map.specs.LookupSteps.{acting}
 use Rattle.virtiofs_map.specs.Mapping.{Becomes}
@@ -39,6 +40,27 @@ IsNamed Kept first last = ⊤
 IsNamed (OneToOne to) first last = (to ≢ first) × (to + (last - first) ≤ 4294967295)
 IsNamed (AllToOne to) first last = first < last
 IsNamed Forbidden first last = ⊤
+
+-- the piece has the numbers from first to last, and each becomes what values says
+pub record IsMade (first last : ℕ) (values : ℕ → Option ℕ) (piece : Piece) : Type 0 where
+  pub first_is : piece.first ≡ first
+  pub last_is : piece.last ≡ last
+  pub named : IsNamed piece.becomes first last
+  pub value : (n : ℕ) → first ≤ n → n ≤ last → value_in piece n ≡ values n
+
+-- the numbers of the piece become numbers one after the other
+abbrev pub is_one_to_one : Outcome → Bool
+is_one_to_one Kept = true
+is_one_to_one (OneToOne to) = true
+is_one_to_one (AllToOne to) = false
+is_one_to_one Forbidden = false
+
+-- a piece of a map in that direction, which may go on after its last number
+pub record IsStretch (specs : List IdMap) (direction : Direction) (piece : Piece) : Type 0 where
+  pub order : piece.first ≤ piece.last
+  pub within : piece.last ≤ 4294967295
+  pub named : IsNamed piece.becomes piece.first piece.last
+  pub becomes : BecomeBy specs direction piece.first piece.last piece.becomes
 
 -- a piece of the map in that direction, as long as it can be: the number after its last is of another one
 pub record IsPiece (specs : List IdMap) (direction : Direction) (piece : Piece) : Type 0 where

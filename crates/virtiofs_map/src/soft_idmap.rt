@@ -40,14 +40,13 @@ mod texts;
 mod words;
 mod write;
 
-pub use entry::Direction;
-pub(crate) use entry::entry_of;
+pub use entry::{Direction, Entry, entry_of};
 pub use errors::{FaultKind, IdMapBuildError, MapError, RangeEnd, SpecsError};
-pub(crate) use lookup::look_up;
+use lookup::look_up;
 pub use piece::{Outcome, Piece};
 pub use pieces::Pieces;
 pub use words::IdMapRef;
-pub(crate) use words::Ranges;
+use words::Ranges;
 
 /// A map of ids between a guest and its host.
 ///
@@ -257,7 +256,7 @@ impl<Guest: GuestId<HostType = Host>, Host: HostId<GuestType = Guest>, A: Alloca
     }
 
     /// The specifications that the map was made from, in their order.
-    pub(crate) fn specs(&self) -> &[cmdline::IdMap]
+    pub fn specs(&self) -> &[cmdline::IdMap]
         ensures accepted { Accepted self.now }
         ensures specs { result.now ≡ self.now }
     {
@@ -323,14 +322,14 @@ impl<Guest: GuestId<HostType = Host>, Host: HostId<GuestType = Guest>, A: Alloca
 }
 
 /// The number of an id.
-pub(crate) fn number_of<I: Id>(id: I) -> u32
+pub fn number_of<I: Id>(id: I) -> u32
     ensures { result ≡ I.number id }
 {
     id.into_inner().to_u32()
 }
 
 /// The id of a number.
-pub(crate) fn id_of<I: Id>(n: u32) -> I
+pub fn id_of<I: Id>(n: u32) -> I
     ensures { I.number result ≡ n }
 {
     let inner = I::Inner::from_u32(n);

@@ -5,18 +5,18 @@ use Rattle.std.proofs.Common.{le_refl, le-ltb, ne_eqb}
 use Rattle.std.proofs.lemmas.Str.{encodes-chars}
 use Rattle.std.specs.Option.{option_map}
 use Rattle.std.specs.Str.{chars}
-use Rattle.virtiofs_map.specs.AclPrinted.{acl_error_text, capability_error_text}
+use Rattle.virtiofs_acl.specs.AclPrinted.{acl_error_text, capability_error_text}
 use Rattle.virtiofs_map.specs.Build.{BuildFault, RangeOverflow, Intersects}
 use Rattle.virtiofs_map.specs.Printed.{blamed_rule_text, unexpected_text}
 use Rattle.virtiofs_map.specs.Printed as printed
 use Rattle.virtiofs_map.specs.Refusal.{OutOfMemoryOr}
 use Rattle.virtiofs_map.specs.RulesFault.{HasRulesFault, fault_at, rules_fault_of}
-use Rattle.virtiofs_map.specs.declared.acl.errors.AclError.{AclError}
-use Rattle.virtiofs_map.specs.declared.acl.errors.AclError.TheVariants as lists
-use Rattle.virtiofs_map.specs.declared.acl.errors.CapabilityError.{CapabilityError}
-use Rattle.virtiofs_map.specs.declared.acl.errors.CapabilityError.TheVariants as capabilities
-use Rattle.virtiofs_map.specs.declared.acl.errors.EntryFault.TheVariants.{UnknownTag, Permission, NoId, Forbidden}
-use Rattle.virtiofs_map.specs.declared.acl.errors.EntryFault.TheVariants.{Merges}
+use Rattle.virtiofs_acl.specs.declared.errors.AclError.{AclError}
+use Rattle.virtiofs_acl.specs.declared.errors.AclError.TheVariants as lists
+use Rattle.virtiofs_acl.specs.declared.errors.CapabilityError.{CapabilityError}
+use Rattle.virtiofs_acl.specs.declared.errors.CapabilityError.TheVariants as capabilities
+use Rattle.virtiofs_acl.specs.declared.errors.EntryFault.TheVariants.{UnknownTag, Permission, NoId, Forbidden}
+use Rattle.virtiofs_acl.specs.declared.errors.EntryFault.TheVariants.{Merges}
 use Rattle.virtiofs_map.specs.declared.cmdline.IdMap.{IdMap as Specification}
 use Rattle.virtiofs_map.specs.declared.cmdline.IdMap.TheVariants.{Guest, Host, SquashGuest, SquashHost, Bidirectional}
 use Rattle.virtiofs_map.specs.declared.cmdline.IdMap.TheVariants.{ForbidGuest}

@@ -5,7 +5,7 @@ use Rattle.std.proofs.lemmas.Option.{slice_get_within}
 use Rattle.std.specs.List.{slice_get}
 use Rattle.std.specs.Option.{option_map}
 use Rattle.virtiofs_map.specs.Build.{BuildFault, RangeOverflow, Intersects, HasFirstFault}
-use Rattle.virtiofs_map.specs.IdAudit.{IsLeastId, GoesTo, GoesInto, Between}
+use Rattle.virtiofs_id_audit.specs.IdAudit.{IsLeastId, GoesTo, GoesInto, Between}
 use Rattle.virtiofs_map.specs.Refusal.{OutOfMemoryOr}
 use Rattle.virtiofs_map.specs.declared.cmdline.IdMap.{IdMap as Specification}
 use Rattle.virtiofs_map.specs.declared.soft_idmap.errors.RangeEnd.TheVariants.{Source, Target}

@@ -11,3 +11,4 @@ mod RangesLemmas
 mod RulesLemmas
 mod TextsLemmas
 mod ValuesLemmas
+mod ZeroLemmas

@@ -2,13 +2,13 @@
 use Rattle.std.proofs.Common.{◌≡◌, ◌≢◌, ◌⊎◌, inl, inr, ℕ, List, Result, Ok, Err, refl, subst, arith}
 use Rattle.std.specs.Prelude.{IfErr, OnErr}
 use Rattle.std.proofs.lemmas.Bool.{false≢true}
-use Rattle.virtiofs_map.specs.ValueChanges.{ChangesList, ChangesRoot, WritesRevision3}
-use Rattle.virtiofs_map.specs.declared.acl.errors.AclError.{AclError}
-use Rattle.virtiofs_map.specs.declared.acl.errors.AclError.TheVariants as lists
-use Rattle.virtiofs_map.specs.declared.acl.errors.CapabilityError.{CapabilityError}
-use Rattle.virtiofs_map.specs.declared.acl.errors.CapabilityError.TheVariants as capabilities
-use Rattle.virtiofs_map.specs.declared.acl.errors.EntryFault.TheVariants.{UnknownTag, Permission, NoId, Forbidden}
-use Rattle.virtiofs_map.specs.declared.acl.errors.EntryFault.TheVariants.{Merges}
+use Rattle.virtiofs_acl.specs.ValueChanges.{ChangesList, ChangesRoot, WritesRevision3}
+use Rattle.virtiofs_acl.specs.declared.errors.AclError.{AclError}
+use Rattle.virtiofs_acl.specs.declared.errors.AclError.TheVariants as lists
+use Rattle.virtiofs_acl.specs.declared.errors.CapabilityError.{CapabilityError}
+use Rattle.virtiofs_acl.specs.declared.errors.CapabilityError.TheVariants as capabilities
+use Rattle.virtiofs_acl.specs.declared.errors.EntryFault.TheVariants.{UnknownTag, Permission, NoId, Forbidden}
+use Rattle.virtiofs_acl.specs.declared.errors.EntryFault.TheVariants.{Merges}
 use Rattle.virtiofs_map.specs.declared.cmdline.IdMap.{IdMap as Specification}
 use Rattle.virtiofs_map.specs.declared.soft_idmap.entry.Direction.{Direction}
 use Rattle.virtiofs_map_c.specs.Codes.{ok, no_map}

@@ -1,7 +1,7 @@
 -- What decisions about all ids tell.
 use Rattle.std.specs.Prelude.{◌≡◌, ◌⊎◌, ℕ, Bool, true, false, List, length, Option, Some, None}
 use Rattle.virtiofs_map.specs.Build.{Accepted}
-use Rattle.virtiofs_map.specs.IdAudit.{IsLeastId, GoesTo, WanderTo, SharedAs}
+use Rattle.virtiofs_id_audit.specs.IdAudit.{IsLeastId, GoesTo, WanderTo, SharedAs}
 use Rattle.virtiofs_map.specs.declared.cmdline.IdMap.{IdMap as Specification}
 use Rattle.virtiofs_map_c.specs.Arrays.{AreSaid, ArrayFault, HasArrayFault, counted_on}
 use Rattle.virtiofs_map_c.specs.Makes.{IsAccepted}

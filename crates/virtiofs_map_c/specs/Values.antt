@@ -1,17 +1,17 @@
 -- What the calls tell that change the ids in a value.
 use Rattle.std.specs.Prelude.{◌≡◌, ◌≢◌, ◌⊎◌, ℕ, List, Result, Ok, Err}
-use Rattle.virtiofs_map.specs.Acl.{GoesAcross, HasAclFault}
-use Rattle.virtiofs_map.specs.AclLaws.{IsTranslated, AllMapped, ComesBack}
-use Rattle.virtiofs_map.specs.Capability.{root_of, RootBecomes, KeepsFront, IsInRevision3, HasRoot, RootGoesAcross}
-use Rattle.virtiofs_map.specs.Capability.{HasRootFault, HasCapabilityFault, RootComesBack}
+use Rattle.virtiofs_acl.specs.Acl.{GoesAcross, HasAclFault}
+use Rattle.virtiofs_acl.specs.AclLaws.{IsTranslated, AllMapped, ComesBack}
+use Rattle.virtiofs_acl.specs.Capability.{root_of, RootBecomes, KeepsFront, IsInRevision3, HasRoot, RootGoesAcross}
+use Rattle.virtiofs_acl.specs.Capability.{HasRootFault, HasCapabilityFault, RootComesBack}
 use Rattle.virtiofs_map.specs.MappingLaws.{IsMappedBothWays}
-use Rattle.virtiofs_map.specs.declared.acl.errors.AclError.{AclError}
-use Rattle.virtiofs_map.specs.declared.acl.errors.AclError.TheVariants as lists
-use Rattle.virtiofs_map.specs.declared.acl.errors.CapabilityError.{CapabilityError}
-use Rattle.virtiofs_map.specs.declared.acl.errors.CapabilityError.TheVariants as capabilities
-use Rattle.virtiofs_map.specs.declared.acl.errors.EntryFault.{EntryFault}
-use Rattle.virtiofs_map.specs.declared.acl.errors.EntryFault.TheVariants.{UnknownTag, Permission, NoId, Forbidden}
-use Rattle.virtiofs_map.specs.declared.acl.errors.EntryFault.TheVariants.{Merges}
+use Rattle.virtiofs_acl.specs.declared.errors.AclError.{AclError}
+use Rattle.virtiofs_acl.specs.declared.errors.AclError.TheVariants as lists
+use Rattle.virtiofs_acl.specs.declared.errors.CapabilityError.{CapabilityError}
+use Rattle.virtiofs_acl.specs.declared.errors.CapabilityError.TheVariants as capabilities
+use Rattle.virtiofs_acl.specs.declared.errors.EntryFault.{EntryFault}
+use Rattle.virtiofs_acl.specs.declared.errors.EntryFault.TheVariants.{UnknownTag, Permission, NoId, Forbidden}
+use Rattle.virtiofs_acl.specs.declared.errors.EntryFault.TheVariants.{Merges}
 use Rattle.virtiofs_map.specs.declared.cmdline.IdMap.{IdMap as Specification}
 use Rattle.virtiofs_map.specs.declared.soft_idmap.entry.Direction.{Direction}
 use Rattle.virtiofs_map_c.specs.Codes.{ok, forbidden, refused, no_room, no_map, merges, root_moves, acl_value}

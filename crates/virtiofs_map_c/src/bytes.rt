@@ -33,6 +33,10 @@ fn first_zero(bytes: &[u8]) -> Option<usize>
 pub fn before_zero(bytes: &[u8]) -> &[u8]
     ensures { result.now ≡ before_first (λ byte. byte == 0) bytes.now }
 {
+    // (it is faster to see that there is none than to look for its place)
+    if !bytes.contains(&0) {
+        return bytes;
+    }
     match first_zero(bytes) {
         Some(end) => &bytes[..end],
         None => bytes,

@@ -2,7 +2,7 @@
 ghost use Rattle.std.specs.List.{before_first};
 ghost use Rattle.std.specs.Prelude.{◌≡◌, ◌≢◌, ◌==◌, ◌⊎◌, ◌↔◌, ◌≤◌, List, length, position};
 ghost use Rattle.virtiofs_map.specs.Image.{HasKind, IsImage};
-ghost use Rattle.virtiofs_map.specs.ValueKinds.{HasLists, HasCapability};
+ghost use Rattle.virtiofs_acl.specs.ValueKinds.{HasLists, HasCapability};
 ghost use Rattle.virtiofs_map.specs.declared.cmdline.IdMap.{IdMap as Specification};
 ghost use Rattle.virtiofs_map.specs.declared.soft_idmap.entry.Direction.TheVariants.{GuestToHost, HostToGuest};
 ghost use Rattle.virtiofs_map_c.specs.Codes.{ok, no_map, acl, capability};
@@ -15,7 +15,7 @@ use crate::bytes::before_zero;
 use crate::codes::{ACL, CAPABILITY, NO_IDS};
 use crate::fault::Fault;
 use told::{tell_acl, tell_capability, tell_no_map};
-use virtiofs_map::acl::{
+use virtiofs_acl::{
     EntryRoom, ValueKind, carries_ids, translate_acl, translate_capability, write_revision_3,
 };
 use virtiofs_map::soft_idmap::{Direction, IdMapRef};

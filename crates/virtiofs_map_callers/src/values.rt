@@ -1,7 +1,7 @@
 //! How a daemon changes the ids in a value that the guest sets.
 ghost use Rattle.std.specs.Prelude.{◌≡◌, false};
 
-use virtiofs_map::acl::{EntryRoom, ValueKind, acl_to_host, capability_to_host, carries_ids};
+use virtiofs_acl::{EntryRoom, ValueKind, acl_to_host, capability_to_host, carries_ids};
 use virtiofs_map::id_types::{GuestGid, GuestUid, HostGid, HostUid};
 use virtiofs_map::soft_idmap::IdMap;
 use virtiofs_map::xattrmap::XattrName;

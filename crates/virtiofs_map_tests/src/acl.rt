@@ -11,7 +11,7 @@ use std::alloc::Global;
 use std::process::Abort;
 use std::test::Fail;
 use told::{SHIFTED, check_capability, check_list, check_written, value_of};
-use virtiofs_map::acl::{CapabilityError, EntryRoom, ValueKind, carries_ids};
+use virtiofs_acl::{CapabilityError, EntryRoom, ValueKind, carries_ids};
 use virtiofs_map::id_types::{GuestGid, HostGid};
 use virtiofs_map::soft_idmap::Direction::{GuestToHost, HostToGuest};
 use virtiofs_map::soft_idmap::IdMap;

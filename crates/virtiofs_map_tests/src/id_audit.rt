@@ -5,7 +5,7 @@ use Asked::{ApartFrom, Back, Own, Reached, Reaches, ReachesAny};
 use std::alloc::Global;
 use std::fmt::Debug;
 use std::test::Fail;
-use virtiofs_map::id_audit::{
+use virtiofs_id_audit::{
     Span, comes_back, ids_apart, ids_astray, ids_into, is_alone, mended, reached, reaches,
     reaches_any,
 };

@@ -2,10 +2,10 @@
 use Rattle.std.proofs.Common.{◌≡◌, ◌≢◌, ◌↔◌, refl, inl, inr, ℕ, ◌+◌, ◌<◌, ◌≤◌, List, [], ◌∷◌, ◌++◌, length, take, get_or, sym, ap, ◌∙◌, arith}
 use Rattle.std.proofs.Common.{append_assoc, append-nil, subst, Vec, Result, Ok, Err, IfOk, OnOk}
 use Rattle.std.proofs.lemmas.List.{take_all, length-take-le}
-use Rattle.virtiofs_map.specs.IdAudit.{Hold}
-use Rattle.virtiofs_map.specs.Mending.{IsBad, Mends}
+use Rattle.virtiofs_id_audit.specs.IdAudit.{Hold}
+use Rattle.virtiofs_id_audit.specs.Mending.{IsBad, Mends}
 use Rattle.virtiofs_map.specs.declared.cmdline.IdMap.{IdMap}
-use Rattle.virtiofs_map.specs.declared.id_audit.spans.Span.{Span}
+use Rattle.virtiofs_id_audit.specs.declared.spans.Span.{Span}
 use Rattle.virtiofs_map.specs.declared.idmap.UidMap.{UidMap}
 use Rattle.virtiofs_mapaudit.specs.Advice.{AreMended}
 use Rattle.virtiofs_mapaudit.specs.AdviceText.{guest_line, lines_text, part_line, still_text}
@@ -17,7 +17,7 @@ use Rattle.virtiofs_mapaudit.specs.Namespace.{IsLacking}
 use Rattle.virtiofs_mapaudit.specs.Refusals.{TellsGuests}
 use Rattle.virtiofs_mapaudit.specs.declared.refusal.Refusal.{Refusal}
 use Rattle.virtiofs_mapaudit.proofs.ListLemmas.{more_at}
-use Rattle.virtiofs_options.specs.declared.guest.Guest.{Guest}
+use Rattle.virtiofs_mapaudit.specs.declared.guest.Guest.{Guest}
 
 -- the line of one more guest
 lines_more : {A : Type 0} (all : List (Guest A)) (number : ℕ) (guests : List (Guest A)) (guest : Guest A)

@@ -5,7 +5,7 @@ use Rattle.std.proofs.lemmas.List.{take_all, length-take-le}
 use Rattle.virtiofs_mapaudit.proofs.ListLemmas.{more_at}
 use Rattle.virtiofs_mapaudit.specs.AlikeGuests.{have_same_options, numbers_alike, alike_of}
 use Rattle.virtiofs_mapaudit.specs.declared.alike.Alike.{Alike}
-use Rattle.virtiofs_options.specs.declared.guest.Guest.{Guest}
+use Rattle.virtiofs_mapaudit.specs.declared.guest.Guest.{Guest}
 
 -- a number before others, if it is to be there
 abbrev put_if : Bool → ℕ → List ℕ → List ℕ

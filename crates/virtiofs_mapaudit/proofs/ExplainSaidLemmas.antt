@@ -5,7 +5,7 @@ use Rattle.std.specs.Global.{Global}
 use Rattle.std.specs.List.{AllZip}
 use Rattle.std.proofs.lemmas.List.{take_all, length-take-le}
 use Rattle.std.proofs.lemmas.Slice.Zip.{AllZip-long}
-use Rattle.virtiofs_options.specs.declared.guest.Guest.{Guest}
+use Rattle.virtiofs_mapaudit.specs.declared.guest.Guest.{Guest}
 use Rattle.virtiofs_map.specs.declared.soft_idmap.entry.Direction.{Direction}
 use Rattle.virtiofs_mapaudit.specs.Explain.{head, AreNameLines, AreLines, AnswersAll, guest_line, ExplainsGuests, SaysExplained}
 use Rattle.virtiofs_mapaudit.specs.Guests.{SetsUp}
@@ -35,12 +35,13 @@ zip_at R (one ∷ xs) (other ∷ ys) (suc place) x y all below is_x is_y =
 pub name_lines : {A T E : Type 0} (r : Result T E) (guest : Guest A) (set : SetUp A) (question : Question)
     (direction : Direction) (name : AskedName) (bytes before after : List ℕ) → question ≡ Name direction name
     → bytes ≡ name.name.bytes.now
-    → OnOk r ((lines : List ℕ) × AreNameLines guest.xattrmap set.names direction bytes lines × (after ≡ before ++ lines))
+    → OnOk r ((lines : List ℕ) × AreNameLines guest.options.xattrmap set.names direction bytes lines
+    × (after ≡ before ++ lines))
     → OnOk r ((lines : List ℕ) × AreLines guest set question lines × (after ≡ before ++ lines))
 name_lines r guest set question direction name bytes before after is same lines =
     subst (λ (it : Question). OnOk r ((lines : List ℕ) × AreLines guest set it lines × (after ≡ before ++ lines)))
     (sym is)
-    (subst (λ (it : List ℕ). OnOk r ((lines : List ℕ) × AreNameLines guest.xattrmap set.names direction it lines
+    (subst (λ (it : List ℕ). OnOk r ((lines : List ℕ) × AreNameLines guest.options.xattrmap set.names direction it lines
     × (after ≡ before ++ lines))) same lines)
 
 -- one more question

@@ -4,12 +4,12 @@ use Rattle.std.proofs.Common.{eqb, length, get_or, slice_get, Vec, Result, Ok, E
 use Rattle.std.proofs.lemmas.Bool.{cases_eq}
 use Rattle.std.proofs.lemmas.Bool.Decides.{nat_tests}
 use Rattle.std.proofs.lemmas.List.Elements.{Contains-get_or}
-use Rattle.virtiofs_map.specs.IdAudit.{IsLeastId, GoesTo, GoesInto, Has, Hold, AreRuns}
+use Rattle.virtiofs_id_audit.specs.IdAudit.{IsLeastId, GoesTo, GoesInto, Has, Hold, AreRuns}
 use Rattle.virtiofs_map.specs.Mapping.{Becomes}
 use Rattle.virtiofs_map.specs.declared.cmdline.IdMap.{IdMap as Specification}
 use Rattle.virtiofs_map.specs.declared.soft_idmap.entry.Direction.TheVariants.{GuestToHost}
 use Rattle.std.specs.Bool.{◌==◌}
-use Rattle.virtiofs_map.specs.declared.id_audit.spans.Span.{Span}
+use Rattle.virtiofs_id_audit.specs.declared.spans.Span.{Span}
 use Rattle.virtiofs_map.specs.declared.idmap.UidMap.{UidMap}
 use Rattle.virtiofs_mapaudit.specs.IdFindings.{FindsAll, TellsHost, ActAsRoot}
 use Rattle.virtiofs_mapaudit.specs.Namespace.{StandsFor, IsRoot}

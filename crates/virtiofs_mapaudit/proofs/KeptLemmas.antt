@@ -4,12 +4,12 @@ use Rattle.std.proofs.Common.{Vec, Result, Ok, Err, IfOk, Option, Some, None, ze
 use Rattle.std.proofs.lemmas.Bool.Decides.{nat_tests}
 use Rattle.std.specs.Bool.{◌==◌}
 use Rattle.std.specs.Prelude.{if◌then◌else◌}
-use Rattle.virtiofs_map.specs.IdAudit.{GoesInto, Hold}
+use Rattle.virtiofs_id_audit.specs.IdAudit.{GoesInto, Hold}
 use Rattle.virtiofs_map.specs.Mapping.{InRange, Covers, Becomes}
 use Rattle.virtiofs_map.specs.declared.cmdline.IdMap.{IdMap}
 use Rattle.virtiofs_map.specs.declared.cmdline.IdMap.TheVariants.{Guest, Host, SquashGuest, SquashHost, Bidirectional}
 use Rattle.virtiofs_map.specs.declared.cmdline.IdMap.TheVariants.{ForbidGuest}
-use Rattle.virtiofs_map.specs.declared.id_audit.spans.Span.{Span}
+use Rattle.virtiofs_id_audit.specs.declared.spans.Span.{Span}
 use Rattle.virtiofs_map.specs.declared.idmap.UidMap.{UidMap}
 use Rattle.virtiofs_map.specs.declared.soft_idmap.entry.Direction.TheVariants.{GuestToHost}
 use Rattle.virtiofs_mapaudit.proofs.IdLemmas.{all_same}

@@ -3,9 +3,9 @@ use Rattle.std.proofs.Common.{◌≡◌, ◌≢◌, ◌↔◌, inl, inr, ℕ, �
 use Rattle.std.proofs.Common.{Contains, Option, Some, None, MatchOption, Vec, Result, Ok, Err, IfOk, subst, sym, arith, rules}
 use Rattle.std.proofs.lemmas.List.{take_more, take_all}
 use Rattle.std.proofs.lemmas.List.Elements.{Contains-get_or, Contains-push_cases}
-use Rattle.virtiofs_map.specs.IdAudit.{IsLeastId, GoesInto, ReachedBy, Hold, AreRuns}
+use Rattle.virtiofs_id_audit.specs.IdAudit.{IsLeastId, GoesInto, ReachedBy, Hold, AreRuns}
 use Rattle.virtiofs_map.specs.declared.cmdline.IdMap.{IdMap as Specification}
-use Rattle.virtiofs_map.specs.declared.id_audit.spans.Span.{Span}
+use Rattle.virtiofs_id_audit.specs.declared.spans.Span.{Span}
 use Rattle.virtiofs_map.specs.declared.idmap.UidMap.{UidMap}
 use Rattle.virtiofs_mapaudit.specs.IdFindings.{AreAll, ReachedOutside, Meets, TellsMeeting}
 use Rattle.virtiofs_mapaudit.specs.Namespace.{StandsBy, StandsAmong, StandsFor}

@@ -4,8 +4,8 @@ use Rattle.std.proofs.Common.{Contains, Vec, Result, Ok, Err, IfOk, subst, refl,
 use Rattle.std.proofs.lemmas.Bool.{cases_lt}
 use Rattle.std.proofs.lemmas.List.{take_more, take_all}
 use Rattle.std.proofs.lemmas.List.Elements.{Contains-append_left, Contains-get_or, Contains-push, Contains-push_cases}
-use Rattle.virtiofs_map.specs.IdAudit.{Hold, Has as Has_id}
-use Rattle.virtiofs_map.specs.declared.id_audit.spans.Span.{Span}
+use Rattle.virtiofs_id_audit.specs.IdAudit.{Hold, Has as Has_id}
+use Rattle.virtiofs_id_audit.specs.declared.spans.Span.{Span}
 use Rattle.virtiofs_map.specs.declared.idmap.UidMap.{UidMap}
 use Rattle.virtiofs_mapaudit.proofs.IdLemmas.{hold_one}
 use Rattle.virtiofs_mapaudit.proofs.OutsideLemmas.{hold_push}

@@ -11,7 +11,7 @@ use Rattle.virtiofs_map.specs.Names.{HostAnswer, IsListed, IsHidden, IsUndecided
 use Rattle.virtiofs_map.specs.Rule.{MappingRule}
 use Rattle.virtiofs_map.specs.declared.audit.answer.Audit.{Audit}
 use Rattle.virtiofs_map.specs.declared.audit.answer.Audit.TheVariants.{Yes, No}
-use Rattle.virtiofs_map.specs.declared.id_audit.spans.Span.{Span}
+use Rattle.virtiofs_id_audit.specs.declared.spans.Span.{Span}
 use Rattle.virtiofs_map.specs.declared.idmap.UidMap.{UidMap}
 use Rattle.virtiofs_map.specs.declared.soft_idmap.entry.Direction.{Direction}
 use Rattle.virtiofs_map.specs.declared.soft_idmap.entry.Direction.TheVariants.{GuestToHost, HostToGuest}
@@ -25,6 +25,7 @@ use Rattle.virtiofs_mapaudit.specs.NameJson.{name_data, answer_data, least_data,
 use Rattle.virtiofs_mapaudit.specs.NameJson.{told_data, name_line, name_table}
 use Rattle.virtiofs_mapaudit.specs.NameTable.{shown}
 use Rattle.virtiofs_mapaudit.specs.RefusalText.{refusal_text}
+use Rattle.virtiofs_mapaudit.specs.declared.guest.Guest.{Guest}
 use Rattle.virtiofs_mapaudit.specs.declared.refusal.Refusal.{Refusal}
 use Rattle.virtiofs_mapaudit.specs.ReportJson.{IsTableIf, IsNamesOf, IsGuest, AreGuests, part_data, parts_data, guest_words, option_words, rules_words, acl_words, words_data, advised_data, report_data, IsJson}
 use Rattle.virtiofs_mapaudit.specs.declared.advice.Advised.{Advised}
@@ -42,7 +43,7 @@ use Rattle.virtiofs_mapaudit.specs.declared.ids.ranges.RangeFault.TheVariants.{E
 use Rattle.virtiofs_mapaudit.specs.declared.names.found.LeastName.{LeastName}
 use Rattle.virtiofs_mapaudit.specs.declared.setup.SetUp.{SetUp}
 use Rattle.virtiofs_options.specs.declared.front.Asked.{Asked}
-use Rattle.virtiofs_options.specs.declared.guest.Guest.{Guest}
+use Rattle.virtiofs_options.specs.declared.guest.Guest.{Guest as GuestOptions}
 
 -- ---- lists
 
@@ -193,7 +194,7 @@ acl_none : (are_on : Bool) → HaveNone (acl_words are_on)
 acl_none true = refl
 acl_none false = refl
 
-words_none : {A : Type 0} (guest : Guest A) → HaveNone (words_data guest)
+words_none : {A : Type 0} (guest : GuestOptions A) → HaveNone (words_data guest)
 words_none guest =
     let users : List Data = flat_map (option_words (codes "--translate-uid")) guest.translate_uid.items in
     let groups : List Data = flat_map (option_words (codes "--translate-gid")) guest.translate_gid.items in
@@ -211,10 +212,13 @@ words_none guest =
     (rules_none guest.xattrmap))
     (acl_none guest.posix_acl)
 
+guest_words_none : {A : Type 0} (guest : Guest A) → HaveNone (words_data guest.options)
+guest_words_none guest = words_none guest.options
+
 advised_none : {A : Type 0} (advised : Option (Advised A)) → HasNone (advised_data advised)
 advised_none None = refl
 advised_none (Some advised) =
-    rw (both_none advised.after.guests.items advised.after.pairs.items, have_none-map guest_words words_none advised.guests.items) refl
+    rw (both_none advised.after.guests.items advised.after.pairs.items, have_none-map guest_words guest_words_none advised.guests.items) refl
 
 -- ---- guests
 

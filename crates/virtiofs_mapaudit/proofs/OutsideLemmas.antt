@@ -3,8 +3,8 @@ use Rattle.std.proofs.Common.{◌≡◌, ◌≢◌, ◌⊎◌, ◌↔◌, inl, i
 use Rattle.std.proofs.Common.{take, get_or, Contains, Option, Some, None, refl, subst, sym, arith, rules}
 use Rattle.std.proofs.lemmas.List.{take_more, take_all}
 use Rattle.std.proofs.lemmas.List.Elements.{Contains-push, Contains-push_cases, Contains-append_left}
-use Rattle.virtiofs_map.specs.IdAudit.{Has, Hold}
-use Rattle.virtiofs_map.specs.declared.id_audit.spans.Span.{Span}
+use Rattle.virtiofs_id_audit.specs.IdAudit.{Has, Hold}
+use Rattle.virtiofs_id_audit.specs.declared.spans.Span.{Span}
 use Rattle.virtiofs_map.specs.declared.idmap.UidMap.{UidMap}
 use Rattle.virtiofs_mapaudit.specs.OutsideParts.{Moves, MovesBy, MovesAmong, MovesTo, HasIf, AddsMoved, AddsSpan, AreMoved}
 use Rattle.virtiofs_mapaudit.specs.declared.ids.outside.Way.{Way}

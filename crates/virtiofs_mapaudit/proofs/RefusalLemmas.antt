@@ -20,7 +20,7 @@ use Rattle.virtiofs_process.specs.declared.runner.Bounds.{Bounds}
 use Rattle.virtiofs_mapaudit.specs.declared.setup.IdSetUp.{IdSetUp}
 use Rattle.virtiofs_mapaudit.specs.declared.setup.NamesSetUp.{NamesSetUp}
 use Rattle.virtiofs_mapaudit.specs.declared.setup.SetUp.{SetUp}
-use Rattle.virtiofs_options.specs.declared.guest.Guest.{Guest}
+use Rattle.virtiofs_mapaudit.specs.declared.guest.Guest.{Guest}
 
 -- ---- lists
 

@@ -32,7 +32,7 @@ use Rattle.virtiofs_mapaudit.specs.declared.audit.Audited.{Audited}
 use Rattle.virtiofs_mapaudit.specs.declared.audit.Part.{Part}
 use Rattle.virtiofs_mapaudit.specs.declared.audit.Report.{Report}
 use Rattle.virtiofs_options.specs.declared.front.Asked.{Asked}
-use Rattle.virtiofs_options.specs.declared.guest.Guest.{Guest}
+use Rattle.virtiofs_mapaudit.specs.declared.guest.Guest.{Guest}
 use Rattle.virtiofs_mapaudit.specs.declared.finding.Finding.{Finding}
 use Rattle.virtiofs_mapaudit.specs.declared.finding.Finding.TheVariants.{Range, OtherRanges, Ids}
 use Rattle.virtiofs_mapaudit.specs.declared.ids.found.IdFault.TheVariants.{Kept}

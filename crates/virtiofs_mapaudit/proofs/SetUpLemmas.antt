@@ -35,7 +35,7 @@ use Rattle.virtiofs_mapaudit.specs.declared.refusal.Refusal.{Refusal}
 use Rattle.virtiofs_mapaudit.specs.KindWords.{translating, ranging}
 use Rattle.virtiofs_mapaudit.specs.declared.ids.kind.IdKind.{IdKind}
 use Rattle.virtiofs_mapaudit.specs.declared.ids.kind.IdKind.TheVariants.{Users, Groups}
-use Rattle.virtiofs_options.specs.declared.guest.Guest.{Guest}
+use Rattle.virtiofs_mapaudit.specs.declared.guest.Guest.{Guest}
 use Rattle.virtiofs_mapaudit.specs.declared.setup.NamesSetUp.{NamesSetUp}
 use Rattle.virtiofs_mapaudit.specs.declared.setup.SetUp.{SetUp}
 use Rattle.virtiofs_mapaudit.proofs.ListLemmas.{in_two, more_at}
@@ -261,14 +261,16 @@ adds_ids number kind specs ranges option other before between after is is_too fi
 
 -- what is told of users, of groups and of names
 pub adds_kinds : {A : Type 0} (number : ℕ) (guest : Guest A) (before first second after : List (Refusal A))
-    → Adds (TellsIds number Users (texts_of guest.translate_uid.items) (texts_of guest.uid_map.items)) before first
-    → Adds (TellsIds number Groups (texts_of guest.translate_gid.items) (texts_of guest.gid_map.items)) first second
-    → Adds (TellsNames number guest.xattrmap) second after
+    → Adds (TellsIds number Users (texts_of guest.options.translate_uid.items) (texts_of guest.options.uid_map.items))
+    before first
+    → Adds (TellsIds number Groups (texts_of guest.options.translate_gid.items) (texts_of guest.options.gid_map.items))
+    first second
+    → Adds (TellsNames number guest.options.xattrmap) second after
     → Adds (TellsGuest number guest) before after
 adds_kinds {A = A} number guest before first second after users groups names =
     adds_both _ (λ told. (of_groups : List (Refusal A)) × (of_names : List (Refusal A))
-    × TellsIds number Groups (texts_of guest.translate_gid.items) (texts_of guest.gid_map.items) of_groups
-    × TellsNames number guest.xattrmap of_names × (told ≡ of_groups ++ of_names)) _ before first after users
+    × TellsIds number Groups (texts_of guest.options.translate_gid.items) (texts_of guest.options.gid_map.items) of_groups
+    × TellsNames number guest.options.xattrmap of_names × (told ≡ of_groups ++ of_names)) _ before first after users
     (adds_both _ _ _ first second after groups names (λ of_groups of_names is is_too. (of_groups, of_names, is, is_too, refl)))
     (λ of_users told is rest. record {
       of_users = of_users;

@@ -14,7 +14,7 @@ use Rattle.virtiofs_map.specs.declared.cmdline.IdMap.{IdMap}
 use Rattle.virtiofs_map.specs.declared.idmap.UidMap.{UidMap}
 use Rattle.virtiofs_map.specs.declared.soft_idmap.entry.Direction.TheVariants.{GuestToHost}
 use Rattle.virtiofs_map.specs.declared.soft_idmap.piece.Piece.{Piece}
-use Rattle.virtiofs_options.specs.declared.guest.Guest.{Guest}
+use Rattle.virtiofs_mapaudit.specs.declared.guest.Guest.{Guest}
 use Rattle.virtiofs_mapaudit.specs.Lists.{joined}
 use Rattle.virtiofs_mapaudit.specs.declared.alike.Alike.{Alike}
 use Rattle.virtiofs_mapaudit.specs.SummaryText.{is_moved, is_kept, clause, moved_text, kept_word, kept_place, kept_text}
@@ -185,17 +185,17 @@ pub summary_written : {A V E : Type 0} (r : Result V E) (alike : Alike) (guest :
     → between_kinds ≡ of_users ++ codes "\n  groups: "
     → ((shown : List ℕ) × SumsUpSet set.groups shown × (of_groups ≡ between_kinds ++ shown))
     → before_names ≡ of_groups ++ codes "\n  names: "
-    → of_names ≡ before_names ++ names_text guest.xattrmap set.names
-    → lists ≡ lists_text guest.posix_acl → new ≡ (if is_ok r then of_names ++ lists else of_names)
+    → of_names ≡ before_names ++ names_text guest.options.xattrmap set.names
+    → lists ≡ lists_text guest.options.posix_acl → new ≡ (if is_ok r then of_names ++ lists else of_names)
     → OnOk r ((summary : List ℕ) × SumsUp alike guest set summary × (new ≡ old ++ summary))
 summary_written (Ok done) alike guest set old numbered begun of_users between_kinds of_groups before_names of_names
     lists new first begins (users, sum_users, second) third (groups, sum_groups, fourth) fifth sixth is last = (
       joined (heading alike set.process ∷ codes "\n  users: " ∷ users ∷ codes "\n  groups: " ∷ groups
-          ∷ codes "\n  names: " ∷ names_text guest.xattrmap set.names ∷ lists_text guest.posix_acl ∷ []),
+          ∷ codes "\n  names: " ∷ names_text guest.options.xattrmap set.names ∷ lists_text guest.options.posix_acl ∷ []),
       record { of_users = users; of_groups = groups; users = sum_users; groups = sum_groups; whole = refl },
-      last ∙ ap (λ x. of_names ++ x) is ∙ ap (λ x. x ++ lists_text guest.posix_acl) sixth
+      last ∙ ap (λ x. of_names ++ x) is ∙ ap (λ x. x ++ lists_text guest.options.posix_acl) sixth
           ∙ gathered old (heading alike set.process) (codes "\n  users: ") users (codes "\n  groups: ") groups
-          (codes "\n  names: ") (names_text guest.xattrmap set.names) (lists_text guest.posix_acl) numbered begun of_users
+          (codes "\n  names: ") (names_text guest.options.xattrmap set.names) (lists_text guest.options.posix_acl) numbered begun of_users
           between_kinds of_groups before_names first begins second third fourth fifth,
     ) where
       gathered : (old n b u c g d m l numbered begun of_users between_kinds of_groups before_names : List ℕ)

@@ -1,8 +1,8 @@
 -- Options that are advised in place of those of guests. They were tried: less is found with them.
 use Rattle.std.specs.Prelude.{◌≡◌, ◌≢◌, ◌⊎◌, ◌↔◌, ℕ, Bool, IsTrue, List, [], length}
 use Rattle.std.specs.List.{AllZip}
-use Rattle.virtiofs_map.specs.IdAudit.{IsAstray, GoesInto}
-use Rattle.virtiofs_map.specs.Mending.{Mends}
+use Rattle.virtiofs_id_audit.specs.IdAudit.{IsAstray, GoesInto}
+use Rattle.virtiofs_id_audit.specs.Mending.{Mends}
 use Rattle.virtiofs_map.specs.declared.cmdline.IdMap.{IdMap}
 use Rattle.virtiofs_map.specs.declared.idmap.UidMap.{UidMap}
 use Rattle.std.specs.Borrow.{Bor}
@@ -19,7 +19,7 @@ use Rattle.virtiofs_mapaudit.specs.declared.audit.Report.{Report}
 use Rattle.virtiofs_mapaudit.specs.declared.finding.Finding.{Finding}
 use Rattle.virtiofs_mapaudit.specs.declared.refusal.Refusal.{Refusal}
 use Rattle.virtiofs_mapaudit.specs.declared.setup.SetUp.{SetUp}
-use Rattle.virtiofs_options.specs.declared.guest.Guest.{Guest}
+use Rattle.virtiofs_mapaudit.specs.declared.guest.Guest.{Guest}
 
 -- ---- what is tried for ids
 

@@ -9,12 +9,12 @@ use Rattle.virtiofs_mapaudit.specs.declared.advice.Advised.{Advised}
 use Rattle.virtiofs_mapaudit.specs.declared.alike.Alike.{Alike}
 use Rattle.virtiofs_mapaudit.specs.declared.audit.Part.{Part}
 use Rattle.virtiofs_mapaudit.specs.declared.finding.Finding.{Finding}
-use Rattle.virtiofs_options.specs.declared.guest.Guest.{Guest}
+use Rattle.virtiofs_mapaudit.specs.declared.guest.Guest.{Guest}
 
 -- the options that guests have, on a line
 abbrev pub alike_line : {A : Type 0} → Alike → Guest A → List ℕ
 alike_line alike guest =
-    joined (codes "  " ∷ numbers_text alike ∷ codes ":" ∷ []) ++ options_text (codes " ") [] guest ++ codes "\n"
+    joined (codes "  " ∷ numbers_text alike ∷ codes ":" ∷ []) ++ options_text (codes " ") [] guest.options ++ codes "\n"
 
 -- the options of the guest of that number; nothing if an earlier one of all these guests has the same
 abbrev pub guest_line : {A : Type 0} → List (Guest A) → ℕ → Guest A → List ℕ
@@ -60,9 +60,9 @@ advised_text advised =
 
 -- the options of further guests, each after a line that parts them
 abbrev pub further_text : {A : Type 0} → Guest A → List ℕ
-further_text guest = codes "--\n" ++ options_text [] (codes "\n") guest
+further_text guest = codes "--\n" ++ options_text [] (codes "\n") guest.options
 
 -- the options alone, on a line each
 abbrev pub mend_text : {A : Type 0} → List (Guest A) → List ℕ
 mend_text [] = []
-mend_text (guest ∷ guests) = options_text [] (codes "\n") guest ++ flat_map further_text guests
+mend_text (guest ∷ guests) = options_text [] (codes "\n") guest.options ++ flat_map further_text guests

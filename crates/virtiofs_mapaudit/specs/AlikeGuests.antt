@@ -6,7 +6,7 @@ use Rattle.std.specs.Cmp.Lexicographic.{pointwise}
 use Rattle.std.specs.Fmt.{decimal}
 use Rattle.virtiofs_mapaudit.specs.Lists.{joined}
 use Rattle.virtiofs_mapaudit.specs.declared.alike.Alike.{Alike}
-use Rattle.virtiofs_options.specs.declared.guest.Guest.{Guest}
+use Rattle.virtiofs_mapaudit.specs.declared.guest.Guest.{Guest}
 use Rattle.virtiofs_process.specs.declared.runner.Runner.{Runner}
 
 -- the texts are the same, one by one
@@ -33,10 +33,12 @@ is_same_runner runner other = false
 -- the guests have the same options, and one runner
 abbrev pub have_same_options : {A : Type 0} → Guest A → Guest A → Bool
 have_same_options guest other =
-    are_same guest.translate_uid.items other.translate_uid.items
-    && are_same guest.translate_gid.items other.translate_gid.items
-    && are_same guest.uid_map.items other.uid_map.items && are_same guest.gid_map.items other.gid_map.items
-    && is_same guest.xattrmap other.xattrmap && are_both guest.posix_acl other.posix_acl
+    are_same guest.options.translate_uid.items other.options.translate_uid.items
+    && are_same guest.options.translate_gid.items other.options.translate_gid.items
+    && are_same guest.options.uid_map.items other.options.uid_map.items
+    && are_same guest.options.gid_map.items other.options.gid_map.items
+    && is_same guest.options.xattrmap other.options.xattrmap
+    && are_both guest.options.posix_acl other.options.posix_acl
     && is_same_runner guest.runner other.runner
 
 -- the numbers of those guests that have the same options as one; the first guest has that number

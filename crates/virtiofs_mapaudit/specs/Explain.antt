@@ -6,7 +6,7 @@ use Rattle.std.specs.Global.{Global}
 use Rattle.std.specs.List.{AllZip}
 use Rattle.virtiofs_map.specs.declared.soft_idmap.entry.Direction.{Direction}
 use Rattle.virtiofs_map.specs.declared.soft_idmap.entry.Direction.TheVariants.{GuestToHost, HostToGuest}
-use Rattle.virtiofs_options.specs.declared.guest.Guest.{Guest}
+use Rattle.virtiofs_mapaudit.specs.declared.guest.Guest.{Guest}
 use Rattle.virtiofs_output.specs.Written.{written}
 use Rattle.virtiofs_mapaudit.specs.ExplainIdText.{id_text, ShowsId}
 use Rattle.virtiofs_mapaudit.specs.ExplainNameText.{AreGuestNameLines, IsHostNameLine}
@@ -40,9 +40,9 @@ AreIdLines kind specs (Some set) direction id text = ShowsId kind specs set dire
 -- the lines of an id of that kind
 abbrev pub AreLinesOfKind : {A : Type 0} → IdKind → Guest A → SetUp A → Direction → ℕ → List ℕ → Type 0
 AreLinesOfKind Users guest set direction id text =
-    AreIdLines Users guest.translate_uid.items set.users direction id text
+    AreIdLines Users guest.options.translate_uid.items set.users direction id text
 AreLinesOfKind Groups guest set direction id text =
-    AreIdLines Groups guest.translate_gid.items set.groups direction id text
+    AreIdLines Groups guest.options.translate_gid.items set.groups direction id text
 
 -- the lines of a name, by the rules if there are any
 abbrev pub AreNameLines : {A : Type 0} → Option (Bor (List ℕ)) → Option (NamesSetUp A) → Direction → List ℕ → List ℕ
@@ -58,7 +58,7 @@ AreNameLines (Some rules) (Some names) HostToGuest name text =
 abbrev pub AreLines : {A : Type 0} → Guest A → SetUp A → Question → List ℕ → Type 0
 AreLines guest set (Id kind direction id) text = AreLinesOfKind kind guest set direction id text
 AreLines guest set (Name direction name) text =
-    AreNameLines guest.xattrmap set.names direction name.name.bytes.now text
+    AreNameLines guest.options.xattrmap set.names direction name.name.bytes.now text
 
 -- texts one after another, each of which answers one question
 abbrev pub AnswersAll : {A : Type 0} → Guest A → SetUp A → List Question → List ℕ → Type 0

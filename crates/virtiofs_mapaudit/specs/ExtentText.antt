@@ -1,7 +1,7 @@
 -- Ids in words.
 use Rattle.std.specs.Prelude.{ℕ, ◌-◌, ◌==◌, nat_le, length, take, Bool, false, if◌then◌else◌, List, [], ◌∷◌, ◌++◌, codes, flat_map}
 use Rattle.std.specs.Fmt.{decimal}
-use Rattle.virtiofs_map.specs.declared.id_audit.spans.Span.{Span}
+use Rattle.virtiofs_id_audit.specs.declared.spans.Span.{Span}
 use Rattle.virtiofs_mapaudit.specs.Lists.{joined}
 
 -- ids that follow one another, as `7 to 9`, or one id

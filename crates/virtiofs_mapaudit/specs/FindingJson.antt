@@ -3,7 +3,7 @@
 use Rattle.std.specs.Prelude.{ℕ, ◌+◌, Bool, List, codes, map, Option, Some, None}
 use Rattle.serde_json.specs.Data.{Data, null, boolean, string, array, object, Members, member, no_members, item, no_items}
 use Rattle.serde_json.specs.View.{items_of}
-use Rattle.virtiofs_map.specs.declared.id_audit.spans.Span.{Span}
+use Rattle.virtiofs_id_audit.specs.declared.spans.Span.{Span}
 use Rattle.virtiofs_mapaudit.specs.AclNames.{acl_bytes}
 use Rattle.virtiofs_mapaudit.specs.FindingKinds.{kind_of, name_of}
 use Rattle.virtiofs_mapaudit.specs.IdJson.{count}

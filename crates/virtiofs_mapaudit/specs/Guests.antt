@@ -11,7 +11,7 @@ use Rattle.virtiofs_map.specs.RuleText.{SaysRules, CountsRules}
 use Rattle.virtiofs_map.specs.Specifications.{texts_of, AllSay, SpecsFault, HasSpecsFault}
 use Rattle.virtiofs_map.specs.declared.cmdline.IdMap.{IdMap}
 use Rattle.virtiofs_map.specs.declared.idmap.UidMap.{UidMap}
-use Rattle.virtiofs_options.specs.declared.guest.Guest.{Guest}
+use Rattle.virtiofs_mapaudit.specs.declared.guest.Guest.{Guest}
 use Rattle.virtiofs_process.specs.declared.runner.Bounds.{Bounds}
 use Rattle.virtiofs_mapaudit.specs.Ranges.{FindsFault, Differ, own_of, ranges_of}
 use Rattle.virtiofs_mapaudit.specs.declared.setup.IdSetUp.{IdSetUp}
@@ -64,7 +64,8 @@ process_of guest = option_and_then (λ runner. runner.now.process) guest.runner
 -- the daemon sets up a namespace: it has ranges of users or of groups, or it is not root who starts it
 abbrev pub sets_up_namespace : {A : Type 0} → Guest A → Bool
 sets_up_namespace guest =
-    nat_lt 0 (length guest.uid_map.items) || nat_lt 0 (length guest.gid_map.items) || nat_lt 0 (own_of (users_of guest))
+    nat_lt 0 (length guest.options.uid_map.items) || nat_lt 0 (length guest.options.gid_map.items)
+    || nat_lt 0 (own_of (users_of guest))
 
 -- what the texts set up for ids of a kind; nothing where one of them is refused
 abbrev pub ReadsIds : {A : Type 0} → Option (Bounds A) → Bool → List (List ℕ) → List (List ℕ) → Option (IdSetUp A) → Type 0
@@ -85,19 +86,20 @@ ReadsNames (Some text) None = RefusesRules (chars text.now)
 
 -- the daemon translates users or groups
 abbrev pub Translates : {A : Type 0} → Guest A → Type 0
-Translates guest = (guest.translate_uid.items ≢ []) ⊎ (guest.translate_gid.items ≢ [])
+Translates guest = (guest.options.translate_uid.items ≢ []) ⊎ (guest.options.translate_gid.items ≢ [])
 
 -- what the options of the daemon of a guest set up
 pub record SetsUp {A : Type 0} (guest : Guest A) (set : SetUp A) : Type 0 where
-  pub users : ReadsIds (users_of guest) (sets_up_namespace guest) (texts_of guest.translate_uid.items)
-      (texts_of guest.uid_map.items) set.users
-  pub groups : ReadsIds (groups_of guest) (sets_up_namespace guest) (texts_of guest.translate_gid.items)
-      (texts_of guest.gid_map.items) set.groups
-  pub names : ReadsNames guest.xattrmap set.names
-  pub acl : set.posix_acl ≡ guest.posix_acl
+  pub users : ReadsIds (users_of guest) (sets_up_namespace guest) (texts_of guest.options.translate_uid.items)
+      (texts_of guest.options.uid_map.items) set.users
+  pub groups : ReadsIds (groups_of guest) (sets_up_namespace guest) (texts_of guest.options.translate_gid.items)
+      (texts_of guest.options.gid_map.items) set.groups
+  pub names : ReadsNames guest.options.xattrmap set.names
+  pub acl : set.posix_acl ≡ guest.options.posix_acl
   pub process : set.process ≡ process_of guest
-  pub lists : IsTrue set.translates_lists ↔ (IsTrue guest.posix_acl × Translates guest)
+  pub lists : IsTrue set.translates_lists ↔ (IsTrue guest.options.posix_acl × Translates guest)
 
 -- some text of the guest is refused
 abbrev pub IsRefused : {A : Type 0} → Guest A → SetUp A → Type 0
-IsRefused guest set = (set.users ≡ None) ⊎ (set.groups ≡ None) ⊎ ((guest.xattrmap ≢ None) × (set.names ≡ None))
+IsRefused guest set =
+    (set.users ≡ None) ⊎ (set.groups ≡ None) ⊎ ((guest.options.xattrmap ≢ None) × (set.names ≡ None))

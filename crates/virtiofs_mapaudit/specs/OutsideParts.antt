@@ -1,8 +1,8 @@
 -- Ids that are moved into a namespace and out of it. Only private functions cite these words.
 use Rattle.std.specs.Prelude.{◌≡◌, ◌↔◌, ◌⊎◌, ℕ, ◌+◌, ◌-◌, ◌≤◌, List, Contains, Option, Some, None}
-use Rattle.virtiofs_map.specs.IdAudit.{Has, Hold}
+use Rattle.virtiofs_id_audit.specs.IdAudit.{Has, Hold}
 use Rattle.virtiofs_map.specs.Mapping.{InRange}
-use Rattle.virtiofs_map.specs.declared.id_audit.spans.Span.{Span}
+use Rattle.virtiofs_id_audit.specs.declared.spans.Span.{Span}
 use Rattle.virtiofs_map.specs.declared.idmap.UidMap.{UidMap}
 use Rattle.virtiofs_mapaudit.specs.Namespace.{StandsBy, StandsFor}
 use Rattle.virtiofs_mapaudit.specs.declared.ids.outside.Way.{Way}

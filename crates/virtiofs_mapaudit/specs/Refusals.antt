@@ -15,7 +15,7 @@ use Rattle.virtiofs_map.specs.declared.xattrmap.errors.Error.{Error}
 use Rattle.virtiofs_mapaudit.specs.Guests.{SaysRange, RefusesSpecs, RefusesRanges, RefusesRules, IsRefused}
 use Rattle.virtiofs_mapaudit.specs.KindWords.{translating, ranging}
 use Rattle.virtiofs_mapaudit.specs.Lists.{AnyTwoHave}
-use Rattle.virtiofs_options.specs.declared.guest.Guest.{Guest}
+use Rattle.virtiofs_mapaudit.specs.declared.guest.Guest.{Guest}
 use Rattle.virtiofs_mapaudit.specs.declared.ids.kind.IdKind.{IdKind}
 use Rattle.virtiofs_mapaudit.specs.declared.ids.kind.IdKind.TheVariants.{Users, Groups}
 use Rattle.virtiofs_mapaudit.specs.declared.ids.ranges.Place.{Place}
@@ -122,9 +122,11 @@ pub record TellsGuest {A : Type 0} (number : ℕ) (guest : Guest A) (told : List
   pub of_users : List (Refusal A)
   pub of_groups : List (Refusal A)
   pub of_names : List (Refusal A)
-  pub users : TellsIds number Users (texts_of guest.translate_uid.items) (texts_of guest.uid_map.items) of_users
-  pub groups : TellsIds number Groups (texts_of guest.translate_gid.items) (texts_of guest.gid_map.items) of_groups
-  pub names : TellsNames number guest.xattrmap of_names
+  pub users : TellsIds number Users (texts_of guest.options.translate_uid.items)
+      (texts_of guest.options.uid_map.items) of_users
+  pub groups : TellsIds number Groups (texts_of guest.options.translate_gid.items)
+      (texts_of guest.options.gid_map.items) of_groups
+  pub names : TellsNames number guest.options.xattrmap of_names
   pub whole : told ≡ of_users ++ of_groups ++ of_names
 
 -- what is told of guests, one after the other, from that number on

@@ -11,11 +11,12 @@ use Rattle.virtiofs_mapaudit.specs.RefusalText.{refusal_text}
 use Rattle.virtiofs_mapaudit.specs.declared.advice.Advised.{Advised}
 use Rattle.virtiofs_mapaudit.specs.declared.audit.Part.{Part}
 use Rattle.virtiofs_mapaudit.specs.declared.audit.Report.{Report}
+use Rattle.virtiofs_mapaudit.specs.declared.guest.Guest.{Guest}
 use Rattle.virtiofs_mapaudit.specs.declared.refusal.Refusal.{Refusal}
 use Rattle.virtiofs_mapaudit.specs.declared.setup.NamesSetUp.{NamesSetUp}
 use Rattle.virtiofs_mapaudit.specs.declared.setup.SetUp.{SetUp}
 use Rattle.virtiofs_options.specs.declared.front.Asked.{Asked}
-use Rattle.virtiofs_options.specs.declared.guest.Guest.{Guest}
+use Rattle.virtiofs_options.specs.declared.guest.Guest.{Guest as GuestOptions}
 
 -- the table of what is set up, where it was asked for; null where it was not, and where nothing is set up
 abbrev pub IsTableIf : {S : Type 0} → Bool → (S → Data → Type 0) → Option S → Data → Type 0
@@ -75,7 +76,7 @@ acl_words false = []
 acl_words true = string (codes "--posix-acl") ∷ []
 
 -- all options of a guest
-abbrev pub words_data : {A : Type 0} → Guest A → List Data
+abbrev pub words_data : {A : Type 0} → GuestOptions A → List Data
 words_data guest =
     flat_map (option_words (codes "--translate-uid")) guest.translate_uid.items
     ++ flat_map (option_words (codes "--translate-gid")) guest.translate_gid.items
@@ -84,7 +85,7 @@ words_data guest =
     ++ rules_words guest.xattrmap ++ acl_words guest.posix_acl
 
 abbrev pub guest_words : {A : Type 0} → Guest A → Data
-guest_words guest = array (items_of (words_data guest))
+guest_words guest = array (items_of (words_data guest.options))
 
 -- what is advised: the options of each guest, and what is still found with them
 abbrev pub advised_data : {A : Type 0} → Option (Advised A) → Data

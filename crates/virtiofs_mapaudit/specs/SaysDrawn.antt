@@ -5,7 +5,7 @@ use Rattle.std.specs.Borrow.{Bor}
 use Rattle.virtiofs_mapaudit.specs.Said.{Audits}
 use Rattle.virtiofs_mapaudit.specs.declared.audit.Audited.{Audited}
 use Rattle.virtiofs_mapaudit.specs.declared.audit.Said.{Said}
-use Rattle.virtiofs_options.specs.declared.guest.Guest.{Guest}
+use Rattle.virtiofs_mapaudit.specs.declared.guest.Guest.{Guest}
 
 -- what is told of guests beside a drawing: whether something is found that counts, and what is refused. What the drawing
 -- shows is tested

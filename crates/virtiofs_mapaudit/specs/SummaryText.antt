@@ -10,7 +10,7 @@ use Rattle.virtiofs_map.specs.declared.soft_idmap.entry.Direction.TheVariants.{G
 use Rattle.virtiofs_map.specs.declared.soft_idmap.piece.Outcome.{Outcome}
 use Rattle.virtiofs_map.specs.declared.soft_idmap.piece.Outcome.TheVariants.{Kept, OneToOne, AllToOne, Forbidden}
 use Rattle.virtiofs_map.specs.declared.soft_idmap.piece.Piece.{Piece}
-use Rattle.virtiofs_options.specs.declared.guest.Guest.{Guest}
+use Rattle.virtiofs_mapaudit.specs.declared.guest.Guest.{Guest}
 use Rattle.virtiofs_mapaudit.specs.AlikeGuests.{numbers_text}
 use Rattle.virtiofs_mapaudit.specs.IdTable.{span_text, span_of, images_of}
 use Rattle.virtiofs_mapaudit.specs.Lists.{joined}
@@ -160,5 +160,5 @@ pub record SumsUp {A : Type 0} (alike : Alike) (guest : Guest A) (set : SetUp A)
   pub users : SumsUpSet set.users of_users
   pub groups : SumsUpSet set.groups of_groups
   pub whole : text ≡ joined (heading alike set.process ∷ codes "\n  users: " ∷ of_users
-      ∷ codes "\n  groups: " ∷ of_groups ∷ codes "\n  names: " ∷ names_text guest.xattrmap set.names
-      ∷ lists_text guest.posix_acl ∷ [])
+      ∷ codes "\n  groups: " ∷ of_groups ∷ codes "\n  names: " ∷ names_text guest.options.xattrmap set.names
+      ∷ lists_text guest.options.posix_acl ∷ [])

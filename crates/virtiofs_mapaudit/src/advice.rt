@@ -13,12 +13,12 @@ pub(crate) mod options;
 pub(crate) mod text;
 
 use crate::audit::{Report, audit, has_accepted, has_found, set_up_all};
+use crate::guest::Guest;
 use crate::setup::SetUp;
 use better::is_better;
 use mended::mended_options;
 use options::{Options, guest_of};
 use std::alloc::{AllocError, Allocator};
-use virtiofs_options::guest::Guest;
 
 /// Options that are tried in place of those of each guest, isolated or not, of whom that was found, if
 /// any are to be.

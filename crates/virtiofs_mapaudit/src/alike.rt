@@ -2,8 +2,8 @@
 ghost use Rattle.std.specs.Prelude.{◌≡◌, ◌<◌, ◌++◌, ◌∷◌, [], List, ℕ, IfOk, OnOk, string_bytes};
 ghost use Rattle.virtiofs_mapaudit.specs.AlikeGuests.{are_both, is_same_runner, have_same_options, alike_of, alone, alike_to, likes_of, is_first, is_second, is_told, numbers_text};
 
+use crate::guest::Guest;
 use std::alloc::{AllocError, Allocator};
-use virtiofs_options::guest::Guest;
 use virtiofs_process::runner::Runner;
 
 /// The guests that have the same options as one of them.
@@ -39,12 +39,12 @@ fn is_same_runner<A: Allocator>(runner: Option<&Runner<A>>, other: Option<&Runne
 fn have_same_options<A: Allocator>(guest: &Guest<'_, A>, other: &Guest<'_, A>) -> bool
     ensures { result ≡ have_same_options guest.now other.now }
 {
-    let users = guest.translate_uid.as_slice() == other.translate_uid.as_slice();
-    let groups = guest.translate_gid.as_slice() == other.translate_gid.as_slice();
-    let of_users = guest.uid_map.as_slice() == other.uid_map.as_slice();
-    let of_groups = guest.gid_map.as_slice() == other.gid_map.as_slice();
-    let rules = guest.xattrmap == other.xattrmap;
-    let lists = are_both(guest.posix_acl, other.posix_acl);
+    let users = guest.options.translate_uid.as_slice() == other.options.translate_uid.as_slice();
+    let groups = guest.options.translate_gid.as_slice() == other.options.translate_gid.as_slice();
+    let of_users = guest.options.uid_map.as_slice() == other.options.uid_map.as_slice();
+    let of_groups = guest.options.gid_map.as_slice() == other.options.gid_map.as_slice();
+    let rules = guest.options.xattrmap == other.options.xattrmap;
+    let lists = are_both(guest.options.posix_acl, other.options.posix_acl);
     let runner = is_same_runner(guest.runner, other.runner);
     users && groups && of_users && of_groups && rules && lists && runner
 }

@@ -18,6 +18,7 @@ use crate::advice::{Advised, guests_of, options_of, tried};
 use crate::alike::{Alike, alike_to, is_first, is_told, likes_of};
 use crate::as_json::report_as_json;
 use crate::finding::Finding;
+use crate::guest::Guest;
 use crate::ids::kind::IdKind;
 use crate::ids::table::push_table as push_ids_table;
 use crate::names::table::push_table as push_names_table;
@@ -28,7 +29,6 @@ use crate::setup::{IdSetUp, SetUp, set_up};
 use crate::summary::push_summary;
 use std::alloc::{AllocError, Allocator, Global};
 use virtiofs_options::front::Asked;
-use virtiofs_options::guest::Guest;
 
 /// What is found of one guest by itself, or between two.
 #[derive(Drop)]

@@ -9,13 +9,13 @@ use crate::audit::{Said, set_up_all};
 use crate::explain::asking::Question;
 use crate::explain::id_text::{Translation, push_id};
 use crate::explain::name_text::{push_guest_name, push_host_name};
+use crate::guest::Guest;
 use crate::ids::kind::{IdKind, one_of};
 use crate::ids::table::source_word;
 use crate::setup::{IdSetUp, NamesSetUp, SetUp};
 use std::alloc::{AllocError, Allocator, Global};
 use virtiofs_map::soft_idmap::Direction;
 use virtiofs_map::xattrmap::XattrName;
-use virtiofs_options::guest::Guest;
 use virtiofs_output::written::Written;
 
 mod asked_name;
@@ -79,8 +79,8 @@ fn push_lines_of_kind<A: Allocator + Copy>(
         × (string_bytes text.new ≡ string_bytes text.old ++ lines)) }
 {
     let (specs, set) = match kind {
-        IdKind::Users => (guest.translate_uid.as_slice(), &set.users),
-        IdKind::Groups => (guest.translate_gid.as_slice(), &set.groups),
+        IdKind::Users => (guest.options.translate_uid.as_slice(), &set.users),
+        IdKind::Groups => (guest.options.translate_gid.as_slice(), &set.groups),
     };
     push_id_lines(text, kind, specs, set, direction, id)
 }
@@ -131,7 +131,7 @@ fn push_lines<A: Allocator + Copy>(
         Question::Name(direction, name) => push_name_lines(
             alloc,
             text,
-            guest.xattrmap,
+            guest.options.xattrmap,
             &set.names,
             direction,
             name.get(),

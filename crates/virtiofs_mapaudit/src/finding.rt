@@ -12,8 +12,8 @@ use crate::names::acl::{AclName, acl_name};
 use crate::names::found::LeastName;
 use std::alloc::Allocator;
 use std::fmt;
+use virtiofs_id_audit::Span;
 use virtiofs_map::audit::Audit;
-use virtiofs_map::id_audit::Span;
 use virtiofs_output::written::Written;
 
 /// A fact about the options of one guest, or of two, that may be a mistake. Guests are told by

@@ -10,6 +10,7 @@ mod as_json;
 mod audit;
 mod explain;
 mod finding;
+mod guest;
 mod host;
 mod ids;
 mod mend;
@@ -27,6 +28,7 @@ use crate::accept::no_kind;
 use crate::audit::{Said, say};
 use crate::explain::asking::{Question, Questions, read_questions};
 use crate::explain::say_explained;
+use crate::guest::Guest;
 use crate::host::{Host, HostFault, HostProcess, ask};
 use crate::mend::say_mended;
 use crate::picture::say_drawn;
@@ -34,7 +36,7 @@ use std::alloc::{AllocError, Global};
 use std::process::ExitCode;
 use std::{env, io};
 use virtiofs_options::front::Asked;
-use virtiofs_options::guest::Guest;
+use virtiofs_options::guest::Guest as GuestOptions;
 use virtiofs_options::guests::Process;
 use virtiofs_options::unknown::{UnknownWord, unknown_line};
 use virtiofs_options::values::Values;
@@ -141,9 +143,10 @@ fn add_process<'a>(
                 unknown: more,
             },
         ) => {
-            let mut guest = guest;
-            guest.runner = Some(&process.runner);
-            guests.push(guest)?;
+            guests.push(Guest {
+                options: guest,
+                runner: Some(&process.runner),
+            })?;
             for word in more.as_slice() {
                 unknown.push(*word)?;
             }
@@ -152,15 +155,20 @@ fn add_process<'a>(
     }
 }
 
-/// Says of each guest who starts its daemon: the only one of these, or the one at its place.
-fn set_starters<'a>(guests: &mut Vec<Guest<'a, Global>>, starters: &'a [Runner<Global>]) {
+/// The guests that have these options, each with who starts its daemon: the only one of these, or the
+/// one at its place.
+fn with_starters<'a>(
+    alloc: Global,
+    given: Vec<GuestOptions<'a, Global>>,
+    starters: &'a [Runner<Global>],
+) -> Result<Vec<Guest<'a, Global>>, AllocError> {
     let is_one = starters.len() == 1;
-    for place in 0..guests.len() {
-        let of_guest = if is_one { 0 } else { place };
-        if let (Some(guest), Some(runner)) = (guests.get_mut(place), starters.get(of_guest)) {
-            guest.runner = Some(runner);
-        }
+    let mut guests = Vec::new(alloc);
+    for options in given {
+        let runner = starters.get(if is_one { 0 } else { guests.len() });
+        guests.push(Guest { options, runner })?;
     }
+    Ok(guests)
 }
 
 /// Audits the guests of command lines, and those of the host's processes.
@@ -170,11 +178,11 @@ fn audited_on<'a>(
     accepted: &[&str],
     questions: &[Question<'_>],
     host: &'a Host,
-    guests: Vec<Guest<'a, Global>>,
+    given: Vec<GuestOptions<'a, Global>>,
     unknown: Vec<UnknownWord<'a>, Global>,
 ) -> Result<Answered, AnswerFault> {
-    let (mut guests, mut unknown) = (guests, unknown);
-    set_starters(&mut guests, host.starters.as_slice());
+    let mut unknown = unknown;
+    let mut guests = with_starters(rt.alloc(), given, host.starters.as_slice())?;
     for process in host.processes.as_slice() {
         if let Some(text) = add_process(rt, process, &mut guests, &mut unknown)? {
             return Ok(wrong(rt, text.as_str()));
@@ -195,7 +203,7 @@ fn audited<'a>(
     rt: &HostRuntime,
     asked: Asked,
     values: Values<'a>,
-    guests: Vec<Guest<'a, Global>>,
+    guests: Vec<GuestOptions<'a, Global>>,
     unknown: Vec<UnknownWord<'a>, Global>,
 ) -> Result<Answered, AnswerFault> {
     let accepted = values.accept.as_slice();

@@ -15,13 +15,13 @@ mod words;
 
 use crate::alike::{alike_to, is_first, is_told, likes_of};
 use crate::audit::{Audited, Report, Said, audit_all};
+use crate::guest::Guest;
 use crate::refusal::Refusal;
 use crate::setup::SetUp;
 use drawn::{push_found, push_guest};
 use legend::push_legend;
 use sheet::{MARGIN, Sheet, WIDTH};
 use std::alloc::{AllocError, Allocator, Global};
-use virtiofs_options::guest::Guest;
 
 /// What hatched bands are filled with.
 const PATTERNS: &str = "<defs>

@@ -12,6 +12,7 @@ ghost use Rattle.virtiofs_mapaudit.specs.Lists.{Adds};
 ghost use Rattle.virtiofs_mapaudit.specs.Refusals.{IsAt, TellsPlace, TellsBuildFault, TellsSpecsFault, TellsSpecs, TellsRanges, TellsIds, TellsNames, TellsGuest};
 ghost use Rattle.virtiofs_map.specs.Specifications.{SpecsFault, specs_fault_of, texts_of, AllSay};
 
+use crate::guest::Guest;
 use crate::ids::audits::Ids;
 use crate::ids::kind::{IdKind, ranging, translating};
 use crate::ids::namespace::{differ, own_of, ranges_of};
@@ -23,7 +24,6 @@ use virtiofs_map::cmdline::IdMap as Spec;
 use virtiofs_map::idmap::UidMap;
 use virtiofs_map::soft_idmap::{IdMap, IdMapBuildError, SpecsError};
 use virtiofs_map::xattrmap::{Error, ErrorKind, XattrMap};
-use virtiofs_options::guest::Guest;
 use virtiofs_process::runner::Bounds;
 
 /// What the options of a daemon set up for ids of one kind.
@@ -370,14 +370,14 @@ fn read_names<A: Allocator + Copy>(
 fn translates<A: Allocator>(guest: &Guest<'_, A>) -> bool
     ensures { IsTrue result ↔ Translates guest.now }
 {
-    !guest.translate_uid.is_empty() || !guest.translate_gid.is_empty()
+    !guest.options.translate_uid.is_empty() || !guest.options.translate_gid.is_empty()
 }
 
 /// Whether access control lists are on while the daemon of a guest translates users or groups.
 fn translates_lists<A: Allocator>(guest: &Guest<'_, A>) -> bool
-    ensures { IsTrue result ↔ (IsTrue guest.now.posix_acl × Translates guest.now) }
+    ensures { IsTrue result ↔ (IsTrue guest.now.options.posix_acl × Translates guest.now) }
 {
-    if guest.posix_acl {
+    if guest.options.posix_acl {
         return translates(guest);
     }
     false
@@ -417,7 +417,9 @@ fn process_of<A: Allocator>(guest: &Guest<'_, A>) -> Option<u32>
 fn sets_up_namespace<A: Allocator>(guest: &Guest<'_, A>) -> bool
     ensures { result ≡ sets_up_namespace guest.now }
 {
-    !guest.uid_map.is_empty() || !guest.gid_map.is_empty() || own_of(users_of(guest)) > 0
+    !guest.options.uid_map.is_empty()
+        || !guest.options.gid_map.is_empty()
+        || own_of(users_of(guest)) > 0
 }
 
 /// What the texts of the guest of that number set up.
@@ -439,8 +441,8 @@ pub(crate) fn set_up<A: Allocator + Copy>(
         IdKind::Users,
         users_of(guest),
         sets_up,
-        guest.translate_uid.as_slice(),
-        guest.uid_map.as_slice(),
+        guest.options.translate_uid.as_slice(),
+        guest.options.uid_map.as_slice(),
     )?;
     let groups = read_ids(
         alloc,
@@ -449,15 +451,15 @@ pub(crate) fn set_up<A: Allocator + Copy>(
         IdKind::Groups,
         groups_of(guest),
         sets_up,
-        guest.translate_gid.as_slice(),
-        guest.gid_map.as_slice(),
+        guest.options.translate_gid.as_slice(),
+        guest.options.gid_map.as_slice(),
     )?;
-    let names = read_names(alloc, refusals, number, guest.xattrmap)?;
+    let names = read_names(alloc, refusals, number, guest.options.xattrmap)?;
     Ok(SetUp {
         users,
         groups,
         names,
-        posix_acl: guest.posix_acl,
+        posix_acl: guest.options.posix_acl,
         translates_lists: translates_lists(guest),
         process: process_of(guest),
     })

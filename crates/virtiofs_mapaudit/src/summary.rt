@@ -3,10 +3,10 @@ ghost use Rattle.std.specs.Prelude.{◌≡◌, List, ℕ, ◌++◌, OnOk, string
 ghost use Rattle.virtiofs_mapaudit.specs.SummaryText.{SumsUpSet, SumsUp, process_text, heading, rules_text, names_text, lists_text};
 
 use crate::alike::{Alike, push_numbers};
+use crate::guest::Guest;
 use crate::setup::{IdSetUp, NamesSetUp, SetUp};
 use crate::summary::ids::push_ids;
 use std::alloc::{AllocError, Allocator};
-use virtiofs_options::guest::Guest;
 
 mod ids;
 mod namespace;
@@ -98,6 +98,6 @@ pub(crate) fn push_summary<A: Allocator>(
     text.push_str("\n  groups: ")?;
     push_set(text, &set.groups)?;
     text.push_str("\n  names: ")?;
-    push_names(text, guest.xattrmap, &set.names)?;
-    text.push_str(lists_text(guest.posix_acl))
+    push_names(text, guest.options.xattrmap, &set.names)?;
+    text.push_str(lists_text(guest.options.posix_acl))
 }

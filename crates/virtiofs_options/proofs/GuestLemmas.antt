@@ -35,7 +35,6 @@ Adds-then a b c xs ys first second = record {
   group_ranges = values-then (codes "--gid-map") _ _ _ xs ys first.group_ranges second.group_ranges;
   rules = last_in (value_in (codes "--xattrmap")) _ _ _ xs ys first.rules second.rules;
   lists = flags-then (codes "--posix-acl") _ _ _ xs ys first.lists second.lists;
-  runner = second.runner ∙ first.runner;
 }
 
 pub Adds-more : {A : Type 0} (a b c : Guest A) (parts : List Part) (i : ℕ) (d : Part) → i < length parts
@@ -55,7 +54,6 @@ pub record IsChanged {A : Type 0} (old new : Guest A) (older : Older) : Type 0 w
   pub groups : new.translate_gid ≡ old.translate_gid
   pub user_ranges : new.uid_map ≡ old.uid_map
   pub group_ranges : new.gid_map ≡ old.gid_map
-  pub runner : new.runner ≡ old.runner
 
 pub TakesIn-end : {A : Type 0} (a b c : Guest A) (older : Older) (parts : List Part) → Adds a b parts
     → text_in older.xattrmap ≡ last_or None (filter_map rules_in (older_options parts))
@@ -71,5 +69,4 @@ TakesIn-end a b c older parts added rules lists changed = record {
       ∙ ap (λ it. option_or (last_or None (filter_map rules_in (older_options parts))) (text_in it)) added.rules;
   lists = changed.lists ∙ ap (λ o. unwrap_or o b.posix_acl) lists
       ∙ ap (unwrap_or (last_or None (filter_map lists_in (older_options parts)))) added.lists;
-  runner = changed.runner ∙ added.runner;
 }

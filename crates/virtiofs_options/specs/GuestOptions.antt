@@ -38,7 +38,6 @@ pub record HasNoOption {A : Type 0} (guest : Guest A) : Type 0 where
   pub group_ranges : guest.gid_map.items ≡ []
   pub rules : guest.xattrmap ≡ None
   pub lists : guest.posix_acl ≡ false
-  pub runner : guest.runner ≡ None
 
 -- the daemon of the guest has one of the options
 abbrev pub has_any : {A : Type 0} → Guest A → Bool
@@ -55,7 +54,6 @@ pub record Adds {A : Type 0} (old new : Guest A) (parts : List Part) : Type 0 wh
   pub group_ranges : new.gid_map.items ≡ old.gid_map.items ++ values_of (codes "--gid-map") parts
   pub rules : new.xattrmap ≡ last_or old.xattrmap (values_of (codes "--xattrmap") parts)
   pub lists : new.posix_acl ≡ (old.posix_acl || has_flag (codes "--posix-acl") parts)
-  pub runner : new.runner ≡ old.runner
 
 -- the older options in the values of `-o`, with a comma between two, in the order of the words
 abbrev pub split_at_commas : List ℕ → List (List ℕ)
@@ -95,4 +93,3 @@ pub record TakesIn {A : Type 0} (old new : Guest A) (parts : List Part) : Type 0
   pub lists : new.posix_acl
       ≡ unwrap_or (last_or None (filter_map lists_in (older_options parts)))
       (old.posix_acl || has_flag (codes "--posix-acl") parts)
-  pub runner : new.runner ≡ old.runner

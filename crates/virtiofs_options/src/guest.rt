@@ -6,7 +6,6 @@ ghost use Rattle.virtiofs_options.specs.GuestOptions.{Adds, HasNoOption, TakesIn
 use crate::command::Part;
 use crate::older::{Older, read_older};
 use std::alloc::{AllocError, Allocator};
-use virtiofs_process::runner::Runner;
 
 /// The texts of the options that say how the daemon of a guest maps ids and names, each in the order
 /// of the words.
@@ -24,8 +23,6 @@ pub struct Guest<'a, A: Allocator> {
     pub xattrmap: Option<&'a str>,
     /// Whether access control lists are on.
     pub posix_acl: bool,
-    /// Who runs the daemon. Without, root starts it.
-    pub runner: Option<&'a Runner<A>>,
 }
 
 impl<'a, A: Allocator + Copy> Guest<'a, A> {
@@ -40,7 +37,6 @@ impl<'a, A: Allocator + Copy> Guest<'a, A> {
             gid_map: Vec::new(alloc),
             xattrmap: None,
             posix_acl: false,
-            runner: None,
         }
     }
 
@@ -102,7 +98,6 @@ impl<'a, A: Allocator + Copy> Guest<'a, A> {
         ensures groups { self.new.translate_gid ≡ self.old.translate_gid }
         ensures user_ranges { self.new.uid_map ≡ self.old.uid_map }
         ensures group_ranges { self.new.gid_map ≡ self.old.gid_map }
-        ensures runner { self.new.runner ≡ self.old.runner }
     {
         self.xattrmap = older.xattrmap.or(self.xattrmap);
         self.posix_acl = older.posix_acl.unwrap_or(self.posix_acl);

@@ -11,9 +11,9 @@ use Rattle.std.proofs.lemmas.List.Sums.{sum_by-cons}
 use Rattle.virtiofs_map.specs.Build.{Accepted}
 use Rattle.virtiofs_map.specs.LookupSteps.{acting, covers_some}
 use Rattle.virtiofs_map.specs.Mapping.{entry_of, first_of, count_of, target_of, EntryCovers, Covers, Becomes}
-use Rattle.virtiofs_map.specs.PieceParts.{IsStretch, CanJoin, Joins}
+use Rattle.virtiofs_map.specs.PieceParts.{CanJoin, Joins}
 use Rattle.virtiofs_map.specs.Pieces.{value_by, value_in, AreOne, IsPiece, FollowFrom, ArePieces, PiecesLeft}
-use Rattle.virtiofs_map.specs.Pieces.{GivesPiece}
+use Rattle.virtiofs_map.specs.Pieces.{GivesPiece, IsStretch}
 use Rattle.virtiofs_map.specs.declared.cmdline.IdMap.{IdMap}
 use Rattle.virtiofs_map.specs.declared.soft_idmap.entry.Direction.{Direction}
 use Rattle.virtiofs_map.specs.declared.soft_idmap.entry.Entry.{Entry}

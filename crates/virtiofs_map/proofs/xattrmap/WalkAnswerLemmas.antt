@@ -4,7 +4,7 @@ use Rattle.std.proofs.Common.{Some, None, refl, sym, ap, ◌∙◌, arith}
 use Rattle.std.specs.List.{position_or_len, slice_get}
 use Rattle.std.specs.Option.{option_and_then, option_map_or}
 use Rattle.std.proofs.lemmas.Bool.{ltb-true}
-use Rattle.virtiofs_map.specs.BranchParts.{AreFew, IsTrieIn, answer_for, answer_of, no_answer, type_at}
+use Rattle.virtiofs_map.specs.BranchParts.{AreFew, answer_for, answer_of, no_answer, type_at}
 use Rattle.virtiofs_map.specs.Names.{fits, first, deciding}
 use Rattle.virtiofs_map.specs.Rule.{MappingRule, RuleType, Prefix, Okay, Bad, Unsupported, type_number}
 use Rattle.virtiofs_map.specs.declared.xattrmap.scopes.Side.{Side}
@@ -74,10 +74,10 @@ module _ (side : Side) (rules : List MappingRule) (name : List ℕ) where
 
 -- ---- what a walk finds
 
-module _ (side : Side) (rules : List MappingRule) (rows bytes name : List ℕ) (answer : ℕ)
-    (inside : IsTrieIn side rules rows bytes) (answers : answer ≡ answer_of side rules name) where
+module _ (side : Side) (rules : List MappingRule) (name : List ℕ) (answer : ℕ) (few : AreFew rules)
+    (answers : answer ≡ answer_of side rules name) where
   pub place_none : answer ≡ no_answer → first side rules name ≡ None
-  place_none e = answer_none side rules name inside.few (sym answers ∙ e)
+  place_none e = answer_none side rules name few (sym answers ∙ e)
 
   pub place_some : answer ≢ no_answer → first side rules name ≡ Some (answer / 4)
   place_some ne = answer_some side rules name (λ e. ne (answers ∙ e)) ∙ ap (λ n. Some (n / 4)) (sym answers)

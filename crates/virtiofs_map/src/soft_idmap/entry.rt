@@ -17,7 +17,7 @@ pub enum Direction {
 
 /// A range of numbers, and what becomes of them.
 #[derive(Clone, Copy)]
-pub(crate) enum Entry {
+pub enum Entry {
     /// The number `first + i` becomes `to + i`.
     Map { first: u32, to: u32, count: u32 },
     /// Each number becomes `to`.
@@ -47,7 +47,7 @@ impl fmt::Display for Entry {
 }
 
 /// What a specification sets up in a direction, where it acts on that direction.
-pub(crate) fn entry_of(spec: IdMap, direction: Direction) -> Option<Entry>
+pub fn entry_of(spec: IdMap, direction: Direction) -> Option<Entry>
     ensures { result ≡ entry_of spec direction }
 {
     match direction {
@@ -110,7 +110,7 @@ fn host_entry(spec: IdMap) -> Option<Entry>
 
 impl Entry {
     /// The first number of the range.
-    pub(crate) fn first(self) -> u32
+    pub fn first(self) -> u32
         ensures { result ≡ first_of self }
     {
         match self {
@@ -130,14 +130,14 @@ impl Entry {
     }
 
     /// Whether the range has no number.
-    pub(crate) fn is_empty(self) -> bool
+    pub fn is_empty(self) -> bool
         ensures { IsTrue result ↔ (count_of self ≡ 0) }
     {
         self.count() == 0
     }
 
     /// The end of the range, past its last number.
-    pub(crate) fn end(self) -> u64
+    pub fn end(self) -> u64
         ensures end { result ≡ first_of self + count_of self }
     {
         u64::from(self.first()) + u64::from(self.count())

@@ -1,7 +1,7 @@
 //! Numbers that follow one another, and what becomes of them.
 ghost use Rattle.std.specs.Prelude.{◌≡◌, ◌+◌, ◌-◌, ◌≤◌, Some, None};
-ghost use Rattle.virtiofs_map.specs.PieceParts.{IsMade, is_one_to_one, is_all_to_one};
-ghost use Rattle.virtiofs_map.specs.Pieces.{value_in};
+ghost use Rattle.virtiofs_map.specs.PieceParts.{is_all_to_one};
+ghost use Rattle.virtiofs_map.specs.Pieces.{value_in, IsMade, is_one_to_one};
 
 /// What becomes of the numbers of a [`Piece`].
 ///
@@ -39,7 +39,7 @@ pub struct Piece {
 
 impl Piece {
     /// The piece of numbers of which each becomes the one that is as far above `to`.
-    pub(crate) fn one_to_one(first: u32, last: u32, to: u32) -> Piece
+    pub fn one_to_one(first: u32, last: u32, to: u32) -> Piece
         requires fits { to + (last - first) ≤ 4294967295 }
         ensures { IsMade first last (λ n. Some (to + (n - first))) result }
     {
@@ -56,7 +56,7 @@ impl Piece {
     }
 
     /// The piece of numbers that all become `to`.
-    pub(crate) fn all_to_one(first: u32, last: u32, to: u32) -> Piece
+    pub fn all_to_one(first: u32, last: u32, to: u32) -> Piece
         requires order { first ≤ last }
         ensures { IsMade first last (λ n. Some to) result }
     {
@@ -71,7 +71,7 @@ impl Piece {
     }
 
     /// What the first number becomes; `None` where its use fails.
-    pub(crate) fn start(self) -> Option<u32>
+    pub fn start(self) -> Option<u32>
         ensures { result ≡ value_in self self.first }
     {
         match self.becomes {
@@ -82,7 +82,7 @@ impl Piece {
     }
 
     /// Whether its numbers become numbers one after the other.
-    pub(crate) fn is_one_to_one(self) -> bool
+    pub fn is_one_to_one(self) -> bool
         ensures { result ≡ is_one_to_one self.becomes }
     {
         matches!(self.becomes, Outcome::Kept | Outcome::OneToOne { .. })

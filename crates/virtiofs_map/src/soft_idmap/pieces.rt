@@ -2,8 +2,7 @@
 ghost use Rattle.std.specs.Prelude.{◌≡◌, List};
 ghost use Rattle.std.specs.Iterator.{Drains};
 ghost use Rattle.virtiofs_map.specs.Build.{Accepted};
-ghost use Rattle.virtiofs_map.specs.PieceParts.{IsStretch};
-ghost use Rattle.virtiofs_map.specs.Pieces.{IsPiece, ArePieces, GivesPiece};
+ghost use Rattle.virtiofs_map.specs.Pieces.{IsStretch, IsPiece, ArePieces, GivesPiece};
 ghost use Rattle.virtiofs_map.specs.declared.soft_idmap.piece.Piece.{Piece};
 
 use super::IdMap;
@@ -37,7 +36,7 @@ impl<Guest: GuestId<HostType = Host>, Host: HostId<GuestType = Guest>, A: Alloca
     }
 
     /// The pieces of the numbers from `first` on, of which the first one begins there.
-    pub(crate) fn pieces_from(&self, direction: Direction, first: u32) -> Pieces<'_, Guest, Host, A>
+    pub fn pieces_from(&self, direction: Direction, first: u32) -> Pieces<'_, Guest, Host, A>
         ensures accepted { Accepted self.now }
         ensures left { result ≡ record { specs = self.now; direction = direction; next = first } }
     {
@@ -51,7 +50,7 @@ impl<Guest: GuestId<HostType = Host>, Host: HostId<GuestType = Guest>, A: Alloca
 
     /// The numbers from `first` on that one range decides, or none, as a piece. The numbers after it
     /// may be of that piece too. It takes as long as a lookup does.
-    pub(crate) fn stretch(&self, direction: Direction, first: u32) -> Piece
+    pub fn stretch(&self, direction: Direction, first: u32) -> Piece
         ensures accepted { Accepted self.now }
         ensures first { result.first ≡ first }
         ensures stretch { IsStretch self.now direction result }

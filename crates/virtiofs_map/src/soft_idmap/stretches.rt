@@ -2,7 +2,8 @@
 ghost use Rattle.std.specs.Prelude.{◌≡◌, ◌+◌, ◌-◌, ◌≤◌, List, IfSome, IfNone};
 ghost use Rattle.virtiofs_map.specs.Build.{HasTarget};
 ghost use Rattle.virtiofs_map.specs.Mapping.{first_of, count_of, EntryCovers, target_of};
-ghost use Rattle.virtiofs_map.specs.PieceParts.{AreOfSome, IsRead, IsMade, IsStretch};
+ghost use Rattle.virtiofs_map.specs.PieceParts.{AreOfSome, IsRead};
+ghost use Rattle.virtiofs_map.specs.Pieces.{IsMade, IsStretch};
 ghost use Rattle.virtiofs_map.specs.RangeParts.{HasNumbers};
 ghost use Rattle.virtiofs_map.specs.WordParts.{IsAt, HasRanges};
 ghost use Rattle.virtiofs_map.specs.declared.cmdline.IdMap.{IdMap as Specification};

@@ -7,6 +7,7 @@
 ghost use Rattle.std.specs.Prelude.{◌≡◌, ◌+◌, ◌<◌, ◌≤◌, List, slice_index, IfSome, IsSome};
 ghost use Rattle.virtiofs_map.specs.Build.{HasTarget};
 ghost use Rattle.virtiofs_map.specs.Image.{HasKind, IsImage};
+ghost use Rattle.virtiofs_map.specs.Mapping.{Becomes};
 ghost use Rattle.virtiofs_map.specs.RangeParts.{HasNumbers};
 ghost use Rattle.virtiofs_map.specs.Steps.{count_after};
 ghost use Rattle.virtiofs_map.specs.WordParts.{Table, IsTable, IsAt, HasWords, words_lent, table_in, SaysEntry};
@@ -15,6 +16,7 @@ ghost use Rattle.virtiofs_map.specs.declared.soft_idmap.entry.Entry.{Entry};
 
 use super::Direction;
 use super::entry::Entry;
+use super::lookup::look_up;
 use super::row::{Answer, entry_of_row, ones_if_below, say};
 use super::write::KIND;
 use crate::Steps;
@@ -111,6 +113,20 @@ impl<'m> IdMapRef<'m> {
             return IdMapRef { words: &NO_RANGES };
         }
         IdMapRef { words }
+    }
+
+    /// What a number becomes in a direction; `None` where its use fails, or where the words are no
+    /// image.
+    #[inline(always)]
+    pub fn becomes(&self, direction: Direction, n: u32) -> Option<u32>
+        ensures { (specs : List Specification) → IsImage specs self.now
+            → Becomes specs direction n result }
+    {
+        match look_up(&self.ranges(direction), n, &mut Steps::new()) {
+            Answer::Becomes(value) => Some(value),
+            Answer::Fails => None,
+            Answer::NoImage => None,
+        }
     }
 
     /// The ranges of a direction.

@@ -3,17 +3,18 @@
 ghost use Rattle.std.specs.List.{before_first};
 ghost use Rattle.std.specs.Option.{option_map};
 ghost use Rattle.std.specs.Prelude.{◌≡◌, ◌≢◌, ◌==◌, ◌↔◌, ◌≤◌, ℕ, List, length, take, slice_get, All, IsNone, IsSomeAnd, is_some};
-ghost use Rattle.virtiofs_map.specs.BranchParts.{IsTrieIn, answer_of};
+ghost use Rattle.virtiofs_map.specs.BranchParts.{answer_of};
 ghost use Rattle.virtiofs_map.specs.FirstRule.{CountsFronts, CountsLookup};
 ghost use Rattle.virtiofs_map.specs.Names.{deciding, first};
 ghost use Rattle.virtiofs_map.specs.NamesImage.{IsImage, IsMapOf, IsNoImage, Says};
+ghost use Rattle.virtiofs_map.specs.NamesImageParts.{HasTrie};
 ghost use Rattle.virtiofs_map.specs.Rule.{MappingRule, same_rules};
 ghost use Rattle.virtiofs_map.specs.RuleParts.{rule_meant};
 ghost use Rattle.virtiofs_map.specs.declared.xattrmap.scopes.Side.{Side};
 
 use crate::steps::Steps;
 use crate::xattrmap::image::Decision;
-use crate::xattrmap::image::header::{is_image, part};
+use crate::xattrmap::image::header::{HEADER, is_image, part, part_start};
 use crate::xattrmap::image::stored::{prepend_at, read_rule};
 use crate::xattrmap::rules::RuleRef;
 use crate::xattrmap::scopes::Side;
@@ -46,12 +47,11 @@ impl<'m> XattrMapRef<'m> {
     #[inline(always)]
     fn trie(self, side: Side) -> Trie<'m>
         ensures { (rules : List MappingRule) → IsMapOf rules self.entry
-            → IsTrieIn side rules result.rows.now result.bytes.now }
+            → HasTrie side rules self.entry.bytes.now result.image.now result.root }
     {
-        let bytes = part(self.bytes, 3);
         match side {
-            Side::Client => Trie::new(part(self.bytes, 0), bytes),
-            Side::Server => Trie::new(part(self.bytes, 1), bytes),
+            Side::Client => Trie::new(self.bytes, HEADER),
+            Side::Server => Trie::new(self.bytes, part_start(self.bytes, 1)),
         }
     }
 
@@ -119,9 +119,6 @@ impl<'m> XattrMapRef<'m> {
             → IsMapOf rules self.entry → answer ≡ answer_of side rules name
             → Says side rules name result }
     {
-        if answer == NO_ANSWER {
-            return Decision::Undecided;
-        }
         match answer % 4 {
             0 => match self.prepend((answer / 4) as usize) {
                 Some(prepend) => Decision::Prefix(prepend),
@@ -129,6 +126,7 @@ impl<'m> XattrMapRef<'m> {
             },
             1 => Decision::Okay,
             2 => Decision::Bad,
+            _ if answer == NO_ANSWER => Decision::Undecided,
             _ => Decision::Unsupported,
         }
     }

@@ -6,15 +6,14 @@ ghost use Rattle.virtiofs_map.specs.ByteWordParts.{word_at, word_bytes};
 use std::alloc::{AllocError, Allocator};
 
 /// The number whose bytes begin there.
+#[tactic(auto, unfolding(crate::specs::ByteWordParts::word_at))]
 #[inline(always)]
 pub(crate) fn word_at(bytes: &[u8], from: usize) -> u64
     requires { from + 8 ≤ length bytes.now }
     ensures { result ≡ word_at bytes.now from }
 {
-    match bytes[from..].first_chunk::<8>() {
-        Some(word) => u64::from_le_bytes(*word),
-        None => unreachable!(),
-    }
+    let (words, _) = bytes[from..].as_chunks::<8>();
+    u64::from_le_bytes(words[0])
 }
 
 /// Appends the bytes of the number.

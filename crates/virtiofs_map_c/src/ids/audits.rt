@@ -1,6 +1,6 @@
 //! Decisions about all ids that arrays of specifications map.
 ghost use Rattle.std.specs.Prelude.{◌≡◌, ◌↔◌, List, IsTrue, true, false};
-ghost use Rattle.virtiofs_map.specs.IdAudit.{IsAstray, ComesBack, IsShared, IsAlone, GoesInto, Between, ReachedBy, AreIdsApart};
+ghost use Rattle.virtiofs_id_audit.specs.IdAudit.{IsAstray, ComesBack, IsShared, IsAlone, GoesInto, Between, ReachedBy, AreIdsApart};
 ghost use Rattle.virtiofs_map.specs.declared.cmdline.IdMap.{IdMap as Specification};
 ghost use Rattle.virtiofs_map_c.specs.Arrays.{AreSaid, ArrayFault, HasArrayFault};
 ghost use Rattle.virtiofs_map_c.specs.Codes.{ok};

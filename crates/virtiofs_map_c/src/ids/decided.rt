@@ -1,7 +1,7 @@
 //! What the library decides about all ids of arrays of specifications.
 ghost use Rattle.std.specs.Prelude.{◌≡◌, ◌↔◌, length, None, IfOk, IfErr};
 ghost use Rattle.virtiofs_map.specs.Build.{Accepted};
-ghost use Rattle.virtiofs_map.specs.IdAudit.{IsAstray, ComesBack, IsShared, IsAlone, GoesInto, Between, ReachedBy, AreIdsApart};
+ghost use Rattle.virtiofs_id_audit.specs.IdAudit.{IsAstray, ComesBack, IsShared, IsAlone, GoesInto, Between, ReachedBy, AreIdsApart};
 ghost use Rattle.virtiofs_map.specs.Refusal.{OutOfMemoryOr, IsOutOfMemory};
 ghost use Rattle.virtiofs_map_c.specs.Arrays.{AreSaid, HasArrayFault, array_fault_of};
 ghost use Rattle.virtiofs_map_c.specs.IdsFound.{FindsLeast, OfArray, OfArrays, IsAstrayTold, IsSharedTold, IsReachTold, IsMeetingTold, HasFaultAfter, HasPairFault};
@@ -9,7 +9,7 @@ ghost use Rattle.virtiofs_map_c.specs.IdsFound.{FindsLeast, OfArray, OfArrays, I
 use super::found::IdsFound;
 use crate::arrays::{ArrayError, Spec, behind, read_all};
 use std::alloc::Global;
-use virtiofs_map::id_audit::{IdAudit, comes_back, ids_apart, is_alone, reaches};
+use virtiofs_id_audit::{IdAudit, comes_back, ids_apart, is_alone, reaches};
 use virtiofs_map::id_types::{GuestUid, HostUid, Id};
 use virtiofs_map::soft_idmap::IdMap;
 

@@ -1,8 +1,9 @@
 //! What lookups of names and audits tell C.
 ghost use Rattle.std.specs.List.{before_first};
-ghost use Rattle.std.specs.Prelude.{◌≡◌, ◌==◌, false, MatchResult};
-ghost use Rattle.virtiofs_map_c.specs.Codes.{no_memory};
+ghost use Rattle.std.specs.Prelude.{◌≡◌, ◌==◌, ◌++◌, false, MatchResult};
+ghost use Rattle.virtiofs_map_c.specs.Codes.{no_memory, ok};
 ghost use Rattle.virtiofs_map_c.specs.Names.{TellsDecision, TellsFound, TellsNo};
+ghost use Rattle.virtiofs_map_c.specs.Replies.{TellsBytes};
 
 use crate::buffer::{nothing, write, write_joined};
 use crate::bytes::before_zero;
@@ -10,6 +11,16 @@ use crate::codes::{AS_IT_IS, DENIED, NO_MAP, NO_MEMORY, OK, UNSUPPORTED, UNTERMI
 use std::alloc::AllocError;
 use virtiofs_map::audit::Audit;
 use virtiofs_map::xattrmap::image::Decision;
+
+/// Tells a name with a prepend before it. The name stands before the first zero.
+// (a call of its own, so that what other names wait for stays short)
+#[inline(never)]
+fn tell_prepended(prepend: &[u8], name: &[u8], out: &mut [u8], len: &mut usize) -> u32
+    ensures { TellsBytes (prepend.now ++ before_first (λ byte. byte == 0) name.now)
+        ok out.old result len.new out.new }
+{
+    write_joined(prepend, before_zero(name), out, len)
+}
 
 /// Tells what becomes of a name that the guest asks for, which stands before the first zero.
 #[inline(always)]
@@ -21,7 +32,7 @@ pub fn tell_client(decision: Decision<'_>, name: &[u8], out: &mut [u8], len: &mu
         Decision::NoMap => nothing(NO_MAP, len),
         Decision::Undecided => nothing(UNTERMINATED, len),
         Decision::Okay => nothing(AS_IT_IS, len),
-        Decision::Prefix(prepend) => write_joined(prepend, before_zero(name), out, len),
+        Decision::Prefix(prepend) => tell_prepended(prepend, name, out, len),
         Decision::Bad => nothing(DENIED, len),
         Decision::Unsupported => nothing(UNSUPPORTED, len),
     }

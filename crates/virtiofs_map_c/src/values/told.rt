@@ -9,7 +9,7 @@ use crate::codes::{
     ROOT_MOVES,
 };
 use crate::fault::Fault;
-use virtiofs_map::acl::{AclError, CapabilityError, EntryFault};
+use virtiofs_acl::{AclError, CapabilityError, EntryFault};
 
 /// Tells that words are no map.
 pub fn tell_no_map(fault: &mut Fault) -> u32

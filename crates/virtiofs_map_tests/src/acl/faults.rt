@@ -4,7 +4,7 @@ use crate::acl::told::{Maps, check_capability, check_list, check_written, value_
 use AclError::{Entry, Length, Room, TooShort, Version};
 use EntryFault::{Forbidden, Merges, NoId, Permission, UnknownTag};
 use std::test::Fail;
-use virtiofs_map::acl::{AclError, CapabilityError as RootFault, EntryFault};
+use virtiofs_acl::{AclError, CapabilityError as RootFault, EntryFault};
 use virtiofs_map::soft_idmap::Direction::GuestToHost;
 
 /// Users 70000 to 70009 may not be used, and users 80000 to 80009 become one.

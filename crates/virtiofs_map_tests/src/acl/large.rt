@@ -2,7 +2,7 @@
 
 use std::alloc::{AllocError, Global};
 use std::test::Fail;
-use virtiofs_map::acl::{AclError, EntryFault, EntryRoom, acl_to_host};
+use virtiofs_acl::{AclError, EntryFault, EntryRoom, acl_to_host};
 use virtiofs_map::id_types::{GuestGid, GuestUid, HostGid, HostUid};
 use virtiofs_map::soft_idmap::IdMap;
 

@@ -5,7 +5,7 @@ use crate::soft_idmap::image_of;
 use std::alloc::{AllocError, Global};
 use std::process::Abort;
 use std::test::Fail;
-use virtiofs_map::acl::{
+use virtiofs_acl::{
     AclError, CapabilityError, EntryRoom, acl_to_guest, acl_to_host, capability_to_guest,
     capability_to_guest_in_revision_3, capability_to_host, capability_to_host_in_revision_3,
     translate_acl, translate_capability, write_revision_3,

@@ -4,7 +4,7 @@
 use crate::common::first;
 use std::alloc::Global;
 use std::test::Fail;
-use virtiofs_map::id_audit::{Astray, IdAudit, Shared, comes_back, ids_apart, is_alone, reaches};
+use virtiofs_id_audit::{Astray, IdAudit, Shared, comes_back, ids_apart, is_alone, reaches};
 use virtiofs_map::id_types::{GuestUid, HostUid};
 use virtiofs_map::soft_idmap::{Direction, IdMap};
 use virtiofs_map::xattrmap::Side::{self, Client, Server};

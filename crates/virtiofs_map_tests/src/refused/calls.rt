@@ -8,7 +8,7 @@ use Names::{
 use rationed::{Call, Ended, Rationed};
 use std::alloc::{Allocator, Global};
 use std::fmt::Debug;
-use virtiofs_map::id_audit::{
+use virtiofs_id_audit::{
     Span, ids_apart, ids_astray, ids_into, is_alone, mended, reached, reaches_any,
 };
 use virtiofs_map::id_types::{GuestUid, HostUid};

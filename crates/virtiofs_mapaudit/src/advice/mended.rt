@@ -5,6 +5,7 @@ ghost use Rattle.virtiofs_mapaudit.specs.Advice.{AreMended};
 use super::options::Options;
 use crate::audit::Part;
 use crate::finding::Finding;
+use crate::guest::Guest;
 use crate::ids::audits::Ids;
 use crate::ids::kept::kept_ids;
 use crate::ids::kind::IdKind;
@@ -12,11 +13,10 @@ use crate::ids::namespace::lacking_ids;
 use crate::names::mending::mended_rules;
 use crate::setup::{IdSetUp, NamesSetUp, SetUp};
 use std::alloc::{AllocError, Allocator};
+use virtiofs_id_audit::{Span, mended};
 use virtiofs_map::cmdline;
-use virtiofs_map::id_audit::{Span, mended};
 use virtiofs_map::idmap::UidMap;
 use virtiofs_map::soft_idmap::IdMap;
-use virtiofs_options::guest::Guest;
 
 /// The specification that forbids these ids.
 fn forbidding(ids: Span) -> cmdline::IdMap {
@@ -173,9 +173,9 @@ pub(super) fn mended_options<'a, A: Allocator + Copy>(
     set: &SetUp<A>,
     part: Option<&Part<A>>,
 ) -> Result<Options<'a, A>, AllocError> {
-    let keeps_lists = guest.posix_acl && !set.translates_lists;
+    let keeps_lists = guest.options.posix_acl && !set.translates_lists;
     let rules = if counts_names(part) {
-        better_rules(alloc, guest.xattrmap, &set.names)?
+        better_rules(alloc, guest.options.xattrmap, &set.names)?
     } else {
         None
     };
@@ -184,15 +184,15 @@ pub(super) fn mended_options<'a, A: Allocator + Copy>(
         translate_gid: Vec::new(alloc),
         uid_map: range_texts(alloc, counts_ranges(IdKind::Users, part), &set.users)?,
         gid_map: range_texts(alloc, counts_ranges(IdKind::Groups, part), &set.groups)?,
-        given_rules: guest.xattrmap,
+        given_rules: guest.options.xattrmap,
         rules,
         posix_acl: keeps_lists,
         runner: guest.runner,
     };
     if !keeps_lists {
         let (users, groups) = (
-            guest.translate_uid.as_slice(),
-            guest.translate_gid.as_slice(),
+            guest.options.translate_uid.as_slice(),
+            guest.options.translate_gid.as_slice(),
         );
         let of_users = counts_ids(IdKind::Users, part);
         let of_groups = counts_ids(IdKind::Groups, part);

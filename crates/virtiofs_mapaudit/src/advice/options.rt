@@ -2,9 +2,10 @@
 ghost use Rattle.std.specs.Prelude.{◌≡◌, ◌++◌, OnOk, string_bytes};
 ghost use Rattle.virtiofs_mapaudit.specs.OptionsText.{option_text, values_text, rules_text, acl_text, options_text};
 
+use crate::guest::Guest;
 use crate::shell::ShellWord;
 use std::alloc::{AllocError, Allocator};
-use virtiofs_options::guest::Guest;
+use virtiofs_options::guest::Guest as GuestOptions;
 use virtiofs_process::runner::Runner;
 
 /// Options of a guest: texts that were made, and the rules for names as they are or made anew.
@@ -50,12 +51,14 @@ pub(super) fn guest_of<'a, A: Allocator + Copy>(
         None => options.given_rules,
     };
     Ok(Guest {
-        translate_uid: lent(alloc, options.translate_uid.as_slice())?,
-        translate_gid: lent(alloc, options.translate_gid.as_slice())?,
-        uid_map: lent(alloc, options.uid_map.as_slice())?,
-        gid_map: lent(alloc, options.gid_map.as_slice())?,
-        xattrmap,
-        posix_acl: options.posix_acl,
+        options: GuestOptions {
+            translate_uid: lent(alloc, options.translate_uid.as_slice())?,
+            translate_gid: lent(alloc, options.translate_gid.as_slice())?,
+            uid_map: lent(alloc, options.uid_map.as_slice())?,
+            gid_map: lent(alloc, options.gid_map.as_slice())?,
+            xattrmap,
+            posix_acl: options.posix_acl,
+        },
         runner: options.runner,
     })
 }
@@ -129,7 +132,7 @@ pub(crate) fn push_options<A: Allocator>(
     text: &mut String<A>,
     before: &str,
     after: &str,
-    guest: &Guest<'_, A>,
+    guest: &GuestOptions<'_, A>,
 ) -> Result<(), AllocError>
     ensures { OnOk result (string_bytes text.new ≡ string_bytes text.old
         ++ options_text before.now after.now guest.now) }

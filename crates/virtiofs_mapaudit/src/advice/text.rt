@@ -6,8 +6,8 @@ use super::Advised;
 use super::options::push_options;
 use crate::alike::{Alike, alike_to, is_first, is_told, likes_of, push_numbers};
 use crate::audit::{Part, push_findings};
+use crate::guest::Guest;
 use std::alloc::{AllocError, Allocator};
-use virtiofs_options::guest::Guest;
 
 /// Writes the options that guests have at the end of a text, on a line.
 fn push_line<A: Allocator>(
@@ -21,7 +21,7 @@ fn push_line<A: Allocator>(
     text.push_str("  ")?;
     push_numbers(text, alike)?;
     text.push_str(":")?;
-    push_options(text, " ", "", guest)?;
+    push_options(text, " ", "", &guest.options)?;
     text.push_str("\n")
 }
 
@@ -148,7 +148,7 @@ fn push_further<A: Allocator>(
 {
     for guest in guests {
         text.push_str("--\n")?;
-        push_options(text, "", "\n", guest)?;
+        push_options(text, "", "\n", &guest.options)?;
     }
     Ok(())
 }
@@ -165,6 +165,6 @@ pub(crate) fn push_mend<A: Allocator>(
     let Some((first, further)) = guests.split_first() else {
         return Ok(());
     };
-    push_options(text, "", "\n", first)?;
+    push_options(text, "", "\n", &first.options)?;
     push_further(text, further)
 }

@@ -6,9 +6,10 @@ ghost use Rattle.virtiofs_mapaudit.specs.ReportJson.{option_words, rules_words, 
 
 use super::{Built, BuiltList, findings_value};
 use crate::advice::Advised;
+use crate::guest::Guest;
 use serde_json::{Value, json};
 use std::alloc::{AllocError, Global};
-use virtiofs_options::guest::Guest;
+use virtiofs_options::guest::Guest as GuestOptions;
 
 /// Adds a word.
 fn push_word(alloc: Global, list: &mut Vec<Value>, word: &str) -> Result<(), AllocError>
@@ -62,7 +63,7 @@ fn push_acl(alloc: Global, list: &mut Vec<Value>, are_on: bool) -> Result<(), Al
 }
 
 /// The options of a guest, word by word.
-fn words_value(alloc: Global, guest: &Guest<'_, Global>) -> BuiltList
+fn words_value(alloc: Global, guest: &GuestOptions<'_, Global>) -> BuiltList
     ensures { IfOk result (λ list. map view list.items ≡ words_data guest.now) }
 {
     let mut list = Vec::new(alloc);
@@ -85,7 +86,7 @@ fn options_value(alloc: Global, guests: &[Guest<'_, Global>]) -> BuiltList
 {
     let mut list = Vec::new(alloc);
     for guest in guests {
-        list.push(Value::Array(words_value(alloc, guest)?))?;
+        list.push(Value::Array(words_value(alloc, &guest.options)?))?;
     }
     Ok(list)
 }

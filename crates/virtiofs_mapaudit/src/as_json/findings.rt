@@ -16,7 +16,7 @@ use crate::names::acl::{AclName, acl_name};
 use crate::names::found::LeastName;
 use serde_json::{Value, json};
 use std::alloc::{AllocError, Global};
-use virtiofs_map::id_audit::Span;
+use virtiofs_id_audit::Span;
 
 /// The word for a kind of ids.
 fn word(kind: IdKind) -> &'static str

@@ -1,6 +1,6 @@
 //! What is decided of all ids of a guest.
 ghost use Rattle.std.specs.Prelude.{◌≡◌, ◌↔◌, ℕ, IfOk, IsTrue};
-ghost use Rattle.virtiofs_map.specs.IdAudit.{GoesTo, GoesInto, Hold};
+ghost use Rattle.virtiofs_id_audit.specs.IdAudit.{GoesTo, GoesInto, Hold};
 ghost use Rattle.virtiofs_mapaudit.specs.IdFindings.{FindsAll, IsAstrayBut, TellsAstray, TellsHost, FindsIds, ActAsRoot};
 ghost use Rattle.virtiofs_mapaudit.specs.Namespace.{IsRoot};
 
@@ -8,7 +8,7 @@ use super::found::{IdFindings, IdsFound};
 use super::namespace::lacking_ids;
 use super::outside::{Way, moved_all};
 use std::alloc::{AllocError, Allocator};
-use virtiofs_map::id_audit::{Span, ids_astray, ids_into};
+use virtiofs_id_audit::{Span, ids_astray, ids_into};
 use virtiofs_map::id_types::{GuestUid, HostUid, Id};
 use virtiofs_map::idmap::UidMap;
 use virtiofs_map::soft_idmap::IdMap;

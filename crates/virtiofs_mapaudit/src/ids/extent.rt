@@ -4,7 +4,7 @@ ghost use Rattle.std.specs.Fmt.{DisplaysOnOk};
 ghost use Rattle.virtiofs_mapaudit.specs.ExtentText.{run_text, further_run, listed_runs, runs_text, is_one, plural, extent_text};
 
 use std::fmt;
-use virtiofs_map::id_audit::Span;
+use virtiofs_id_audit::Span;
 
 /// Writes ids that follow one another.
 fn write_run<W: fmt::Write>(f: &mut fmt::Formatter<W>, run: Span) -> fmt::Result

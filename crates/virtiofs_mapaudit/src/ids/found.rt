@@ -1,7 +1,7 @@
 //! What is told of ids that are reported.
 
 use std::alloc::Allocator;
-use virtiofs_map::id_audit::Span;
+use virtiofs_id_audit::Span;
 
 /// What may be wrong with ids of a guest.
 #[derive(Clone, Copy, PartialEq, Eq)]

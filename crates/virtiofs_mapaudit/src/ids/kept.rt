@@ -1,6 +1,6 @@
 //! The ids of a guest that no specification covers, and that keep their number.
 ghost use Rattle.std.specs.Prelude.{◌≡◌, ◌↔◌, ℕ, IfOk, map};
-ghost use Rattle.virtiofs_map.specs.IdAudit.{Hold};
+ghost use Rattle.virtiofs_id_audit.specs.IdAudit.{Hold};
 ghost use Rattle.virtiofs_mapaudit.specs.IdFindings.{FindsKept};
 ghost use Rattle.virtiofs_mapaudit.specs.KeptParts.{cover_of, same_of, IsUncovered, IsSame};
 
@@ -10,8 +10,8 @@ use super::namespace::ids_of_none;
 use super::outside::{Way, moved_all};
 use crate::setup::IdSetUp;
 use std::alloc::{AllocError, Allocator};
+use virtiofs_id_audit::Span;
 use virtiofs_map::cmdline::IdMap as Spec;
-use virtiofs_map::id_audit::Span;
 use virtiofs_map::idmap::UidMap;
 use virtiofs_map::soft_idmap::IdMap;
 

@@ -1,6 +1,6 @@
 //! The ids of the host that two guests reach, outside the namespaces of their daemons.
 ghost use Rattle.std.specs.Prelude.{◌≡◌, ◌↔◌, ℕ, IfOk, MatchOption};
-ghost use Rattle.virtiofs_map.specs.IdAudit.{IsLeastId, GoesInto, Hold};
+ghost use Rattle.virtiofs_id_audit.specs.IdAudit.{IsLeastId, GoesInto, Hold};
 ghost use Rattle.virtiofs_mapaudit.specs.IdFindings.{ReachedOutside, Meets, TellsMeeting, FindsMeeting};
 ghost use Rattle.virtiofs_mapaudit.specs.Namespace.{StandsBy, StandsFor};
 
@@ -8,7 +8,7 @@ use super::found::IdsFound;
 use super::outside::{Way, id_moved, moved_all};
 use crate::setup::IdSetUp;
 use std::alloc::{AllocError, Allocator};
-use virtiofs_map::id_audit::{Span, ids_into, reached, reaches_any};
+use virtiofs_id_audit::{Span, ids_into, reached, reaches_any};
 use virtiofs_map::id_types::{GuestUid, Id};
 use virtiofs_map::idmap::UidMap;
 

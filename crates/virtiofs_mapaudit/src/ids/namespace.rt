@@ -1,11 +1,11 @@
 //! The user namespace that a daemon runs in: its ranges, and which ids inside it these have.
 ghost use Rattle.std.specs.Prelude.{◌≡◌, ◌∷◌, [], ◌↔◌, ℕ, ◌+◌, ◌<◌, ◌≤◌, Contains, IfOk, IfSome, IsTrue, MatchOption, option_map};
-ghost use Rattle.virtiofs_map.specs.IdAudit.{Hold};
+ghost use Rattle.virtiofs_id_audit.specs.IdAudit.{Hold};
 ghost use Rattle.virtiofs_mapaudit.specs.Namespace.{Has, HasSome, HasNone, IsLacking};
 ghost use Rattle.virtiofs_mapaudit.specs.Ranges.{own_of, shown_of, is_host, but_host, set_up_ranges, ranges_of, AreSame, Differ};
 
 use std::alloc::{AllocError, Allocator};
-use virtiofs_map::id_audit::Span;
+use virtiofs_id_audit::Span;
 use virtiofs_map::idmap::UidMap;
 use virtiofs_process::runner::Bounds;
 

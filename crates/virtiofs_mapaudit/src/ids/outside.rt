@@ -1,10 +1,10 @@
 //! What ids inside the namespace of a daemon are outside it, and back.
 ghost use Rattle.std.specs.Prelude.{◌↔◌, ℕ, ◌≤◌, IfOk, IfSome, OnOk, MatchOption};
-ghost use Rattle.virtiofs_map.specs.IdAudit.{Has};
+ghost use Rattle.virtiofs_id_audit.specs.IdAudit.{Has};
 ghost use Rattle.virtiofs_mapaudit.specs.OutsideParts.{Moves, MovesBy, HasIf, AddsMoved, AddsSpan, AreMoved};
 
 use std::alloc::{AllocError, Allocator};
-use virtiofs_map::id_audit::Span;
+use virtiofs_id_audit::Span;
 use virtiofs_map::idmap::UidMap;
 
 /// Which way ids are moved.

@@ -8,7 +8,7 @@ use crate::ids::found::IdFault;
 use crate::ids::kind::IdKind;
 use crate::setup::IdSetUp;
 use std::alloc::{AllocError, Allocator};
-use virtiofs_map::id_audit::Span;
+use virtiofs_id_audit::Span;
 use virtiofs_map::soft_idmap::{Direction, Outcome, Piece};
 
 /// How a band is drawn. Bands are drawn in this order.

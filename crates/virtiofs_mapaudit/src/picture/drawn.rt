@@ -8,12 +8,12 @@ use crate::advice::options::push_options;
 use crate::alike::{Alike, push_numbers};
 use crate::audit::Part;
 use crate::finding::Finding;
+use crate::guest::Guest;
 use crate::ids::kind::{IdKind, one_of};
 use crate::refusal::Refusal;
 use crate::setup::{IdSetUp, SetUp};
 use crate::summary::push_summary;
 use std::alloc::{AllocError, Allocator};
-use virtiofs_options::guest::Guest;
 
 /// Where the left axes of the drawings of users and of groups stand.
 const USERS: u64 = 174;
@@ -162,7 +162,7 @@ fn push_heading<A: Allocator + Copy>(
     let (mut options, mut summary) = (String::new(alloc), String::new(alloc));
     let mut numbers = String::new(alloc);
     push_numbers(&mut numbers, alike)?;
-    push_options(&mut options, " ", "", guest)?;
+    push_options(&mut options, " ", "", &guest.options)?;
     push_summary(&mut summary, alike, guest, set)?;
     write!(sheet.text, "<title>{numbers}</title>\n<desc>")?;
     if options.is_empty() {

@@ -3,7 +3,7 @@
 use super::bands::{Band, Bands, LAST, Look, Marked, images};
 use crate::ids::outside::{Way, moved_by};
 use std::alloc::{AllocError, Allocator};
-use virtiofs_map::id_audit::Span;
+use virtiofs_id_audit::Span;
 use virtiofs_map::idmap::UidMap;
 use virtiofs_map::soft_idmap::Piece;
 

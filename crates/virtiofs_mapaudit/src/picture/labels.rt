@@ -6,7 +6,7 @@ ghost use Rattle.virtiofs_mapaudit.specs.Drawing.{AreApart};
 use super::bands::{Band, Look};
 use super::scale::Scale;
 use std::alloc::{AllocError, Allocator};
-use virtiofs_map::id_audit::Span;
+use virtiofs_id_audit::Span;
 
 /// How far the middles of two labels are apart at least.
 pub(super) const PITCH: u64 = 13;

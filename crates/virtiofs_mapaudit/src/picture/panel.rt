@@ -4,7 +4,7 @@ use super::bands::{Band, Look};
 use super::labels::{Label, PITCH, Side, labelled, labels_of};
 use super::scale::Scale;
 use std::alloc::{AllocError, Allocator};
-use virtiofs_map::id_audit::Span;
+use virtiofs_id_audit::Span;
 
 /// How far the axes are apart.
 pub(super) const WIDTH: u64 = 180;

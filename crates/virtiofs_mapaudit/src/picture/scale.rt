@@ -5,7 +5,7 @@ ghost use Rattle.virtiofs_mapaudit.specs.Drawing.{Descend, StandsAt};
 
 use super::bands::Band;
 use std::alloc::{AllocError, Allocator};
-use virtiofs_map::id_audit::Span;
+use virtiofs_id_audit::Span;
 
 /// A number at which a band begins, or before which one has ended, and where it stands.
 #[derive(Clone, Copy)]

@@ -6,8 +6,7 @@ use Rattle.std.proofs.lemmas.List.Elements.{All-contains}
 use Rattle.std.proofs.lemmas.Option.{same_Some, slice_get-get_or, slice_get_within, get_or_from_slice_get}
 use Rattle.virtiofs_map.specs.Build.{HasTarget}
 use Rattle.virtiofs_map.specs.Mapping.{first_of, count_of, EntryCovers, target_of}
-use Rattle.virtiofs_map.specs.PieceParts.{IsMade, IsStretch}
-use Rattle.virtiofs_map.specs.Pieces.{value_in}
+use Rattle.virtiofs_map.specs.Pieces.{value_in, IsMade, IsStretch}
 use Rattle.virtiofs_map.specs.RangeParts.{Precedes, HasNumbers}
 use Rattle.virtiofs_map.specs.WordParts.{Table, IsAt, HasRanges, Searches}
 use Rattle.virtiofs_map.specs.declared.cmdline.IdMap.{IdMap}

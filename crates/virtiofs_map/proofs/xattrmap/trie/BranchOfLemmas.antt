@@ -541,7 +541,7 @@ module _ (side : Side) (rules : List MappingRule) (patterns : List Pattern) wher
           front = front;
         }
 
-        size_small : node.size < 65536
+        size_small : node.size < 256
         unfolding longest_label
         size_small = elim led_by [
           | inl is ↦ (let size = ap (λ (n : Node). n.size) is in omega (arith, size))

@@ -114,7 +114,7 @@ rising_few low high (x ∷ xs) l rising =
     omega (arith, a, more)
 
 -- there are few places for children
-pub slots_small : (bytes : List ℕ) → Rising 1 256 bytes → length (slots bytes) ≤ 256
+pub slots_small : (bytes : List ℕ) → Rising 1 256 bytes → length (slots bytes) ≤ 255
 unfolding slots
 slots_small [] rising = omega arith
 slots_small (low ∷ bytes) rising = elim (cases_Bool (are_sparse (low ∷ bytes))) [
@@ -122,5 +122,5 @@ slots_small (low ∷ bytes) rising = elim (cases_Bool (are_sparse (low ∷ bytes
       (let all = ap (λ b. length (cond b (low ∷ bytes) (range_with_len low (span low bytes)))) e in
       let few = rising_few 1 256 (low ∷ bytes) (omega arith) rising in
       omega (arith, all, few))
-  | inr e ↦ (let upto = slots_upto low bytes rising e in omega (arith, upto.1))
+  | inr e ↦ (let upto = slots_upto low bytes rising e in let from = rising.0 in omega (arith, upto.1, from))
 ]

@@ -1,1 +1,2 @@
+mod LowBytesLemmas
 mod SameEndsLemmas

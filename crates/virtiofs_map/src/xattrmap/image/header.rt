@@ -1,12 +1,12 @@
 //! The beginning of an image: what it is, and where its parts stand.
 
 ghost use Rattle.std.specs.Prelude.{◌≡◌, ◌<◌, ◌≤◌, ◌↔◌, length, IsFalse};
-ghost use Rattle.virtiofs_map.specs.NamesImage.{HasPart, IsNoImage, part};
+ghost use Rattle.virtiofs_map.specs.NamesImage.{HasPart, IsNoImage, part, part_start};
 
 use crate::xattrmap::words::word_at;
 
-/// What an image begins with: the letters `vfsname`, and the version 1.
-pub(crate) const KIND: u64 = 100606831918016118;
+/// What an image begins with: the letters `vfsname`, and the version 2.
+pub(crate) const KIND: u64 = 172664425955944054;
 
 /// How many bytes stand before the first part.
 pub(crate) const HEADER: usize = 48;
@@ -17,6 +17,18 @@ pub(crate) fn is_image(image: &[u8]) -> bool
     ensures { IsFalse result ↔ IsNoImage image.now }
 {
     image.len() >= HEADER && word_at(image, 0) == KIND
+}
+
+/// Where the part of that number starts; 0 where nothing says so.
+#[inline(always)]
+pub(crate) fn part_start(image: &[u8], which: usize) -> usize
+    requires { which < 4 }
+    ensures { 48 ≤ length image.now → result ≡ part_start image.now which }
+{
+    if image.len() < HEADER {
+        return 0;
+    }
+    word_at(image, 8 * which + 8) as usize
 }
 
 /// The part of that number; nothing where it is not all there.

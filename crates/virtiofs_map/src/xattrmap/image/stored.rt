@@ -10,9 +10,12 @@ ghost use Rattle.virtiofs_map.specs.declared.xattrmap.spans.Span.{Span};
 
 use crate::xattrmap::rules::{RuleKind, RuleRef};
 use crate::xattrmap::scopes::Scope;
-use crate::xattrmap::trie::{ROW, SHARE};
+use crate::xattrmap::trie::ROW;
 use crate::xattrmap::words::word_at;
 use bitflags::Flags;
+
+/// Where two numbers share eight bytes, the second is multiplied by this.
+pub(crate) const SHARE: u64 = 281474976710656;
 
 /// The rule at a place; `None` where there is none, or where its patterns are not among the bytes.
 pub(crate) fn read_rule<'a>(rows: &[u8], bytes: &'a [u8], at: usize) -> Option<RuleRef<'a>>

@@ -7,10 +7,11 @@ ghost use Rattle.virtiofs_map.specs.Rule.{HasNoZero};
 ghost use Rattle.virtiofs_map.specs.RuleParts.{rule_meant};
 
 use crate::xattrmap::image::header::{HEADER, KIND};
+use crate::xattrmap::image::stored::SHARE;
 use crate::xattrmap::rules::{RuleRef, Rules};
 use crate::xattrmap::scopes::Side;
 use crate::xattrmap::spans::Span;
-use crate::xattrmap::trie::{ROW, SHARE, trie_rows};
+use crate::xattrmap::trie::{ROW, push_rows, trie_of};
 use crate::xattrmap::words::push_word;
 use std::alloc::{AllocError, Allocator};
 
@@ -37,13 +38,13 @@ fn end_of(from: usize, count: usize, size: usize) -> Option<usize>
     if end < LIMIT { Some(end) } else { None }
 }
 
-/// Where the parts of an image stand, of tries with so many bytes and of rules.
+/// Where the parts of an image stand, of tries with so many branches and of rules.
 fn places_of<A: Allocator>(client: usize, server: usize, rules: &Rules<A>) -> Option<Places>
-    ensures { IfSome result (ArePlaces client server
+    ensures { IfSome result (ArePlaces (24 * client) (24 * server)
         (length rules.now.list) (length rules.now.bytes)) }
 {
-    let first = end_of(HEADER, client, 1)?;
-    let second = end_of(first, server, 1)?;
+    let first = end_of(HEADER, client, ROW)?;
+    let second = end_of(first, server, ROW)?;
     let third = end_of(second, rules.len(), ROW)?;
     let end = end_of(third, rules.bytes().len(), 1)?;
     Some(Places {
@@ -63,16 +64,21 @@ pub(crate) fn image_of<A: Allocator + Copy>(
     requires { All HasNoZero rules.now.list }
     ensures { IfOk result (λ image. IsWholeImage rules.now.list image.items) }
 {
-    let client = trie_rows(alloc, rules, Side::Client)?;
-    let server = trie_rows(alloc, rules, Side::Server)?;
+    let client = trie_of(alloc, rules, Side::Client)?;
+    let server = trie_of(alloc, rules, Side::Server)?;
     let patterns = rules.bytes();
     let Some(places) = places_of(client.len(), server.len(), rules) else {
         return Err(AllocError);
     };
     let mut image = Vec::with_capacity(alloc, places.end)?;
     push_header(&mut image, places)?;
-    image.extend_from_slice(client.as_slice())?;
-    image.extend_from_slice(server.as_slice())?;
+    push_rows(&mut image, client.as_slice(), HEADER / 8, places.bytes)?;
+    push_rows(
+        &mut image,
+        server.as_slice(),
+        places.server / 8,
+        places.bytes,
+    )?;
     push_rules(&mut image, rules)?;
     image.extend_from_slice(patterns)?;
     Ok(image)

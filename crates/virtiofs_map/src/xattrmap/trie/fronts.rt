@@ -1,8 +1,33 @@
 //! Comparing rows of bytes: whether one begins with another, and how far two agree.
 
-ghost use Rattle.std.specs.Prelude.{◌≡◌, ◌↔◌, ◌≤◌, ◌<◌, ◌+◌, ◌*◌, false, IsTrue, MatchOption, length, ◌++◌};
+ghost use Rattle.std.specs.Prelude.{◌≡◌, ◌↔◌, ◌≤◌, ◌<◌, ◌+◌, ◌*◌, IsTrue, length, take, drop};
 ghost use Rattle.virtiofs_map.specs.FirstRule.{shared};
-ghost use Rattle.virtiofs_map.specs.Names.{begins};
+
+use crate::xattrmap::words::word_at;
+
+/// The lowest bytes of a number of eight: none, one, and so on.
+static LOW_BYTES: [u64; 8] = [
+    0,
+    255,
+    65535,
+    16777215,
+    4294967295,
+    1099511627775,
+    281474976710655,
+    72057594037927935,
+];
+
+/// Whether two rows of eight bytes or more begin with the same few bytes.
+#[inline(always)]
+pub(crate) fn begins_alike(one: &[u8], other: &[u8], count: usize) -> bool
+    requires few { count < 8 }
+    requires one { 8 ≤ length one.now }
+    requires other { 8 ≤ length other.now }
+    ensures { IsTrue result ↔ (take count one.now ≡ take count other.now) }
+{
+    let mask = LOW_BYTES[count];
+    word_at(one, 0) & mask == word_at(other, 0) & mask
+}
 
 /// Whether two rows of bytes are the same, by their first `N` bytes and their last `N`.
 #[inline(always)]
@@ -35,34 +60,59 @@ fn are_few_same(one: &[u8], other: &[u8]) -> bool
     same_ends::<4>(one, other)
 }
 
-/// Whether two rows of bytes are the same. Up to 16 bytes are compared in line.
+/// Whether two rows of 8 to 16 bytes are the same.
 #[inline(always)]
-fn are_same(one: &[u8], other: &[u8]) -> bool
+fn are_words_same(one: &[u8], other: &[u8]) -> bool
+    requires long { 8 ≤ length one.now }
+    requires short { length one.now ≤ 16 }
+    requires lengths { length one.now ≡ length other.now }
+    ensures { IsTrue result ↔ (one.now ≡ other.now) }
+{
+    let last = one.len() - 8;
+    word_at(one, 0) == word_at(other, 0) && word_at(one, last) == word_at(other, last)
+}
+
+/// Whether 16 bytes of two rows are the same, from a place on.
+#[inline(always)]
+fn are_same_there(one: &[u8], other: &[u8], from: usize) -> bool
+    requires one { from + 16 ≤ length one.now }
+    requires other { from + 16 ≤ length other.now }
+    ensures { IsTrue result
+        ↔ (take 16 (drop from one.now) ≡ take 16 (drop from other.now)) }
+{
+    word_at(one, from) == word_at(other, from) && word_at(one, from + 8) == word_at(other, from + 8)
+}
+
+/// Whether two rows of 16 bytes or more are the same.
+#[inline(always)]
+fn are_long_same(one: &[u8], other: &[u8]) -> bool
+    requires long { 16 ≤ length one.now }
+    requires lengths { length one.now ≡ length other.now }
+    ensures { IsTrue result ↔ (one.now ≡ other.now) }
+{
+    let mut at = 0;
+    while one.len() - at > 16 {
+        if !are_same_there(one, other, at) {
+            return false;
+        }
+        at += 16;
+    }
+    are_same_there(one, other, one.len() - 16)
+}
+
+/// Whether two rows of bytes are the same.
+#[inline(always)]
+pub(crate) fn are_same(one: &[u8], other: &[u8]) -> bool
     requires { length one.now ≡ length other.now }
     ensures { IsTrue result ↔ (one.now ≡ other.now) }
 {
-    if one.len() > 16 {
-        return one == other;
-    }
     if one.len() < 8 {
         return are_few_same(one, other);
     }
-    same_ends::<8>(one, other)
-}
-
-/// What is left of a row after a front; `None` where the row does not begin with that front.
-#[inline(always)]
-pub(crate) fn after_front<'a>(row: &'a [u8], front: &[u8]) -> Option<&'a [u8]>
-    ensures { MatchOption result
-        (begins front.now row.now ≡ false)
-        (λ left. row.now ≡ front.now ++ left.now) }
-{
-    let (head, left) = row.split_at_checked(front.len())?;
-    if are_same(head, front) {
-        Some(left)
-    } else {
-        None
+    if one.len() <= 16 {
+        return are_words_same(one, other);
     }
+    are_long_same(one, other)
 }
 
 /// How many bytes two rows share at their beginning.

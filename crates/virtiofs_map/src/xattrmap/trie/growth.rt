@@ -71,15 +71,15 @@ fn byte_of(patterns: &[Pattern<'_>], at: usize, depth: usize) -> u8
 /// How many bytes two patterns share from a depth on, but no more than a label can have.
 fn shared(one: &[u8], other: &[u8], depth: usize) -> usize
     requires { depth ≤ length one.now }
-    ensures small { result < 65536 }
+    ensures small { result < 256 }
     ensures within { depth + result ≤ length one.now }
     ensures same { take depth one.now ≡ take depth other.now
         → take (depth + result) one.now ≡ take (depth + result) other.now }
-    ensures stops { result < 65535 → depth + result < length one.now
+    ensures stops { result < 255 → depth + result < length one.now
         → depth + result < length other.now
         → slice_index one.now (depth + result) ≢ slice_index other.now (depth + result) }
 {
-    let most = (one.len().min(other.len()).max(depth) - depth).min(65535);
+    let most = (one.len().min(other.len()).max(depth) - depth).min(255);
     let mut count = 0;
     while count < most && one[depth + count] == other[depth + count] {
         count += 1;
@@ -159,20 +159,20 @@ fn child(patterns: &[Pattern<'_>], depth: usize, low: usize, high: usize, answer
     ensures head { result.head ≡ slice_index (text patterns.now low) depth }
     ensures byte { result.head < 256 }
     ensures depth { result.depth ≡ depth + 1 + result.length }
-    ensures size { result.length < 65536 }
+    ensures size { result.length < 256 }
     ensures long { result.depth ≤ length (text patterns.now low) }
     ensures same { take (depth + 1) (text patterns.now low)
         ≡ take (depth + 1) (text patterns.now (high - 1))
         → take result.depth (text patterns.now low)
         ≡ take result.depth (text patterns.now (high - 1)) }
-    ensures stops { result.length < 65535 → result.depth < length (text patterns.now low)
+    ensures stops { result.length < 255 → result.depth < length (text patterns.now low)
         → result.depth < length (text patterns.now (high - 1))
         → slice_index (text patterns.now low) result.depth
         ≢ slice_index (text patterns.now (high - 1)) result.depth }
 {
     let first = bytes_of(patterns, low);
     let length = if high - low == 1 {
-        (first.len() - (depth + 1)).min(65535)
+        (first.len() - (depth + 1)).min(255)
     } else {
         shared(first, bytes_of(patterns, high - 1), depth + 1)
     };

@@ -1,77 +1,89 @@
-//! Reading a trie: from a branch to its child.
+//! Reading a trie: from a row to that of its child.
 
-ghost use Rattle.std.specs.Prelude.{◌≡◌, ◌≤◌, ◌<◌, ◌+◌, false, List, length, slice_get, Some, IfSome, IsSome};
+ghost use Rattle.std.specs.Prelude.{◌≡◌, ◌↔◌, ◌≤◌, ◌<◌, ◌+◌, ◌*◌, false, ℕ, List, length, take, drop, IfSome, IsTrue};
 ghost use Rattle.std.specs.Prelude.{MatchOption};
-ghost use Rattle.virtiofs_map.specs.BranchParts.{AreRowsOf, IsReadable, LeadsNowhere, LeadsTo, StaysAt, StepsTo};
-ghost use Rattle.virtiofs_map.specs.BranchParts.{label_of};
+ghost use Rattle.virtiofs_map.specs.BranchParts.{HasBytesAt, HasRows, IsReadable, IsRootRow, IsRow, LeadsNowhere};
+ghost use Rattle.virtiofs_map.specs.BranchParts.{LeadsToRow, StaysAt, StepsToRow};
+ghost use Rattle.virtiofs_map.specs.FirstRule.{shared};
 ghost use Rattle.virtiofs_map.specs.Steps.{count_after};
 ghost use Rattle.virtiofs_map.specs.declared.xattrmap.trie.branch.Branch.{Branch};
 
 use crate::steps::Steps;
-use crate::xattrmap::trie::branch::{Branch, NO_ANSWER};
-use crate::xattrmap::trie::fronts::{after_front, shared_length};
-use crate::xattrmap::trie::rows::read_row;
-
-/// A branch that answers that no rule fits, and has no children.
-const BARE: Branch = Branch {
-    answer: NO_ANSWER,
-    label: 0,
-    length: 0,
-    first: 0,
-    width: 0,
-    low: 0,
-    head: 0,
-    scattered: false,
+use crate::xattrmap::trie::fronts::{are_same, begins_alike, shared_length};
+use crate::xattrmap::trie::rows::{
+    first_of, head_of, is_scattered, label_of, length_of, low_of, row_at, width_of,
 };
 
-/// A trie for reading: the rows of its branches, the root first, and the bytes in which its labels
-/// stand. Whatever the bytes are, nothing is read outside of them.
+/// The row of a branch that answers that no rule fits, and has no children.
+const BARE: [u8; 24] = [
+    0, 0, 0, 0, 0, 0, 0, 0, 1, 0, 0, 0, 0, 0, 0, 0, 255, 255, 255, 255, 255, 255, 0, 0,
+];
+
+/// A trie for reading: the bytes of a map, and where its rows begin in them, the root first.
+/// Whatever the bytes are, nothing is read outside of them.
 #[derive(Clone, Copy)]
 pub(crate) struct Trie<'a> {
-    rows: &'a [u8],
-    bytes: &'a [u8],
+    image: &'a [u8],
+    root: usize,
 }
 
 impl<'a> Trie<'a> {
-    /// The trie of these rows and bytes.
+    /// The trie whose rows begin there.
     #[inline(always)]
-    pub(crate) fn new(rows: &'a [u8], bytes: &'a [u8]) -> Trie<'a>
-        ensures rows { result.rows.now ≡ rows.now }
-        ensures bytes { result.bytes.now ≡ bytes.now }
+    pub(crate) fn new(image: &'a [u8], root: usize) -> Trie<'a>
+        ensures image { result.image.now ≡ image.now }
+        ensures root { result.root ≡ root }
     {
-        Trie { rows, bytes }
+        Trie { image, root }
     }
 
-    /// The root, which counts as one step. Where there is none, a branch that answers that no rule
-    /// fits.
+    /// The row of the root, which counts as one step. Where there is none, the row of a branch that
+    /// answers that no rule fits.
     #[inline(always)]
-    pub(crate) fn root(self, steps: &mut Steps) -> Branch
-        ensures root { (branches : List Branch) → AreRowsOf self.entry.rows.now branches
-            → 0 < length branches → slice_get branches 0 ≡ Some result }
+    pub(crate) fn root(self, steps: &mut Steps) -> &'a [u8; 24]
+        ensures root { (first labels : ℕ) (branches : List Branch) → self.entry.root ≡ 8 * first
+            → HasRows self.entry.image.now first labels branches → 0 < length branches
+            → IsRootRow first labels branches result.now }
         ensures counted { steps.new ≡ count_after steps.old 1 }
     {
         steps.tick();
-        match read_row(self.rows, 0) {
-            Some(root) => root,
-            None => BARE,
+        if self.root > 9223372036854775807 {
+            return &BARE;
         }
+        match row_at(self.image, self.root) {
+            Some(root) => root,
+            None => &BARE,
+        }
+    }
+
+    /// The row that stands so many places behind the first child.
+    #[inline(always)]
+    fn row(self, first: u64, behind: u8) -> Option<&'a [u8; 24]>
+        requires { first < 140737488355328 }
+        ensures { MatchOption result
+            (length self.entry.image.now < 8 * (first + 3 * behind) + 24)
+            (λ row. row.now ≡ take 24 (drop (8 * (first + 3 * behind)) self.entry.image.now)) }
+    {
+        row_at(self.image, 8 * (first as usize + 3 * behind as usize))
     }
 
     /// The child to which a byte leads, where the children stand as their bytes do.
     #[inline(always)]
-    fn child_in_slot(self, parent: Branch, byte: u8) -> Option<Branch>
-        ensures { (branches : List Branch) → AreRowsOf self.entry.rows.now branches
-            → IsReadable branches self.entry.bytes.now parent → parent.scattered ≡ false
+    fn child_in_slot(self, parent: &'a [u8; 24], byte: u8) -> Option<&'a [u8; 24]>
+        ensures { (first labels : ℕ) (branches : List Branch) (bytes : List ℕ) (branch : Branch)
+            → HasRows self.entry.image.now first labels branches
+            → IsReadable branches bytes branch → IsRow first labels branch parent.now
+            → branch.scattered ≡ false
             → MatchOption result
-            (LeadsNowhere branches parent byte)
-            (λ child. LeadsTo branches parent byte child) }
+            (LeadsNowhere branches branch byte)
+            (λ child. LeadsToRow first labels branches branch byte child.now) }
     {
-        let behind = usize::from(byte.wrapping_sub(parent.low));
-        if behind >= parent.width {
+        let behind = byte.wrapping_sub(low_of(parent));
+        if behind >= width_of(parent) {
             return None;
         }
-        let child = read_row(self.rows, parent.first.wrapping_add(behind))?;
-        if child.head == byte {
+        let child = self.row(first_of(parent), behind)?;
+        if head_of(child) == byte {
             Some(child)
         } else {
             None
@@ -79,19 +91,21 @@ impl<'a> Trie<'a> {
     }
 
     /// The child to which a byte leads, where the children are scattered.
-    fn scattered_child(self, parent: Branch, byte: u8) -> Option<Branch>
-        ensures { (branches : List Branch) → AreRowsOf self.entry.rows.now branches
-            → IsReadable branches self.entry.bytes.now parent
+    fn scattered_child(self, parent: &'a [u8; 24], byte: u8) -> Option<&'a [u8; 24]>
+        ensures { (first labels : ℕ) (branches : List Branch) (bytes : List ℕ) (branch : Branch)
+            → HasRows self.entry.image.now first labels branches
+            → IsReadable branches bytes branch → IsRow first labels branch parent.now
             → MatchOption result
-            (LeadsNowhere branches parent byte)
-            (λ child. LeadsTo branches parent byte child) }
+            (LeadsNowhere branches branch byte)
+            (λ child. LeadsToRow first labels branches branch byte child.now) }
     {
         if byte == 0 {
             return None;
         }
-        for behind in 0..parent.width {
-            let child = read_row(self.rows, parent.first.wrapping_add(behind))?;
-            if child.head == byte {
+        let (from, width) = (first_of(parent), width_of(parent));
+        for behind in 0..width {
+            let child = self.row(from, behind)?;
+            if head_of(child) == byte {
                 return Some(child);
             }
         }
@@ -100,65 +114,104 @@ impl<'a> Trie<'a> {
 
     /// The child to which a byte leads.
     #[inline(always)]
-    fn child(self, parent: Branch, byte: u8) -> Option<Branch>
-        ensures { (branches : List Branch) → AreRowsOf self.entry.rows.now branches
-            → IsReadable branches self.entry.bytes.now parent
+    fn child(self, parent: &'a [u8; 24], byte: u8) -> Option<&'a [u8; 24]>
+        ensures { (first labels : ℕ) (branches : List Branch) (bytes : List ℕ) (branch : Branch)
+            → HasRows self.entry.image.now first labels branches
+            → IsReadable branches bytes branch → IsRow first labels branch parent.now
             → MatchOption result
-            (LeadsNowhere branches parent byte)
-            (λ child. LeadsTo branches parent byte child) }
+            (LeadsNowhere branches branch byte)
+            (λ child. LeadsToRow first labels branches branch byte child.now) }
     {
-        if parent.scattered {
+        if is_scattered(parent) {
             self.scattered_child(parent, byte)
         } else {
             self.child_in_slot(parent, byte)
         }
     }
 
-    /// The label of a branch, where the bytes reach so far.
-    #[inline(always)]
-    fn label(self, branch: Branch) -> Option<&'a [u8]>
-        ensures label { IfSome result (λ label.
-            label.now ≡ label_of self.entry.bytes.now branch) }
-        ensures some { branch.label + branch.length ≤ length self.entry.bytes.now
-            → IsSome result }
+    /// Whether a row of bytes begins with a few bytes of the map from a place on, where one of them
+    /// may end within eight bytes.
+    fn begins_at_end(self, row: &[u8], from: usize, count: usize) -> bool
+        requires from { from < 281474976710656 }
+        requires count { count < 8 }
+        requires long { count ≤ length row.now }
+        ensures { from + count ≤ length self.entry.image.now → IsTrue result
+            ↔ (take count row.now ≡ take count (drop from self.entry.image.now)) }
     {
-        let (_, from_label) = self.bytes.split_at_checked(branch.label)?;
-        let (label, _) = from_label.split_at_checked(branch.length)?;
-        Some(label)
+        if from + count > self.image.len() {
+            return false;
+        }
+        are_same(&row[..count], &self.image[from..from + count])
     }
 
-    /// Goes from a branch to the child that the first byte leads to, where its label begins what
-    /// follows. Gives the child and what is left.
+    /// Whether a row of bytes begins with `count` bytes of the map from a place on.
+    #[inline(always)]
+    fn begins(self, row: &[u8], from: usize, count: usize) -> bool
+        requires from { from < 281474976710656 }
+        requires count { count < 256 }
+        requires long { count ≤ length row.now }
+        ensures { from + count ≤ length self.entry.image.now → IsTrue result
+            ↔ (take count row.now ≡ take count (drop from self.entry.image.now)) }
+    {
+        if count < 8 {
+            if row.len() < 8 || from + 8 > self.image.len() {
+                return self.begins_at_end(row, from, count);
+            }
+            return begins_alike(row, &self.image[from..], count);
+        }
+        if from + count > self.image.len() {
+            return false;
+        }
+        are_same(&row[..count], &self.image[from..from + count])
+    }
+
+    /// How many bytes a row of bytes shares with `count` bytes of the map from a place on.
+    fn shared(self, row: &[u8], from: usize, count: usize) -> u64
+        requires from { from < 281474976710656 }
+        requires count { count < 256 }
+        ensures shared { from + count ≤ length self.entry.image.now
+            → result ≡ shared (take count (drop from self.entry.image.now)) row.now }
+        ensures within { result ≤ count }
+    {
+        if from + count > self.image.len() {
+            return 0;
+        }
+        shared_length(&self.image[from..from + count], row) as u64
+    }
+
+    /// Goes from a row to that of the child that the first byte leads to, where its label begins
+    /// what follows. Gives the row of the child and what is left.
     ///
     /// Each byte that is passed counts as one step. Where the label does not fit, the bytes that it
     /// shares with the rest count if the count is to be whole.
     #[inline(always)]
     pub(crate) fn enter<'n>(
         self,
-        parent: Branch,
+        parent: &'a [u8; 24],
         rest: &'n [u8],
         whole_count: bool,
         steps: &mut Steps,
-    ) -> Option<(Branch, &'n [u8])>
-        ensures step { (branches : List Branch) → AreRowsOf self.entry.rows.now branches
-            → IsReadable branches self.entry.bytes.now parent
+    ) -> Option<(&'a [u8; 24], &'n [u8])>
+        ensures step { (first labels : ℕ) (branches : List Branch) (bytes : List ℕ) (branch : Branch)
+            → HasRows self.entry.image.now first labels branches
+            → HasBytesAt self.entry.image.now labels bytes
+            → IsReadable branches bytes branch → IsRow first labels branch parent.now
             → MatchOption result
-            (StaysAt branches self.entry.bytes.now parent rest.now whole_count
-            steps.old steps.new)
-            (λ found. StepsTo branches self.entry.bytes.now parent rest.now
-            found.0 found.1.now steps.old steps.new) }
+            (StaysAt branches bytes branch rest.now whole_count steps.old steps.new)
+            (λ found. StepsToRow first labels branches bytes branch rest.now
+            found.0.now found.1.now steps.old steps.new) }
         ensures shorter { IfSome result (λ found. length found.1.now < length rest.now) }
     {
         let (byte, after) = rest.split_first()?;
         let child = self.child(parent, *byte)?;
-        let label = self.label(child)?;
-        let Some(left) = after_front(after, label) else {
+        let (from, count) = (label_of(child), length_of(child));
+        if count > after.len() || !self.begins(after, from, count) {
             if whole_count {
-                steps.count_more(shared_length(label, after) as u64 + 1);
+                steps.count_more(self.shared(after, from, count) + 1);
             }
             return None;
-        };
-        steps.count_more(label.len() as u64 + 1);
-        Some((child, left))
+        }
+        steps.count_more(count as u64 + 1);
+        Some((child, &after[count..]))
     }
 }

@@ -1,7 +1,13 @@
-use Rattle.std.proofs.Common.{◌==◌, take, ap, sym}
+use Rattle.std.proofs.Common.{◌==◌, Contains, take, ap, sym, rules}
 use Rattle.std.proofs.lemmas.List.{take_all}
 use Rattle.virtiofs_map.proofs.ForCallers.{position-Some_is, position-None_is}
+use Rattle.virtiofs_map_c.proofs.ZeroLemmas.{all_before}
 use Rattle.virtiofs_map_c.proofs.bytes.before_zero.Goals as goal
+
+pub returns-then-not-contains : goal.returns-then-not-contains
+returns-then-not-contains c =
+    let plain : ¬ Contains c.args.bytes.now 0 = search rules in
+    sym (take_all _ c.args.bytes.now (all_before c.args.bytes.now plain))
 
 pub returns-in-Some : goal.returns-in-Some
 returns-in-Some c =

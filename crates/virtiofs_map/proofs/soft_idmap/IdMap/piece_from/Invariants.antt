@@ -1,5 +1,5 @@
 use Rattle.std.proofs.Common.{◌≡◌, ◌-◌}
-use Rattle.virtiofs_map.specs.PieceParts.{IsStretch}
+use Rattle.virtiofs_map.specs.Pieces.{IsStretch}
 use Rattle.virtiofs_map.proofs.soft_idmap.IdMap.piece_from.Given as goal
 
 -- the numbers so far are one piece

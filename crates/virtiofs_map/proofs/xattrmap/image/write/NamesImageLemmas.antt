@@ -1,18 +1,23 @@
 -- The parts of an image, and what is written as one.
-use Rattle.std.proofs.Common.{◌≡◌, ℕ, ◌+◌, ◌-◌, ◌*◌, ◌^◌, ◌<◌, ◌≤◌, zero, suc, List, [], ◌∷◌, ◌++◌, All, length, get_or}
+use Rattle.std.proofs.Common.{◌≡◌, ℕ, ◌+◌, ◌-◌, ◌*◌, ◌/◌, ◌^◌, ◌<◌, ◌≤◌, zero, suc, List, [], ◌∷◌, ◌++◌, All, length, get_or}
 use Rattle.std.proofs.Common.{take, drop, refl, ap, sym, subst, ◌∙◌, arith, append_assoc, append-nil, length-append}
 use Rattle.std.proofs.Math.Seq.{drop-append_seam, take-append_seam}
 use Rattle.std.proofs.lemmas.List.Elements.{All-cons, All-nil}
-use Rattle.virtiofs_map.specs.BranchParts.{AreSpans, IsTrieIn}
+use Rattle.std.proofs.lemmas.List.{length-drop, length-take-le}
+use Rattle.std.specs.List.{flat_map}
+use Rattle.virtiofs_map.specs.BranchParts.{AreSpans, HasBytes, IsBounded, IsSmallIn, IsTrie, IsTrieIn, IsTrieWith}
+use Rattle.virtiofs_map.specs.BranchParts.{row_in}
 use Rattle.virtiofs_map.specs.ByteWordParts.{word_at}
 use Rattle.virtiofs_map.specs.NamesImage.{HasPart, IsImage, image_kind, image_length, part, part_end, part_start}
-use Rattle.virtiofs_map.specs.NamesImage.{pattern_bytes, rule_rows}
+use Rattle.virtiofs_map.specs.NamesImage.{longest_image, pattern_bytes, rule_rows}
 use Rattle.virtiofs_map.specs.NamesImageParts.{ArePlaces, IsWholeImage, header_of, numbers_of}
 use Rattle.virtiofs_map.specs.Rule.{MappingRule, HasNoZero}
 use Rattle.virtiofs_map.specs.declared.xattrmap.image.write.Places.{Places}
+use Rattle.virtiofs_map.specs.declared.xattrmap.scopes.Side.{Side}
 use Rattle.virtiofs_map.specs.declared.xattrmap.scopes.Side.TheVariants.{Client, Server}
+use Rattle.virtiofs_map.specs.declared.xattrmap.trie.branch.Branch.{Branch}
 use Rattle.virtiofs_map.specs.declared.xattrmap.spans.Span.{Span}
-use Rattle.virtiofs_map.proofs.ByteWordLemmas.{length-rows_of, length-words, word_of_words}
+use Rattle.virtiofs_map.proofs.ByteWordLemmas.{length-rows_in, length-words, word_of_words}
 use Rattle.virtiofs_map.proofs.RuleRowLemmas.{length-rule_rows}
 
 -- ---- parts, as they are written
@@ -32,6 +37,15 @@ part_here front one back from to is_from is_to =
 pub record IsPartAt (image : List ℕ) (which : ℕ) (bytes : List ℕ) : Type 0 where
   pub has : HasPart image which
   pub is : part image which ≡ bytes
+
+part_length : (image : List ℕ) (which : ℕ) → HasPart image which
+    → length (part image which) ≡ part_end image which - part_start image which
+part_length image which has =
+    let long = length-drop (part_start image which) image in
+    let rising = has.rising in
+    let within = has.within in
+    length-take-le (part_end image which - part_start image which) (drop (part_start image which) image)
+    (omega (arith, long, rising, within))
 
 -- what stands between two places that the header names is that part
 part_laid : (image front one back : List ℕ) (which from to : ℕ) → image ≡ (front ++ one) ++ back
@@ -138,44 +152,130 @@ module _ (places : Places) (client server rows bytes : List ℕ) (rules : ℕ)
   every_part (suc (suc (suc (suc n)))) below = absurd (omega arith)
 
 -- what tries, rules and patterns have together
-pub parts_length : (rules : List MappingRule) (client server bytes : List ℕ) → IsTrieIn Client rules client bytes
-    → IsTrieIn Server rules server bytes → length bytes ≡ pattern_bytes rules
-    → 48 + length client + length server + 24 * length rules + length bytes ≡ image_length rules
+pub parts_length : (rules : List MappingRule) (client server : List Branch) (bytes : List ℕ)
+    → IsTrieWith Client rules client bytes → IsTrieWith Server rules server bytes → length bytes ≡ pattern_bytes rules
+    → 48 + 24 * length client + 24 * length server + 24 * length rules + length bytes ≡ image_length rules
 unfolding image_length
 parts_length rules client server bytes clients servers whole =
-    let one = length-rows_of client clients.branches clients.rows_of in
-    let two = length-rows_of server servers.branches servers.rows_of in
-    omega (arith, one, two, clients.counted, servers.counted, whole)
+    omega (arith, clients.counted, servers.counted, whole)
 
-module _ (rules : List MappingRule) (spans : List Span) (client server bytes : List ℕ) (places : Places)
-    (are : ArePlaces (length client) (length server) (length rules) (length bytes) places)
+-- the numbers of branches fit into the rows of an image that is not too long
+pub rows_fit : (branches : List Branch) (bytes : List ℕ) (first labels : ℕ) → All (IsBounded branches bytes) branches
+    → 8 * first + 24 * length branches ≤ longest_image → labels + length bytes ≤ longest_image
+    → All (IsSmallIn first labels) branches
+rows_fit branches bytes first labels bounded rows texts = λ at d below.
+    (let one = bounded at d below in
+    record {
+      answer = let most = one.answer in omega (arith, most);
+      label = let most = one.label in omega (arith, most, texts);
+      size = one.size;
+      first = let most = one.first in omega (arith, most, rows);
+      width = one.width;
+    })
+
+-- a part of an image that has the rows of a trie
+module _ (side : Side) (rules : List MappingRule) (image : List ℕ) (which first labels : ℕ) (branches : List Branch)
+    (bytes : List ℕ) (of : IsTrieWith side rules branches bytes) (small : All (IsSmallIn first labels) branches)
+    (are_bytes : All HasBytes branches) where
+  pub trie_laid : part_start image which ≡ 8 * first → part_start image 3 ≡ labels
+      → IsPartAt image which (flat_map (row_in first labels) branches) → IsPartAt image 3 bytes
+      → IsTrieIn side rules image (part_start image which) (part_end image which) (part_start image 3) (part image 3)
+  trie_laid starts begins rows texts =
+      let rising = rows.has.rising in
+      let within = rows.has.within in
+      let long : length (part image which) ≡ part_end image which - part_start image which =
+      part_length image which rows.has in
+      let sized : length (part image which) ≡ 24 * length branches = ap length rows.is
+      ∙ length-rows_in first labels branches in
+      let texts_rising = texts.has.rising in
+      let texts_within = texts.has.within in
+      let texts_long : length (part image 3) ≡ part_end image 3 - part_start image 3 = part_length image 3 texts.has in
+      record {
+        first = first;
+        branches = branches;
+        begins_at = starts;
+        ends_at = omega (arith, long, sized, rising);
+        rows_of = record {
+          within = omega (arith, long, sized, rising, within, starts);
+          are = ap (λ n. take n (drop (8 * first) image)) (let n : 24 * length branches ≡ part_end image which
+              - part_start image which = omega (arith, long, sized) in n)
+              ∙ ap (λ n. take (part_end image which - part_start image which) (drop n image)) (sym starts)
+              ∙ rows.is ∙ ap (λ n. flat_map (row_in first n) branches) (sym begins);
+          small = subst (λ n. All (IsSmallIn first n) branches) (sym begins) small;
+          bytes = are_bytes;
+        };
+        texts = record {
+          within = omega (arith, texts_long, texts_rising, texts_within);
+          are = ap (λ n. take n (drop (part_start image 3) image)) texts_long;
+        };
+        trie = subst (IsTrie side rules branches) (sym texts.is) of.trie;
+        counted = of.counted;
+        few = of.few;
+      }
+
+module _ (rules : List MappingRule) (spans : List Span) (client server : List Branch) (bytes : List ℕ) (places : Places)
+    (are : ArePlaces (24 * length client) (24 * length server) (length rules) (length bytes) places)
     (stand : AreSpans bytes rules spans) (whole : length bytes ≡ pattern_bytes rules)
-    (no_zero : All HasNoZero rules) (clients : IsTrieIn Client rules client bytes)
-    (servers : IsTrieIn Server rules server bytes) where
+    (no_zero : All HasNoZero rules) (clients : IsTrieWith Client rules client bytes)
+    (servers : IsTrieWith Server rules server bytes) (client_bytes : All HasBytes client)
+    (server_bytes : All HasBytes server) where
+  abbrev pub client_rows : List ℕ
+  client_rows = flat_map (row_in 6 places.bytes) client
+
+  abbrev pub server_rows : List ℕ
+  server_rows = flat_map (row_in (places.server / 8) places.bytes) server
+
   rows_long : length (rule_rows rules spans) ≡ 24 * length rules
   rows_long = length-rule_rows rules spans stand.counted
 
   ends_there : places.end ≡ image_length rules
   ends_there = omega (arith, parts_length rules client server bytes clients servers whole, are.first, are.second, are.third, are.last)
 
+  laid : ArePlaces (length client_rows) (length server_rows) (length rules) (length bytes) places
+  laid =
+      let one = length-rows_in 6 places.bytes client in
+      let two = length-rows_in (places.server / 8) places.bytes server in
+      record {
+        first = omega (arith, are.first, one);
+        second = omega (arith, are.second, two);
+        third = are.third;
+        last = are.last;
+        short = are.short;
+      }
+
+  pub client_fits : All (IsSmallIn 6 places.bytes) client
+  client_fits =
+      rows_fit client bytes 6 places.bytes clients.bounded
+      (omega (arith, are.first, are.second, are.third, are.last, are.short)) (omega (arith, are.last, are.short))
+
+  pub server_fits : All (IsSmallIn (places.server / 8) places.bytes) server
+  server_fits =
+      rows_fit server bytes (places.server / 8) places.bytes servers.bounded
+      (omega (arith, are.first, are.second, are.third, are.last, are.short)) (omega (arith, are.last, are.short))
+
   -- it is an image of the map
-  pub content_image : IsImage rules (content places client server (rule_rows rules spans) bytes)
+  pub content_image : IsImage rules (content places client_rows server_rows (rule_rows rules spans) bytes)
   content_image =
       let rows : List ℕ = rule_rows rules spans in
-      let one = first_part places client server rows bytes (length rules) are rows_long in
-      let two = second_part places client server rows bytes (length rules) are rows_long in
-      let three = third_part places client server rows bytes (length rules) are rows_long in
-      let four = fourth_part places client server rows bytes (length rules) are rows_long in
-      let size = content_length places client server rows bytes (length rules) are rows_long in
+      let one = first_part places client_rows server_rows rows bytes (length rules) laid rows_long in
+      let two = second_part places client_rows server_rows rows bytes (length rules) laid rows_long in
+      let three = third_part places client_rows server_rows rows bytes (length rules) laid rows_long in
+      let four = fourth_part places client_rows server_rows rows bytes (length rules) laid rows_long in
+      let size = content_length places client_rows server_rows rows bytes (length rules) laid rows_long in
+      let starts = content_word places client_rows server_rows rows bytes (length rules) laid rows_long in
       record {
         begun = omega (arith, size, are.first, are.second, are.third, are.last);
-        kind = content_kind places client server rows bytes (length rules) are rows_long;
-        parts = every_part places client server rows bytes (length rules) are rows_long;
-        first = content_word places client server rows bytes (length rules) are rows_long 1 (omega arith);
-        last = content_word places client server rows bytes (length rules) are rows_long 5 (omega arith) ∙ ends_there;
+        kind = content_kind places client_rows server_rows rows bytes (length rules) laid rows_long;
+        parts = every_part places client_rows server_rows rows bytes (length rules) laid rows_long;
+        first = starts 1 (omega arith);
+        last = starts 5 (omega arith) ∙ ends_there;
         short = omega (arith, ends_there, are.short);
-        client = rw (one.is, four.is) clients;
-        server = rw (two.is, four.is) servers;
+        client =
+            trie_laid Client rules _ 0 6 places.bytes client bytes clients client_fits client_bytes
+            (starts 1 (omega arith)) (starts 4 (omega arith)) one four;
+        server =
+            trie_laid Server rules _ 1 (places.server / 8) places.bytes server bytes servers server_fits server_bytes
+            (starts 2 (omega arith) ∙ omega (arith, are.first)) (starts 4 (omega arith)) two four;
         stored =
             rw (three.is, four.is)
             record { spans = spans; stand = stand; are = refl; few = omega (arith, are.last, are.short) };
@@ -183,11 +283,13 @@ module _ (rules : List MappingRule) (spans : List Span) (client server bytes : L
       }
 
   -- and nothing follows it
-  pub content_whole : IsWholeImage rules (content places client server (rule_rows rules spans) bytes)
+  pub content_whole : IsWholeImage rules
+      (content places client_rows server_rows (rule_rows rules spans) bytes)
   content_whole = record {
     image = content_image;
     whole =
-        content_length places client server (rule_rows rules spans) bytes (length rules) are rows_long ∙ ends_there;
+        content_length places client_rows server_rows (rule_rows rules spans) bytes (length rules) laid rows_long
+        ∙ ends_there;
   }
 
 -- what was appended part by part

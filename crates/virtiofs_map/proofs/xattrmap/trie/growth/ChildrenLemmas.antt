@@ -82,11 +82,11 @@ module _ (most : ℕ) (patterns : List Pattern) (ready : AreReady most patterns)
   -- the child that the code makes has all the patterns with its byte
   pub cut_is : (kid : Part) (answer upto high : ℕ) → part.low ≤ upto → upto < high → high ≤ part.high
       → kid.low ≡ upto → kid.high ≡ high → kid.answer ≡ answer → kid.head ≡ get_or (text patterns upto) part.depth 0
-      → kid.depth ≡ part.depth + 1 + kid.length → kid.length < 65536
+      → kid.depth ≡ part.depth + 1 + kid.length → kid.length < 256
       → kid.depth ≤ length (text patterns upto)
       → (take (part.depth + 1) (text patterns upto) ≡ take (part.depth + 1) (text patterns (high - 1))
       → take kid.depth (text patterns upto) ≡ take kid.depth (text patterns (high - 1)))
-      → (kid.length < 65535 → kid.depth < length (text patterns upto) → kid.depth < length (text patterns (high - 1))
+      → (kid.length < 255 → kid.depth < length (text patterns upto) → kid.depth < length (text patterns (high - 1))
       → get_or (text patterns upto) kid.depth 0 ≢ get_or (text patterns (high - 1)) kid.depth 0)
       → ((i : ℕ) → upto ≤ i → i < high
       → get_or (text patterns i) part.depth 0 ≡ get_or (text patterns upto) part.depth 0)
@@ -110,10 +110,10 @@ module _ (most : ℕ) (patterns : List Pattern) (ready : AreReady most patterns)
             (subst (λ n. take (part.depth + 1) (text patterns upto) ≡ take (part.depth + 1) (text patterns (n - 1))
             → take kid.depth (text patterns upto) ≡ take kid.depth (text patterns (n - 1))) (sym is_high) same);
         stops = subst
-            (λ n. kid.length < 65535 → kid.depth < length (text patterns n)
+            (λ n. kid.length < 255 → kid.depth < length (text patterns n)
             → kid.depth < length (text patterns (kid.high - 1))
             → get_or (text patterns n) kid.depth 0 ≢ get_or (text patterns (kid.high - 1)) kid.depth 0) (sym is_low)
-            (subst (λ n. kid.length < 65535 → kid.depth < length (text patterns upto)
+            (subst (λ n. kid.length < 255 → kid.depth < length (text patterns upto)
             → kid.depth < length (text patterns (n - 1))
             → get_or (text patterns upto) kid.depth 0 ≢ get_or (text patterns (n - 1)) kid.depth 0) (sym is_high) stops);
         bytes = λ i a b. bytes i (omega (arith, a, is_low)) (omega (arith, b, is_high)) ∙ here;

@@ -17,11 +17,11 @@ pub record IsCut (patterns : List Pattern) (part kid : Part) (answer : ℕ) : Ty
   pub answered : kid.answer ≡ answer
   pub head : kid.head ≡ get_or (text patterns kid.low) part.depth 0
   pub depth : kid.depth ≡ part.depth + 1 + kid.length
-  pub size : kid.length < 65536
+  pub size : kid.length < 256
   pub long : kid.depth ≤ length (text patterns kid.low)
   pub same : take (part.depth + 1) (text patterns kid.low) ≡ take (part.depth + 1) (text patterns (kid.high - 1))
       → take kid.depth (text patterns kid.low) ≡ take kid.depth (text patterns (kid.high - 1))
-  pub stops : kid.length < 65535 → kid.depth < length (text patterns kid.low)
+  pub stops : kid.length < 255 → kid.depth < length (text patterns kid.low)
       → kid.depth < length (text patterns (kid.high - 1))
       → get_or (text patterns kid.low) kid.depth 0 ≢ get_or (text patterns (kid.high - 1)) kid.depth 0
   pub bytes : (i : ℕ) → kid.low ≤ i → i < kid.high

@@ -1,23 +1,114 @@
 -- Where the children of a branch stand, and what a step to one of them passes.
-use Rattle.std.proofs.Common.{◌≡◌, ◌≢◌, inl, inr, ℕ, ◌+◌, ◌-◌, ◌%◌, ◌<◌, ◌≤◌, Bool, true, false, List, ◌∷◌, length}
-use Rattle.std.proofs.Common.{slice_get, Some, None, sym, ap, ◌∙◌, subst, arith}
-use Rattle.std.proofs.lemmas.Bool.{cases_lt}
-use Rattle.std.proofs.lemmas.Option.{slice_get_within, slice_get-get_or}
-use Rattle.virtiofs_map.specs.BranchParts.{IsChild, IsReadable, IsSmall, LeadsNowhere, LeadsTo, StaysAt, label_of}
+use Rattle.std.proofs.Common.{◌≡◌, ◌≢◌, inl, inr, ℕ, zero, suc, ◌+◌, ◌-◌, ◌*◌, ◌%◌, ◌<◌, ◌≤◌, Bool, true, false, List}
+use Rattle.std.proofs.Common.{[], ◌∷◌, ◌++◌, length, take, drop, slice_get, Some, refl, sym, ap, ◌∙◌, subst, arith}
+use Rattle.std.proofs.Math.Seq.{take-append_seam}
+use Rattle.std.proofs.lemmas.Bool.{cases_Bool}
+use Rattle.std.proofs.lemmas.List.{drop-drop, drop-take, take-take}
+use Rattle.std.proofs.lemmas.Option.{slice_get_within, get_or_from_slice_get}
+use Rattle.virtiofs_map.specs.BranchParts.{HasBytes, HasBytesAt, HasRows, IsChild, IsReadable, IsRootRow, IsRow, IsSmallIn}
+use Rattle.virtiofs_map.specs.BranchParts.{LeadsNowhere, LeadsTo, StaysAt, label_of, placed, row_in}
 use Rattle.virtiofs_map.specs.FirstRule.{shared}
 use Rattle.virtiofs_map.specs.Names.{begins}
 use Rattle.virtiofs_map.specs.Steps.{count_after}
 use Rattle.virtiofs_map.specs.declared.xattrmap.trie.branch.Branch.{Branch}
+use Rattle.virtiofs_map.proofs.BeginsLemmas.{begins_split}
+use Rattle.virtiofs_map.proofs.ByteWordLemmas.{length-row_of, row_at}
+
+-- ---- rows
+
+-- what stands at a place of a part of some bytes
+inside : (xs : List ℕ) (start n i k : ℕ) → i + k ≤ n
+    → take k (drop i (take n (drop start xs))) ≡ take k (drop (start + i) xs)
+inside xs start n i k within =
+    let whole : i + (n - i) ≡ n = omega (arith, within) in
+    let less : k ≤ n - i = omega (arith, within) in
+    ap (λ m. take k (drop i (take m (drop start xs)))) (sym whole)
+    ∙ ap (take k) (drop-take i (n - i) (drop start xs))
+    ∙ take-take k (n - i) (drop i (drop start xs)) less
+    ∙ ap (take k) (drop-drop i start xs)
+
+module _ (image : List ℕ) (first labels : ℕ) (branches : List Branch) (has : HasRows image first labels branches) where
+  -- the row of the branch at a place
+  pub row_there : (at : ℕ) (branch : Branch) → slice_get branches at ≡ Some branch
+      → (8 * first + at * 24 + 24 ≤ length image)
+      × IsRow first labels branch (take 24 (drop (8 * first + at * 24) image))
+  row_there at branch here =
+      let below = slice_get_within branches at branch here in
+      let is = get_or_from_slice_get branches at branch branch here in
+      let within = has.within in
+      let bytes = subst HasBytes is (has.bytes at branch below) in (
+        omega (arith, below, within),
+        record {
+          is = sym (inside image (8 * first) (24 * length branches) (at * 24) 24 (omega (arith, below)))
+              ∙ ap (λ (l : List ℕ). take 24 (drop (at * 24) l)) has.are
+              ∙ row_at (row_in first labels) (λ one. length-row_of (placed first labels one)) branches at branch below
+              ∙ ap (row_in first labels) is;
+          small = subst (IsSmallIn first labels) is (has.small at branch below);
+          bytes = record { low = bytes.low; head = bytes.head };
+        },
+      )
+
+  -- a branch below the count of them is there
+  pub there_is_one : (xs : List Branch) (at : ℕ) → at < length xs → (x : Branch) × (slice_get xs at ≡ Some x)
+  there_is_one [] at below = absurd (omega (arith, below))
+  there_is_one (x ∷ xs) zero below = (x, refl)
+  there_is_one (x ∷ xs) (suc at) below = there_is_one xs at (omega (arith, below))
+
+  -- the row of the root
+  pub root_there : (root : ℕ) → root ≡ 8 * first → 0 < length branches
+      → IsRootRow first labels branches (take 24 (drop root image))
+  root_there root is some =
+      let there = there_is_one branches 0 some in
+      let row = row_there 0 there.0 there.1 in
+      let same : 8 * first + 0 * 24 ≡ root = omega (arith, is) in
+      record {
+        branch = there.0;
+        here = there.1;
+        is = subst (λ n. IsRow first labels there.0 (take 24 (drop n image))) same row.1;
+      }
+
+  -- the row that stands so many places behind the first child of a branch
+  pub child_there : (parent : Branch) (bytes : List ℕ) (start behind place : ℕ) → IsReadable branches bytes parent
+      → behind < parent.width → start ≡ first + 3 * parent.first → place ≡ 8 * (start + 3 * behind)
+      → (child : Branch) × (slice_get branches (parent.first + behind) ≡ Some child) × (place + 24 ≤ length image)
+      × IsRow first labels child (take 24 (drop place image))
+  child_there parent bytes start behind place readable below is_start is_place =
+      let within = readable.within in
+      let there = there_is_one branches (parent.first + behind) (omega (arith, within, below)) in
+      let row = row_there (parent.first + behind) there.0 there.1 in
+      let same : 8 * first + (parent.first + behind) * 24 ≡ place = omega (arith, is_start, is_place) in (
+        there.0,
+        there.1,
+        (let long = row.0 in omega (arith, long, same)),
+        subst (λ n. IsRow first labels there.0 (take 24 (drop n image))) same row.1,
+      )
+
+-- the label of a branch stands in the image at its place there
+pub label_there : (image bytes : List ℕ) (labels : ℕ) (branch : Branch) (from count : ℕ)
+    → HasBytesAt image labels bytes → branch.label + branch.length ≤ length bytes
+    → from ≡ labels + branch.label → count ≡ branch.length
+    → (from + count ≤ length image) × (take count (drop from image) ≡ label_of bytes branch)
+label_there image bytes labels branch from count has within is_from is_count =
+    let whole = has.within in (
+      omega (arith, whole, within, is_from, is_count),
+      ap (λ n. take n (drop from image)) is_count
+          ∙ ap (λ n. take branch.length (drop n image)) is_from
+          ∙ sym (inside image labels (length bytes) branch.label branch.length within)
+          ∙ ap (λ (l : List ℕ). take branch.length (drop branch.label l)) has.are,
+    )
+
+-- a row that begins with a label, and one that does not
+pub unlike_label : (label row : List ℕ) (count : ℕ) → length label ≡ count → (take count row ≡ label → ⊥)
+    → begins label row ≡ false
+unlike_label label row count size differ = elim (cases_Bool (begins label row)) [
+  | inl starts ↦
+      absurd (differ (ap (take count) (begins_split label row starts)
+      ∙ subst (λ n. take n (label ++ drop (length label) row) ≡ label) size
+      (take-append_seam label (drop (length label) row))))
+  | inr other ↦ other
+]
 
 -- ---- places
-
--- the places of children are small numbers
-pub place_fits : (parent : Branch) (behind : ℕ) → IsSmall parent → behind < parent.width
-    → (parent.first + behind) % 18446744073709551616 ≡ parent.first + behind
-place_fits parent behind small below =
-    let first = small.first in
-    let width = small.width in
-    omega (arith, first, width, below)
 
 module _ (branches : List Branch) (bytes : List ℕ) (parent : Branch) (byte : ℕ)
     (readable : IsReadable branches bytes parent) where
@@ -49,49 +140,42 @@ module _ (branches : List Branch) (bytes : List ℕ) (parent : Branch) (byte : �
         let below = leads.below in
         omega (arith, place, below, past)
 
-    there_is : behind < parent.width → (at : ℕ) (child : Branch) → IsChild branches parent byte at child
-        → slice_get branches ((parent.first + behind) % 18446744073709551616) ≡ Some child
-    there_is below at child leads =
-        ap (slice_get branches)
-        (place_fits parent behind readable.small below ∙ sym (slot_of at behind child flat fits far leads))
-        ∙ leads.here
-
-    pub empty_slot : behind < parent.width → slice_get branches ((parent.first + behind) % 18446744073709551616) ≡ None
+    pub other_slot : (other : Branch) → slice_get branches (parent.first + behind) ≡ Some other → other.head ≢ byte
         → LeadsNowhere branches parent byte
-    empty_slot below none at child leads = let found = there_is below at child leads in absurd (cc)
-
-    pub other_slot : (other : Branch) → behind < parent.width
-        → slice_get branches ((parent.first + behind) % 18446744073709551616) ≡ Some other → other.head ≢ byte
-        → LeadsNowhere branches parent byte
-    other_slot other below read unlike at child leads =
-        let found = there_is below at child leads in
+    other_slot other read unlike at child leads =
+        let found = ap (slice_get branches) (sym (slot_of at behind child flat fits far leads)) ∙ leads.here in
         let same : Some other ≡ Some child = sym read ∙ found in
         let head = leads.head in
         unlike (cc)
 
-  -- among scattered children, a place that has none is behind all of them
-  pub nowhere : (count : ℕ)
+    pub in_slot : (child : Branch) → behind < parent.width → slice_get branches (parent.first + behind) ≡ Some child
+        → child.head ≡ byte → LeadsTo branches parent byte child
+    in_slot child below here head =
+        let slots = readable.placed flat (omega (arith, below)) in
+        let low = slots.low in
+        let high = slots.high in
+        record {
+          place = parent.first + behind;
+          leads = record {
+            from = omega arith;
+            below = omega (arith, below);
+            here = here;
+            head = head;
+            real = λ none. absurd (omega (arith, none, low, high, below, far));
+          };
+        }
+
+  -- none of the places of scattered children has the byte
+  pub nowhere : (count : ℕ) → parent.width ≤ count
       → ((k : ℕ) (child : Branch) → k < count → slice_get branches (parent.first + k) ≡ Some child → child.head ≡ byte
       → ⊥)
-      → ((at : ℕ) (child : Branch) → slice_get branches at ≡ Some child → at < parent.first + parent.width
-      → at < parent.first + count)
       → LeadsNowhere branches parent byte
-  nowhere count none before at child leads =
+  nowhere count all none at child leads =
       let from = leads.from in
-      let below = before at child leads.here leads.below in
+      let below = leads.below in
       let there : parent.first + (at - parent.first) ≡ at = omega (arith, from) in
-      none (at - parent.first) child (omega (arith, from, below)) (ap (slice_get branches) there ∙ leads.here)
+      none (at - parent.first) child (omega (arith, from, below, all)) (ap (slice_get branches) there ∙ leads.here)
       leads.head
-
--- what stands somewhere stands before a place where nothing does
-pub before_none : (branches : List Branch) (at place : ℕ) (child : Branch) → slice_get branches at ≡ Some child
-    → slice_get branches place ≡ None → at < place
-before_none branches at place child here none =
-    let within = slice_get_within branches at child here in
-    elim (cases_lt place (length branches)) [
-      | inl low ↦ absurd (let there = slice_get-get_or branches place child low in cc)
-      | inr high ↦ omega (arith, within, high)
-    ]
 
 -- ---- no step
 

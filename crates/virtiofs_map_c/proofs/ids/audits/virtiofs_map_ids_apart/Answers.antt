@@ -1,4 +1,4 @@
-use Rattle.virtiofs_map.specs.IdAudit.{GoesInto, ReachedBy, AreIdsApart}
+use Rattle.virtiofs_id_audit.specs.IdAudit.{GoesInto, ReachedBy, AreIdsApart}
 use Rattle.virtiofs_map_c.specs.IdsFound.{IsMeetingTold}
 use Rattle.virtiofs_map_c.specs.Makes.{IsAccepted}
 use Rattle.virtiofs_map_c.proofs.IdsFoundLemmas.{pair_told, pair_yes, pair_no_fault, pair_complete, pair_faulty}

@@ -1,4 +1,4 @@
-use Rattle.virtiofs_map.specs.IdAudit.{IsShared, IsAlone}
+use Rattle.virtiofs_id_audit.specs.IdAudit.{IsShared, IsAlone}
 use Rattle.virtiofs_map_c.specs.IdsFound.{IsSharedTold}
 use Rattle.virtiofs_map_c.proofs.ArraysLemmas.{IsAccepted-no_fault, array_complete, array_faulty}
 use Rattle.virtiofs_map_c.proofs.IdsFoundLemmas.{audit_told, audit_yes}

@@ -1,4 +1,4 @@
-use Rattle.virtiofs_map.specs.IdAudit.{GoesInto, Between}
+use Rattle.virtiofs_id_audit.specs.IdAudit.{GoesInto, Between}
 use Rattle.virtiofs_map_c.specs.IdsFound.{IsReachTold}
 use Rattle.virtiofs_map_c.proofs.ArraysLemmas.{IsAccepted-no_fault, array_complete, array_faulty}
 use Rattle.virtiofs_map_c.proofs.IdsFoundLemmas.{reach_told}

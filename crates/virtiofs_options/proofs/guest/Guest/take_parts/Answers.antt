@@ -21,5 +21,4 @@ returns g c =
       groups = then.groups;
       user_ranges = then.user_ranges;
       group_ranges = then.group_ranges;
-      runner = then.runner;
     })

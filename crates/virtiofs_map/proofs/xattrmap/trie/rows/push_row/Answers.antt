@@ -6,10 +6,10 @@ use Rattle.virtiofs_map.proofs.xattrmap.trie.rows.push_row.Goals.{then-branch, e
 
 pub returns-clause-row : goal.returns-clause-row
 returns-clause-row g c =
-    let flag : c.if-branch.flag ≡ (if c.args.branch.scattered then 32768 else 0) =
+    let flag : c.if-branch.flag ≡ (if c.args.branch.scattered then 140737488355328 else 0) =
     elim c.if-branch.branch [
-      | then-branch w ↦ w.flag-is ∙ ap (λ b. if b then 32768 else 0) (sym w.if-branch.true)
-      | else-branch w ↦ w.flag-is ∙ ap (λ b. if b then 32768 else 0) (sym w.if-branch.false)
+      | then-branch w ↦ w.flag-is ∙ ap (λ b. if b then 140737488355328 else 0) (sym w.if-branch.true)
+      | else-branch w ↦ w.flag-is ∙ ap (λ b. if b then 140737488355328 else 0) (sym w.if-branch.false)
     ] in
     let first = c.in_ok-push_word.ensures in
     let second = c.in_ok-push_word-2.ensures in

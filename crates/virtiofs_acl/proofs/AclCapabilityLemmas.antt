@@ -1,0 +1,263 @@
+-- Capabilities: their first fault is one, one that goes across has none, and under `map` specifications it comes back.
+use Rattle.std.proofs.Common.{◌≡◌, ◌≢◌, inl, inr, ℕ, ◌+◌, ◌<◌, ◌≤◌, List, length, get_or, Some, refl, sym, ap, ◌∙◌}
+use Rattle.std.proofs.Common.{arith}
+use Rattle.std.proofs.lemmas.Bool.{cases_lt}
+use Rattle.std.proofs.lemmas.List.{ext_get_or, get_or_past}
+use Rattle.virtiofs_acl.specs.AclLaws.{AreBytes}
+use Rattle.virtiofs_acl.specs.Capability.{revision_of, IsRevision, HasSize, root_of, IsSized, RootBecomes, KeepsFront}
+use Rattle.virtiofs_acl.specs.Capability.{HasRoot, RootGoesAcross, HasRootFault, HasCapabilityFault, RootComesBack}
+use Rattle.virtiofs_acl.specs.CapabilityParts.{IsFaultOfAny}
+use Rattle.virtiofs_acl.specs.declared.errors.CapabilityError.{CapabilityError}
+use Rattle.virtiofs_acl.specs.declared.errors.CapabilityError.TheVariants.{TooShort, Revision, Length, NoId}
+use Rattle.virtiofs_acl.specs.declared.errors.CapabilityError.TheVariants.{Forbidden, RootMoves}
+use Rattle.virtiofs_map.specs.Build.{Accepted}
+use Rattle.virtiofs_map.specs.Mapping.{Becomes}
+use Rattle.virtiofs_map.specs.MappingLaws.{IsMappedBothWays, opposite}
+use Rattle.virtiofs_map.specs.declared.cmdline.IdMap.{IdMap}
+use Rattle.virtiofs_map.specs.declared.soft_idmap.entry.Direction.{Direction}
+use Rattle.virtiofs_acl.proofs.AclLawLemmas.{same_byte}
+use Rattle.virtiofs_map.proofs.ForCallers.{Becomes-one, Becomes-forbidden, LeadsBack-mapped}
+use Rattle.virtiofs_map.proofs.ForCallers.{KeepsGreatest-accepted}
+
+-- a fault of the value itself is one whatever the map is
+pub HasRootFault-any : (users : List IdMap) (direction : Direction) (value : List ℕ) (error : CapabilityError)
+    → IsFaultOfAny value error → HasRootFault users direction value error
+HasRootFault-any users direction value TooShort fault = fault users direction
+HasRootFault-any users direction value (Revision revision) fault = fault users direction
+HasRootFault-any users direction value Length fault = fault users direction
+HasRootFault-any users direction value NoId fault = fault users direction
+HasRootFault-any users direction value Forbidden fault = absurd fault
+HasRootFault-any users direction value RootMoves fault = absurd fault
+
+pub stays-any : (value : List ℕ) (error : CapabilityError) → IsFaultOfAny value error → error ≢ RootMoves
+stays-any value TooShort fault moves = absurd (cc)
+stays-any value (Revision revision) fault moves = absurd (cc)
+stays-any value Length fault moves = absurd (cc)
+stays-any value NoId fault moves = absurd (cc)
+stays-any value Forbidden fault moves = fault
+stays-any value RootMoves fault moves = fault
+
+-- one that no revision 3 mends is a fault in place too
+pub HasCapabilityFault-root : (users : List IdMap) (direction : Direction) (value : List ℕ) (error : CapabilityError)
+    → HasRootFault users direction value error → HasCapabilityFault users direction value error
+HasCapabilityFault-root users direction value TooShort fault = fault
+HasCapabilityFault-root users direction value (Revision revision) fault = fault
+HasCapabilityFault-root users direction value Length fault = fault
+HasCapabilityFault-root users direction value NoId fault = fault
+HasCapabilityFault-root users direction value Forbidden fault = fault
+HasCapabilityFault-root users direction value RootMoves fault = absurd fault
+
+-- ---- values without a field for root
+
+HasSize-revision : (revision size : ℕ) → HasSize revision size → IsRevision revision
+HasSize-revision revision size (inl one) = inl one.0
+HasSize-revision revision size (inr (inl two)) = inr (inl two.0)
+HasSize-revision revision size (inr (inr three)) = inr (inr three.0)
+
+-- past the end of a list is 0
+pub root_of-none : (value : List ℕ) → length value ≤ 20 → root_of value ≡ 0
+root_of-none value ends =
+    let a : get_or value 20 0 ≡ 0 = get_or_past value 20 0 (omega arith) in
+    let b : get_or value (20 + 1) 0 ≡ 0 = get_or_past value (20 + 1) 0 (omega arith) in
+    let c : get_or value (20 + 2) 0 ≡ 0 = get_or_past value (20 + 2) 0 (omega arith) in
+    let d : get_or value (20 + 2 + 1) 0 ≡ 0 = get_or_past value (20 + 2 + 1) 0 (omega arith) in
+    omega arith
+
+-- revisions 1 and 2 have no field
+no_field : (revision size : ℕ) → HasSize revision size → revision ≢ 3 → size ≤ 20
+no_field revision size (inl one) other = omega arith
+no_field revision size (inr (inl two)) other = omega arith
+no_field revision size (inr (inr three)) other = absurd (other three.0)
+
+-- revision 3 has one
+pub with_field : (revision size : ℕ) → HasSize revision size → size ≡ 24 → revision ≡ 3
+with_field revision size (inl one) whole = absurd (omega (arith, one.1))
+with_field revision size (inr (inl two)) whole = absurd (omega (arith, two.1))
+with_field revision size (inr (inr three)) whole = three.0
+
+pub without_field : (revision size : ℕ) → HasSize revision size → size ≢ 24 → size ≤ 20
+without_field revision size (inl one) other = omega arith
+without_field revision size (inr (inl two)) other = omega arith
+without_field revision size (inr (inr three)) other = absurd (other three.1)
+
+-- a value that is not as long is of another revision
+pub other_revision : (revision size : ℕ) → HasSize revision size → size ≢ 24 → revision ≢ 3
+other_revision revision size (inl one) other three = omega (arith, one.0)
+other_revision revision size (inr (inl two)) other three = omega (arith, two.0)
+other_revision revision size (inr (inr three)) other is = other three.1
+
+pub root_of-zero : (value : List ℕ) → IsSized value → revision_of value ≢ 3 → root_of value ≡ 0
+root_of-zero value sized other = root_of-none value (no_field _ _ sized.sized other)
+
+-- ---- faults
+
+forbidden_moves : (users : List IdMap) (direction : Direction) (value : List ℕ) → Accepted users
+    → HasCapabilityFault users direction value Forbidden → HasCapabilityFault users direction value RootMoves → ⊥
+forbidden_moves users direction value accepted forbidden moves =
+    let none : root_of value ≡ 0 = root_of-zero value forbidden.0.sized moves.1 in
+    Becomes-forbidden users direction 0 moves.2.0 accepted moves.2.1 (rw none at forbidden.1)
+
+pub HasCapabilityFault-one : (users : List IdMap) (direction : Direction) (value : List ℕ)
+    (error other : CapabilityError) → Accepted users → HasCapabilityFault users direction value error
+    → HasCapabilityFault users direction value other → error ≡ other
+HasCapabilityFault-one users direction value TooShort TooShort accepted first second = refl
+HasCapabilityFault-one users direction value TooShort (Revision found) accepted first second =
+    absurd (omega (arith, second.0))
+HasCapabilityFault-one users direction value TooShort Length accepted first second = absurd (omega (arith, second.0))
+HasCapabilityFault-one users direction value TooShort NoId accepted first second = absurd (omega (arith, second.0.word))
+HasCapabilityFault-one users direction value TooShort Forbidden accepted first second =
+    absurd (omega (arith, second.0.sized.word))
+HasCapabilityFault-one users direction value TooShort RootMoves accepted first second =
+    absurd (omega (arith, second.0.sized.word))
+HasCapabilityFault-one users direction value (Revision revision) TooShort accepted first second =
+    absurd (omega (arith, first.0))
+HasCapabilityFault-one users direction value (Revision revision) (Revision found) accepted first second =
+    ap (λ (n : ℕ). Revision n) (first.1 ∙ sym second.1)
+HasCapabilityFault-one users direction value (Revision revision) Length accepted first second =
+    absurd (first.2 (rw first.1 second.1))
+HasCapabilityFault-one users direction value (Revision revision) NoId accepted first second =
+    absurd (first.2 (rw first.1 (HasSize-revision _ _ second.0.sized)))
+HasCapabilityFault-one users direction value (Revision revision) Forbidden accepted first second =
+    absurd (first.2 (rw first.1 (HasSize-revision _ _ second.0.sized.sized)))
+HasCapabilityFault-one users direction value (Revision revision) RootMoves accepted first second =
+    absurd (first.2 (rw first.1 (HasSize-revision _ _ second.0.sized.sized)))
+HasCapabilityFault-one users direction value Length TooShort accepted first second = absurd (omega (arith, first.0))
+HasCapabilityFault-one users direction value Length (Revision found) accepted first second =
+    absurd (second.2 (rw second.1 first.1))
+HasCapabilityFault-one users direction value Length Length accepted first second = refl
+HasCapabilityFault-one users direction value Length NoId accepted first second = absurd (first.2 second.0.sized)
+HasCapabilityFault-one users direction value Length Forbidden accepted first second =
+    absurd (first.2 second.0.sized.sized)
+HasCapabilityFault-one users direction value Length RootMoves accepted first second =
+    absurd (first.2 second.0.sized.sized)
+HasCapabilityFault-one users direction value NoId TooShort accepted first second = absurd (omega (arith, first.0.word))
+HasCapabilityFault-one users direction value NoId (Revision found) accepted first second =
+    absurd (second.2 (rw second.1 (HasSize-revision _ _ first.0.sized)))
+HasCapabilityFault-one users direction value NoId Length accepted first second = absurd (second.2 first.0.sized)
+HasCapabilityFault-one users direction value NoId NoId accepted first second = refl
+HasCapabilityFault-one users direction value NoId Forbidden accepted first second = absurd (second.0.is_id first.1)
+HasCapabilityFault-one users direction value NoId RootMoves accepted first second = absurd (second.0.is_id first.1)
+HasCapabilityFault-one users direction value Forbidden TooShort accepted first second =
+    absurd (omega (arith, first.0.sized.word))
+HasCapabilityFault-one users direction value Forbidden (Revision found) accepted first second =
+    absurd (second.2 (rw second.1 (HasSize-revision _ _ first.0.sized.sized)))
+HasCapabilityFault-one users direction value Forbidden Length accepted first second =
+    absurd (second.2 first.0.sized.sized)
+HasCapabilityFault-one users direction value Forbidden NoId accepted first second = absurd (first.0.is_id second.1)
+HasCapabilityFault-one users direction value Forbidden Forbidden accepted first second = refl
+HasCapabilityFault-one users direction value Forbidden RootMoves accepted first second =
+    absurd (forbidden_moves users direction value accepted first second)
+HasCapabilityFault-one users direction value RootMoves TooShort accepted first second =
+    absurd (omega (arith, first.0.sized.word))
+HasCapabilityFault-one users direction value RootMoves (Revision found) accepted first second =
+    absurd (second.2 (rw second.1 (HasSize-revision _ _ first.0.sized.sized)))
+HasCapabilityFault-one users direction value RootMoves Length accepted first second =
+    absurd (second.2 first.0.sized.sized)
+HasCapabilityFault-one users direction value RootMoves NoId accepted first second = absurd (first.0.is_id second.1)
+HasCapabilityFault-one users direction value RootMoves Forbidden accepted first second =
+    absurd (forbidden_moves users direction value accepted second first)
+HasCapabilityFault-one users direction value RootMoves RootMoves accepted first second = refl
+
+pub HasRootFault-one : (users : List IdMap) (direction : Direction) (value : List ℕ) (error other : CapabilityError)
+    → Accepted users → HasRootFault users direction value error → HasRootFault users direction value other
+    → error ≡ other
+HasRootFault-one users direction value error other accepted first second =
+    HasCapabilityFault-one users direction value error other accepted
+    (HasCapabilityFault-root users direction value error first)
+    (HasCapabilityFault-root users direction value other second)
+
+pub HasRoot-no_fault : (users : List IdMap) (direction : Direction) (value : List ℕ) (error : CapabilityError)
+    → Accepted users → HasRoot users direction value → ¬ HasRootFault users direction value error
+HasRoot-no_fault users direction value TooShort accepted has fault = omega (arith, has.capability.sized.word)
+HasRoot-no_fault users direction value (Revision revision) accepted has fault =
+    fault.2 (rw fault.1 (HasSize-revision _ _ has.capability.sized.sized))
+HasRoot-no_fault users direction value Length accepted has fault = fault.2 has.capability.sized.sized
+HasRoot-no_fault users direction value NoId accepted has fault = has.capability.is_id fault.1
+HasRoot-no_fault users direction value Forbidden accepted has fault =
+    Becomes-forbidden users direction (root_of value) has.root accepted has.becomes fault.1
+HasRoot-no_fault users direction value RootMoves accepted has fault = fault
+
+-- root cannot both stay 0 and move
+stays_moves : (users : List IdMap) (direction : Direction) (value : List ℕ) → Accepted users
+    → RootGoesAcross users direction value → ¬ HasCapabilityFault users direction value RootMoves
+stays_moves users direction value accepted goes fault =
+    fault.2.2 (Becomes-one users direction 0 fault.2.0 0 accepted fault.2.1 (goes.stays fault.1))
+
+pub RootGoesAcross-no_fault : (users : List IdMap) (direction : Direction) (value : List ℕ) (error : CapabilityError)
+    → Accepted users → RootGoesAcross users direction value → ¬ HasCapabilityFault users direction value error
+RootGoesAcross-no_fault users direction value TooShort accepted goes fault =
+    HasRoot-no_fault users direction value TooShort accepted goes.has_root fault
+RootGoesAcross-no_fault users direction value (Revision revision) accepted goes fault =
+    HasRoot-no_fault users direction value (Revision revision) accepted goes.has_root fault
+RootGoesAcross-no_fault users direction value Length accepted goes fault =
+    HasRoot-no_fault users direction value Length accepted goes.has_root fault
+RootGoesAcross-no_fault users direction value NoId accepted goes fault =
+    HasRoot-no_fault users direction value NoId accepted goes.has_root fault
+RootGoesAcross-no_fault users direction value Forbidden accepted goes fault =
+    HasRoot-no_fault users direction value Forbidden accepted goes.has_root fault
+RootGoesAcross-no_fault users direction value RootMoves accepted goes fault =
+    stays_moves users direction value accepted goes fault
+
+-- ---- and back
+
+root_back : (users : List IdMap) (direction : Direction) (old new : List ℕ) → Accepted users
+    → RootBecomes users direction old new → IsMappedBothWays users direction (root_of old)
+    → Becomes users (opposite direction) (root_of new) (Some (root_of old))
+root_back users direction old new accepted becomes mapped =
+    LeadsBack-mapped users direction (root_of old) (Some (root_of new)) accepted mapped becomes
+
+goes_back : (users : List IdMap) (direction : Direction) (old new : List ℕ) → Accepted users
+    → RootBecomes users direction old new → KeepsFront old new → RootGoesAcross users direction old
+    → IsMappedBothWays users direction (root_of old) → RootGoesAcross users (opposite direction) new
+goes_back users direction old new accepted becomes front goes mapped =
+    let revision : revision_of new ≡ revision_of old = front.front 3 (omega arith) in
+    let sized : IsSized new = record {
+      word = rw front.size goes.has_root.capability.sized.word;
+      sized = rw (revision, front.size) goes.has_root.capability.sized.sized;
+    } in
+    let back = root_back users direction old new accepted becomes mapped in
+    record {
+      has_root = record {
+        capability = record {
+          sized = sized;
+          is_id = λ greatest. goes.has_root.capability.is_id
+              (Becomes-one users (opposite direction) 4294967295 (root_of old) 4294967295 accepted (rw greatest at back)
+              (KeepsGreatest-accepted users accepted (opposite direction)));
+        };
+        root = root_of old;
+        becomes = back;
+      };
+      stays = λ other.
+          let new_zero : root_of new ≡ 0 = root_of-zero new sized other in
+          let old_zero : root_of old ≡ 0 =
+          root_of-zero old goes.has_root.capability.sized (λ three. other (revision ∙ three)) in
+          rw (new_zero, old_zero) at back;
+    }
+
+-- the bytes of revision 3 that hold root
+byte_back : (old back : List ℕ) (place : ℕ) → IsSized old → AreBytes old → AreBytes back → length back ≡ length old
+    → root_of back ≡ root_of old → 20 ≤ place → place < length back → get_or back place 0 ≡ get_or old place 0
+byte_back old back place sized old_bytes back_bytes size root from below =
+    let whole : length old ≡ 24 = long (length old) sized.sized (omega arith) in
+    same_byte old back 20 place old_bytes back_bytes (omega arith) size root from (omega arith) where
+      long : (n : ℕ) → HasSize (revision_of old) n → 20 < n → n ≡ 24
+      long n (inl one) more = absurd (omega (arith, one.1))
+      long n (inr (inl two)) more = absurd (omega (arith, two.1))
+      long n (inr (inr three)) more = three.1
+
+pub RootComesBack-mapped : (users : List IdMap) (direction : Direction) (old new : List ℕ) → Accepted users
+    → AreBytes old → RootBecomes users direction old new → KeepsFront old new → RootGoesAcross users direction old
+    → IsMappedBothWays users direction (root_of old) → RootComesBack users direction old new
+RootComesBack-mapped users direction old new accepted old_bytes becomes front goes mapped = record {
+  goes = goes_back users direction old new accepted becomes front goes mapped;
+  same = λ back back_bytes back_becomes back_front.
+      let root : root_of back ≡ root_of old =
+      Becomes-one users (opposite direction) (root_of new) (root_of back) (root_of old) accepted back_becomes
+      (root_back users direction old new accepted becomes mapped) in
+      let size : length back ≡ length old = back_front.size ∙ front.size in
+      ext_get_or 0 back old size (λ place below.
+      elim (cases_lt place 20) [
+        | inl in_front ↦ back_front.front place in_front ∙ front.front place in_front
+        | inr from ↦ byte_back old back place goes.has_root.capability.sized old_bytes back_bytes size root from below
+      ]);
+}

@@ -1,0 +1,250 @@
+-- The first fault of a list: it is one, and a list that goes across has none.
+use Rattle.std.proofs.Common.{◌≡◌, ◌⊎◌, inl, inr, ℕ, ◌≤◌, List, refl, sym, ap, ◌∙◌, subst, arith}
+use Rattle.std.proofs.lemmas.Bool.{cases_order}
+use Rattle.virtiofs_acl.specs.Acl.{entry_count, tag_of, id_of, IsTag, HasId, IsWhole, IsSound, AllSound, GoesAcross}
+use Rattle.virtiofs_acl.specs.Acl.{IsEntryFault, IsFirstUnsound, IsFirstMerged, HasAclFault}
+use Rattle.virtiofs_acl.specs.AclParts.{IsSizeFault, IsUnsoundBelow}
+use Rattle.virtiofs_acl.specs.declared.errors.AclError.{AclError}
+use Rattle.virtiofs_acl.specs.declared.errors.AclError.TheVariants.{TooShort, Version, Length, Room, Entry}
+use Rattle.virtiofs_acl.specs.declared.errors.EntryFault.{EntryFault}
+use Rattle.virtiofs_acl.specs.declared.errors.EntryFault.TheVariants.{UnknownTag, Permission, NoId, Forbidden}
+use Rattle.virtiofs_acl.specs.declared.errors.EntryFault.TheVariants.{Merges}
+use Rattle.virtiofs_map.specs.Build.{Accepted}
+use Rattle.virtiofs_map.specs.declared.cmdline.IdMap.{IdMap}
+use Rattle.virtiofs_map.specs.declared.soft_idmap.entry.Direction.{Direction}
+use Rattle.virtiofs_acl.proofs.AclMergeLemmas.{Accepted-for}
+use Rattle.virtiofs_map.proofs.ForCallers.{Becomes-forbidden}
+
+-- a fault of the sizes is one whatever the maps are
+pub HasAclFault-size : (users groups : List IdMap) (direction : Direction) (room : ℕ) (value : List ℕ)
+    (error : AclError) → IsSizeFault room value error → HasAclFault users groups direction room value error
+HasAclFault-size users groups direction room value TooShort fault = fault users groups direction
+HasAclFault-size users groups direction room value (Version version) fault = fault users groups direction
+HasAclFault-size users groups direction room value Length fault = fault users groups direction
+HasAclFault-size users groups direction room value (Room needed) fault = fault users groups direction
+HasAclFault-size users groups direction room value (Entry k wrong) fault = absurd fault
+
+-- the first entry that is not sound is one, once the sizes are right
+pub HasAclFault-unsound_below : (users groups : List IdMap) (direction : Direction) (room : ℕ) (value : List ℕ)
+    (error : AclError) → IsWhole value → entry_count value ≤ room
+    → IsUnsoundBelow users groups direction value (entry_count value) error
+    → HasAclFault users groups direction room value error
+HasAclFault-unsound_below users groups direction room value TooShort whole fits wrong = absurd wrong
+HasAclFault-unsound_below users groups direction room value (Version version) whole fits wrong = absurd wrong
+HasAclFault-unsound_below users groups direction room value Length whole fits wrong = absurd wrong
+HasAclFault-unsound_below users groups direction room value (Room needed) whole fits wrong = absurd wrong
+HasAclFault-unsound_below users groups direction room value (Entry k UnknownTag) whole fits wrong =
+    record { whole = whole; fits = fits; is_entry = wrong.0; before = wrong.1; wrong = wrong.2 }
+HasAclFault-unsound_below users groups direction room value (Entry k Permission) whole fits wrong =
+    record { whole = whole; fits = fits; is_entry = wrong.0; before = wrong.1; wrong = wrong.2 }
+HasAclFault-unsound_below users groups direction room value (Entry k NoId) whole fits wrong =
+    record { whole = whole; fits = fits; is_entry = wrong.0; before = wrong.1; wrong = wrong.2 }
+HasAclFault-unsound_below users groups direction room value (Entry k Forbidden) whole fits wrong =
+    record { whole = whole; fits = fits; is_entry = wrong.0; before = wrong.1; wrong = wrong.2 }
+HasAclFault-unsound_below users groups direction room value (Entry k Merges) whole fits wrong = absurd wrong.2
+
+-- ---- of an entry by itself
+
+-- an entry with an id has a tag
+HasId-tag : (tag : ℕ) → HasId tag → IsTag tag
+HasId-tag tag (inl user) = inr (inl user)
+HasId-tag tag (inr group) = inr (inr (inr (inl group)))
+
+-- a sound entry has no fault
+IsSound-no_fault : (users groups : List IdMap) (direction : Direction) (value : List ℕ) (k : ℕ) (fault : EntryFault)
+    → Accepted users → Accepted groups → IsSound users groups direction value k
+    → ¬ IsEntryFault users groups direction value k fault
+IsSound-no_fault users groups direction value k UnknownTag users_accepted groups_accepted sound wrong =
+    wrong sound.known
+IsSound-no_fault users groups direction value k Permission users_accepted groups_accepted sound wrong =
+    omega (arith, wrong.1, sound.permitted)
+IsSound-no_fault users groups direction value k NoId users_accepted groups_accepted sound wrong =
+    sound.is_id wrong.0 wrong.2
+IsSound-no_fault users groups direction value k Forbidden users_accepted groups_accepted sound wrong =
+    Becomes-forbidden _ direction (id_of value k) (sound.goes wrong.0).0
+    (Accepted-for users groups (tag_of value k) users_accepted groups_accepted) (sound.goes wrong.0).1 wrong.3
+IsSound-no_fault users groups direction value k Merges users_accepted groups_accepted sound wrong = wrong
+
+-- an entry has one fault by itself at most
+IsEntryFault-one : (users groups : List IdMap) (direction : Direction) (value : List ℕ) (k : ℕ)
+    (fault other : EntryFault) → IsEntryFault users groups direction value k fault
+    → IsEntryFault users groups direction value k other → fault ≡ other
+IsEntryFault-one users groups direction value k UnknownTag UnknownTag first second = refl
+IsEntryFault-one users groups direction value k UnknownTag Permission first second = absurd (first second.0)
+IsEntryFault-one users groups direction value k UnknownTag NoId first second = absurd (first (HasId-tag _ second.0))
+IsEntryFault-one users groups direction value k UnknownTag Forbidden first second =
+    absurd (first (HasId-tag _ second.0))
+IsEntryFault-one users groups direction value k Permission UnknownTag first second = absurd (second first.0)
+IsEntryFault-one users groups direction value k Permission Permission first second = refl
+IsEntryFault-one users groups direction value k Permission NoId first second = absurd (omega (arith, first.1, second.1))
+IsEntryFault-one users groups direction value k Permission Forbidden first second =
+    absurd (omega (arith, first.1, second.1))
+IsEntryFault-one users groups direction value k NoId UnknownTag first second = absurd (second (HasId-tag _ first.0))
+IsEntryFault-one users groups direction value k NoId Permission first second = absurd (omega (arith, first.1, second.1))
+IsEntryFault-one users groups direction value k NoId NoId first second = refl
+IsEntryFault-one users groups direction value k NoId Forbidden first second = absurd (second.2 first.2)
+IsEntryFault-one users groups direction value k Forbidden UnknownTag first second =
+    absurd (second (HasId-tag _ first.0))
+IsEntryFault-one users groups direction value k Forbidden Permission first second =
+    absurd (omega (arith, first.1, second.1))
+IsEntryFault-one users groups direction value k Forbidden NoId first second = absurd (first.2 second.2)
+IsEntryFault-one users groups direction value k Forbidden Forbidden first second = refl
+IsEntryFault-one users groups direction value k Merges other first second = absurd first
+IsEntryFault-one users groups direction value k fault Merges first second = absurd second
+
+-- ---- of a list
+
+-- what is wrong with the sizes or with an entry, in the order of the tests: the entries come last
+pub record IsEntryReached (room : ℕ) (value : List ℕ) : Type 0 where
+  pub whole : IsWhole value
+  pub fits : entry_count value ≤ room
+
+HasAclFault-reached : (users groups : List IdMap) (direction : Direction) (room : ℕ) (value : List ℕ) (k : ℕ)
+    (fault : EntryFault) → HasAclFault users groups direction room value (Entry k fault) → IsEntryReached room value
+HasAclFault-reached users groups direction room value k UnknownTag has = record { whole = has.whole; fits = has.fits }
+HasAclFault-reached users groups direction room value k Permission has = record { whole = has.whole; fits = has.fits }
+HasAclFault-reached users groups direction room value k NoId has = record { whole = has.whole; fits = has.fits }
+HasAclFault-reached users groups direction room value k Forbidden has = record { whole = has.whole; fits = has.fits }
+HasAclFault-reached users groups direction room value k Merges has =
+    record { whole = has.all_sound.whole; fits = has.all_sound.fits }
+
+-- the entry that is at fault by itself
+HasAclFault-unsound : (users groups : List IdMap) (direction : Direction) (room : ℕ) (value : List ℕ) (k : ℕ)
+    (fault : EntryFault) → HasAclFault users groups direction room value (Entry k fault)
+    → IsFirstUnsound users groups direction room value k fault
+    ⊎ ((fault ≡ Merges) × IsFirstMerged users groups direction room value k)
+HasAclFault-unsound users groups direction room value k UnknownTag has = inl has
+HasAclFault-unsound users groups direction room value k Permission has = inl has
+HasAclFault-unsound users groups direction room value k NoId has = inl has
+HasAclFault-unsound users groups direction room value k Forbidden has = inl has
+HasAclFault-unsound users groups direction room value k Merges has = inr (refl, has)
+
+-- no entry is both at fault by itself and sound
+unsound_sound : (users groups : List IdMap) (direction : Direction) (room : ℕ) (value : List ℕ) (k : ℕ)
+    (fault : EntryFault) → Accepted users → Accepted groups → IsFirstUnsound users groups direction room value k fault
+    → ¬ AllSound users groups direction room value
+unsound_sound users groups direction room value k fault users_accepted groups_accepted first sound =
+    IsSound-no_fault users groups direction value k fault users_accepted groups_accepted (sound.sound k first.is_entry)
+    first.wrong
+
+pub GoesAcross-no_fault : (users groups : List IdMap) (direction : Direction) (room : ℕ) (value : List ℕ)
+    (error : AclError) → Accepted users → Accepted groups → GoesAcross users groups direction room value
+    → ¬ HasAclFault users groups direction room value error
+GoesAcross-no_fault users groups direction room value TooShort users_accepted groups_accepted goes fault =
+    omega (arith, goes.all_sound.whole.header)
+GoesAcross-no_fault users groups direction room value (Version version) users_accepted groups_accepted goes fault =
+    fault.2 (fault.1 ∙ goes.all_sound.whole.version)
+GoesAcross-no_fault users groups direction room value Length users_accepted groups_accepted goes fault =
+    fault.2 goes.all_sound.whole.whole
+GoesAcross-no_fault users groups direction room value (Room needed) users_accepted groups_accepted goes fault =
+    omega (arith, fault.1, fault.2, goes.all_sound.fits)
+GoesAcross-no_fault users groups direction room value (Entry k wrong) users_accepted groups_accepted goes fault =
+    elim (HasAclFault-unsound users groups direction room value k wrong fault) [
+      | inl first ↦ unsound_sound users groups direction room value k wrong users_accepted groups_accepted first
+          goes.all_sound
+      | inr (is, first) ↦ goes.apart k first.is_entry first.merges
+    ]
+
+-- the first entry at fault by itself is one
+first_unsound_one : (users groups : List IdMap) (direction : Direction) (room : ℕ) (value : List ℕ) (j k : ℕ)
+    (fault other : EntryFault) → Accepted users → Accepted groups
+    → IsFirstUnsound users groups direction room value j fault
+    → IsFirstUnsound users groups direction room value k other → Entry j fault ≡ Entry k other
+first_unsound_one users groups direction room value j k fault other users_accepted groups_accepted first second =
+    elim (cases_order j k) [
+      | inl same ↦
+          let here : IsEntryFault users groups direction value k fault =
+          subst (λ (n : ℕ). IsEntryFault users groups direction value n fault) same first.wrong in
+          let is : fault ≡ other = IsEntryFault-one users groups direction value k fault other here second.wrong in
+          cc
+      | inr (inl before) ↦ absurd
+          (IsSound-no_fault users groups direction value j fault users_accepted groups_accepted (second.before j before)
+          first.wrong)
+      | inr (inr after) ↦ absurd
+          (IsSound-no_fault users groups direction value k other users_accepted groups_accepted (first.before k after)
+          second.wrong)
+    ]
+
+-- and so is the first that merges
+first_merged_one : (users groups : List IdMap) (direction : Direction) (room : ℕ) (value : List ℕ) (j k : ℕ)
+    → IsFirstMerged users groups direction room value j → IsFirstMerged users groups direction room value k → j ≡ k
+first_merged_one users groups direction room value j k first second =
+    elim (cases_order j k) [
+      | inl same ↦ same
+      | inr (inl before) ↦ absurd (second.before j before first.merges)
+      | inr (inr after) ↦ absurd (first.before k after second.merges)
+    ]
+
+entry_one : (users groups : List IdMap) (direction : Direction) (room : ℕ) (value : List ℕ) (j k : ℕ)
+    (fault other : EntryFault) → Accepted users → Accepted groups
+    → HasAclFault users groups direction room value (Entry j fault)
+    → HasAclFault users groups direction room value (Entry k other) → Entry j fault ≡ Entry k other
+entry_one users groups direction room value j k fault other users_accepted groups_accepted first second =
+    both (HasAclFault-unsound users groups direction room value j fault first)
+    (HasAclFault-unsound users groups direction room value k other second) where
+      both : IsFirstUnsound users groups direction room value j fault
+          ⊎ ((fault ≡ Merges) × IsFirstMerged users groups direction room value j)
+          → IsFirstUnsound users groups direction room value k other
+          ⊎ ((other ≡ Merges) × IsFirstMerged users groups direction room value k) → Entry j fault ≡ Entry k other
+      both (inl one) (inl two) =
+          first_unsound_one users groups direction room value j k fault other users_accepted groups_accepted one two
+      both (inl one) (inr (is, two)) =
+          absurd (unsound_sound users groups direction room value j fault users_accepted groups_accepted one
+          two.all_sound)
+      both (inr (is, one)) (inl two) =
+          absurd (unsound_sound users groups direction room value k other users_accepted groups_accepted two
+          one.all_sound)
+      both (inr (is, one)) (inr (too, two)) = let same : j ≡ k =
+          first_merged_one users groups direction room value j k one two in cc
+
+pub HasAclFault-one : (users groups : List IdMap) (direction : Direction) (room : ℕ) (value : List ℕ)
+    (error other : AclError) → Accepted users → Accepted groups → HasAclFault users groups direction room value error
+    → HasAclFault users groups direction room value other → error ≡ other
+HasAclFault-one users groups direction room value TooShort TooShort ua ga first second = refl
+HasAclFault-one users groups direction room value TooShort (Version version) ua ga first second =
+    absurd (omega (arith, second.0))
+HasAclFault-one users groups direction room value TooShort Length ua ga first second = absurd (omega (arith, second.0))
+HasAclFault-one users groups direction room value TooShort (Room needed) ua ga first second =
+    absurd (omega (arith, second.0.header))
+HasAclFault-one users groups direction room value TooShort (Entry k fault) ua ga first second =
+    absurd (omega (arith, (HasAclFault-reached users groups direction room value k fault second).whole.header))
+HasAclFault-one users groups direction room value (Version version) TooShort ua ga first second =
+    absurd (omega (arith, first.0))
+HasAclFault-one users groups direction room value (Version version) (Version found) ua ga first second =
+    ap (λ (n : ℕ). Version n) (first.1 ∙ sym second.1)
+HasAclFault-one users groups direction room value (Version version) Length ua ga first second =
+    absurd (first.2 (first.1 ∙ second.1))
+HasAclFault-one users groups direction room value (Version version) (Room needed) ua ga first second =
+    absurd (first.2 (first.1 ∙ second.0.version))
+HasAclFault-one users groups direction room value (Version version) (Entry k fault) ua ga first second =
+    absurd (first.2 (first.1 ∙ (HasAclFault-reached users groups direction room value k fault second).whole.version))
+HasAclFault-one users groups direction room value Length TooShort ua ga first second = absurd (omega (arith, first.0))
+HasAclFault-one users groups direction room value Length (Version version) ua ga first second =
+    absurd (second.2 (second.1 ∙ first.1))
+HasAclFault-one users groups direction room value Length Length ua ga first second = refl
+HasAclFault-one users groups direction room value Length (Room needed) ua ga first second =
+    absurd (first.2 second.0.whole)
+HasAclFault-one users groups direction room value Length (Entry k fault) ua ga first second =
+    absurd (first.2 (HasAclFault-reached users groups direction room value k fault second).whole.whole)
+HasAclFault-one users groups direction room value (Room needed) TooShort ua ga first second =
+    absurd (omega (arith, first.0.header))
+HasAclFault-one users groups direction room value (Room needed) (Version version) ua ga first second =
+    absurd (second.2 (second.1 ∙ first.0.version))
+HasAclFault-one users groups direction room value (Room needed) Length ua ga first second =
+    absurd (second.2 first.0.whole)
+HasAclFault-one users groups direction room value (Room needed) (Room other) ua ga first second =
+    ap (λ (n : ℕ). Room n) (first.1 ∙ sym second.1)
+HasAclFault-one users groups direction room value (Room needed) (Entry k fault) ua ga first second =
+    absurd (omega
+    (arith, first.1, first.2, (HasAclFault-reached users groups direction room value k fault second).fits))
+HasAclFault-one users groups direction room value (Entry k fault) TooShort ua ga first second =
+    absurd (omega (arith, (HasAclFault-reached users groups direction room value k fault first).whole.header))
+HasAclFault-one users groups direction room value (Entry k fault) (Version version) ua ga first second =
+    absurd (second.2 (second.1 ∙ (HasAclFault-reached users groups direction room value k fault first).whole.version))
+HasAclFault-one users groups direction room value (Entry k fault) Length ua ga first second =
+    absurd (second.2 (HasAclFault-reached users groups direction room value k fault first).whole.whole)
+HasAclFault-one users groups direction room value (Entry k fault) (Room needed) ua ga first second =
+    absurd (omega
+    (arith, second.1, second.2, (HasAclFault-reached users groups direction room value k fault first).fits))
+HasAclFault-one users groups direction room value (Entry j fault) (Entry k other) ua ga first second =
+    entry_one users groups direction room value j k fault other ua ga first second

@@ -1,0 +1,259 @@
+-- What ids of the guest come back as.
+use Rattle.std.proofs.Common.{◌≡◌, ◌≢◌, inl, inr, ℕ, ◌+◌, ◌-◌, ◌<◌, ◌≤◌, true, false, List, Option, Some, None}
+use Rattle.std.proofs.Common.{IsSomeAnd, refl, sym, ap, ◌∙◌, arith}
+use Rattle.std.proofs.lemmas.Bool.{cases_eq, cases_order}
+use Rattle.std.proofs.lemmas.Option.{same_Some}
+use Rattle.virtiofs_id_audit.specs.IdAudit.{IsLeastId, IsLeastIfAny, GoesTo, ComesBack, IsAstray}
+use Rattle.virtiofs_id_audit.specs.IdAuditParts.{ComesBackAs, ReturnsBy, IsMoved, ComeBackBelow}
+use Rattle.virtiofs_map.specs.Build.{Accepted}
+use Rattle.virtiofs_map.specs.Mapping.{Becomes, entry_of, EntryCovers, target_of}
+use Rattle.virtiofs_map.specs.MappingLaws.{LeadsBack}
+use Rattle.virtiofs_map.specs.Pieces.{IsMade, IsStretch, is_one_to_one}
+use Rattle.virtiofs_map.specs.Pieces.{value_in, IsNamed}
+use Rattle.virtiofs_map.specs.declared.cmdline.IdMap.{IdMap}
+use Rattle.virtiofs_map.specs.declared.cmdline.IdMap.TheVariants.{Guest, Host, SquashGuest, SquashHost, Bidirectional}
+use Rattle.virtiofs_map.specs.declared.cmdline.IdMap.TheVariants.{ForbidGuest}
+use Rattle.virtiofs_map.specs.declared.soft_idmap.entry.Direction.TheVariants.{GuestToHost, HostToGuest}
+use Rattle.virtiofs_map.specs.declared.soft_idmap.entry.Entry.{Entry}
+use Rattle.virtiofs_map.specs.declared.soft_idmap.piece.Outcome.TheVariants.{Kept, OneToOne, AllToOne, Forbidden}
+use Rattle.virtiofs_map.specs.declared.soft_idmap.piece.Piece.{Piece}
+use Rattle.virtiofs_id_audit.proofs.PieceLemmas.{value-each, value-not_each, value-forbidden}
+use Rattle.virtiofs_map.proofs.ForCallers.{lookup_one_value, KeepsGreatest-accepted}
+
+-- ---- ids of the host
+
+-- an entry that covers the number and fails it
+abbrev IsForbidding : Option Entry → ℕ → Type 0
+IsForbidding o n = IsSomeAnd o (λ entry. EntryCovers entry n × (target_of entry n ≡ None))
+
+-- no specification forbids an id of the host
+maps_to_some : (spec : IdMap) (n : ℕ) → ¬ IsForbidding (entry_of spec HostToGuest) n
+maps_to_some (Guest from to count) n maps = maps
+maps_to_some (Host from to count) n maps = let fails = maps.1 in absurd (cc)
+maps_to_some (SquashGuest from to count) n maps = maps
+maps_to_some (SquashHost from to count) n maps = let fails = maps.1 in absurd (cc)
+maps_to_some (Bidirectional guest host count) n maps = let fails = maps.1 in absurd (cc)
+maps_to_some (ForbidGuest from count) n maps = maps
+
+pub never_forbidden : (specs : List IdMap) (n : ℕ) → ¬ Becomes specs HostToGuest n None
+never_forbidden specs n (inl (spec, listed, maps)) = maps_to_some spec n maps
+never_forbidden specs n (inr (none, same)) = absurd (cc)
+
+-- ---- there and back
+
+pub ReturnsBy-forbidden : (specs : List IdMap) (there : Piece) → IsStretch specs GuestToHost there
+    → None ≡ value_in there there.first → ReturnsBy specs there
+ReturnsBy-forbidden specs there stretch none n from to =
+    let fails : value_in there n ≡ None = value-forbidden there n none in
+    inl (rw fails at (stretch.becomes n from to), fails)
+
+-- the host's piece goes on as far as the guest's does, or ends first
+returned : (specs : List IdMap) (there back : Piece) (n host : ℕ) (value : Option ℕ) → IsStretch specs GuestToHost there
+    → IsStretch specs HostToGuest back → there.first ≤ n → n ≤ there.last → value_in there n ≡ Some host
+    → back.first ≤ host → host ≤ back.last → value ≡ value_in back host → ComesBackAs specs n value
+returned specs there back n host value stretch back_stretch from to becomes low high is =
+    inr (host, rw becomes at (stretch.becomes n from to), rw is (back_stretch.becomes host low high))
+
+-- all numbers become one
+pub ReturnsBy-all : (specs : List IdMap) (there back trip : Piece) (n host to : ℕ) → IsStretch specs GuestToHost there
+    → IsStretch specs HostToGuest back → there.first ≡ n → back.first ≡ host → is_one_to_one there.becomes ≡ false
+    → Some host ≡ value_in there there.first → Some to ≡ value_in back back.first
+    → IsMade n there.last (λ k. Some to) trip → ReturnsBy specs trip
+ReturnsBy-all specs there back trip n host to stretch back_stretch first back_first all start back_start made k from
+    within =
+    let low : n ≤ k = omega (arith, made.first_is) in
+    let high : k ≤ there.last = omega (arith, made.last_is) in
+    let (two, value) = value-not_each there host all start stretch.named in
+    let order : back.first ≤ back.last = back_stretch.order in
+    returned specs there back k host (value_in trip k) stretch back_stretch (omega arith) high (value k) (omega arith)
+    (omega arith) (made.value k low high ∙ back_start ∙ ap (λ (h : ℕ). value_in back h) back_first)
+
+-- they become numbers one after the other
+pub ReturnsBy-each : (specs : List IdMap) (there back trip : Piece) (n host last : ℕ) (value : ℕ → Option ℕ)
+    → IsStretch specs GuestToHost there → IsStretch specs HostToGuest back → there.first ≡ n → back.first ≡ host
+    → is_one_to_one there.becomes ≡ true → Some host ≡ value_in there there.first
+    → last ≤ there.last → host + (last - n) ≤ back.last
+    → ((k : ℕ) → n ≤ k → k ≤ last → value k ≡ value_in back (host + (k - n))) → IsMade n last value trip
+    → ReturnsBy specs trip
+ReturnsBy-each specs there back trip n host last value stretch back_stretch first back_first each start within
+    back_within is made k from to =
+    let low : n ≤ k = omega (arith, made.first_is) in
+    let high : k ≤ last = omega (arith, made.last_is) in
+    let becomes : value_in there k ≡ Some (host + (k - there.first)) =
+    value-each there host k each start (omega arith) in
+    let becomes' : value_in there k ≡ Some (host + (k - n)) = becomes ∙ ap (λ (i : ℕ). Some (host + (k - i))) first in
+    returned specs there back k (host + (k - n)) (value_in trip k) stretch back_stretch (omega arith) (omega arith)
+    becomes' (omega arith) (omega arith) (made.value k low high ∙ is k low high)
+
+-- what the piece of the host says of an id above its first one
+pub back-each : (back : Piece) (to host d : ℕ) → back.first ≡ host → is_one_to_one back.becomes ≡ true
+    → Some to ≡ value_in back back.first → Some (to + d) ≡ value_in back (host + d)
+back-each back to host d first each start =
+    ap (λ (k : ℕ). Some k) (omega arith) ∙ sym (value-each back to (host + d) each start (omega arith))
+
+pub back-all : (back : Piece) (to host d : ℕ) → is_one_to_one back.becomes ≡ false
+    → IsNamed back.becomes back.first back.last → Some to ≡ value_in back back.first
+    → Some to ≡ value_in back (host + d)
+back-all back to host d all named start = sym ((value-not_each back to all start named).1 (host + d))
+
+-- ---- ids that do not come back
+
+pub IsMoved-astray : (specs : List IdMap) (trip : Piece) (n : ℕ) → Accepted specs → ReturnsBy specs trip
+    → trip.first ≤ n → n ≤ trip.last → IsAstray specs n → IsMoved trip n
+IsMoved-astray specs trip n accepted returns from to astray = moved (value_in trip n) refl (returns n from to) where
+  moved : (value : Option ℕ) → value_in trip n ≡ value → ComesBackAs specs n (value_in trip n) → IsMoved trip n
+  moved value is (inl (forbidden, none)) =
+      let both : Some astray.host ≡ None =
+      lookup_one_value specs accepted GuestToHost n _ _ astray.goes.becomes forbidden in
+      absurd (cc)
+  moved None is (inr (host, goes, back)) = absurd (never_forbidden specs host (rw is at back))
+  moved (Some value) is (inr (host, goes, back)) = record {
+    from = from;
+    to = to;
+    value = value;
+    becomes = is;
+    moved = λ same.
+        (let one : host ≡ astray.host =
+        same_Some _ _ (lookup_one_value specs accepted GuestToHost n _ _ goes astray.goes.becomes) in
+        astray.not_back (rw (is, same, one) at back));
+  }
+
+pub IsAstray-moved : (specs : List IdMap) (trip : Piece) (n : ℕ) → Accepted specs → ReturnsBy specs trip
+    → n < 4294967295 → IsMoved trip n → IsAstray specs n
+IsAstray-moved specs trip n accepted returns is_id moved = astray (returns n moved.from moved.to) where
+  astray : ComesBackAs specs n (value_in trip n) → IsAstray specs n
+  astray (inl (forbidden, none)) =
+      let both : Some moved.value ≡ None = sym moved.becomes ∙ none in
+      absurd (cc)
+  astray (inr (host, goes, back)) = record {
+    host = host;
+    goes = record { is_id = is_id; becomes = goes };
+    not_back = λ leads.
+        moved.moved
+        (same_Some _ _ (lookup_one_value specs accepted HostToGuest host _ _ (rw moved.becomes at back) leads));
+  }
+
+-- ---- the least number that becomes another one
+
+no_moved : (piece : Piece) (n : ℕ) → ((value : ℕ) → value_in piece n ≡ Some value → value ≡ n) → ¬ IsMoved piece n
+no_moved piece n same moved = moved.moved (same moved.value moved.becomes)
+
+pub IsMoved-kept : (piece : Piece) → piece.becomes ≡ Kept → IsLeastIfAny (IsMoved piece) None
+IsMoved-kept piece is n = no_moved piece n (λ value becomes. sym (same_Some _ _ (rw is at becomes)))
+
+pub IsMoved-forbidden : (piece : Piece) → piece.becomes ≡ Forbidden → IsLeastIfAny (IsMoved piece) None
+IsMoved-forbidden piece is n =
+    no_moved piece n (λ value becomes. (let none : None ≡ Some value = rw is at becomes in absurd (cc)))
+
+-- the first number is the least
+at_first : (piece : Piece) (value : ℕ) → piece.first ≤ piece.last → value_in piece piece.first ≡ Some value
+    → value ≢ piece.first → IsLeastIfAny (IsMoved piece) (Some piece.first)
+at_first piece value order becomes moved = record {
+  is_bad = record { from = omega arith; to = order; value = value; becomes = becomes; moved = moved };
+  none_before = λ m before other. (let from : piece.first ≤ m = other.from in omega arith);
+}
+
+pub IsMoved-each : (piece : Piece) (to : ℕ) → piece.becomes ≡ OneToOne to → piece.first ≤ piece.last
+    → IsNamed piece.becomes piece.first piece.last → IsLeastIfAny (IsMoved piece) (Some piece.first)
+IsMoved-each piece to is order named =
+    let named' = rw is at named in
+    at_first piece to order (rw is (ap (λ (k : ℕ). Some k) (omega arith))) named'.0
+
+pub IsMoved-all : (piece : Piece) (to : ℕ) → piece.becomes ≡ AllToOne to → piece.first ≤ piece.last → to ≢ piece.first
+    → IsLeastIfAny (IsMoved piece) (Some piece.first)
+IsMoved-all piece to is order moved = at_first piece to order (rw is refl) moved
+
+-- where it becomes itself, the second one becomes it
+pub IsMoved-second : (piece : Piece) (to : ℕ) → piece.becomes ≡ AllToOne to
+    → IsNamed piece.becomes piece.first piece.last → to ≡ piece.first
+    → IsLeastIfAny (IsMoved piece) (Some (piece.first + 1))
+IsMoved-second piece to is named same =
+    let two : piece.first < piece.last = rw is at named in
+    record {
+      is_bad =
+          record { from = omega arith; to = omega arith; value = to; becomes = rw is refl; moved = λ e. omega arith };
+      none_before = λ m before other.
+          (let from : piece.first ≤ m = other.from in
+          let value : Some to ≡ Some other.value = rw is at other.becomes in
+          let value' : to ≡ other.value = same_Some _ _ value in
+          other.moved (omega arith));
+    }
+
+-- ---- the loop over the ids
+
+pub ComeBackBelow-start : (specs : List IdMap) → ComeBackBelow specs 0
+ComeBackBelow-start specs n host below goes = absurd (omega arith)
+
+-- where no number of a round trip moves, its ids come back
+pub leads_back : (specs : List IdMap) (trip : Piece) (n host : ℕ) → Accepted specs → ReturnsBy specs trip → trip.first ≤ n
+    → n ≤ trip.last → ¬ IsMoved trip n → GoesTo specs n host → LeadsBack specs GuestToHost n host
+leads_back specs trip n host accepted returns from to not goes = back_by (value_in trip n) refl (returns n from to) where
+  back_by : (value : Option ℕ) → value_in trip n ≡ value → ComesBackAs specs n (value_in trip n)
+      → LeadsBack specs GuestToHost n host
+  back_by value is (inl (forbidden, none)) =
+      let both : Some host ≡ None = lookup_one_value specs accepted GuestToHost n _ _ goes.becomes forbidden in
+      absurd (cc)
+  back_by None is (inr (other, there, again)) = absurd (never_forbidden specs other (rw is at again))
+  back_by (Some value) is (inr (other, there, again)) =
+      let one : other ≡ host =
+      same_Some _ _ (lookup_one_value specs accepted GuestToHost n _ _ there goes.becomes) in
+      elim (cases_eq value n) [
+        | inl same ↦ rw (is, same, one) at again
+        | inr moved ↦ absurd (not (record { from = from; to = to; value = value; becomes = is; moved = moved }))
+      ]
+
+pub ComeBackBelow-more : (specs : List IdMap) (trip : Piece) (next more : ℕ) → Accepted specs → ComeBackBelow specs next
+    → ReturnsBy specs trip → trip.first ≡ next → more ≤ trip.last + 1 → IsLeastIfAny (IsMoved trip) None
+    → ComeBackBelow specs more
+ComeBackBelow-more specs trip next more accepted so_far returns first end none n host below goes =
+    elim (cases_order n next) [
+      | inl same ↦ leads_back specs trip n host accepted returns (omega arith) (omega arith) (none n) goes
+      | inr (inl before) ↦ so_far n host before goes
+      | inr (inr after) ↦ leads_back specs trip n host accepted returns (omega arith) (omega arith) (none n) goes
+    ]
+
+-- the greatest number does not move
+IsMoved-below : (specs : List IdMap) (trip : Piece) (n : ℕ) → Accepted specs → ReturnsBy specs trip
+    → trip.last ≤ 4294967295 → IsMoved trip n → n < 4294967295
+IsMoved-below specs trip n accepted returns within moved =
+    elim (cases_order n 4294967295) [
+      | inl greatest ↦ absurd (stays greatest (returns n moved.from moved.to))
+      | inr (inl below) ↦ below
+      | inr (inr above) ↦ absurd (let to : n ≤ trip.last = moved.to in omega arith)
+    ] where
+      stays : n ≡ 4294967295 → ComesBackAs specs n (value_in trip n) → ⊥
+      stays greatest (inl (forbidden, none)) = let both : Some moved.value ≡ None = sym moved.becomes ∙ none in
+          absurd (cc)
+      stays greatest (inr (host, there, again)) =
+          let at_host : host ≡ 4294967295 =
+          same_Some _ _
+          (lookup_one_value specs accepted GuestToHost 4294967295 _ _ (rw greatest at there)
+          (KeepsGreatest-accepted specs accepted GuestToHost)) in
+          let value : moved.value ≡ 4294967295 =
+          same_Some _ _
+          (lookup_one_value specs accepted HostToGuest 4294967295 _ _ (rw (moved.becomes, at_host) at again)
+          (KeepsGreatest-accepted specs accepted HostToGuest)) in
+          moved.moved (value ∙ sym greatest)
+
+-- the least number that moves is the least id that is astray
+pub IsAstray-least : (specs : List IdMap) (trip : Piece) (next n : ℕ) → Accepted specs → ComeBackBelow specs next
+    → ReturnsBy specs trip → trip.first ≡ next → trip.last ≤ 4294967295 → IsLeastId (IsMoved trip) n
+    → IsLeastId (IsAstray specs) n
+IsAstray-least specs trip next n accepted so_far returns first within least = record {
+  is_bad =
+      IsAstray-moved specs trip n accepted returns (IsMoved-below specs trip n accepted returns within least.is_bad)
+      least.is_bad;
+  none_before = λ m before astray.
+      (let to : n ≤ trip.last = least.is_bad.to in
+      elim (cases_order m next) [
+        | inl same ↦ least.none_before m before
+            (IsMoved-astray specs trip m accepted returns (omega arith) (omega arith) astray)
+        | inr (inl below) ↦ astray.not_back (so_far m astray.host below astray.goes)
+        | inr (inr after) ↦ least.none_before m before
+            (IsMoved-astray specs trip m accepted returns (omega arith) (omega arith) astray)
+      ]);
+}
+
+pub ComesBack-all : (specs : List IdMap) (next : ℕ) → ComeBackBelow specs next → 4294967295 ≤ next → ComesBack specs
+ComesBack-all specs next so_far end guest host goes =
+    so_far guest host (let is_id : guest < 4294967295 = goes.is_id in omega arith) goes

@@ -1,0 +1,11 @@
+use Rattle.virtiofs_id_audit.specs.IdAudit.{IsAstray, ComesBack}
+use Rattle.virtiofs_id_audit.proofs.IdAuditLemmas.{ComesBack-none, no_where_bad}
+use Rattle.virtiofs_id_audit.proofs.comes_back.Goals as goal
+
+pub returns-in-Some-clause-comes_back : goal.returns-in-Some-clause-comes_back
+returns-in-Some-clause-comes_back g c =
+    no_where_bad (IsAstray c.args.map.now) (ComesBack c.args.map.now) c.in-Some.n _ c.in-Some.ensures.is_bad
+    (ComesBack-none c.args.map.now)
+
+pub returns-in-None-clause-answer : goal.returns-in-None-clause-answer
+returns-in-None-clause-answer g c = ComesBack-none c.args.map.now c.in-None.ensures

@@ -1,0 +1,96 @@
+-- The spans that have an id of a whole.
+use Rattle.std.proofs.Common.{◌≡◌, ◌↔◌, inl, inr, ℕ, ◌+◌, ◌-◌, ◌<◌, ◌≤◌, true, false, leb, ltb, List, take, drop, length}
+use Rattle.std.proofs.Common.{get_or, sym, ◌∙◌, arith}
+use Rattle.std.specs.List.{All}
+use Rattle.std.specs.List.Sorted.{IsPartitionPoint}
+use Rattle.std.proofs.lemmas.Bool.{cases_lt}
+use Rattle.std.proofs.lemmas.Bool.Decides.{nat_tests}
+use Rattle.std.proofs.lemmas.List.{get_or-drop, get_or-take, length-drop, length-take}
+use Rattle.std.proofs.lemmas.List.Elements.{All-drop}
+use Rattle.virtiofs_id_audit.specs.IdAuditParts.{IsSpan, Has, Hold, AreApart}
+use Rattle.virtiofs_id_audit.specs.declared.spans.Span.{Span}
+
+-- ---- spans that are apart
+
+pub AreApart-drop : (n : ℕ) (spans : List Span) → AreApart spans → AreApart (drop n spans)
+AreApart-drop n spans are = record {
+  some = All-drop IsSpan n spans are.some;
+  apart = λ i j d up inside.
+      (let all = length-drop n spans in
+      rw (get_or-drop n spans i d, get_or-drop n spans j d)
+      (are.apart (n + i) (n + j) d (omega arith) (omega (arith, all, inside))));
+}
+
+-- ---- those that have an id of the whole
+
+-- from splits off those that end before it, and count leaves out those that begin after it
+module _ (spans : List Span) (whole : Span) (from count : ℕ)
+    (ends : IsPartitionPoint (λ (span : Span). ltb span.last whole.first ≡ true)
+    (λ (span : Span). ltb span.last whole.first ≡ false) spans from)
+    (begins : IsPartitionPoint (λ (span : Span). leb span.first whole.last ≡ true)
+    (λ (span : Span). leb span.first whole.last ≡ false) (drop from spans) count) where
+  met : List Span
+  met = take count (drop from spans)
+
+  -- the span at a place of them
+  met_at : (k : ℕ) (d : Span) → k < length (take count (drop from spans))
+      → (k < count) × (from + k < length spans) × (get_or (take count (drop from spans)) k d ≡ get_or spans (from + k) d)
+  met_at k d inside =
+      let all = length-take count (drop from spans) in
+      let rest = length-drop from spans in (
+        omega (arith, all, rest, inside),
+        omega (arith, all, rest, inside),
+        get_or-take count (drop from spans) k d (omega (arith, all, rest, inside)) ∙ get_or-drop from spans k d,
+      )
+
+  pub All-met : All (λ span. (whole.first ≤ span.last) × (span.first ≤ whole.last)) (take count (drop from spans))
+  All-met k d inside =
+      let (below, within, here) = met_at k d inside in
+      let rest = length-drop from spans in
+      let late : ltb (get_or spans (from + k) d).last whole.first ≡ false = ends.1 (from + k) d (omega arith) within in
+      let early' : leb (get_or (drop from spans) k d).first whole.last ≡ true =
+      begins.0 k d (omega arith) below in
+      let early : leb (get_or spans (from + k) d).first whole.last ≡ true = rw (get_or-drop from spans k d) at early' in
+      rw here (grind (arith, nat_tests), grind (arith, nat_tests))
+
+  pub Hold-met : (id : ℕ) → Has whole id → Hold (take count (drop from spans)) id ↔ Hold spans id
+  Hold-met id in_whole = (to, back) where
+    to : Hold (take count (drop from spans)) id → Hold spans id
+    to (span, (k, inside, here), has) =
+        let (below, within, at) = met_at k span inside in
+        (span, (from + k, within, sym at ∙ here), has)
+
+    back : Hold spans id → Hold (take count (drop from spans)) id
+    back (span, (k, inside, here), has) =
+        elim (cases_lt k from) [
+          | inl before ↦ absurd
+              (let early : ltb span.last whole.first ≡ true = rw here at (ends.0 k span (omega arith) before) in
+              let low : whole.first ≤ id = in_whole.0 in
+              let high : id ≤ span.last = has.1 in
+              grind (arith, nat_tests))
+          | inr after ↦ later after
+        ] where
+          later : from ≤ k → Hold (take count (drop from spans)) id
+          later after =
+              let rest = length-drop from spans in
+              let all = length-take count (drop from spans) in
+              let place : from + (k - from) ≡ k = omega arith in
+              let at : get_or (drop from spans) (k - from) span ≡ span =
+              get_or-drop from spans (k - from) span ∙ (rw place here) in
+              elim (cases_lt (k - from) count) [
+                | inl under ↦ (
+                  span,
+                  (
+                    k - from,
+                    omega (arith, all, rest, inside),
+                    get_or-take count (drop from spans) (k - from) span under ∙ at,
+                  ),
+                  has,
+                )
+                | inr over ↦ absurd
+                    (let late : leb span.first whole.last ≡ false =
+                    rw at at (begins.1 (k - from) span over (omega (arith, rest, inside))) in
+                    let low : span.first ≤ id = has.0 in
+                    let high : id ≤ whole.last = in_whole.1 in
+                    grind (arith, nat_tests))
+              ]

@@ -1,0 +1,72 @@
+use Rattle.std.proofs.Common.{◌≡◌, ◌<◌, length, get_or, refl, arith}
+use Rattle.std.proofs.lemmas.List.{get_or_default}
+use Rattle.virtiofs_id_audit.specs.declared.spans.Span.{Span}
+use Rattle.virtiofs_id_audit.proofs.cuts.WithoutLemmas.{
+  CutTo-start,
+  CutTo-pass,
+  CutTo-push,
+  CutTo-end,
+  CutTo-rest,
+  apart-rest,
+  runs-rest,
+}
+use Rattle.virtiofs_id_audit.proofs.cuts.without.Goals.{then-next-until+in_ok-push, else-next-until}
+use Rattle.virtiofs_id_audit.proofs.cuts.without.Goals.{then-next-end+in_ok-push-2, else-next-end}
+use Rattle.virtiofs_id_audit.proofs.cuts.without.Goals as goal
+
+pub loop-cut-init : goal.loop-cut-init
+loop-cut-init g c =
+    rw (c.new-kept.ensures.items, c.from-next.ensures) (CutTo-start c.args.whole c.args.cuts.now (omega arith))
+
+pub loop-cut-preserved : goal.loop-cut-preserved
+loop-cut-preserved g c =
+    let cuts = c.args.cuts.now in
+    let i = c.loop-cut.cut-index in
+    let none : Span = record { first = 0; last = 0 } in
+    let inside : i < length cuts = c.loop-cut-test.true in
+    let cut : Span = get_or cuts i none in
+    let here : get_or cuts i cut ≡ cut = get_or_default cuts i cut none inside in
+    elim c.if-next-until.branch [
+      | then-next-until+in_ok-push w ↦
+          rw (w.kept-is, w.in_ok-push.ensures.items)
+          (CutTo-push c.args.whole cuts i c.loop-cut.next c.loop-cut.kept.items cut c.loop-cut.invariant
+          c.requires.spans c.requires.firsts inside here c.max-next.result c.min-until.result _ (omega arith) (omega arith) (omega arith)
+          refl refl)
+      | else-next-until w ↦
+          rw w.kept-is
+          (CutTo-pass c.args.whole cuts i c.loop-cut.next c.loop-cut.kept.items cut c.loop-cut.invariant
+          c.requires.spans c.requires.firsts inside here c.max-next.result (omega arith) (omega arith))
+    ]
+
+pub returns-clause-apart : goal.returns-clause-apart
+returns-clause-apart g c =
+    elim c.if-next-end.branch [
+      | then-next-end+in_ok-push-2 w ↦
+          rw (w.kept-is, w.in_ok-push-2.ensures.items)
+          (apart-rest c.args.whole c.args.cuts.now c.loop-cut.cut-index c.loop-cut.next c.loop-cut.kept.items
+          c.loop-cut.invariant c.loop-cut-test.false _ (omega arith) (omega arith) refl refl)
+      | else-next-end w ↦ rw w.kept-is c.loop-cut.invariant.apart
+    ]
+
+pub returns-clause-hold : goal.returns-clause-hold
+returns-clause-hold g c =
+    elim c.if-next-end.branch [
+      | then-next-end+in_ok-push-2 w ↦
+          rw (w.kept-is, w.in_ok-push-2.ensures.items)
+          (CutTo-rest c.args.whole c.args.cuts.now c.loop-cut.cut-index c.loop-cut.next c.loop-cut.kept.items
+          c.loop-cut.invariant c.loop-cut-test.false _ (omega arith) refl refl)
+      | else-next-end w ↦
+          rw w.kept-is
+          (CutTo-end c.args.whole c.args.cuts.now c.loop-cut.cut-index c.loop-cut.next c.loop-cut.kept.items
+          c.loop-cut.invariant c.loop-cut-test.false (omega arith))
+    ]
+
+pub returns-clause-runs : goal.returns-clause-runs
+returns-clause-runs g c =
+    elim c.if-next-end.branch [
+      | then-next-end+in_ok-push-2 w ↦
+          rw (w.kept-is, w.in_ok-push-2.ensures.items)
+          (runs-rest c.args.whole c.args.cuts.now c.loop-cut.cut-index c.loop-cut.next c.loop-cut.kept.items
+          c.loop-cut.invariant c.loop-cut-test.false _ (omega arith) refl refl)
+      | else-next-end w ↦ rw w.kept-is c.loop-cut.invariant.runs
+    ]

@@ -1,0 +1,42 @@
+use Rattle.std.proofs.Common.{◌≤◌, ◌<◌, length, ltb, sym, rules, arith}
+use Rattle.std.proofs.lemmas.Bool.Decides.{nat_tests}
+use Rattle.std.proofs.lemmas.List.Sorted.{IsPartitionPoint-from_clause, IsPartitionedBy-ltb}
+use Rattle.virtiofs_id_audit.specs.declared.spans.Span.{Span}
+use Rattle.virtiofs_id_audit.proofs.SpanLemmas.{SplitsAt}
+use Rattle.virtiofs_id_audit.proofs.extents.runs.RunLemmas.{IsRun-end, IsRun-before, IsRun-in}
+use Rattle.virtiofs_id_audit.proofs.extents.runs.run_in.Goals as goal
+
+pub returns-in_default : goal.returns-in_default
+returns-in_default c =
+    let splits : SplitsAt c.args.spans.now c.args.id c.partition_point-at.result =
+    IsPartitionPoint-from_clause (λ (span : Span). ltb span.last c.args.id) c.args.spans.now
+    c.partition_point-at.result c.partition_point-at.ensures.partitioned
+    (IsPartitionedBy-ltb (λ (span : Span). span.last) c.args.spans.now c.args.id c.requires.lasts)
+    (λ a r f' k. search rules) in
+    let lookup = c.in_default.ensures.lookup.0 in
+    let beyond : length c.args.spans.now ≤ c.partition_point-at.result = grind (arith, nat_tests) in
+    IsRun-end c.args.spans.now c.args.id c.partition_point-at.result c.requires splits (omega arith) beyond
+
+pub returns-then-id-span : goal.returns-then-id-span
+returns-then-id-span c =
+    let splits : SplitsAt c.args.spans.now c.args.id c.partition_point-at.result =
+    IsPartitionPoint-from_clause (λ (span : Span). ltb span.last c.args.id) c.args.spans.now
+    c.partition_point-at.result c.partition_point-at.ensures.partitioned
+    (IsPartitionedBy-ltb (λ (span : Span). span.last) c.args.spans.now c.args.id c.requires.lasts)
+    (λ a r f' k. search rules) in
+    let lookup = c.in-Some.ensures.lookup.0 in
+    let inside : c.partition_point-at.result < length c.args.spans.now = grind (arith, nat_tests) in
+    IsRun-before c.args.spans.now c.args.id c.partition_point-at.result c.requires splits (omega arith)
+    c.in-Some.span.now inside (sym c.in-Some.ensures.lookup.1) c.if-id-span.true (omega arith)
+
+pub returns : goal.returns
+returns c =
+    let splits : SplitsAt c.args.spans.now c.args.id c.partition_point-at.result =
+    IsPartitionPoint-from_clause (λ (span : Span). ltb span.last c.args.id) c.args.spans.now
+    c.partition_point-at.result c.partition_point-at.ensures.partitioned
+    (IsPartitionedBy-ltb (λ (span : Span). span.last) c.args.spans.now c.args.id c.requires.lasts)
+    (λ a r f' k. search rules) in
+    let lookup = c.in-Some.ensures.lookup.0 in
+    let inside : c.partition_point-at.result < length c.args.spans.now = grind (arith, nat_tests) in
+    IsRun-in c.args.spans.now c.args.id c.partition_point-at.result c.requires splits (omega arith)
+    c.in-Some.span.now inside (sym c.in-Some.ensures.lookup.1) c.if-id-span.false (omega arith)

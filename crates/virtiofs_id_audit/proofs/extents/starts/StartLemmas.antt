@@ -1,0 +1,155 @@
+-- At which ids of the guest a run of ids that come back may begin.
+use Rattle.std.proofs.Common.{◌≡◌, ◌⊎◌, inl, inr, ℕ, ◌+◌, ◌-◌, ◌<◌, ◌≤◌, true, false, leb, List, [], ◌∷◌, ◌++◌, length}
+use Rattle.std.proofs.Common.{Bool, get_or, Contains, Some, None, refl, sym, ap, ◌∙◌, arith}
+use Rattle.std.specs.List.Sorted.{IsPermutation, IsPartitionPoint, IsNonDecreasing}
+use Rattle.std.proofs.lemmas.Bool.{cases_lt, cases_order}
+use Rattle.std.proofs.lemmas.Bool.Decides.{nat_tests}
+use Rattle.std.proofs.lemmas.List.{get_or_default}
+use Rattle.std.proofs.lemmas.List.Elements.{Contains-append_left, Contains-push}
+use Rattle.std.proofs.lemmas.List.Sorted.{Contains-permutation}
+use Rattle.std.proofs.lemmas.Option.{same_Some}
+use Rattle.virtiofs_id_audit.specs.ExtentParts.{AreStarts}
+use Rattle.virtiofs_map.specs.Build.{Accepted}
+use Rattle.virtiofs_map.specs.Mapping.{Becomes}
+use Rattle.virtiofs_map.specs.Pieces.{is_one_to_one}
+use Rattle.virtiofs_map.specs.Pieces.{value_in, IsPiece, PiecesLeft, GivesPiece}
+use Rattle.virtiofs_map.specs.declared.cmdline.IdMap.{IdMap}
+use Rattle.virtiofs_map.specs.declared.soft_idmap.entry.Direction.TheVariants.{HostToGuest}
+use Rattle.virtiofs_map.specs.declared.soft_idmap.piece.Piece.{Piece}
+use Rattle.virtiofs_id_audit.proofs.PieceLemmas.{value-each, value-not_each, value-forbidden}
+use Rattle.virtiofs_map.proofs.ForCallers.{lookup_one_value}
+
+-- ---- the pieces of the host
+
+-- the id of the guest is a start, or the ids before both do so too
+abbrev pub IsAfterStart : List IdMap → List ℕ → ℕ → ℕ → Type 0
+IsAfterStart specs starts host guest = Contains starts guest ⊎ Becomes specs HostToGuest (host - 1) (Some (guest - 1))
+
+module _ (specs : List IdMap) (piece : Piece) (starts : List ℕ) (host guest : ℕ) (accepted : Accepted specs)
+    (is : IsPiece specs HostToGuest piece) (from : piece.first ≤ host) (to : host ≤ piece.last)
+    (becomes : Becomes specs HostToGuest host (Some guest)) where
+  value : value_in piece host ≡ Some guest
+  value = lookup_one_value specs accepted HostToGuest host _ _ (is.becomes host from to) becomes
+
+  -- what the first id of the piece becomes is a start
+  pub started : (start : ℕ) → Some start ≡ value_in piece piece.first → Contains starts start
+      → IsAfterStart specs starts host guest
+  started start start_is listed =
+      elim (cases_order piece.first host) [
+        | inl same ↦ inl (at (same_Some _ _ (start_is ∙ ap (λ (n : ℕ). value_in piece n) same ∙ value)))
+        | inr (inl later) ↦ by (is_one_to_one piece.becomes) refl later
+        | inr (inr beyond) ↦ absurd (omega arith)
+      ] where
+        at : start ≡ guest → Contains starts guest
+        at same = rw (← same) listed
+
+        by : (each : Bool) → is_one_to_one piece.becomes ≡ each → piece.first < host
+            → IsAfterStart specs starts host guest
+        by true each later =
+            let here : start + (host - piece.first) ≡ guest =
+            same_Some _ _ (sym (value-each piece start host each start_is from) ∙ value) in
+            let before : value_in piece (host - 1) ≡ Some (guest - 1) =
+            value-each piece start (host - 1) each start_is (omega arith) ∙ ap (λ (n : ℕ). Some n) (omega arith) in
+            inr (rw before at (is.becomes (host - 1) (omega arith) (omega arith)))
+        by false all later =
+            inl (at (same_Some _ _ (sym ((value-not_each piece start all start_is is.named).1 host) ∙ value)))
+
+  -- no id of it becomes one of the guest
+  pub not_forbidden : None ≡ value_in piece piece.first → ⊥
+  not_forbidden none =
+      let both : None ≡ Some guest = sym (value-forbidden piece host none) ∙ value in
+      absurd (cc)
+
+-- ---- the pieces so far
+
+pub record StartsSoFar (specs : List IdMap) (starts : List ℕ) (left : PiecesLeft) : Type 0 where
+  pub specs_are : left.specs ≡ specs
+  pub direction_is : left.direction ≡ HostToGuest
+  pub starts_are : (host guest : ℕ) → 1 ≤ host → host < left.next → Becomes specs HostToGuest host (Some guest)
+      → IsAfterStart specs starts host guest
+
+pub StartsSoFar-start : (specs : List IdMap) (left : PiecesLeft)
+    → left ≡ record { specs = specs; direction = HostToGuest; next = 0 } → StartsSoFar specs [] left
+StartsSoFar-start specs left is =
+    rw is (record {
+      specs_are = refl;
+      direction_is = refl;
+      starts_are = λ host guest some below. absurd (omega arith);
+    })
+
+module _ (specs : List IdMap) (starts : List ℕ) (left after : PiecesLeft) (piece : Piece) (accepted : Accepted specs)
+    (so_far : StartsSoFar specs starts left) (gives : GivesPiece left (Some piece) after) where
+  is_piece : IsPiece specs HostToGuest piece
+  is_piece = rw (so_far.specs_are, so_far.direction_is) at gives.0
+
+  with_more : (more : List ℕ) → ((guest : ℕ) → Contains starts guest → Contains more guest)
+      → ((host guest : ℕ) → piece.first ≤ host → host ≤ piece.last → Becomes specs HostToGuest host (Some guest)
+      → IsAfterStart specs more host guest) → StartsSoFar specs more after
+  with_more more wider here = rw gives.2 (record {
+    specs_are = so_far.specs_are;
+    direction_is = so_far.direction_is;
+    starts_are = λ host guest some below becomes.
+        (let begins : piece.first ≡ left.next = gives.1 in
+        elim (cases_lt host left.next) [
+          | inl before ↦ elim (so_far.starts_are host guest some before becomes) [
+            | inl listed ↦ inl (wider guest listed)
+            | inr both ↦ inr both
+          ]
+          | inr later ↦ here host guest (omega arith) (omega arith) becomes
+        ]);
+  })
+
+  pub StartsSoFar-push : (start : ℕ) → Some start ≡ value_in piece piece.first
+      → StartsSoFar specs (starts ++ start ∷ []) after
+  StartsSoFar-push start start_is =
+      with_more (starts ++ start ∷ []) (λ guest listed. Contains-append_left starts (start ∷ []) guest listed)
+      (λ host guest from to becomes. started specs piece (starts ++ start ∷ []) host guest accepted is_piece from to
+      becomes start start_is (Contains-push starts start))
+
+  pub StartsSoFar-skip : None ≡ value_in piece piece.first → StartsSoFar specs starts after
+  StartsSoFar-skip none =
+      with_more starts (λ guest listed. listed) (λ host guest from to becomes.
+      absurd (not_forbidden specs piece starts host guest accepted is_piece from to becomes none))
+
+pub AreStarts-sorted : (specs : List IdMap) (starts sorted : List ℕ) (left after : PiecesLeft)
+    → StartsSoFar specs starts left → GivesPiece left None after → IsPermutation starts sorted
+    → AreStarts specs sorted
+AreStarts-sorted specs starts sorted left after so_far gives permutation host guest some within becomes =
+    let end : left.next ≡ 4294967296 = gives.0 in
+    elim (so_far.starts_are host guest some (omega arith) becomes) [
+      | inl listed ↦ inl (Contains-permutation starts sorted guest permutation listed)
+      | inr both ↦ inr both
+    ]
+
+-- ---- the next start
+
+module _ (starts : List ℕ) (n at : ℕ) (up : IsNonDecreasing starts)
+    (splits : IsPartitionPoint (λ (start : ℕ). leb start n ≡ true) (λ (start : ℕ). leb start n ≡ false) starts at) where
+  -- a start above the number stands at that place or after it
+  later : (start : ℕ) → n < start → Contains starts start → (at < length starts) × (get_or starts at 0 ≤ start)
+  later start above (k, inside, here) =
+      let here' : get_or starts k 0 ≡ start = get_or_default starts k 0 start inside ∙ here in
+      elim (cases_lt k at) [
+        | inl before ↦ absurd
+            (let low : leb start n ≡ true = rw here' at (splits.0 k 0 (omega arith) before) in
+            grind (arith, nat_tests))
+        | inr after ↦ (
+          omega arith,
+          (let rising : get_or starts at 0 ≤ get_or starts k 0 = up at k 0 after inside in omega arith),
+        )
+      ]
+
+  pub none_left : length starts ≤ at → (start : ℕ) → n < start → ¬ Contains starts start
+  none_left out start above listed = let after = later start above listed in omega (arith, after.0)
+
+  pub none_between : (next : ℕ) → get_or starts at next ≡ next → at < length starts → (start : ℕ) → n < start
+      → start < next → ¬ Contains starts start
+  none_between next here inside start above below listed =
+      let after = later start above listed in
+      let here' : get_or starts at 0 ≡ next = get_or_default starts at 0 next inside ∙ here in
+      omega (arith, after.1, here')
+
+  pub next_above : (next : ℕ) → get_or starts at next ≡ next → at < length starts → n < next
+  next_above next here inside =
+      let high : leb next n ≡ false = rw here at (splits.1 at next (omega arith) inside) in
+      grind (arith, nat_tests)

@@ -1,0 +1,306 @@
+-- Which ids spans have again, as they come in the order of their first ids.
+use Rattle.std.proofs.Common.{◌≡◌, ◌↔◌, inl, inr, ◌⊎◌, ℕ, ◌+◌, ◌-◌, ◌<◌, ◌≤◌, min, max, List, [], ◌∷◌, ◌++◌, length}
+use Rattle.std.proofs.Common.{take, get_or, Contains, refl, ap, ◌∙◌, arith}
+use Rattle.std.proofs.Common.{rules, subst}
+use Rattle.std.specs.List.{All}
+use Rattle.std.specs.List.Sorted.{IsPermutation, IsNonDecreasingBy}
+use Rattle.std.proofs.lemmas.Bool.{cases_order}
+use Rattle.std.proofs.lemmas.Bool.Decides.{nat_tests}
+use Rattle.std.proofs.lemmas.List.{get_or_default, take_all, take_more}
+use Rattle.std.proofs.lemmas.List.Sorted.{sum_by-IsPermutation}
+use Rattle.std.proofs.lemmas.List.Elements.{All-push, All-weaker, All-contains, Contains-push}
+use Rattle.std.proofs.lemmas.List.Sorted.{IsNonDecreasingBy-push}
+use Rattle.std.proofs.lemmas.List.Sums.{sum_by_more}
+use Rattle.virtiofs_id_audit.specs.IdAuditParts.{IsSpan, Has, Hold, AreInOrder, has_times, times, once_below}
+use Rattle.virtiofs_id_audit.specs.declared.spans.Span.{Span}
+use Rattle.virtiofs_id_audit.proofs.HeldLemmas.{hold_push, push_hold, hold_none}
+use Rattle.virtiofs_id_audit.proofs.ImageLemmas.{has_or_not, times_hold}
+
+-- ---- the images so far
+
+-- how often an id was reached by the first images, with once before for those below start
+pub reached_times : List Span → ℕ → ℕ → ℕ → ℕ
+reached_times images start i id = times (take i images) id + once_below start id
+
+-- the span begins no later than the images from i on
+abbrev pub BeginsBefore : List Span → ℕ → Span → Type 0
+BeginsBefore images i span = (k : ℕ) (d : Span) → i ≤ k → k < length images → span.first ≤ (get_or images k d).first
+
+-- what is known after the first images: again has what was reached twice; reached is the end of what was reached, for
+-- ids that no image to come begins above; and last is the greatest last id of again
+pub record SweptTo (images : List Span) (start i reached last : ℕ) (again : List Span) : Type 0 where
+  pub bound : reached ≤ 4294967296
+  pub order : AreInOrder again
+  pub hold : (id : ℕ) → Hold again id ↔ (2 ≤ reached_times images start i id)
+  pub ends : (id : ℕ) → ((k : ℕ) (d : Span) → k < i → (get_or images k d).first ≤ id)
+      → (id < reached) ↔ (1 ≤ reached_times images start i id)
+  pub firsts : All (BeginsBefore images i) again
+  pub lasts : All (λ span. span.last ≤ last) again
+  pub last_is : (last ≡ 0) ⊎ ((span : Span) × Contains again span × (span.last ≡ last))
+
+-- before the first image
+below_once : (start id : ℕ) → (id < start) ↔ (1 ≤ once_below start id)
+below_once start id =
+    elim (cases_order id start) [
+      | inl same ↦ (λ below. absurd (omega arith), λ some. absurd (grind (arith, nat_tests)))
+      | inr (inl before) ↦ (λ _. grind (arith, nat_tests), λ _. before)
+      | inr (inr after) ↦ (λ below. absurd (omega arith), λ some. absurd (grind (arith, nat_tests)))
+    ]
+
+once_at_most : (start id : ℕ) → once_below start id ≤ 1
+once_at_most start id = grind (arith, nat_tests)
+
+pub SweptTo-start : (images : List Span) (start : ℕ) → start ≤ 4294967296 → SweptTo images start 0 start 0 []
+unfolding reached_times
+SweptTo-start images start bound = record {
+  bound = bound;
+  order = record {
+    some = λ k d inside. absurd (omega arith);
+    firsts = λ i j d up inside. absurd (omega arith);
+    lasts =
+        λ i j d up inside. absurd (omega arith);
+  };
+  hold = λ id. (
+    λ (span, listed, has). absurd (hold_none id (span, listed, has)),
+    λ twice. absurd (let once = once_at_most start id in omega arith),
+  );
+  ends = λ id low. (
+    λ below. (let once = (below_once start id).0 below in omega arith),
+    λ some. (below_once start id).1 (omega arith),
+  );
+  firsts = λ k d inside. absurd (omega arith);
+  lasts = λ k d inside. absurd (omega arith);
+  last_is = inl refl;
+}
+
+-- ---- one image more
+
+reached_more : (images : List Span) (start i id : ℕ) (image : Span) → i < length images → get_or images i image ≡ image
+    → reached_times images start (i + 1) id ≡ reached_times images start i id + has_times id image
+unfolding reached_times
+reached_more images start i id image inside here =
+    let more : times (take (i + 1) images) id ≡ times (take i images) id + has_times id (get_or images i image) =
+    sum_by_more (has_times id) images i image inside in
+    let same : has_times id (get_or images i image) ≡ has_times id image = ap (has_times id) here in
+    omega arith
+
+-- no image so far begins above an id of the next one
+begun : (images : List Span) (i id : ℕ) (image : Span) → IsNonDecreasingBy (λ span. span.first) images
+    → i < length images → get_or images i image ≡ image → image.first ≤ id → (k : ℕ) (d : Span) → k < i
+    → (get_or images k d).first ≤ id
+begun images i id image rising inside here from k d before =
+    let up : (get_or images k d).first ≤ (get_or images i d).first = rising k i d (omega arith) inside in
+    let same : get_or images i d ≡ image = get_or_default images i d image inside ∙ here in
+    let up' : (get_or images k d).first ≤ image.first = rw same at up in
+    omega arith
+
+module _ (images : List Span) (start i reached last : ℕ) (again : List Span) (image : Span)
+    (so_far : SweptTo images start i reached last again)
+    (rising : IsNonDecreasingBy (λ span. span.first) images) (some : image.first ≤ image.last)
+    (within : image.last ≤ 4294967295) (inside : i < length images) (here : get_or images i image ≡ image) where
+  -- an id of the image was reached before where it is below the end
+  reached_before : (id : ℕ) → image.first ≤ id → (id < reached) ↔ (1 ≤ reached_times images start i id)
+  reached_before id from = so_far.ends id (begun images i id image rising inside here from)
+
+  ends_more : (new : ℕ) → new ≡ max reached (image.last + 1) → (id : ℕ)
+      → ((k : ℕ) (d : Span) → k < i + 1 → (get_or images k d).first ≤ id)
+      → (id < new) ↔ (1 ≤ reached_times images start (i + 1) id)
+  ends_more new is id low =
+      let begins : image.first ≤ id = rw here at (low i image (omega arith)) in
+      let before = reached_before id begins in
+      let more = reached_more images start i id image inside here in
+      elim (has_or_not image id) [
+        | inl (once, has) ↦ (λ below. (omega arith), λ times. (let high : id ≤ image.last = has.1 in omega arith))
+        | inr (never, not) ↦ (
+          λ below.
+              (let old : id < reached = by_reached below (λ high. not (begins, high)) in let times = before.0 old in
+              omega arith),
+          λ times. (let old : id < reached = before.1 (omega arith) in omega arith),
+        )
+      ] where
+        by_reached : id < new → ¬ (id ≤ image.last) → id < reached
+        by_reached below beyond =
+            elim (cases_order id image.last) [
+              | inl same ↦ absurd (beyond (omega arith))
+              | inr (inl less) ↦ absurd (beyond (omega arith))
+              | inr (inr more) ↦ omega arith
+            ]
+
+  -- nothing of the image was reached before
+  pub SweptTo-pass : (new : ℕ) → reached ≤ image.first → new ≡ max reached (image.last + 1)
+      → SweptTo images start (i + 1) new last again
+  SweptTo-pass new beyond is = record {
+    bound = (let bound : reached ≤ 4294967296 = so_far.bound in omega arith);
+    order = so_far.order;
+    hold = λ id. (same_hold id (has_or_not image id));
+    ends = ends_more new is;
+    firsts =
+        All-weaker (BeginsBefore images i) (BeginsBefore images (i + 1))
+        (λ span low k d from inside'. low k d (omega arith) inside') again so_far.firsts;
+    lasts = so_far.lasts;
+    last_is = so_far.last_is;
+  } where
+    same_hold : (id : ℕ) → ((has_times id image ≡ 1) × Has image id) ⊎ ((has_times id image ≡ 0) × (¬ Has image id))
+        → Hold again id ↔ (2 ≤ reached_times images start (i + 1) id)
+    same_hold id (inl (once, (low, high))) =
+        let more = reached_more images start i id image inside here in (
+          λ held. (let twice = (so_far.hold id).0 held in omega arith),
+          λ twice. absurd (let old : id < reached = (reached_before id low).1 (omega arith) in omega arith),
+        )
+    same_hold id (inr (never, not)) =
+        let more = reached_more images start i id image inside here in
+        (λ held. (let twice = (so_far.hold id).0 held in omega arith), λ twice. (so_far.hold id).1 (omega arith))
+
+  -- a front of the image was
+  pub SweptTo-push : (new greatest : ℕ) (span : Span) → image.first < reached → new ≡ max reached (image.last + 1)
+      → greatest ≡ max last (min image.last (reached - 1)) → span.first ≡ image.first → span.last ≡ greatest
+      → SweptTo images start (i + 1) new greatest (again ++ span ∷ [])
+  SweptTo-push new greatest span before is greatest_is first_is last_is = record {
+    bound = (let bound : reached ≤ 4294967296 = so_far.bound in omega arith);
+    order = record {
+      some = All-push (λ s. s.first ≤ s.last) again span so_far.order.some (omega arith);
+      firsts =
+          IsNonDecreasingBy-push (λ s. s.first) again span so_far.order.firsts
+          (λ d any.
+          (let low : (get_or again (length again - 1) d).first ≤ (get_or images i image).first =
+          so_far.firsts (length again - 1) d (omega arith) i image (omega arith) inside in let low' = rw here at low in
+          omega arith));
+      lasts = IsNonDecreasingBy-push (λ s. s.last) again span so_far.order.lasts
+          (λ d any.
+          (let high : (get_or again (length again - 1) d).last ≤ last =
+          so_far.lasts (length again - 1) d (omega arith) in omega arith));
+    };
+    hold = λ id. (more_hold id (has_or_not image id));
+    ends = ends_more new is;
+    firsts =
+        All-push (BeginsBefore images (i + 1)) again span
+        (All-weaker (BeginsBefore images i) (BeginsBefore images (i + 1))
+        (λ s low k d from inside'. low k d (omega arith) inside') again so_far.firsts)
+        (λ k d from inside'.
+        (let up = rising i k d (omega arith) inside' in let up' : image.first ≤ (get_or images k d).first =
+        rw (get_or_default images i d image inside ∙ here) at up in omega arith));
+    lasts = All-push (λ s. s.last ≤ greatest) again span
+        (All-weaker (λ s. s.last ≤ last) (λ s. s.last ≤ greatest) (λ s high. omega arith) again so_far.lasts)
+        (omega arith);
+    last_is = inr (span, Contains-push again span, last_is);
+  } where
+    -- an id up to the greatest so far is held already, or there is none above 0
+    by_last : (id : ℕ) → image.first ≤ id → id ≤ last → (id ≡ 0) ⊎ Hold again id
+    by_last id from high =
+        elim so_far.last_is [
+          | inl none ↦ inl (omega arith)
+          | inr (other, listed, ends) ↦
+              let begins : other.first ≤ (get_or images i image).first =
+              All-contains (BeginsBefore images i) again other so_far.firsts listed i image (omega arith) inside in
+              let begins' : other.first ≤ image.first = rw here at begins in
+              inr (other, listed, (omega arith, omega arith))
+        ]
+
+    from_span : (id : ℕ) → Has span id → 2 ≤ reached_times images start (i + 1) id
+    from_span id (low, high) =
+        let more = reached_more images start i id image inside here in
+        elim (cases_order id (min image.last (reached - 1))) [
+          | inl same ↦ fresh (omega arith)
+          | inr (inl less) ↦ fresh (omega arith)
+          | inr (inr beyond) ↦
+              elim (by_last id (omega arith) (omega arith)) [
+                | inl none ↦ absurd (omega arith)
+                | inr held ↦ (let twice = (so_far.hold id).0 held in omega arith)
+              ]
+        ] where
+          fresh : id ≤ min image.last (reached - 1) → 2 ≤ reached_times images start (i + 1) id
+          fresh short =
+              let more = reached_more images start i id image inside here in
+              let old : 1 ≤ reached_times images start i id = (reached_before id (omega arith)).0 (omega arith) in
+              elim (has_or_not image id) [
+                | inl (once, has) ↦ omega arith
+                | inr (never, not) ↦ absurd (not (omega arith, omega arith))
+              ]
+
+    more_hold : (id : ℕ) → ((has_times id image ≡ 1) × Has image id) ⊎ ((has_times id image ≡ 0) × (¬ Has image id))
+        → Hold (again ++ span ∷ []) id ↔ (2 ≤ reached_times images start (i + 1) id)
+    more_hold id has = (to, from has) where
+      to : Hold (again ++ span ∷ []) id → 2 ≤ reached_times images start (i + 1) id
+      to held =
+          let more = reached_more images start i id image inside here in
+          elim (hold_push again span id held) [
+            | inl old ↦ (let twice = (so_far.hold id).0 old in omega arith)
+            | inr in_span ↦ from_span id in_span
+          ]
+
+      from : ((has_times id image ≡ 1) × Has image id) ⊎ ((has_times id image ≡ 0) × (¬ Has image id))
+          → 2 ≤ reached_times images start (i + 1) id → Hold (again ++ span ∷ []) id
+      from (inl (once, (low, high))) twice =
+          let more = reached_more images start i id image inside here in
+          let old : id < reached = (reached_before id low).1 (omega arith) in
+          push_hold again span id (inr (omega arith, omega arith))
+      from (inr (never, not)) twice =
+          let more = reached_more images start i id image inside here in
+          push_hold again span id (inl ((so_far.hold id).1 (omega arith)))
+
+-- after the last image
+pub SweptTo-end : (images : List Span) (start i reached last : ℕ) (again : List Span)
+    → SweptTo images start i reached last again → length images ≤ i → (id : ℕ)
+    → Hold again id ↔ (2 ≤ times images id + once_below start id)
+unfolding reached_times
+SweptTo-end images start i reached last again so_far end id = rw (take_all i images end) at (so_far.hold id)
+
+-- ---- spans in order
+
+-- the spans that are kept have an id each, and together the ids of all
+pub record AreKept (spans kept : List Span) : Type 0 where
+  pub some : All IsSpan kept
+  pub same : (id : ℕ) → Hold kept id ↔ Hold spans id
+
+-- none at first
+pub kept_none : (spans kept : List Span) → kept ≡ [] → AreKept (take 0 spans) kept
+kept_none spans kept none = rw none (record { some = search rules; same = λ id. ((λ held. held), (λ held. held)) })
+
+-- a span without an id is left out
+pub kept_without : (spans kept : List Span) (i : ℕ) (d : Span) → i < length spans → AreKept (take i spans) kept
+    → (get_or spans i d).last < (get_or spans i d).first → AreKept (take (i + 1) spans) kept
+kept_without spans kept i d below so_far none = record {
+  some = so_far.some;
+  same = λ id. rw (take_more spans i d below) (
+    (λ held. push_hold (take i spans) (get_or spans i d) id (inl ((so_far.same id).0 held))),
+    (λ held. elim (hold_push (take i spans) (get_or spans i d) id held) [
+      | inl before ↦ (so_far.same id).1 before
+      | inr has ↦ absurd (omega (arith, none, has.0, has.1))
+    ]),
+  );
+}
+
+-- one with an id is kept
+pub kept_with : (spans kept : List Span) (i : ℕ) (d : Span) → i < length spans → AreKept (take i spans) kept
+    → IsSpan (get_or spans i d) → AreKept (take (i + 1) spans) (kept ++ get_or spans i d ∷ [])
+kept_with spans kept i d below so_far is = record {
+  some = All-push IsSpan kept (get_or spans i d) so_far.some is;
+  same = λ id. rw (take_more spans i d below) (
+    (λ held. push_hold (take i spans) (get_or spans i d) id (elim (hold_push kept (get_or spans i d) id held) [
+      | inl before ↦ inl ((so_far.same id).0 before)
+      | inr has ↦ inr has
+    ])),
+    (λ held. push_hold kept (get_or spans i d) id (elim (hold_push (take i spans) (get_or spans i d) id held) [
+      | inl before ↦ inl ((so_far.same id).1 before)
+      | inr has ↦ inr has
+    ])),
+  );
+}
+
+-- in another order they have the same ids
+pub hold_permuted : (spans sorted : List Span) (id : ℕ) → IsPermutation spans sorted → Hold sorted id ↔ Hold spans id
+hold_permuted spans sorted id permutation =
+    let same = sum_by-IsPermutation (has_times id) spans sorted permutation in
+    let of_sorted = times_hold sorted id in
+    let of_spans = times_hold spans id in (
+      (λ held. of_spans.0 (let some = of_sorted.1 held in omega (arith, same, some))),
+      (λ held. of_sorted.0 (let some = of_spans.1 held in omega (arith, same, some))),
+    )
+
+-- all of them, in another order
+pub kept_sorted : (spans kept sorted : List Span) (i : ℕ) → length spans ≤ i → AreKept (take i spans) kept
+    → IsPermutation kept sorted → (id : ℕ) → Hold sorted id ↔ Hold spans id
+kept_sorted spans kept sorted i over are permutation id =
+    let same = hold_permuted kept sorted id permutation in
+    let whole = (subst (λ xs. AreKept xs kept) (take_all i spans over) are).same id in
+    ((λ held. whole.0 (same.0 held)), (λ held. same.1 (whole.1 held)))

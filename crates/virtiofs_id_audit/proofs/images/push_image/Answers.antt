@@ -1,0 +1,44 @@
+use Rattle.std.proofs.Common.{refl, sym, ◌∙◌, arith}
+use Rattle.std.proofs.lemmas.List.Elements.{All-push}
+use Rattle.virtiofs_id_audit.specs.IdAuditParts.{IsSpan}
+use Rattle.virtiofs_id_audit.proofs.ImageLemmas.{counts-forbidden, counts-each, counts-one, counts-two}
+use Rattle.virtiofs_id_audit.proofs.images.push_image.Goals as goal
+
+pub returns-in_default-clause-counts : goal.returns-in_default-clause-counts
+returns-in_default-clause-counts g c = λ specs low host accepted is up before.
+    counts-forbidden specs c.args.piece low host c.args.images.now.items accepted is up before c.in_default.ensures
+
+pub returns-then-is_one_to_one-clause-counts : goal.returns-then-is_one_to_one-clause-counts
+returns-then-is_one_to_one-clause-counts g c = λ specs low host accepted is up before.
+    rw c.in_ok-push.ensures.items
+    (counts-each specs c.args.piece low host c.args.images.now.items accepted is up before c.in-Some.to
+    c.min-last.result _ (sym c.is_one_to_one.ensures ∙ c.if-is_one_to_one.true) c.in-Some.ensures (omega arith)
+    c.if-last-piece.false refl refl)
+
+pub returns-in_ok-push-3-clause-counts : goal.returns-in_ok-push-3-clause-counts
+returns-in_ok-push-3-clause-counts g c = λ specs low host accepted is up before.
+    rw (c.in_ok-push-3.ensures.items, c.in_ok-push-2.ensures.items)
+    (counts-two specs c.args.piece low host c.args.images.now.items accepted is up before c.in-Some.to _
+    (sym c.is_one_to_one.ensures ∙ c.if-is_one_to_one.false) c.in-Some.ensures (omega arith) refl refl)
+
+pub returns-else-piece-last-clause-counts : goal.returns-else-piece-last-clause-counts
+returns-else-piece-last-clause-counts g c = λ specs low host accepted is up before.
+    rw c.in_ok-push-2.ensures.items
+    (counts-one specs c.args.piece low host c.args.images.now.items accepted is up before c.in-Some.to _
+    (sym c.is_one_to_one.ensures ∙ c.if-is_one_to_one.false) c.in-Some.ensures (omega arith) (omega arith) refl
+    refl)
+
+pub returns-in_default-clause-spans : goal.returns-in_default-clause-spans
+returns-in_default-clause-spans g c = c.requires.spans
+
+pub returns-then-last-piece-clause-spans : goal.returns-then-last-piece-clause-spans
+returns-then-last-piece-clause-spans g c = c.requires.spans
+
+pub returns-in_ok-push-3-clause-spans : goal.returns-in_ok-push-3-clause-spans
+returns-in_ok-push-3-clause-spans g c =
+    rw (c.in_ok-push-3.ensures.items, c.in_ok-push-2.ensures.items)
+    (All-push IsSpan _ _ (All-push IsSpan _ _ c.requires.spans (omega arith, omega arith)) (omega arith, omega arith))
+
+pub returns-else-piece-last-clause-spans : goal.returns-else-piece-last-clause-spans
+returns-else-piece-last-clause-spans g c =
+    rw c.in_ok-push-2.ensures.items (All-push IsSpan _ _ c.requires.spans (omega arith, omega arith))

@@ -1,0 +1,95 @@
+use Rattle.std.proofs.Common.{◌-◌, ◌∷◌, ◌++◌, [], ap, sym, ◌∙◌, arith}
+use Rattle.std.proofs.lemmas.Bool.Decides.{nat_tests}
+use Rattle.std.proofs.lemmas.List.{append_assoc, nil_from_length}
+use Rattle.virtiofs_id_audit.specs.IdAuditParts.{Hold}
+use Rattle.virtiofs_map.specs.Mapping.{count_of}
+use Rattle.virtiofs_id_audit.proofs.ApartLemmas.{AreApart-firsts}
+use Rattle.virtiofs_id_audit.proofs.mending.parts.RemnantLemmas.{AreCut-unmet, met_covered, kept_inside}
+use Rattle.virtiofs_id_audit.proofs.mending.parts.RemnantLemmas.{AreCut-parts, AreCut-half, not_empty}
+use Rattle.virtiofs_id_audit.proofs.mending.parts.RemnantLemmas.{parts_remnants, half_covers, with_half, added_remnants}
+use Rattle.virtiofs_id_audit.proofs.mending.parts.push_cut.Goals as goal
+
+pub returns-then-is_empty-2-clause-cut : goal.returns-then-is_empty-2-clause-cut
+returns-then-is_empty-2-clause-cut g c =
+    let some = not_empty c.is_empty.result (count_of c.in-Some.entry) c.if-is_empty.false c.is_empty.ensures in (
+      c.args.spec ∷ [],
+      c.in_ok-push-3.ensures.items,
+      AreCut-unmet c.args.spec c.in-Some.entry (record { first = c.first.result; last = c.end.result - 1 }) c.args.bad.now
+          c.meeting-bad.result.now c.requires.accepted (sym c.in-Some.ensures) c.first.ensures (omega (arith, some, c.end.ensures.end))
+          c.meeting-bad.ensures.hold (nil_from_length c.meeting-bad.result.now (grind (arith, nat_tests))),
+    )
+
+pub push_parts-requires-clause-inside : goal.push_parts-requires-clause-inside
+push_parts-requires-clause-inside g c =
+    let some = not_empty c.is_empty.result (count_of c.in-Some.entry) c.if-is_empty.false c.is_empty.ensures in
+    rw c.deref.ensures.value
+    (kept_inside c.args.spec c.in-Some.entry (record { first = c.first.result; last = c.end.result - 1 }) c.args.bad.now
+    c.meeting-bad.result.now c.requires.accepted (sym c.in-Some.ensures) c.first.ensures (omega (arith, some, c.end.ensures.end))
+    c.meeting-bad.ensures.hold c.in_ok-kept.kept.items [] c.in_ok-kept.ensures.hold c.in_ok-kept.ensures.apart)
+
+pub returns-in_default-host_half-clause-cut : goal.returns-in_default-host_half-clause-cut
+returns-in_default-host_half-clause-cut g c =
+    let some = not_empty c.is_empty.result (count_of c.in-Some.entry) c.if-is_empty.false c.is_empty.ensures in
+    let (parts, out_is, are) = c.in_ok-push_parts.ensures in (
+      parts,
+      out_is,
+      AreCut-parts c.args.spec c.in-Some.entry (record { first = c.first.result; last = c.end.result - 1 }) c.args.bad.now
+          c.meeting-bad.result.now c.requires.accepted (sym c.in-Some.ensures) c.first.ensures (omega (arith, some, c.end.ensures.end))
+          c.meeting-bad.ensures.hold c.in_ok-kept.kept.items parts c.in_ok-kept.ensures.hold (rw c.deref.ensures.value at are) (omega arith)
+          c.in_default-host_half.ensures,
+    )
+
+pub returns-in_default-host_half-clause-clean : goal.returns-in_default-host_half-clause-clean
+returns-in_default-host_half-clause-clean g c =
+    let some = not_empty c.is_empty.result (count_of c.in-Some.entry) c.if-is_empty.false c.is_empty.ensures in
+    λ clean. absurd (met_covered c.args.spec c.in-Some.entry (record { first = c.first.result; last = c.end.result - 1 }) c.args.bad.now
+    c.meeting-bad.result.now c.requires.accepted (sym c.in-Some.ensures) c.first.ensures (omega (arith, some, c.end.ensures.end))
+    c.meeting-bad.ensures.hold (omega arith) (grind (arith, nat_tests)) c.meeting-bad.ensures.apart c.meeting-bad.ensures.meet clean)
+
+pub returns-clause-cut : goal.returns-clause-cut
+returns-clause-cut g c =
+    let some = not_empty c.is_empty.result (count_of c.in-Some.entry) c.if-is_empty.false c.is_empty.ensures in
+    let (parts, out_is, are) = c.in_ok-push_parts.ensures in (
+      parts ++ c.in-Some-host_half.half ∷ [],
+      c.in_ok-push-4.ensures.items ∙ ap (λ xs. xs ++ c.in-Some-host_half.half ∷ []) out_is
+          ∙ append_assoc c.args.out.now.items parts (c.in-Some-host_half.half ∷ []),
+      AreCut-half c.args.spec c.in-Some.entry (record { first = c.first.result; last = c.end.result - 1 }) c.args.bad.now
+          c.meeting-bad.result.now c.requires.accepted (sym c.in-Some.ensures) c.first.ensures (omega (arith, some, c.end.ensures.end))
+          c.meeting-bad.ensures.hold c.in_ok-kept.kept.items parts c.in_ok-kept.ensures.hold (rw c.deref.ensures.value at are) c.in-Some-host_half.half
+          c.in-Some-host_half.ensures,
+    )
+
+pub returns-clause-clean : goal.returns-clause-clean
+returns-clause-clean g c =
+    let some = not_empty c.is_empty.result (count_of c.in-Some.entry) c.if-is_empty.false c.is_empty.ensures in
+    λ clean. absurd (met_covered c.args.spec c.in-Some.entry (record { first = c.first.result; last = c.end.result - 1 }) c.args.bad.now
+    c.meeting-bad.result.now c.requires.accepted (sym c.in-Some.ensures) c.first.ensures (omega (arith, some, c.end.ensures.end))
+    c.meeting-bad.ensures.hold (omega arith) (grind (arith, nat_tests)) c.meeting-bad.ensures.apart c.meeting-bad.ensures.meet clean)
+
+pub returns-in_default-host_half-clause-remnants : goal.returns-in_default-host_half-clause-remnants
+returns-in_default-host_half-clause-remnants g c =
+    let some = not_empty c.is_empty.result (count_of c.in-Some.entry) c.if-is_empty.false c.is_empty.ensures in
+    let (parts, out_is, are) = c.in_ok-push_parts.ensures in
+    added_remnants c.args.spec (Hold c.args.bad.now) c.args.out.now.items parts _ out_is
+    (parts_remnants c.args.spec c.in-Some.entry (record { first = c.first.result; last = c.end.result - 1 }) c.args.bad.now
+    c.meeting-bad.result.now c.requires.accepted (sym c.in-Some.ensures) c.first.ensures (omega (arith, some, c.end.ensures.end))
+    c.meeting-bad.ensures.hold c.in_ok-kept.kept.items parts c.in_ok-kept.ensures.hold (rw c.deref.ensures.value at are)
+    c.in_ok-kept.ensures.runs)
+
+pub returns-clause-remnants : goal.returns-clause-remnants
+returns-clause-remnants g c =
+    let some = not_empty c.is_empty.result (count_of c.in-Some.entry) c.if-is_empty.false c.is_empty.ensures in
+    let (parts, out_is, are) = c.in_ok-push_parts.ensures in
+    added_remnants c.args.spec (Hold c.args.bad.now) c.args.out.now.items (parts ++ c.in-Some-host_half.half ∷ []) _
+    (c.in_ok-push-4.ensures.items ∙ ap (λ xs. xs ++ c.in-Some-host_half.half ∷ []) out_is
+    ∙ append_assoc c.args.out.now.items parts (c.in-Some-host_half.half ∷ []))
+    (with_half c.args.spec c.in-Some-host_half.half (Hold c.args.bad.now) parts
+    (parts_remnants c.args.spec c.in-Some.entry (record { first = c.first.result; last = c.end.result - 1 }) c.args.bad.now
+    c.meeting-bad.result.now c.requires.accepted (sym c.in-Some.ensures) c.first.ensures (omega (arith, some, c.end.ensures.end))
+    c.meeting-bad.ensures.hold c.in_ok-kept.kept.items parts c.in_ok-kept.ensures.hold (rw c.deref.ensures.value at are)
+    c.in_ok-kept.ensures.runs) c.in-Some-host_half.ensures
+    (half_covers c.args.spec c.in-Some-host_half.half c.in-Some.entry c.in-Some-host_half.ensures
+    (sym c.in-Some.ensures) some))
+
+pub without-requires-clause-firsts : goal.without-requires-clause-firsts
+without-requires-clause-firsts g c = AreApart-firsts _ c.meeting-bad.ensures.apart

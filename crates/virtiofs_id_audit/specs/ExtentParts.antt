@@ -1,0 +1,40 @@
+-- What the parts of finding ids of the guest say. Only private functions cite these definitions.
+use Rattle.std.specs.Prelude.{◌≡◌, ◌⊎◌, ℕ, ◌-◌, ◌<◌, ◌≤◌, true, false, List, Contains, Some}
+use Rattle.virtiofs_id_audit.specs.IdAudit.{GoesInto, IsAstray}
+use Rattle.virtiofs_id_audit.specs.Mending.{IsBad}
+use Rattle.virtiofs_id_audit.specs.declared.extents.runs.Run.{Run}
+use Rattle.virtiofs_id_audit.specs.declared.extents.runs.Sought.{Sought}
+use Rattle.virtiofs_id_audit.specs.declared.extents.runs.Sought.TheVariants.{Into, OnlyAstray, Bad}
+use Rattle.virtiofs_map.specs.Mapping.{Becomes}
+use Rattle.virtiofs_map.specs.Pieces.{value_in}
+use Rattle.virtiofs_map.specs.declared.cmdline.IdMap.{IdMap}
+use Rattle.virtiofs_map.specs.declared.soft_idmap.entry.Direction.TheVariants.{HostToGuest}
+use Rattle.virtiofs_map.specs.declared.soft_idmap.piece.Piece.{Piece}
+
+-- the id of the guest is one of those that are sought
+abbrev pub IsSought : Sought → List IdMap → (ℕ → Type 0) → ℕ → Type 0
+IsSought Into specs hosts guest = GoesInto specs hosts guest
+IsSought OnlyAstray specs hosts guest = IsAstray specs guest × (¬ GoesInto specs hosts guest)
+IsSought Bad specs hosts guest = IsBad specs hosts guest
+
+-- the numbers of the run, from first on and not above last, are all such, or none of them is
+pub record IsRun (such : ℕ → Type 0) (first last : ℕ) (run : Run) : Type 0 where
+  pub from : first ≤ run.last
+  pub to : run.last ≤ last
+  pub all : run.all ≡ true → (n : ℕ) → first ≤ n → n ≤ run.last → such n
+  pub none : run.all ≡ false → (n : ℕ) → first ≤ n → n ≤ run.last → ¬ such n
+
+-- where an id of the host becomes an id of the guest that is none of the starts, the one before it becomes the one before
+-- that
+abbrev pub AreStarts : List IdMap → List ℕ → Type 0
+AreStarts specs starts = (host guest : ℕ) → 1 ≤ host → host ≤ 4294967295 → Becomes specs HostToGuest host (Some guest)
+    → Contains starts guest ⊎ Becomes specs HostToGuest (host - 1) (Some (guest - 1))
+
+-- the number of the piece becomes one of these
+abbrev pub BecomesOne : Piece → (ℕ → Type 0) → ℕ → Type 0
+BecomesOne piece hosts n = (host : ℕ) × (value_in piece n ≡ Some host) × hosts host
+
+-- of the numbers below end, the others are those that are not such
+pub record AreOthers (such : ℕ → Type 0) (end : ℕ) (others : ℕ → Type 0) : Type 0 where
+  pub such_ones : (n : ℕ) → n < end → ¬ others n → such n
+  pub other_ones : (n : ℕ) → n < end → others n → ¬ such n

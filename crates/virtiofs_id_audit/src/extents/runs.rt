@@ -1,0 +1,222 @@
+//! Neighbouring ids of the guest that are all sought, or of which none is.
+ghost use Rattle.std.specs.Prelude.{◌≡◌, ◌<◌, ◌≤◌};
+ghost use Rattle.std.specs.List.Sorted.{IsNonDecreasing};
+ghost use Rattle.virtiofs_id_audit.specs.ExtentParts.{IsSought, IsRun, AreStarts, BecomesOne};
+ghost use Rattle.virtiofs_id_audit.specs.IdAudit.{IsAstray, GoesInto};
+ghost use Rattle.virtiofs_id_audit.specs.IdAuditParts.{Hold, AreInOrder, IsMoved};
+ghost use Rattle.virtiofs_id_audit.specs.Mending.{IsBad};
+ghost use Rattle.virtiofs_id_audit.specs.declared.extents.runs.Sought.TheVariants.{OnlyAstray};
+ghost use Rattle.virtiofs_map.specs.Pieces.{IsNamed};
+
+use crate::extents::starts::next_start;
+use crate::round_trips::round_trip;
+use crate::spans::Span;
+use std::alloc::Allocator;
+use virtiofs_map::id_types::{GuestId, HostId};
+use virtiofs_map::soft_idmap::{Direction, IdMap, Outcome, Piece};
+
+/// Which ids of the guest are sought, where some spans have ids of the host.
+#[derive(Clone, Copy)]
+pub(crate) enum Sought {
+    /// Those that become an id of the spans.
+    Into,
+    /// Those that do not come back, and become none of the spans.
+    OnlyAstray,
+    /// Those that do not come back, or become an id of the spans.
+    Bad,
+}
+
+/// The greatest id of the guest.
+const GREATEST: u32 = u32::MAX - 1;
+
+/// Neighbouring numbers, from some number on, all of which are of some kind, or none.
+#[derive(Clone, Copy)]
+pub(crate) struct Run {
+    /// The last of them.
+    pub(crate) last: u32,
+    /// Whether all are of the kind; else none is.
+    pub(crate) all: bool,
+}
+
+/// The ids from one on, as far as the spans have all of them, or none.
+fn run_in(spans: &[Span], id: u32) -> Run
+    requires { AreInOrder spans.now }
+    ensures { IsRun (Hold spans.now) id 4294967295 result }
+{
+    let at = spans.partition_point(|span| span.last < id);
+    let Some(span) = spans.get(at) else {
+        return Run {
+            last: u32::MAX,
+            all: false,
+        };
+    };
+    if id < span.first {
+        return Run {
+            last: span.first - 1,
+            all: false,
+        };
+    }
+    Run {
+        last: span.last,
+        all: true,
+    }
+}
+
+/// The first numbers of a piece, as far as all of them become ids of the spans, or none does.
+fn run_becoming(piece: Piece, spans: &[Span]) -> Run
+    requires order { piece.first ≤ piece.last }
+    requires named { IsNamed piece.becomes piece.first piece.last }
+    requires spans { AreInOrder spans.now }
+    ensures { IsRun (BecomesOne piece (Hold spans.now)) piece.first piece.last result }
+{
+    let Some(to) = piece.start() else {
+        return Run {
+            last: piece.last,
+            all: false,
+        };
+    };
+    let run = run_in(spans, to);
+    if !piece.is_one_to_one() {
+        return Run {
+            last: piece.last,
+            all: run.all,
+        };
+    }
+    let above = (piece.last - piece.first).min(run.last - to);
+    Run {
+        last: piece.first + above,
+        all: run.all,
+    }
+}
+
+/// The first numbers of a piece, as far as all of them become other ones, or none does.
+fn run_moved(piece: Piece) -> Run
+    requires order { piece.first ≤ piece.last }
+    requires named { IsNamed piece.becomes piece.first piece.last }
+    ensures { IsRun (IsMoved piece) piece.first piece.last result }
+{
+    let (last, all) = match piece.becomes {
+        Outcome::Kept | Outcome::Forbidden => (piece.last, false),
+        Outcome::OneToOne { .. } => (piece.last, true),
+        Outcome::AllToOne { to } if to == piece.first => (to, false),
+        Outcome::AllToOne { to } if piece.first < to && to <= piece.last => (to - 1, true),
+        Outcome::AllToOne { .. } => (piece.last, true),
+    };
+    Run { last, all }
+}
+
+/// The ids of the guest from `n` on, as far as all of them become ids of the spans, or none does.
+fn run_into<Guest: GuestId<HostType = Host>, Host: HostId<GuestType = Guest>, A: Allocator>(
+    map: &IdMap<Guest, Host, A>,
+    n: u32,
+    spans: &[Span],
+) -> Run
+    requires is_id { n < 4294967295 }
+    requires spans { AreInOrder spans.now }
+    ensures { IsRun (GoesInto map.now (Hold spans.now)) n 4294967294 result }
+{
+    let run = run_becoming(map.stretch(Direction::GuestToHost, n), spans);
+    Run {
+        last: run.last.min(GREATEST),
+        all: run.all,
+    }
+}
+
+/// The ids of the guest from `n` on, as far as they are found to be all astray, or none of them.
+///
+/// Where `n` becomes an id of the host that does not become `n` again, those after it of the same
+/// piece do not come back either, up to one that is a start.
+fn run_astray<Guest: GuestId<HostType = Host>, Host: HostId<GuestType = Guest>, A: Allocator>(
+    map: &IdMap<Guest, Host, A>,
+    n: u32,
+    starts: &[u32],
+) -> Run
+    requires is_id { n < 4294967295 }
+    requires order { IsNonDecreasing starts.now }
+    requires starts { AreStarts map.now starts.now }
+    ensures { IsRun (IsAstray map.now) n 4294967294 result }
+{
+    let there = map.stretch(Direction::GuestToHost, n);
+    let moved = run_moved(round_trip(map, n));
+    if !moved.all || !there.is_one_to_one() {
+        return Run {
+            last: moved.last.min(GREATEST),
+            all: moved.all,
+        };
+    }
+    Run {
+        last: there.last.min(next_start(starts, n) - 1),
+        all: true,
+    }
+}
+
+/// The ids of the guest from `n` on, as far as they are found to be all bad, or none of them.
+///
+/// It does not ask what ids become that do not come back. So there are few runs, however many
+/// ranges of the guest lead to the ids of the spans.
+fn run_bad<Guest: GuestId<HostType = Host>, Host: HostId<GuestType = Guest>, A: Allocator>(
+    map: &IdMap<Guest, Host, A>,
+    n: u32,
+    starts: &[u32],
+    hosts: &[Span],
+) -> Run
+    requires is_id { n < 4294967295 }
+    requires order { IsNonDecreasing starts.now }
+    requires starts { AreStarts map.now starts.now }
+    requires spans { AreInOrder hosts.now }
+    ensures { IsRun (IsBad map.now (Hold hosts.now)) n 4294967294 result }
+{
+    let astray = run_astray(map, n, starts);
+    if astray.all {
+        return astray;
+    }
+    let into = run_into(map, n, hosts);
+    Run {
+        last: astray.last.min(into.last),
+        all: into.all,
+    }
+}
+
+/// The ids of the guest from `n` on, as far as they are found to be all astray and to become no id
+/// of the spans, or none of them.
+fn run_only_astray<Guest: GuestId<HostType = Host>, Host: HostId<GuestType = Guest>, A: Allocator>(
+    map: &IdMap<Guest, Host, A>,
+    n: u32,
+    starts: &[u32],
+    hosts: &[Span],
+) -> Run
+    requires is_id { n < 4294967295 }
+    requires order { IsNonDecreasing starts.now }
+    requires starts { AreStarts map.now starts.now }
+    requires spans { AreInOrder hosts.now }
+    ensures { IsRun (IsSought OnlyAstray map.now (Hold hosts.now)) n 4294967294 result }
+{
+    let astray = run_astray(map, n, starts);
+    if !astray.all {
+        return astray;
+    }
+    let into = run_into(map, n, hosts);
+    Run {
+        last: astray.last.min(into.last),
+        all: !into.all,
+    }
+}
+
+/// The ids of the guest from `n` on, as far as they are found to be all sought, or none of them.
+pub(crate) fn run_of<
+    Guest: GuestId<HostType = Host>,
+    Host: HostId<GuestType = Guest>,
+    A: Allocator,
+>(map: &IdMap<Guest, Host, A>, sought: Sought, n: u32, starts: &[u32], hosts: &[Span]) -> Run
+    requires is_id { n < 4294967295 }
+    requires order { IsNonDecreasing starts.now }
+    requires starts { AreStarts map.now starts.now }
+    requires spans { AreInOrder hosts.now }
+    ensures { IsRun (IsSought sought map.now (Hold hosts.now)) n 4294967294 result }
+{
+    match sought {
+        Sought::Into => run_into(map, n, hosts),
+        Sought::OnlyAstray => run_only_astray(map, n, starts, hosts),
+        Sought::Bad => run_bad(map, n, starts, hosts),
+    }
+}

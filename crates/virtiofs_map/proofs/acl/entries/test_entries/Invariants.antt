@@ -1,7 +1,0 @@
-use Rattle.virtiofs_map.specs.AclParts.{AllSoundBelow, OfWays}
-use Rattle.virtiofs_map.proofs.acl.entries.test_entries.Given as goal
-
--- the entries so far are sound
-abbrev pub invariant-loop-k : goal.invariant-loop-k
-invariant-loop-k l =
-    OfWays l.ways (λ users groups direction. AllSoundBelow users groups direction l.value l.k)

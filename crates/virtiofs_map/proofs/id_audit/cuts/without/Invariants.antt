@@ -1,6 +1,0 @@
-use Rattle.virtiofs_map.proofs.id_audit.cuts.WithoutLemmas.{CutTo}
-use Rattle.virtiofs_map.proofs.id_audit.cuts.without.Given as goal
-
--- what is left of the span below next
-abbrev pub invariant-loop-cut : goal.invariant-loop-cut
-invariant-loop-cut g l = CutTo l.whole l.cuts l.cut-index l.next l.kept.items

@@ -1,9 +1,0 @@
-use Rattle.virtiofs_map.specs.IdAudit.{Hold}
-use Rattle.virtiofs_map.proofs.id_audit.extents.runs.RunLemmas.{IsRun-into}
-use Rattle.virtiofs_map.proofs.id_audit.extents.runs.run_into.Goals as goal
-
-pub returns : goal.returns
-returns g c =
-    IsRun-into c.args.map.now (Hold c.args.spans.now) c.stretch.result c.args.n _ c.run_becoming-run.result
-    c.stretch.ensures.accepted c.stretch.ensures.stretch c.stretch.ensures.first c.requires.is_id
-    c.run_becoming-run.ensures c.min.ensures

@@ -1,6 +1,0 @@
-use Rattle.virtiofs_map.proofs.id_audit.extents.starts.StartLemmas.{StartsSoFar}
-use Rattle.virtiofs_map.proofs.id_audit.extents.starts.starts_of.Given as goal
-
--- the starts are those of the pieces so far
-abbrev pub invariant-loop-piece : goal.invariant-loop-piece
-invariant-loop-piece g l = StartsSoFar l.map l.starts.items l.piece-iterator

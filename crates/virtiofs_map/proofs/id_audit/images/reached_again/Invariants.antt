@@ -1,6 +1,0 @@
-use Rattle.virtiofs_map.proofs.id_audit.images.AgainLemmas.{SweptTo}
-use Rattle.virtiofs_map.proofs.id_audit.images.reached_again.Given as goal
-
--- what the images so far have again
-abbrev pub invariant-loop-image : goal.invariant-loop-image
-invariant-loop-image g l = SweptTo l.images l.end l.image-index l.reached l.last l.again.items

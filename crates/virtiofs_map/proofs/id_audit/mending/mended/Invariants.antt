@@ -1,7 +1,0 @@
-use Rattle.virtiofs_map.specs.IdAuditParts.{Hold}
-use Rattle.virtiofs_map.proofs.id_audit.mending.MendsLemmas.{CutSoFar}
-use Rattle.virtiofs_map.proofs.id_audit.mending.mended.Given as goal
-
--- the bad ids are cut out of the specifications so far
-abbrev pub invariant-loop-spec : goal.invariant-loop-spec
-invariant-loop-spec g l = CutSoFar l.spec-items (Hold l.bad.items) l.spec-index l.specs.items

@@ -1,7 +1,0 @@
-use Rattle.virtiofs_map.proofs.id_audit.IdAuditLemmas.{reached_all}
-use Rattle.virtiofs_map.proofs.id_audit.reached.Goals as goal
-
-pub returns : goal.returns
-returns g c =
-    reached_all _ c.args.map.now c.in_ok-images.images.items c.in_ok-images.ensures
-    (rw (c.deref.ensures.value, c.from.ensures) at c.reached_again.ensures.again)

@@ -1,0 +1,11 @@
+use Rattle.std.proofs.Common.{◌+◌, ◌-◌, List, ℕ, take, drop, arith, length-take}
+use Rattle.virtiofs_map.proofs.xattrmap.trie.SharedLemmas.{shared_within}
+use Rattle.virtiofs_map.proofs.xattrmap.trie.reading.Trie.shared.Goals as goal
+
+pub returns-clause-within : goal.returns-clause-within
+returns-clause-within c =
+    let size : ℕ = c.args.from + c.args.count - c.args.from in
+    let label : List ℕ = take size (drop c.args.from c.args.self.image.now) in
+    let within = (shared_within label c.args.row.now).0 in
+    let long = length-take size (drop c.args.from c.args.self.image.now) in
+    omega (arith, c.shared_length.ensures, within, long)
