@@ -1,7 +1,7 @@
 #!/usr/bin/env python3
 """Applies the options that virtiofs_mapaudit advises, and sees that less is found with them.
 
-usage: advice_by_trial.py [--guests N] PROGRAM..
+usage: advice_by_trial.py PROGRAM..
 
 Guests are made at random from a fixed seed. If options are advised, the text, the JSON and `--mend` have the same ones, as a
 shell reads them. An audit of them refuses nothing and finds what was said to be left, of which no kind is new for a guest or
@@ -12,6 +12,7 @@ translated. The last line is 'N passed, N failed'.
 import json
 import os
 import random
+import re
 import subprocess
 import sys
 from concurrent.futures import ThreadPoolExecutor
@@ -91,13 +92,7 @@ def kinds(findings):
 
 def as_mend_says(text):
     """The options of each guest: a line for each option, and a line `--` between two guests."""
-    guests = [[]]
-    for line in text.split("\n")[:-1]:
-        if line == "--":
-            guests.append([])
-        else:
-            guests[-1].append(line)
-    return [as_shell_reads(lines) for lines in guests]
+    return [as_shell_reads(lines.split("\n")[:-1]) for lines in re.split(r"^--\n", text, flags=re.M)]
 
 
 def fault(program, accepts, words):
@@ -133,9 +128,8 @@ def fault(program, accepts, words):
 
 
 def main(words):
-    trials, words = (int(words[1]), words[2:]) if words[0] == "--guests" else (TRIALS, words)
     tally, made, programs = Tally(quietly=True), random.Random(SEED), [os.path.abspath(it) for it in words]
-    asked = [(accepted(made), guests(made)) for _ in range(trials)]
+    asked = [(accepted(made), guests(made)) for _ in range(TRIALS)]
 
     def see(one):
         for program in programs:

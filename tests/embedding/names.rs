@@ -60,33 +60,17 @@ fn texts_of_which_no_map_is_made() {
     }
 }
 
-/// Of each map: that it is terminated, and its two audits.
 #[test]
-fn audits_of_one_map() {
-    for (text, is_terminated, audit, audit_listed) in [
-        (MAP, true, Audit::Yes, no(b"user.virtiofs.")),
-        (":map::a.:", true, Audit::Yes, Audit::Yes),
-        (":prefix:client:trusted.:user.: :ok:all:::", true, no(b"trusted."), no(b"trusted.")),
-        (":ok:client:::", false, no(b"\x01"), Audit::Yes),
-    ] {
-        let map = rules(text);
-        assert_eq!(map.is_terminated(), is_terminated, "{text}");
-        assert_eq!((map.audit(), map.audit_listed()), (Ok(audit), Ok(audit_listed)), "{text}");
-    }
-}
-
-#[test]
-fn audits_of_two_maps() {
-    for (first, second, keeps_apart, shares_no_name) in [
-        (":map::a.:", ":map::b.:", Audit::Yes, Audit::Yes),
-        (":map::a.:", ":map::a.b.:", no(b"b."), no(b"b.")),
-        (":map::a.b.:", ":map::a.:", no(b""), no(b"")),
-        (":ok:client::: :bad:server:::", ":ok:client::: :bad:server:::", Audit::Yes, no(b"\x01")),
-    ] {
-        let (first, second) = (rules(first), rules(second));
-        assert_eq!(first.keeps_apart(&second), Ok(keeps_apart));
-        assert_eq!(first.shares_no_name(&second), Ok(shares_no_name));
-    }
+fn audits_are_passed_on() {
+    let (labels, lost, one, other) = (rules(MAP), rules(":ok:client:::"), rules(":map::a.:"), rules(":map::a.b.:"));
+    assert_eq!((labels.is_terminated(), lost.is_terminated()), (true, false));
+    assert_eq!((labels.audit(), lost.audit()), (Ok(Audit::Yes), Ok(no(b"\x01"))));
+    assert_eq!((labels.audit_listed(), lost.audit_listed()), (Ok(no(b"user.virtiofs.")), Ok(Audit::Yes)));
+    // (each of two maps tells a name of its own)
+    assert_eq!((one.keeps_apart(&other), other.keeps_apart(&one)), (Ok(no(b"b.")), Ok(no(b""))));
+    assert_eq!((one.shares_no_name(&other), other.shares_no_name(&one)), (Ok(no(b"b.")), Ok(no(b""))));
+    let hides = rules(":ok:client::: :bad:server:::");
+    assert_eq!((hides.keeps_apart(&hides), hides.shares_no_name(&hides)), (Ok(Audit::Yes), Ok(no(b"\x01"))));
 }
 
 fn name(text: &[u8]) -> CString {

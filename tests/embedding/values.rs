@@ -75,14 +75,15 @@ fn capabilities_are_refused() {
 #[test]
 fn values_go_across_and_come_back() {
     let mut value = bytes(GUEST_LIST);
-    assert_eq!(acl_to_host(&users(), &groups(), &mut value, &mut room()), Ok(()));
-    assert_eq!(value, bytes(HOST_LIST));
-    assert_eq!(acl_to_guest(&users(), &groups(), &mut value, &mut room()), Ok(()));
-    assert_eq!(value, bytes(GUEST_LIST));
-    assert_eq!(acl_to_host_alloc(&users(), &groups(), &mut value), Ok(()));
-    assert_eq!(value, bytes(HOST_LIST));
-    assert_eq!(acl_to_guest_alloc(&users(), &groups(), &mut value), Ok(()));
-    assert_eq!(value, bytes(GUEST_LIST));
+    let calls: [(fn(&mut [u8]) -> Result<(), AclError>, &str); 4] = [
+        (|it| acl_to_host(&users(), &groups(), it, &mut room()), HOST_LIST),
+        (|it| acl_to_guest(&users(), &groups(), it, &mut room()), GUEST_LIST),
+        (|it| acl_to_host_alloc(&users(), &groups(), it), HOST_LIST),
+        (|it| acl_to_guest_alloc(&users(), &groups(), it), GUEST_LIST),
+    ];
+    for (call, wanted) in calls {
+        assert_eq!((call(&mut value), &value), (Ok(()), &bytes(wanted)));
+    }
     let (guest, host) = (bytes(GUEST_CAPABILITY), bytes(HOST_CAPABILITY));
     value = guest.clone();
     assert_eq!(capability_to_host(&users(), &mut value), Ok(()));

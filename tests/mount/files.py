@@ -4,8 +4,6 @@ import fcntl
 import mmap
 import os
 import re
-import shutil
-import subprocess
 from pathlib import Path
 
 from cases import ACCESS, USER, access_list
@@ -168,22 +166,6 @@ def without_handles(mounted):
     yield "made, removed, made", ({*errors}, removed[0], waited(lambda: None in made())), ({None, "EMFILE"}, None, True)
 
 
-def with_short_values(mounted):
-    """How much room the daemon has for the value of an attribute: the kernel clears so much memory."""
-    if not shutil.which("strace"):
-        return left_out("the room for the value of an attribute", "there is no strace")
-    (host, guest), traced = mounted.file("value"), f"{mounted.room}/traced"
-    os.setxattr(host, "user.value", b"v" * 1000)
-    tracer = ["strace", "-qq", "-f", "-e", "trace=getxattr", "-o", traced, "-p", str(mounted.daemon.pid)]
-    with subprocess.Popen(tracer, stderr=subprocess.DEVNULL) as tracing:
-        waited(lambda: guest.getxattr("user.none") and os.path.exists(traced) and os.path.getsize(traced))
-        found = guest.getxattr("user.none"), guest.getxattr("user.value")
-        tracing.terminate()
-    rooms = re.findall(r"user\.(\w+)\", .*, (\d+)\)", Path(traced).read_text())
-    wanted = [("none", "256"), ("value", "256"), ("value", "65536")]
-    yield "none and one, and the room for both", (found, sorted(set(rooms))), (("ENODATA", b"v" * 1000), wanted)
-
-
 def copied(mounted):
     """By copy_file_range, which need not read and write in the guest."""
     (host, guest), (copy, other), left = mounted.file("from"), mounted.file("to"), 16 * MEBIBYTE
@@ -208,7 +190,7 @@ def reserved(mounted):
 
 
 FILE_CASES = ((Configuration("as in a folder", (), (), None, "posix_acl"),
-               same, on_devices, with_short_values, copied, reserved),
+               same, on_devices, copied, reserved),
               (Configuration("limited", before=("prlimit", "--fsize=1000000", f"--nofile={LIMIT}:{LIMIT}")), limited),
               (Configuration("quick", (), (), None, "timeout=60", "readdirplus"), listed),
               (Configuration("bound", (), (), None, "timeout=60", before=BOUND), remembered, without_handles))

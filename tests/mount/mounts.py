@@ -1,8 +1,7 @@
-"""Configurations, what has to come of each by the answers of virtiofs_mapcheck, and mounts of the example."""
+"""Configurations, and mounts of the example."""
 import contextlib
 import ctypes
 import errno
-import functools
 import os
 import tempfile
 import threading
@@ -10,26 +9,14 @@ import time
 from pathlib import Path
 from subprocess import DEVNULL, PIPE, STDOUT, Popen
 
-from compiling import TOP
 from tally import run
 
 LIBC = ctypes.CDLL(None, use_errno=True)
-# The error where the host has no id, or the one that no file can have; and by the first word of the answer on a name.
-NO_ID, NO_NAME = {None: "EPERM", 2**32 - 1: "EINVAL"}, {"deny": "EPERM", "refused:": "EPERM", "unsupported": "ENOTSUP"}
 SHIFTED, OWN_NAMES, SECONDS_TO_END = ["map:0:100000:65536"], ":map::user.virtiofs.:", 60
 
 
-@functools.cache
-def asked(*words):
-    """The line that the program answers, with the bytes that it quotes."""
-    status, said = run([f"{TOP}/crates/virtiofs_mapcheck/out/virtiofs_mapcheck", *words])
-    if status not in (0, 1) or said.count("\n") != 1:
-        raise ValueError(f"{words}: status {status}, {said}")
-    return said.rstrip("\n").encode().decode("unicode_escape")
-
-
 class Configuration:
-    """What a mount is given, and what has to come of it. Each pair is for users and for groups."""
+    """What a mount is given. The specifications are for users and for groups."""
 
     def __init__(self, name, users=(), groups=(), rules=None, *words, before=()):
         self.name, self.specs, self.rules, self.words = name, (users, groups), rules or ":ok:all:::", words
@@ -39,29 +26,6 @@ class Configuration:
         words = [f"translate_{letter}id={spec}" for letter, specs in zip("ug", self.specs) for spec in specs]
         words += [f"xattrmap={self.rules}"] * (self.rules != ":ok:all:::") + [*self.words]
         return [part for it in words for part in ("-o", it.replace("\\", "\\\\").replace(",", "\\,"))]
-
-    def across(self, side, owners):
-        """What owners are on the other side; None for an id that is none there."""
-        lines = [asked("ids", *specs, "ask", f"{side}={it}") for it, specs in zip(owners, self.specs)]
-        return tuple(int(it) if it.isdecimal() else None for it in lines)
-
-    def owners_on_host(self, owners, before=(0, 0)):
-        """Who owns a file that the guest gives to these; the error, where it may not. -1 leaves one as it is."""
-        there = self.across("guest", [max(it, 0) for it in owners])
-        found = tuple(old if it == -1 else new for it, old, new in zip(owners, before, there))
-        return next((NO_ID[it] for it in found if it in NO_ID), found)
-
-    def host_name(self, name):
-        """The host's name and no error, or no name and the error. The example takes no name in system."""
-        word, _, host = asked("client", self.rules, name).partition(" ")
-        error = "ENOTSUP" if "system." in (name[:7], host[:7]) else NO_NAME.get(word)
-        return (None, error) if error else (host, None)
-
-    def list_for_guest(self, names):
-        """What the guest is shown where the host lists these, or the error. The example lists no name in system."""
-        lines = [asked("server", self.rules, it) for it in names if not it.startswith("system.")]
-        shown = [it for line in lines for it in line.split("\0") if it and not it.startswith("system.")]
-        return "EPERM" if any(it.startswith("refused:") for it in lines) else shown
 
 
 class File(str):

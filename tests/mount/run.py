@@ -1,5 +1,5 @@
 #!/usr/bin/env python3
-"""Mounts examples/mapped_fs.c, and checks that a guest sees through it what virtiofs_mapcheck says.
+"""Mounts examples/mapped_fs.c, and checks what a guest sees through it, and what it does on the host.
 
 usage: run.py [--sanitized]
 It compiles the example over the archive that is there, with --sanitized by AddressSanitizer. It needs root, /dev/fuse,
@@ -19,7 +19,7 @@ from cases import CASES, REFUSED
 from compiling import C_FLAGS, INCLUDE, LINKED, SANITIZED, TOP, compiler
 from files import FILE_CASES, over_the_dead
 from mounts import Configuration, Mounted, outcome, waited
-from operations import CONFIGURATIONS, killed, operated
+from operations import OPERATION_CASES, killed
 from tally import Tally, left_out, run
 
 # A command with mounts and processes of its own, which are gone when it is; and one that tries whether a program can
@@ -45,14 +45,8 @@ def on_mount(room, configuration, parts):
 
 
 def mounted(room):
-    for it, *parts in (*((it, operated) for it in CONFIGURATIONS), *CASES, *FILE_CASES):
+    for it, *parts in (*OPERATION_CASES, *CASES, *FILE_CASES):
         yield from ((f"{it.name}: {what}", *rest) for what, *rest in seen(on_mount, room, it, parts))
-    it, names = CONFIGURATIONS[1], ":map:security.:trusted.virtiofs.a.:"
-    for wrong, operation in ((Configuration("owners", ["map:0:100001:65536"], it.specs[1], it.rules), "give"),
-                             (Configuration("names", *it.specs, names), "set")):
-        with Mounted(room, wrong) as mount:
-            found = {what.split()[0] for what, found, wanted in operated(mount, it) if found != wanted}
-        yield f"a mount with other {wrong.name} than are asked about is found out by {found}", operation in found, True
 
 
 def refused(room):

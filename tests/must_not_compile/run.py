@@ -13,6 +13,7 @@ import os
 import re
 import shutil
 import sys
+import tempfile
 from concurrent.futures import ThreadPoolExecutor
 from pathlib import Path
 
@@ -20,11 +21,10 @@ HERE = Path(__file__).resolve().parent
 TOP = HERE.parent.parent
 sys.dont_write_bytecode = True
 sys.path.insert(0, str(HERE.parent))
-from running import made_room, run
-from tally import Tally
+from tally import Tally, run
 
 SOURCE = TOP / "crates/virtiofs_map/src"
-PROGRAM = "crates/caller/src/main.rt"
+PROGRAM, SECONDS_AT_MOST = "crates/caller/src/main.rt", 3600
 # The functions of ranges and tries that throw a count away, by their files. Their contracts promise no count.
 UNCOUNTED = (
     ("soft_idmap.rt", "map_guest"),
@@ -90,25 +90,23 @@ def edited(tally, rooms):
 
 def tried(room):
     """The first error at each line that has one, what was said, and the status. A program that compiles is run."""
-    folder = room / "crates/caller"
-    ended, errors = run(["rt", "try"], folder), {}
-    for path, line, name in re.findall(r"^(\S+?):(\d+):\d+: error\[([\w-]+)]", ended.said, re.M):
+    folder, errors = room / "crates/caller", {}
+    status, said = run(["rt", "try"], SECONDS_AT_MOST, cwd=folder)
+    for path, line, name in re.findall(r"^(\S+?):(\d+):\d+: error\[([\w-]+)]", said, re.M):
         errors.setdefault(f"{os.path.relpath(folder / path, room)}:{line}", name)
-    return errors, ended.said, ended.status
+    return errors, said, status
 
 
 def main():
     tally = Tally()
     see_names(tally)
     see_counters(tally)
-    top = Path(made_room("must-not-compile"))
-    try:
-        rooms = {it: lay_out(top / it) for it in ("caller", "types", "borrows")}
+    with tempfile.TemporaryDirectory(prefix="must-not-compile-") as top, ThreadPoolExecutor(2) as pool:
+        # (the program that rt runs as nobody lies in it)
+        os.chmod(top, 0o711)
+        rooms = {it: lay_out(Path(top, it)) for it in ("caller", "types", "borrows")}
         edits = list(edited(tally, rooms))
-        with ThreadPoolExecutor(2) as pool:
-            answers = dict(zip(rooms, pool.map(tried, rooms.values())))
-    finally:
-        shutil.rmtree(top, ignore_errors=True)
+        answers = dict(zip(rooms, pool.map(tried, rooms.values())))
     errors, said, status = answers["caller"]
     tally.see("the program without an edit compiles", errors or status and f"status {status}", said)
     for name, room, at, error in edits:

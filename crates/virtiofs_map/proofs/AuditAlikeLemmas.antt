@@ -7,8 +7,8 @@ use Rattle.std.specs.Option.{option_map_or, option_and_then}
 use Rattle.std.proofs.lemmas.Bool.{and_parts, and_from, cond_both, cases_Bool, cases_lt, false≢true, true≢false}
 use Rattle.std.proofs.lemmas.Bool.{eqb-true, eq-eqb}
 use Rattle.std.proofs.lemmas.List.{append_assoc}
-use Rattle.virtiofs_map.specs.AuditParts.{front, rest_after, rest_of, rests, guest_names_of}
-use Rattle.virtiofs_map.specs.GatheredParts.{front_by, front_of, host_pattern}
+use Rattle.virtiofs_map.specs.AuditParts.{added_prefix, rest_after, rest_of, rests, guest_names_of}
+use Rattle.virtiofs_map.specs.GatheredParts.{added_prefix_by, added_prefix_of, host_pattern}
 use Rattle.virtiofs_map.specs.AuditParts.{guest_names, whole_of, wholes, live_wholes, host_names_of, host_names}
 use Rattle.virtiofs_map.specs.AuditParts.{is_cut, cuts, one_byte}
 use Rattle.virtiofs_map.specs.AuditParts.{one_byte_names}
@@ -20,7 +20,7 @@ use Rattle.virtiofs_map.specs.declared.xattrmap.scopes.Side.TheVariants.{Client,
 use Rattle.virtiofs_map.proofs.BeginsLemmas.{begins_split, begins_from, begins-append, deciding_fits}
 use Rattle.virtiofs_map.proofs.FirstRuleLemmas.{deciding-find}
 
--- ---- fronts of a name
+-- ---- added prefixes of a name
 
 pub begins_trans : (p q n : List ℕ) → begins p q ≡ true → begins q n ≡ true → begins p n ≡ true
 begins_trans p q n b d =
@@ -28,7 +28,7 @@ begins_trans p q n b d =
     (begins_split q n d ∙ ap (λ front. front ++ drop (length q) n) (begins_split p q b)
     ∙ append_assoc p (drop (length p) q) (drop (length q) n))
 
--- of two fronts of a name the shorter begins the longer
+-- of two added prefixes of a name the shorter begins the longer
 pub shorter_begins : (p q n : List ℕ) → begins p n ≡ true → begins q n ≡ true → length p ≤ length q → begins p q ≡ true
 shorter_begins [] q n b d l = refl
 shorter_begins (x ∷ p) [] n b d l = absurd (omega arith)
@@ -282,7 +282,7 @@ keys_same side others (rule ∷ rules) name c f all = (
       (all_second (Meets name c) (guest_names_of side others rule) (guest_names side others rules) all),
 ) where
   key : (b : Bool)
-      → AllByRecursion (Meets name c) (cond b (rule.key ∷ option_map_or (rests side others) (front_of rule) []) [])
+      → AllByRecursion (Meets name c) (cond b (rule.key ∷ option_map_or (rests side others) (added_prefix_of rule) []) [])
       → (b && begins rule.key name) ≡ (b && begins rule.key c)
   key true met = met_same name c rule.key f met.0
   key false met = refl
@@ -338,30 +338,30 @@ of_found : (P : List ℕ → Type 0) (fit acts : MappingRule → Bool) (pattern 
     (more : List ℕ → List (List ℕ)) → ((rule : MappingRule) → fit rule ≡ true → acts rule ≡ true)
     → (rules : List MappingRule) (cut : List ℕ)
     → AllByRecursion P
-    (flat_map (λ rule. cond (acts rule) (pattern rule ∷ option_map_or more (front_of rule) []) []) rules)
-    → option_and_then front_of (find fit rules) ≡ Some cut → AllByRecursion P (more cut)
+    (flat_map (λ rule. cond (acts rule) (pattern rule ∷ option_map_or more (added_prefix_of rule) []) []) rules)
+    → option_and_then added_prefix_of (find fit rules) ≡ Some cut → AllByRecursion P (more cut)
 of_found P fit acts pattern more on [] cut all e = cc
 of_found P fit acts pattern more on (rule ∷ rules) cut all e =
     let names : MappingRule → List (List ℕ) =
-    λ rule. cond (acts rule) (pattern rule ∷ option_map_or more (front_of rule) []) [] in
+    λ rule. cond (acts rule) (pattern rule ∷ option_map_or more (added_prefix_of rule) []) [] in
     let mine = all_first P (names rule) (flat_map names rules) all in
     let others = all_second P (names rule) (flat_map names rules) all in
     cond_both (fit rule) (Some rule) (find fit rules)
-    (λ o. option_and_then front_of o ≡ Some cut → AllByRecursion P (more cut)) (λ b k. here (on rule b) mine k)
+    (λ o. option_and_then added_prefix_of o ≡ Some cut → AllByRecursion P (more cut)) (λ b k. here (on rule b) mine k)
     (λ _ k. of_found P fit acts pattern more on rules cut others k) e where
       here : acts rule ≡ true
-          → AllByRecursion P (cond (acts rule) (pattern rule ∷ option_map_or more (front_of rule) []) [])
-          → front_of rule ≡ Some cut → AllByRecursion P (more cut)
+          → AllByRecursion P (cond (acts rule) (pattern rule ∷ option_map_or more (added_prefix_of rule) []) [])
+          → added_prefix_of rule ≡ Some cut → AllByRecursion P (more cut)
       here holds mine k =
           let met =
-          subst (λ b. AllByRecursion P (cond b (pattern rule ∷ option_map_or more (front_of rule) []) [])) holds
+          subst (λ b. AllByRecursion P (cond b (pattern rule ∷ option_map_or more (added_prefix_of rule) []) [])) holds
           mine in
           subst (λ o. AllByRecursion P (option_map_or more o [])) k met.1
 
 -- the two names meet the same rules, and the same patterns for host names begin what they become
 pub record FareAlike (side : Side) (rules others : List MappingRule) (name c : List ℕ) : Type 0 where
   pub client : deciding Client rules name ≡ deciding Client rules c
-  pub hosts : (added : List ℕ) → front Client rules name ≡ Some added
+  pub hosts : (added : List ℕ) → added_prefix Client rules name ≡ Some added
       → AllByRecursion (BeginsBoth side (added ++ name) (added ++ c)) others
 
 pub fare_alike : (side : Side) (rules others : List MappingRule) (tried : List (List ℕ)) (name c : List ℕ)
@@ -371,7 +371,7 @@ fare_alike side rules others tried name c stands = record {
       ∙ find_same (fits Client name) (fits Client c) rules
       (keys_same side others rules name c stands.is_front stands.met) ∙ sym (deciding-find Client rules c);
   hosts = λ added e.
-      (let decides = ap (option_and_then front_of) (sym (deciding-find Client rules name)) ∙ e in
+      (let decides = ap (option_and_then added_prefix_of) (sym (deciding-find Client rules name)) ∙ e in
       let met =
       of_found (Meets name c) (fits Client name) (λ rule. rule.client) (λ rule. rule.key) (rests side others)
       (λ rule b. (and_parts rule.client (begins rule.key name) b).0) rules added stands.met decides in
@@ -395,7 +395,7 @@ server_alike others host other all =
 -- ---- the same for names of the host
 
 -- what the server's rules take off a host name, they take off it alone too
-front_is_cut : (rules : List MappingRule) (host cut : List ℕ) → front Server rules host ≡ Some cut
+front_is_cut : (rules : List MappingRule) (host cut : List ℕ) → added_prefix Server rules host ≡ Some cut
     → is_cut rules cut ≡ true
 front_is_cut rules host [] e = refl
 front_is_cut rules host (x ∷ xs) e =
@@ -410,15 +410,15 @@ front_is_cut rules host (x ∷ xs) e =
     let same =
     decides_front Server rules (x ∷ xs) host rule begun decides
     (and_from rule.server (begins rule.prepend (x ∷ xs)) fit.0 alone) in
-    ap (λ o. cuts (x ∷ xs) (option_and_then front_of o)) same ∙ ap (cuts (x ∷ xs)) puts
+    ap (λ o. cuts (x ∷ xs) (option_and_then added_prefix_of o)) same ∙ ap (cuts (x ∷ xs)) puts
     ∙ eq-eqb (length (x ∷ xs)) (length (x ∷ xs)) refl
   where
-    decided : (o : Option MappingRule) (cut : List ℕ) → option_and_then front_of o ≡ Some cut
-        → (rule : MappingRule) × (o ≡ Some rule) × (front_of rule ≡ Some cut)
+    decided : (o : Option MappingRule) (cut : List ℕ) → option_and_then added_prefix_of o ≡ Some cut
+        → (rule : MappingRule) × (o ≡ Some rule) × (added_prefix_of rule ≡ Some cut)
     decided None cut e = absurd (cc)
     decided (Some rule) cut e = (rule, refl, e)
 
-    prepend_is : (kind : RuleType) (prepend : List ℕ) (x : ℕ) (xs : List ℕ) → front_by kind prepend ≡ Some (x ∷ xs)
+    prepend_is : (kind : RuleType) (prepend : List ℕ) (x : ℕ) (xs : List ℕ) → added_prefix_by kind prepend ≡ Some (x ∷ xs)
         → prepend ≡ x ∷ xs
     prepend_is Okay prepend x xs e = absurd (cc)
     prepend_is Prefix prepend x xs e = cc
@@ -437,7 +437,7 @@ prepends_same every others (rule ∷ rules) host c f all = (
 ) where
   prepend : (b : Bool)
       → AllByRecursion (Meets host c)
-      (cond b (rule.prepend ∷ option_map_or (live_wholes every others) (front_of rule) []) [])
+      (cond b (rule.prepend ∷ option_map_or (live_wholes every others) (added_prefix_of rule) []) [])
       → (b && begins rule.prepend host) ≡ (b && begins rule.prepend c)
   prepend true met = met_same host c rule.prepend f met.0
   prepend false met = refl
@@ -463,7 +463,7 @@ wholes_same (rule ∷ others) cut name rest f all =
 
 pub record ListedAlike (rules others : List MappingRule) (host c : List ℕ) : Type 0 where
   pub server : deciding Server rules host ≡ deciding Server rules c
-  pub client : (cut name rest : List ℕ) → front Server rules host ≡ Some cut → host ≡ cut ++ name → c ≡ cut ++ rest
+  pub client : (cut name rest : List ℕ) → added_prefix Server rules host ≡ Some cut → host ≡ cut ++ name → c ≡ cut ++ rest
       → deciding Client others name ≡ deciding Client others rest
 
 pub listed_alike : (rules others : List MappingRule) (tried : List (List ℕ)) (host c : List ℕ)
@@ -473,7 +473,7 @@ listed_alike rules others tried host c stands = record {
       ∙ find_same (fits Server host) (fits Server c) rules
       (prepends_same rules others rules host c stands.is_front stands.met) ∙ sym (deciding-find Server rules c);
   client = λ cut name rest e split other.
-      (let decides = ap (option_and_then front_of) (sym (deciding-find Server rules host)) ∙ e in
+      (let decides = ap (option_and_then added_prefix_of) (sym (deciding-find Server rules host)) ∙ e in
       let led =
       of_found (Meets host c) (fits Server host) (λ rule. rule.server) (λ rule. rule.prepend)
       (live_wholes rules others) (λ rule b. (and_parts rule.server (begins rule.prepend host) b).0) rules cut

@@ -2,12 +2,12 @@
 use Rattle.std.proofs.Common.{◌≡◌, ◌≢◌, ◌≤◌, ℕ, List, All, Option, Some, None, IsSomeAnd, refl, length, sym, ap}
 use Rattle.std.proofs.Common.{subst, ◌∙◌}
 use Rattle.std.specs.Option.{option_and_then}
-use Rattle.virtiofs_map.specs.GatheredParts.{front_by, front_of}
+use Rattle.virtiofs_map.specs.GatheredParts.{added_prefix_by, added_prefix_of}
 use Rattle.virtiofs_map.specs.Names.{deciding}
 use Rattle.virtiofs_map.specs.Rule.{HasNoZero, MappingRule, Prefix}
 use Rattle.virtiofs_map.specs.declared.xattrmap.scopes.Side.{Side}
 use Rattle.virtiofs_map.specs.declared.xattrmap.scopes.Side.TheVariants.{Server}
-use Rattle.virtiofs_map.proofs.AuditFrontLemmas.{front_no_zero}
+use Rattle.virtiofs_map.proofs.AuditAddedLemmas.{added_no_zero}
 use Rattle.virtiofs_map.proofs.BeginsLemmas.{deciding_length}
 
 -- the rule that decides, of which something holds
@@ -22,8 +22,8 @@ pub prepend_no_zero : (side : Side) (rules : List MappingRule) (name prepend : L
     → All HasNoZero rules → All (λ byte. byte ≢ 0) prepend
 prepend_no_zero side rules name prepend says no_zero =
     let by = decider (λ rule. (rule.kind ≡ Prefix) × (rule.prepend ≡ prepend)) (deciding side rules name) says in
-    front_no_zero side rules name prepend no_zero
-    (ap (option_and_then front_of) by.1 ∙ ap (λ kind. front_by kind by.0.prepend) by.2.0 ∙ ap (λ p. Some p) by.2.1)
+    added_no_zero side rules name prepend no_zero
+    (ap (option_and_then added_prefix_of) by.1 ∙ ap (λ kind. added_prefix_by kind by.0.prepend) by.2.0 ∙ ap (λ p. Some p) by.2.1)
 
 -- a prepend is no longer than the name
 pub prefix_within : (rules : List MappingRule) (name prepend : List ℕ)

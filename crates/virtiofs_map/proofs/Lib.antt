@@ -1,9 +1,9 @@
 pub mod ForCallers
 mod AuditAlikeLemmas
-mod AuditFrontLemmas
+mod AuditAddedLemmas
 mod BeginsLemmas
 mod BuildFaultLemmas
-mod ByteWordLemmas
+mod LeU64Lemmas
 mod CutLemmas
 mod DecisionLemmas
 mod FirstRuleLemmas

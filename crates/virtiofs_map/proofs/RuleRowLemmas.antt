@@ -6,15 +6,15 @@ use Rattle.std.proofs.Common.{length-take}
 use Rattle.std.proofs.Math.Seq.{drop-append-add, take-append_seam}
 use Rattle.std.proofs.lemmas.List.{take_all, take_more}
 use Rattle.std.proofs.lemmas.Option.{get_or_from_slice_get, slice_get_past, slice_get_within}
-use Rattle.virtiofs_map.specs.BranchParts.{IsSpan}
+use Rattle.virtiofs_map.specs.NodeParts.{IsSpan}
 use Rattle.virtiofs_map.specs.NamesImage.{AreRuleRows, acts_number, rule_row, rule_rows}
 use Rattle.virtiofs_map.specs.RuleParts.{holds}
 use Rattle.virtiofs_map.specs.declared.xattrmap.scopes.Side.TheVariants.{Client, Server}
 use Rattle.virtiofs_map.specs.Rule.{MappingRule, RuleType, Prefix, Okay, Bad, Unsupported, type_number}
-use Rattle.virtiofs_map.specs.ByteWordParts.{word_at, word_bytes}
+use Rattle.virtiofs_map.specs.LeU64Parts.{le_u64_at, le_u64_bytes}
 use Rattle.virtiofs_map.specs.declared.xattrmap.spans.Span.{Span}
-use Rattle.virtiofs_map.proofs.ByteWordLemmas.{first_of_three, second_of_three, third_of_three, length-three}
-use Rattle.virtiofs_map.proofs.ByteWordLemmas.{shared_low, shared_high, shared_fits}
+use Rattle.virtiofs_map.proofs.LeU64Lemmas.{first_of_three, second_of_three, third_of_three, length-three}
+use Rattle.virtiofs_map.proofs.LeU64Lemmas.{shared_low, shared_high, shared_fits}
 
 pub length-rule_row : (rule : MappingRule) (span : Span) → length (rule_row rule span) ≡ 24
 unfolding rule_row
@@ -98,8 +98,8 @@ pub record HasWords (bytes : List ℕ) (rule : MappingRule) (span : Span) (first
 
 pub words_of_row : (bytes : List ℕ) (rule : MappingRule) (span : Span) → IsSpan bytes rule span
     → length bytes < 281474976710656
-    → HasWords bytes rule span (word_at (rule_row rule span) 0) (word_at (rule_row rule span) 8)
-    (word_at (rule_row rule span) 16)
+    → HasWords bytes rule span (le_u64_at (rule_row rule span) 0) (le_u64_at (rule_row rule span) 8)
+    (le_u64_at (rule_row rule span) 16)
 unfolding rule_row
 words_of_row bytes rule span is few =
     let key : span.key < 281474976710656 = omega (arith, is.rising, is.rising_on, is.within) in
@@ -163,12 +163,12 @@ rule_from_words bytes rule span first second third kind bits is few has is_kind 
 -- the prepend of a row
 pub prepend_from_words : (bytes row : List ℕ) (rule : MappingRule) (span : Span) (second third : ℕ)
     → row ≡ rule_row rule span → IsSpan bytes rule span → length bytes < 281474976710656
-    → second ≡ word_at row 8 → third ≡ word_at row 16
+    → second ≡ le_u64_at row 8 → third ≡ le_u64_at row 16
     → (take (third - second) (drop second bytes) ≡ rule.prepend) × (second ≤ third) × (third ≤ length bytes)
 prepend_from_words bytes row rule span second third are is few is_second is_third =
     let has = words_of_row bytes rule span is few in
-    let seconds : second ≡ span.prepend = is_second ∙ ap (λ (l : List ℕ). word_at l 8) are ∙ has.second_is in
-    let thirds : third ≡ span.end = is_third ∙ ap (λ (l : List ℕ). word_at l 16) are ∙ has.third_is in
+    let seconds : second ≡ span.prepend = is_second ∙ ap (λ (l : List ℕ). le_u64_at l 8) are ∙ has.second_is in
+    let thirds : third ≡ span.end = is_third ∙ ap (λ (l : List ℕ). le_u64_at l 16) are ∙ has.third_is in
     (rw (seconds, thirds) is.prepend, omega (arith, seconds, thirds, is.rising_on), omega (arith, thirds, is.within))
 
 -- ---- rows
@@ -214,14 +214,14 @@ rule_row_at (first ∷ rules) (one ∷ spans) (suc at) rule span same below =
 
 -- three numbers one after the other are a row
 pub three_written : (rule : MappingRule) (span : Span) (so_far one two : List ℕ) (number : ℕ)
-    → number ≡ acts_number rule → one ≡ so_far ++ word_bytes (span.key + 281474976710656 * number)
-    → two ≡ one ++ word_bytes span.prepend
-    → two ++ word_bytes span.end ≡ so_far ++ rule_row rule span
+    → number ≡ acts_number rule → one ≡ so_far ++ le_u64_bytes (span.key + 281474976710656 * number)
+    → two ≡ one ++ le_u64_bytes span.prepend
+    → two ++ le_u64_bytes span.end ≡ so_far ++ rule_row rule span
 unfolding rule_row
 three_written rule span so_far one two number is first second =
-    ap (λ (l : List ℕ). l ++ word_bytes span.end) (second ∙ ap (λ (l : List ℕ). l ++ word_bytes span.prepend) first)
-    ∙ ap (λ (n : ℕ). so_far ++ word_bytes (span.key + 281474976710656 * n) ++ word_bytes span.prepend
-    ++ word_bytes span.end) is
+    ap (λ (l : List ℕ). l ++ le_u64_bytes span.end) (second ∙ ap (λ (l : List ℕ). l ++ le_u64_bytes span.prepend) first)
+    ∙ ap (λ (n : ℕ). so_far ++ le_u64_bytes (span.key + 281474976710656 * n) ++ le_u64_bytes span.prepend
+    ++ le_u64_bytes span.end) is
     ∙ simp append_assoc
 
 -- the rows of one rule more
@@ -239,14 +239,14 @@ rule_rows-more rules spans at rule span same below =
 -- the numbers that a row was read to have
 pub words_told : (bytes : List ℕ) (rule : MappingRule) (span : Span) (row : List ℕ) (first second third : ℕ)
     → row ≡ rule_row rule span → IsSpan bytes rule span → length bytes < 281474976710656
-    → first ≡ word_at row 0 → second ≡ word_at row 8 → third ≡ word_at row 16
+    → first ≡ le_u64_at row 0 → second ≡ le_u64_at row 8 → third ≡ le_u64_at row 16
     → HasWords bytes rule span first second third
 words_told bytes rule span row first second third are is few is_first is_second is_third =
     let has = words_of_row bytes rule span is few in
     record {
-      first_is = is_first ∙ ap (λ (l : List ℕ). word_at l 0) are ∙ has.first_is;
-      second_is = is_second ∙ ap (λ (l : List ℕ). word_at l 8) are ∙ has.second_is;
-      third_is = is_third ∙ ap (λ (l : List ℕ). word_at l 16) are ∙ has.third_is;
+      first_is = is_first ∙ ap (λ (l : List ℕ). le_u64_at l 0) are ∙ has.first_is;
+      second_is = is_second ∙ ap (λ (l : List ℕ). le_u64_at l 8) are ∙ has.second_is;
+      third_is = is_third ∙ ap (λ (l : List ℕ). le_u64_at l 16) are ∙ has.third_is;
     }
 
 -- an element below the length is there

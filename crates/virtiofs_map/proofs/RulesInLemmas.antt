@@ -1,9 +1,9 @@
 -- The rules that an image has are those of which it is one.
-use Rattle.std.proofs.Common.{◌≡◌, ℕ, zero, suc, ◌*◌, ◌/◌, ◌<◌, ◌≤◌, List, [], ◌∷◌, ◌++◌, Some, length, take, drop, refl}
+use Rattle.std.proofs.Common.{◌≡◌, ℕ, zero, suc, ◌/◌, ◌<◌, ◌≤◌, List, [], ◌∷◌, ◌++◌, Some, length, take, drop, refl}
 use Rattle.std.proofs.Common.{sym, ap, subst, ◌∙◌, arith}
 use Rattle.std.specs.List.{slice_get}
 use Rattle.std.proofs.Math.Seq.{drop-append_seam, take-append_seam}
-use Rattle.virtiofs_map.specs.BranchParts.{IsSpan}
+use Rattle.virtiofs_map.specs.NodeParts.{IsSpan}
 use Rattle.virtiofs_map.specs.NamesImage.{AreRuleRows, HasImage, IsImage, IsMapOf, image_length, part, rule_row, rule_rows}
 use Rattle.virtiofs_map.specs.NamesImageParts.{Holds, IsMap, IsWholeImage, rule_of_row, rules_in, rules_of, rules_of_rows}
 use Rattle.virtiofs_map.specs.NamesImageParts.{type_numbered}

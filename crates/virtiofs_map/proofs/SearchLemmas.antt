@@ -57,10 +57,10 @@ Searched-start ranges n end some whole = record {
   above = λ k d from below. absurd (omega arith);
 }
 
-pub Searched-right : (ranges : List Entry) (n place end middle : ℕ) (range : Entry)
-    → Searched ranges n place end → middle < end → slice_get ranges middle ≡ Some range → first_of range ≤ n
+pub Searched-right : (ranges : List Entry) (n index end middle : ℕ) (range : Entry)
+    → Searched ranges n index end → middle < end → slice_get ranges middle ≡ Some range → first_of range ≤ n
     → Searched ranges n middle end
-Searched-right ranges n place end middle range searched below here begins = record {
+Searched-right ranges n index end middle range searched below here begins = record {
   order = below;
   within = searched.within;
   begins = λ d later. rw (get_or_from_slice_get ranges middle range d here) begins;
@@ -81,10 +81,10 @@ above_from ranges n middle k range d ordered here begins from below =
       later : Precedes range (get_or ranges k d) → n < first_of (get_or ranges k d)
       later precedes = omega arith
 
-pub Searched-left : (ranges : List Entry) (n place end middle wider : ℕ) (range : Entry)
-    → AllPairs Precedes ranges → Searched ranges n place end → place < middle → slice_get ranges middle ≡ Some range
-    → n < first_of range → middle ≤ wider → wider ≤ length ranges → Searched ranges n place wider
-Searched-left ranges n place end middle wider range ordered searched after here begins more within = record {
+pub Searched-left : (ranges : List Entry) (n index end middle wider : ℕ) (range : Entry)
+    → AllPairs Precedes ranges → Searched ranges n index end → index < middle → slice_get ranges middle ≡ Some range
+    → n < first_of range → middle ≤ wider → wider ≤ length ranges → Searched ranges n index wider
+Searched-left ranges n index end middle wider range ordered searched after here begins more within = record {
   order = omega arith;
   within = within;
   begins = searched.begins;
@@ -92,25 +92,25 @@ Searched-left ranges n place end middle wider range ordered searched after here 
 }
 
 -- a range that covers n is the one that was found
-pub Searched-finds : (ranges : List Entry) (n place : ℕ) (range : Entry) → AllPairs Precedes ranges
-    → Searched ranges n place (place + 1) → Contains ranges range → EntryCovers range n
-    → slice_get ranges place ≡ Some range
-Searched-finds ranges n place range ordered searched (k, below, here) covers =
-    elim (cases_order k place) [
-      | inl same ↦ slice_get-get_or ranges place range inside
+pub Searched-finds : (ranges : List Entry) (n index : ℕ) (range : Entry) → AllPairs Precedes ranges
+    → Searched ranges n index (index + 1) → Contains ranges range → EntryCovers range n
+    → slice_get ranges index ≡ Some range
+Searched-finds ranges n index range ordered searched (k, below, here) covers =
+    elim (cases_order k index) [
+      | inl same ↦ slice_get-get_or ranges index range inside
           ∙ ap (λ (r : Entry). Some r) (ap (λ (i : ℕ). get_or ranges i range) (sym same) ∙ here)
       | inr (inl before) ↦
-          let begins : first_of (get_or ranges place range) ≤ n = searched.begins range (omega arith) in
-          absurd (ends (rw here at (ordered k place range before inside)) begins)
+          let begins : first_of (get_or ranges index range) ≤ n = searched.begins range (omega arith) in
+          absurd (ends (rw here at (ordered k index range before inside)) begins)
       | inr (inr after) ↦
           let above : n < first_of range = rw here at (searched.above k range (omega arith) below) in
           let begins : first_of range ≤ n = covers.0 in
           absurd (omega arith)
     ] where
-      inside : place < length ranges
-      inside = let within : place + 1 ≤ length ranges = searched.within in omega arith
+      inside : index < length ranges
+      inside = let within : index + 1 ≤ length ranges = searched.within in omega arith
 
-      ends : Precedes range (get_or ranges place range) → first_of (get_or ranges place range) ≤ n → ⊥
+      ends : Precedes range (get_or ranges index range) → first_of (get_or ranges index range) ≤ n → ⊥
       ends precedes begins =
           let within : n < first_of range + count_of range = covers.1 in
           omega arith

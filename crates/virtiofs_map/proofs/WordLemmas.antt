@@ -32,43 +32,43 @@ no_range = Fail 0 0
 
 -- ---- the search
 
-pub Searches-start : (table : Table) (n place end : ℕ) → place ≡ 0 → end ≡ table.count → 1 ≤ end
-    → Searches table n place end
-Searches-start table n place end none whole some ranges are stand =
+pub Searches-start : (table : Table) (n index end : ℕ) → index ≡ 0 → end ≡ table.count → 1 ≤ end
+    → Searches table n index end
+Searches-start table n index end none whole some ranges are stand =
     rw none (Searched-start ranges n end some (whole ∙ sym stand.counted))
 
-searches_right : (table : Table) (n place end middle : ℕ)
-    → Searches table n place end → end ≤ table.count → middle < end
+searches_right : (table : Table) (n index end middle : ℕ)
+    → Searches table n index end → end ≤ table.count → middle < end
     → slice_index table.words (table.firsts + middle) ≤ n
     → Searches table n middle end
-searches_right table n place end middle searches within below begins ranges are stand =
+searches_right table n index end middle searches within below begins ranges are stand =
     let counted : length ranges ≡ table.count = stand.counted in
     let range : Entry = get_or ranges middle no_range in
     let here : slice_get ranges middle ≡ Some range = slice_get-get_or ranges middle no_range (omega arith) in
     let at : IsAt table middle range = stand.each middle range here in
     let first : slice_index table.words (table.firsts + middle) ≡ first_of range = at.first in
-    Searched-right ranges n place end middle range (searches ranges are stand) below here (omega arith)
+    Searched-right ranges n index end middle range (searches ranges are stand) below here (omega arith)
 
-searches_left : (table : Table) (n place end middle wider : ℕ)
-    → Searches table n place end → place < middle → n < slice_index table.words (table.firsts + middle)
-    → middle < table.count → middle ≤ wider → wider ≤ table.count → Searches table n place wider
-searches_left table n place end middle wider searches after begins below more within ranges are stand =
+searches_left : (table : Table) (n index end middle wider : ℕ)
+    → Searches table n index end → index < middle → n < slice_index table.words (table.firsts + middle)
+    → middle < table.count → middle ≤ wider → wider ≤ table.count → Searches table n index wider
+searches_left table n index end middle wider searches after begins below more within ranges are stand =
     let counted : length ranges ≡ table.count = stand.counted in
     let range : Entry = get_or ranges middle no_range in
     let here : slice_get ranges middle ≡ Some range = slice_get-get_or ranges middle no_range (omega arith) in
     let at : IsAt table middle range = stand.each middle range here in
     let first : slice_index table.words (table.firsts + middle) ≡ first_of range = at.first in
-    Searched-left ranges n place end middle wider range are.ordered (searches ranges are stand) after here
+    Searched-left ranges n index end middle wider range are.ordered (searches ranges are stand) after here
     (omega arith) more (omega arith)
 
 -- a turn of the search leaves half, on one side or on the other
-pub Searches-turn : (table : Table) (n place size half middle next : ℕ)
-    → Searches table n place (place + size) → place + size ≤ table.count → 2 ≤ size → half ≡ size / 2
-    → middle ≡ place + half
+pub Searches-turn : (table : Table) (n index size half middle next : ℕ)
+    → Searches table n index (index + size) → index + size ≤ table.count → 2 ≤ size → half ≡ size / 2
+    → middle ≡ index + half
     → (slice_index table.words (table.firsts + middle) ≤ n → next ≡ middle)
-    → (n < slice_index table.words (table.firsts + middle) → next ≡ place)
+    → (n < slice_index table.words (table.firsts + middle) → next ≡ index)
     → Searches table n next (next + (size - half))
-Searches-turn table n place size half middle next searches within some halved is right left =
+Searches-turn table n index size half middle next searches within some halved is right left =
     elim (cases_order (slice_index table.words (table.firsts + middle)) n) [
       | inl same ↦ go_right (omega arith)
       | inr (inl before) ↦ go_right (omega arith)
@@ -77,14 +77,14 @@ Searches-turn table n place size half middle next searches within some halved is
       go_right : slice_index table.words (table.firsts + middle) ≤ n → Searches table n next (next + (size - half))
       go_right begins =
           let moved : next ≡ middle = right begins in
-          let last : next + (size - half) ≡ place + size = omega arith in
-          rw (last, moved) (searches_right table n place (place + size) middle searches within (omega arith) begins)
+          let last : next + (size - half) ≡ index + size = omega arith in
+          rw (last, moved) (searches_right table n index (index + size) middle searches within (omega arith) begins)
 
       go_left : n < slice_index table.words (table.firsts + middle) → Searches table n next (next + (size - half))
       go_left begins =
-          let stays : next ≡ place = left begins in
+          let stays : next ≡ index = left begins in
           rw stays
-          (searches_left table n place (place + size) middle (place + (size - half)) searches (omega arith) begins
+          (searches_left table n index (index + size) middle (index + (size - half)) searches (omega arith) begins
           (omega arith) (omega arith) (omega arith))
 
 -- ---- what is said
@@ -99,7 +99,7 @@ SaysIn-none specs direction table n has none =
           let counted : length has.ranges ≡ table.count = has.stand.counted in
           absurd (omega arith)
 
--- the range at a place decides, where no other one covers the number
+-- the range at an index decides, where no other one covers the number
 says_by : (specs : List IdMap) (direction : Direction) (table : Table) (n at : ℕ) (answer : Answer)
     (has : HasRanges specs direction table)
     → at < table.count
@@ -131,15 +131,15 @@ says_by specs direction table n at answer has inside says alone =
     ]
 
 -- the range decides at which the search ended
-pub SaysIn-last : (specs : List IdMap) (direction : Direction) (table : Table) (n place : ℕ) (answer : Answer)
-    → HasRanges specs direction table → Searches table n place (place + 1) → place < table.count
-    → ((range : Entry) → IsAt table place range → HasNumbers range → HasTarget range → SaysEntry range n answer)
+pub SaysIn-last : (specs : List IdMap) (direction : Direction) (table : Table) (n index : ℕ) (answer : Answer)
+    → HasRanges specs direction table → Searches table n index (index + 1) → index < table.count
+    → ((range : Entry) → IsAt table index range → HasNumbers range → HasTarget range → SaysEntry range n answer)
     → SaysIn specs direction n answer
-SaysIn-last specs direction table n place answer has searches inside says =
-    says_by specs direction table n place answer has inside says (λ range other here stored covers.
+SaysIn-last specs direction table n index answer has searches inside says =
+    says_by specs direction table n index answer has inside says (λ range other here stored covers.
     same_Some _ _
     (sym here
-    ∙ Searched-finds has.ranges n place other has.ordered.ordered (searches has.ranges has.ordered has.stand) stored
+    ∙ Searched-finds has.ranges n index other has.ordered.ordered (searches has.ranges has.ordered has.stand) stored
     covers))
 
 -- ---- no specification
@@ -211,7 +211,7 @@ pub CountsBetween-some : (count most before after : ℕ) → 1 ≤ count → Cou
 CountsBetween-some count most before after some counts =
     let least : min 1 count ≡ 1 = omega arith in rw least counts
 
--- a range begins at its place or above it
+-- a range begins at its index or above it
 begins_above : (ranges : List Entry) (d : Entry) (k : ℕ) → All HasNumbers ranges → AllPairs Precedes ranges
     → k < length ranges → k ≤ first_of (get_or ranges k d)
 begins_above ranges d zero numbers ordered below = omega arith

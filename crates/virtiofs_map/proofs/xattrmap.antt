@@ -12,4 +12,4 @@ mod RuleWordLemmas
 mod SlotLemmas
 mod TerminatedLemmas
 mod WalkAnswerLemmas
-mod WayLemmas
+mod PathLemmas

@@ -10,7 +10,7 @@ use Rattle.std.specs.Option.{option_map_or}
 use Rattle.std.specs.Ordering.{nat_cmp, is_lt}
 use Rattle.virtiofs_map.specs.Audit.{IsBefore}
 use Rattle.virtiofs_map.specs.FirstRule.{acts}
-use Rattle.virtiofs_map.specs.GatheredParts.{front_of, host_pattern, part_of}
+use Rattle.virtiofs_map.specs.GatheredParts.{added_prefix_of, host_pattern, part_of}
 use Rattle.virtiofs_map.specs.MapRule.{IsName}
 use Rattle.virtiofs_map.specs.Names.{begins, deciding}
 use Rattle.virtiofs_map.specs.NamesImage.{IsMapOf}
@@ -21,7 +21,7 @@ use Rattle.virtiofs_map.specs.declared.audit.answer.Audit.{Audit}
 use Rattle.virtiofs_map.specs.declared.audit.answer.Audit.TheVariants.{Yes, No}
 use Rattle.virtiofs_map.specs.declared.audit.questions.Asked.{Asked}
 use Rattle.virtiofs_map.specs.declared.audit.questions.Asked.TheVariants.{Lost, Seen, Shared, Stray}
-use Rattle.virtiofs_map.specs.declared.audit.gathered.Part.TheVariants.{Front}
+use Rattle.virtiofs_map.specs.declared.audit.gathered.Part.TheVariants.{Added}
 use Rattle.virtiofs_map.specs.declared.audit.questions.Question.{Question}
 use Rattle.virtiofs_map.specs.declared.audit.reach.Reach.{Reach}
 use Rattle.virtiofs_map.specs.declared.xattrmap.scopes.Side.{Side}
@@ -30,8 +30,8 @@ use Rattle.virtiofs_map.specs.declared.xattrmap.scopes.Side.TheVariants.{Client,
 -- ---- how a rule lets a name through
 
 -- the same for the first rule that fits the name on that side
-abbrev pub front : Side → List MappingRule → List ℕ → Option (List ℕ)
-front side rules name = option_and_then front_of (deciding side rules name)
+abbrev pub added_prefix : Side → List MappingRule → List ℕ → Option (List ℕ)
+added_prefix side rules name = option_and_then added_prefix_of (deciding side rules name)
 
 -- ---- what is asked of a name
 
@@ -46,12 +46,12 @@ cuts added (Some cut) = length cut == length added
 -- the name passes and is not listed back
 abbrev pub is_lost : List MappingRule → List ℕ → Bool
 is_lost rules name =
-    some_byte name && option_map_or (λ added. not (cuts added (front Server rules (added ++ name))))
-    (front Client rules name) false
+    some_byte name && option_map_or (λ added. not (cuts added (added_prefix Server rules (added ++ name))))
+    (added_prefix Client rules name) false
 
 -- a rule decides the host name, and hides it
 abbrev pub is_hidden : List MappingRule → List ℕ → Bool
-is_hidden rules host = option_map_or (λ rule. is_none (front_of rule)) (deciding Server rules host) false
+is_hidden rules host = option_map_or (λ rule. is_none (added_prefix_of rule)) (deciding Server rules host) false
 
 abbrev pub all_bytes : List ℕ → Bool
 all_bytes name = list_all (λ byte. nat_lt byte 256) name
@@ -60,7 +60,7 @@ all_bytes name = list_all (λ byte. nat_lt byte 256) name
 abbrev pub passes_where : (List ℕ → Bool) → List MappingRule → List ℕ → Bool
 passes_where test rules name =
     option_map_or (λ added. some_byte (added ++ name) && (all_bytes (added ++ name) && test (added ++ name)))
-    (front Client rules name) false
+    (added_prefix Client rules name) false
 
 -- the name passes and becomes a non-empty host name that the others do not hide
 abbrev pub is_seen : List MappingRule → List MappingRule → List ℕ → Bool
@@ -74,20 +74,20 @@ adds cut (Some added) = pointwise nat_eq added cut
 -- the host name is listed under a name that does not pass, or becomes another host name
 abbrev pub is_stray : List MappingRule → List ℕ → Bool
 is_stray rules host =
-    some_byte host && option_map_or (λ cut. not (adds cut (front Client rules (drop (length cut) host))))
-    (front Server rules host) false
+    some_byte host && option_map_or (λ cut. not (adds cut (added_prefix Client rules (drop (length cut) host))))
+    (added_prefix Server rules host) false
 
 -- what is left of the host name after `added` is a name before which the guest rule puts that
 abbrev pub passes_with : List MappingRule → List ℕ → List ℕ → Bool
-passes_with rules host added = begins added host && adds added (front Client rules (drop (length added) host))
+passes_with rules host added = begins added host && adds added (added_prefix Client rules (drop (length added) host))
 
 -- a name that starts with the rule's key passes and becomes the host name, with what the rule puts before it
 abbrev pub passes_as : List MappingRule → List ℕ → MappingRule → Bool
 passes_as rules host rule =
     rule.client && option_map_or
     (λ added. begins added host &&
-    (begins rule.key (drop (length added) host) && adds added (front Client rules (drop (length added) host))))
-    (front_of rule) false
+    (begins rule.key (drop (length added) host) && adds added (added_prefix Client rules (drop (length added) host))))
+    (added_prefix_of rule) false
 
 -- some name passes and becomes the host name
 abbrev pub is_reached : List MappingRule → List ℕ → Bool
@@ -107,7 +107,7 @@ holds_of (Stray map) = is_stray (rules_of map)
 -- what a map of the rules puts before names is known, and so which names of the host the guest reaches
 pub record IsReachOf {A : Type 0} (rules : List MappingRule) (reach : Reach A) : Type 0 where
   pub map : IsMapOf rules reach.map
-  pub fronts : IsPermutation (filter_map (part_of (Front Client)) rules) reach.fronts
+  pub all_added : IsPermutation (filter_map (part_of (Added Client)) rules) reach.all_added
 
 -- the bytes of what is asked about are maps
 abbrev pub AreMaps : {A : Type 0} → Asked A → Type 0
@@ -195,7 +195,7 @@ rests side rules added = filter_map (rest_of side added) rules
 -- a name, the rest of that pattern
 abbrev pub guest_names_of : Side → List MappingRule → MappingRule → List (List ℕ)
 guest_names_of side others rule =
-    if rule.client then rule.key ∷ option_map_or (rests side others) (front_of rule) [] else []
+    if rule.client then rule.key ∷ option_map_or (rests side others) (added_prefix_of rule) [] else []
 
 abbrev pub guest_names : Side → List MappingRule → List MappingRule → List (List ℕ)
 guest_names side others rules = flat_map (guest_names_of side others) rules
@@ -207,7 +207,7 @@ IsRestOf patterns added name =
 
 -- the same after one of these
 abbrev pub IsRest : List (List ℕ) → List (List ℕ) → List ℕ → Type 0
-IsRest fronts patterns name = (added : List ℕ) × Contains fronts added × IsRestOf patterns added name
+IsRest all_added patterns name = (added : List ℕ) × Contains all_added added × IsRestOf patterns added name
 
 -- the most names of the guest that are tried
 abbrev pub most_guest_names : Side → List MappingRule → List MappingRule → ℕ
@@ -218,7 +218,7 @@ most_guest_names side others rules =
 -- the server's rules take that off a name, from one that begins with it
 abbrev pub is_cut : List MappingRule → List ℕ → Bool
 is_cut rules [] = true
-is_cut rules (byte ∷ cut) = cuts (byte ∷ cut) (front Server rules (byte ∷ cut))
+is_cut rules (byte ∷ cut) = cuts (byte ∷ cut) (added_prefix Server rules (byte ∷ cut))
 
 -- one of the keys after `cut`
 abbrev pub IsWholeOf : List ℕ → List (List ℕ) → List ℕ → Type 0
@@ -244,7 +244,7 @@ live_wholes rules others cut = if is_cut rules cut then wholes others cut else [
 -- server's rule removes followed by that rule's key
 abbrev pub host_names_of : List MappingRule → List MappingRule → MappingRule → List (List ℕ)
 host_names_of all others rule =
-    if rule.server then rule.prepend ∷ option_map_or (live_wholes all others) (front_of rule) [] else []
+    if rule.server then rule.prepend ∷ option_map_or (live_wholes all others) (added_prefix_of rule) [] else []
 
 abbrev pub host_names : List MappingRule → List MappingRule → List (List ℕ)
 host_names others rules = flat_map (host_names_of rules others) rules

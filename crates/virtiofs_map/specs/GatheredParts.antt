@@ -9,30 +9,30 @@ use Rattle.virtiofs_map.specs.Audit.{IsBefore}
 use Rattle.virtiofs_map.specs.FirstRule.{acts}
 use Rattle.virtiofs_map.specs.Rule.{RuleType, Prefix, Okay, Bad, Unsupported, MappingRule}
 use Rattle.virtiofs_map.specs.declared.audit.gathered.Part.{Part}
-use Rattle.virtiofs_map.specs.declared.audit.gathered.Part.TheVariants.{Key, Front, Host}
+use Rattle.virtiofs_map.specs.declared.audit.gathered.Part.TheVariants.{Key, Added, Host}
 use Rattle.virtiofs_map.specs.declared.xattrmap.scopes.Side.{Side}
 use Rattle.virtiofs_map.specs.declared.xattrmap.scopes.Side.TheVariants.{Client, Server}
 
 -- what a rule puts before a guest's name to make the host's name; none if the rule lets no name through
-abbrev pub front_by : RuleType → List ℕ → Option (List ℕ)
-front_by Okay prepend = Some []
-front_by Prefix prepend = Some prepend
-front_by Bad prepend = None
-front_by Unsupported prepend = None
+abbrev pub added_prefix_by : RuleType → List ℕ → Option (List ℕ)
+added_prefix_by Okay prepend = Some []
+added_prefix_by Prefix prepend = Some prepend
+added_prefix_by Bad prepend = None
+added_prefix_by Unsupported prepend = None
 
-abbrev pub front_of : MappingRule → Option (List ℕ)
-front_of rule = front_by rule.kind rule.prepend
+abbrev pub added_prefix_of : MappingRule → Option (List ℕ)
+added_prefix_of rule = added_prefix_by rule.kind rule.prepend
 
 -- the beginning that a rule fixes for host names. On the server's side: the prepend of the rule. On the client's
 -- side: what the rule puts before a name, followed by its key (none if the rule lets no name through).
 abbrev pub host_pattern : Side → MappingRule → Option (List ℕ)
-host_pattern Client rule = option_map (λ added. added ++ rule.key) (front_of rule)
+host_pattern Client rule = option_map (λ added. added ++ rule.key) (added_prefix_of rule)
 host_pattern Server rule = Some rule.prepend
 
 -- that part of a rule, if it has one
 abbrev pub part_of : Part → MappingRule → Option (List ℕ)
 part_of Key rule = if rule.client then Some rule.key else None
-part_of (Front side) rule = if acts side rule then front_of rule else None
+part_of (Added side) rule = if acts side rule then added_prefix_of rule else None
 part_of (Host side) rule = if acts side rule then host_pattern side rule else None
 
 -- ---- names in the order of their bytes

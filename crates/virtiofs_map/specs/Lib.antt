@@ -2,13 +2,13 @@ pub mod AddedParts
 pub mod Alphanumeric
 pub mod Audit
 pub mod AuditParts
-pub mod BranchParts
+pub mod NodeParts
 pub mod Build
 pub mod BuildParts
-pub mod ByteWordParts
+pub mod LeU64Parts
 pub mod FirstRule
 pub mod GatheredParts
-pub mod GrowthParts
+pub mod TrieBuildParts
 pub mod Image
 pub mod ImageAnswer
 pub mod Listing

@@ -1,8 +1,8 @@
 -- An image of a map of names: bytes that are written once, and then only read.
 use Rattle.std.specs.Prelude.{◌≡◌, ◌≢◌, ◌⊎◌, ℕ, ◌+◌, ◌-◌, ◌*◌, ◌<◌, ◌≤◌, if◌then◌else◌, List, [], ◌∷◌, ◌++◌, length}
 use Rattle.std.specs.Prelude.{take, drop, All, Option, Some, None, IsSomeAnd}
-use Rattle.virtiofs_map.specs.BranchParts.{AreSpans, IsTrieIn, branch_count}
-use Rattle.virtiofs_map.specs.ByteWordParts.{word_at, word_bytes}
+use Rattle.virtiofs_map.specs.NodeParts.{AreSpans, IsTrieIn, node_count}
+use Rattle.virtiofs_map.specs.LeU64Parts.{le_u64_at, le_u64_bytes}
 use Rattle.virtiofs_map.specs.Names.{deciding}
 use Rattle.virtiofs_map.specs.Rule.{MappingRule, HasNoZero, type_number}
 use Rattle.virtiofs_map.specs.Rule as types
@@ -26,10 +26,10 @@ image_kind = 172664425955944054
 -- the start of a part. An image begins with six numbers: its kind, the starts of the four parts, in order, and the
 -- end of the last part.
 abbrev pub part_start : List ℕ → ℕ → ℕ
-part_start image which = word_at image (8 * which + 8)
+part_start image which = le_u64_at image (8 * which + 8)
 
 abbrev pub part_end : List ℕ → ℕ → ℕ
-part_end image which = word_at image (8 * which + 16)
+part_end image which = le_u64_at image (8 * which + 16)
 
 -- the part of that number: 0 has the rows of the client's trie, 1 those of the server's, 2 the rows of the rules, and 3
 -- the bytes of all patterns
@@ -50,7 +50,7 @@ acts_number rule = type_number rule.kind + 4 * (if rule.client then 1 else 0) + 
 -- the 24 bytes of a rule whose patterns stand there
 unfoldable pub rule_row : MappingRule → Span → List ℕ
 rule_row rule span =
-    word_bytes (span.key + 281474976710656 * acts_number rule) ++ word_bytes span.prepend ++ word_bytes span.end
+    le_u64_bytes (span.key + 281474976710656 * acts_number rule) ++ le_u64_bytes span.prepend ++ le_u64_bytes span.end
 
 -- the rows of rules
 abbrev pub rule_rows : List MappingRule → List Span → List ℕ
@@ -73,11 +73,11 @@ abbrev pub pattern_bytes : List MappingRule → ℕ
 pattern_bytes [] = 0
 pattern_bytes (rule ∷ rules) = length rule.key + length rule.prepend + pattern_bytes rules
 
--- how many bytes the image of a map of the rules has: six numbers of 8 bytes, a row of 24 bytes for each branch of the
+-- how many bytes the image of a map of the rules has: six numbers of 8 bytes, a row of 24 bytes for each node of the
 -- two tries and for each rule, and all patterns
 unfoldable pub image_length : List MappingRule → ℕ
 image_length rules =
-    48 + 24 * (branch_count Client rules + branch_count Server rules + length rules) + pattern_bytes rules
+    48 + 24 * (node_count Client rules + node_count Server rules + length rules) + pattern_bytes rules
 
 -- the most bytes that an image may have
 abbrev pub longest_image : ℕ
@@ -87,9 +87,9 @@ longest_image = 281474976710655
 
 -- the bytes are an image of a map of these rules
 pub record IsImage (rules : List MappingRule) (image : List ℕ) : Type 0 where
-  -- the image begins with six numbers, the first of which says what it is
-  pub begun : 48 ≤ length image
-  pub kind : word_at image 0 ≡ image_kind
+  -- the image begins with six numbers, the first of which says what it is, and the row of a root
+  pub begun : 72 ≤ length image
+  pub kind : le_u64_at image 0 ≡ image_kind
   -- the parts that the other numbers name are all there: the first stands behind these numbers, and the last ends
   -- where the image does
   pub parts : (which : ℕ) → which < 4 → HasPart image which
@@ -109,7 +109,7 @@ IsMapOf rules map = IsImage rules map.bytes.now
 
 -- the bytes do not begin as an image does
 abbrev pub IsNoImage : List ℕ → Type 0
-IsNoImage image = (length image < 48) ⊎ (word_at image 0 ≢ image_kind)
+IsNoImage image = (length image < 72) ⊎ (le_u64_at image 0 ≢ image_kind)
 
 -- the image of the rules has so many bytes
 abbrev pub HasImage : List MappingRule → ℕ → Type 0

@@ -3,11 +3,11 @@
 use Rattle.std.specs.Prelude.{◌≡◌, ◌⊎◌, ℕ, zero, suc, ◌+◌, ◌-◌, ◌*◌, ◌/◌, ◌%◌, ◌≤◌, ◌==◌, if◌then◌else◌, List, [], ◌∷◌}
 use Rattle.std.specs.Prelude.{◌++◌, length, take, drop}
 use Rattle.std.specs.List.{flat_map}
-use Rattle.virtiofs_map.specs.ByteWordParts.{word_at, word_bytes}
+use Rattle.virtiofs_map.specs.LeU64Parts.{le_u64_at, le_u64_bytes}
 use Rattle.virtiofs_map.specs.Names.{HostAnswer, IsListed, IsHidden, IsUndecided, host_answer, names}
 use Rattle.virtiofs_map.specs.NamesImage.{IsImage, IsMapOf, image_kind, image_length, longest_image, part, part_end}
 use Rattle.virtiofs_map.specs.NamesImage.{part_start}
-use Rattle.virtiofs_map.specs.BranchParts.{IsTrieIn}
+use Rattle.virtiofs_map.specs.NodeParts.{IsTrieIn}
 use Rattle.virtiofs_map.specs.Rule.{MappingRule, RuleType, Prefix, Okay, Bad, Unsupported}
 use Rattle.virtiofs_map.specs.RuleParts.{holds}
 use Rattle.virtiofs_map.specs.declared.xattrmap.image.write.Places.{Places}
@@ -27,12 +27,12 @@ type_numbered number =
 -- the rule of a row, whose patterns stand among the bytes
 abbrev pub rule_of_row : List ℕ → List ℕ → MappingRule
 rule_of_row bytes row = record {
-  kind = type_numbered (word_at row 0 / 281474976710656 % 4);
-  client = holds Client (word_at row 0 / 281474976710656 / 4 % 4);
-  server = holds Server (word_at row 0 / 281474976710656 / 4 % 4);
+  kind = type_numbered (le_u64_at row 0 / 281474976710656 % 4);
+  client = holds Client (le_u64_at row 0 / 281474976710656 / 4 % 4);
+  server = holds Server (le_u64_at row 0 / 281474976710656 / 4 % 4);
   key =
-      take (word_at row 8 - word_at row 0 % 281474976710656) (drop (word_at row 0 % 281474976710656) bytes);
-  prepend = take (word_at row 16 - word_at row 8) (drop (word_at row 8) bytes);
+      take (le_u64_at row 8 - le_u64_at row 0 % 281474976710656) (drop (le_u64_at row 0 % 281474976710656) bytes);
+  prepend = take (le_u64_at row 16 - le_u64_at row 8) (drop (le_u64_at row 8) bytes);
 }
 
 -- the rules of the first of these rows
@@ -89,7 +89,7 @@ numbers_of places = image_kind ∷ 48 ∷ places.server ∷ places.rules ∷ pla
 
 -- the bytes of these six numbers
 abbrev pub header_of : Places → List ℕ
-header_of places = flat_map word_bytes (numbers_of places)
+header_of places = flat_map le_u64_bytes (numbers_of places)
 
 -- ---- lists
 

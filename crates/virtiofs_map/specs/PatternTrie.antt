@@ -1,4 +1,4 @@
--- The trie of some texts: its nodes, level by level. A text is bytes, none of them zero.
+-- The trie of some texts: its text nodes, level by level. A text is bytes, none of them zero.
 use Rattle.std.specs.Prelude.{ℕ, zero, suc, ◌+◌, ◌-◌, ◌*◌, nat_lt, nat_eq, Bool, if◌then◌else◌, List, [], ◌∷◌, ◌++◌}
 use Rattle.std.specs.Prelude.{length, take, drop, filter, map, max, Option, Some, None}
 use Rattle.virtiofs_map.specs.Names.{begins}
@@ -33,27 +33,27 @@ longest_label = 255
 unfoldable pub label_after : ℕ → List (List ℕ) → List ℕ → List ℕ
 label_after most texts path = take most (drop (length path) (common (filter (begins path) texts)))
 
--- ---- nodes
+-- ---- text nodes
 
--- the path to a node, the byte with which its last step begins (0 for the root), and how many bytes of the path are the
--- label after that byte
-pub record Node : Type 0 where
+-- the path to a text node, the byte with which its last step begins (0 for the root), and how many bytes of the path
+-- are the label after that byte
+pub record TextNode : Type 0 where
   pub path : List ℕ
   pub byte : ℕ
   pub size : ℕ
 
-abbrev pub root : Node
+abbrev pub root : TextNode
 root = record { path = []; byte = 0; size = 0 }
 
--- the node to which the byte leads with that label
-abbrev pub node_after : List ℕ → ℕ → List ℕ → Node
-node_after path byte label = record { path = path ++ byte ∷ label; byte = byte; size = length label }
+-- the text node to which the byte leads with that label
+abbrev pub text_node_after : List ℕ → ℕ → List ℕ → TextNode
+text_node_after path byte label = record { path = path ++ byte ∷ label; byte = byte; size = length label }
 
 -- the child of a path for a byte; none where the byte leads nowhere
-unfoldable pub child : ℕ → List (List ℕ) → List ℕ → ℕ → Option Node
+unfoldable pub child : ℕ → List (List ℕ) → List ℕ → ℕ → Option TextNode
 child most texts path byte =
     if leads texts (path ++ byte ∷ [])
-    then Some (node_after path byte (label_after most texts (path ++ byte ∷ [])))
+    then Some (text_node_after path byte (label_after most texts (path ++ byte ∷ [])))
     else None
 
 -- the last of some bytes
@@ -76,10 +76,10 @@ unfoldable pub slots : List ℕ → List ℕ
 slots [] = []
 slots (low ∷ bytes) = if are_sparse (low ∷ bytes) then low ∷ bytes else range_with_len low (span low bytes)
 
--- the places of a node's children; where no byte leads there, a hole
-unfoldable pub children : ℕ → List (List ℕ) → Option Node → List (Option Node)
+-- the places of a text node's children; where no byte leads there, a hole
+unfoldable pub children : ℕ → List (List ℕ) → Option TextNode → List (Option TextNode)
 children most texts None = []
-children most texts (Some node) = map (child most texts node.path) (slots (next_bytes texts node.path))
+children most texts (Some text_node) = map (child most texts text_node.path) (slots (next_bytes texts text_node.path))
 
 -- so many levels from one on
 abbrev pub levels : {X : Type 0} → (X → List X) → ℕ → List X → List X
@@ -91,6 +91,6 @@ abbrev pub longest_of : List (List ℕ) → ℕ
 longest_of [] = 0
 longest_of (text ∷ texts) = max (length text) (longest_of texts)
 
--- the nodes and holes of the trie, level by level
-unfoldable pub nodes : ℕ → List (List ℕ) → List (Option Node)
-nodes most texts = levels (children most texts) (suc (longest_of texts)) (Some root ∷ [])
+-- the text nodes and holes of the trie, level by level
+unfoldable pub text_nodes : ℕ → List (List ℕ) → List (Option TextNode)
+text_nodes most texts = levels (children most texts) (suc (longest_of texts)) (Some root ∷ [])

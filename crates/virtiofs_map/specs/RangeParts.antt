@@ -9,7 +9,7 @@ use Rattle.virtiofs_map.specs.declared.cmdline.IdMap.{IdMap}
 use Rattle.virtiofs_map.specs.declared.soft_idmap.entry.Direction.{Direction}
 use Rattle.virtiofs_map.specs.declared.soft_idmap.entry.Direction.TheVariants.{GuestToHost, HostToGuest}
 use Rattle.virtiofs_map.specs.declared.soft_idmap.entry.Entry.{Entry}
-use Rattle.virtiofs_map.specs.declared.soft_idmap.placed.Placed.{Placed}
+use Rattle.virtiofs_map.specs.declared.soft_idmap.indexed.IndexedEntry.{IndexedEntry}
 
 -- ---- the ranges of a direction
 
@@ -41,12 +41,12 @@ pub record Stores (specs : List IdMap) (direction : Direction) (ranges : List En
 
 -- ---- a search
 
--- a search has narrowed its result to the places from `place` up to `end`: the range at `place` begins at or below n,
+-- a search has narrowed its result to the places from `index` up to `end`: the range at `index` begins at or below n,
 -- unless it is the first one, and those from `end` on begin above n
-pub record Searched (ranges : List Entry) (n place end : ℕ) : Type 0 where
-  pub order : place < end
+pub record Searched (ranges : List Entry) (n index end : ℕ) : Type 0 where
+  pub order : index < end
   pub within : end ≤ length ranges
-  pub begins : (d : Entry) → 1 ≤ place → first_of (slice_index_or ranges place d) ≤ n
+  pub begins : (d : Entry) → 1 ≤ index → first_of (slice_index_or ranges index d) ≤ n
   pub above : (k : ℕ) (d : Entry) → end ≤ k → k < length ranges → n < first_of (slice_index_or ranges k d)
 
 -- the ranges that are left beside one are fewer than 2 to the power of the steps that are still allowed
@@ -66,46 +66,46 @@ abbrev pub StandsAt : List IdMap → ℕ → IdMap → Type 0
 StandsAt specs index spec = (index < length specs) × (slice_index_or specs index spec ≡ spec)
 
 -- the entry is that of the specification at its index, and covers a number
-pub record IsPlaced (specs : List IdMap) (direction : Direction) (placed : Placed) : Type 0 where
+pub record IsIndexed (specs : List IdMap) (direction : Direction) (indexed : IndexedEntry) : Type 0 where
   pub spec : IdMap
-  pub here : StandsAt specs placed.index spec
-  pub sets_up : entry_of spec direction ≡ Some placed.entry
-  pub counted : 1 ≤ count_of placed.entry
+  pub here : StandsAt specs indexed.index spec
+  pub sets_up : entry_of spec direction ≡ Some indexed.entry
+  pub counted : 1 ≤ count_of indexed.entry
 
--- `placed` has, for each of the first `count` specifications, its entry in that direction if that covers a number:
+-- `indexed` has, for each of the first `count` specifications, its entry in that direction if that covers a number:
 -- each entry once, with the index of its specification
-pub record Places (specs : List IdMap) (direction : Direction) (count : ℕ) (placed : List Placed) : Type 0 where
-  pub from : All (λ one. IsPlaced specs direction one × (one.index < count)) placed
+pub record AreIndexed (specs : List IdMap) (direction : Direction) (count : ℕ) (indexed : List IndexedEntry) : Type 0 where
+  pub from : All (λ one. IsIndexed specs direction one × (one.index < count)) indexed
   pub each : (index : ℕ) (spec : IdMap) (entry : Entry) → index < count → StandsAt specs index spec
       → entry_of spec direction ≡ Some entry → 1 ≤ count_of entry
-      → Contains placed (record { entry = entry; index = index })
-  pub once : AllPairs (λ one other. one.index ≢ other.index) placed
-  pub counted : length placed ≡ acting (take count specs) direction
+      → Contains indexed (record { entry = entry; index = index })
+  pub once : AllPairs (λ one other. one.index ≢ other.index) indexed
+  pub counted : length indexed ≡ acting (take count specs) direction
 
 -- the same for all specifications of the list, in the order of the first numbers of the entries
-pub record PlacesInOrder (specs : List IdMap) (direction : Direction) (placed : List Placed) : Type 0 where
-  pub places : Places specs direction (length specs) placed
-  pub rising : IsNonDecreasingBy (λ one. first_of one.entry) placed
+pub record AreSorted (specs : List IdMap) (direction : Direction) (indexed : List IndexedEntry) : Type 0 where
+  pub are_indexed : AreIndexed specs direction (length specs) indexed
+  pub rising : IsNonDecreasingBy (λ one. first_of one.entry) indexed
 
 -- the specifications are accepted, and these are their entries in the two directions
-pub record ArePlaced (specs : List IdMap) (guests hosts : List Placed) : Type 0 where
+pub record AreSortedBothWays (specs : List IdMap) (guests hosts : List IndexedEntry) : Type 0 where
   pub accepted : Accepted specs
-  pub from_guest : PlacesInOrder specs GuestToHost guests
-  pub from_host : PlacesInOrder specs HostToGuest hosts
+  pub from_guest : AreSorted specs GuestToHost guests
+  pub from_host : AreSorted specs HostToGuest hosts
 
 -- no two entries of the first `count` specifications overlap, and they are in order
-abbrev pub ArePrecedingBelow : ℕ → List Placed → Type 0
-ArePrecedingBelow count placed =
-    AllPairs (λ one other. one.index < count → other.index < count → Precedes one.entry other.entry) placed
+abbrev pub ArePrecedingBelow : ℕ → List IndexedEntry → Type 0
+ArePrecedingBelow count indexed =
+    AllPairs (λ one other. one.index < count → other.index < count → Precedes one.entry other.entry) indexed
 
 -- ---- the test of a front of the list
 
 -- progress of the test: `end` is at least the end of each entry tested so far, and is the end of one of them, or 0
-pub record KeepsApartTo (count end : ℕ) (placed : List Placed) : Type 0 where
-  pub preceding : ArePrecedingBelow count placed
-  pub before : All (λ one. one.index < count → first_of one.entry + count_of one.entry ≤ end) placed
+pub record KeepsApartTo (count end : ℕ) (indexed : List IndexedEntry) : Type 0 where
+  pub preceding : ArePrecedingBelow count indexed
+  pub before : All (λ one. one.index < count → first_of one.entry + count_of one.entry ≤ end) indexed
   pub reached : (end ≡ 0)
-      ⊎ ((one : Placed) × Contains placed one × (one.index < count) × (first_of one.entry + count_of one.entry ≡ end))
+      ⊎ ((one : IndexedEntry) × Contains indexed one × (one.index < count) × (first_of one.entry + count_of one.entry ≡ end))
 
 -- the ranges of the specification are not too long in that direction
 pub record HasRoom (spec : IdMap) (direction : Direction) : Type 0 where

@@ -3,7 +3,7 @@ use Rattle.std.specs.Prelude.{◌≡◌, ◌⊎◌, ℕ, ◌-◌, Bool, List, []
 use Rattle.std.specs.Prelude.{All as AllOf}
 use Rattle.std.specs.Int.RustNames.{bit_and}
 use Rattle.std.specs.Str.{chars}
-use Rattle.virtiofs_map.specs.BranchParts.{IsSpan}
+use Rattle.virtiofs_map.specs.NodeParts.{IsSpan}
 use Rattle.virtiofs_map.specs.NamesImage.{pattern_bytes}
 use Rattle.virtiofs_map.specs.Rule.{RuleType, MappingRule}
 use Rattle.virtiofs_map.specs.Rule as types

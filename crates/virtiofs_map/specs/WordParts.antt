@@ -50,7 +50,7 @@ pub record IsTable (table : Table) : Type 0 where
   pub rows : 1 ≤ table.count → table.rows + 3 * table.count ≤ length table.words
   pub count : table.count < 4294967296
 
--- the words at a place are those of the range
+-- the words at an index are those of the range
 pub record IsAt (table : Table) (k : ℕ) (range : Entry) : Type 0 where
   pub first : slice_index table.words (table.firsts + k) ≡ first_of range
   pub row : IsRow (slice_index table.words (table.rows + 3 * k)) (slice_index table.words (table.rows + 3 * k + 1))
@@ -103,10 +103,10 @@ words_lent (first ∷ rest) = first ∷ rest
 
 -- ---- a search
 
--- if the words are those of ranges in order, a search has narrowed its result to the places from `place` up to `end`
+-- if the words are those of ranges in order, a search has narrowed its result to the places from `index` up to `end`
 abbrev pub Searches : Table → ℕ → ℕ → ℕ → Type 0
-Searches table n place end =
-    (ranges : List Entry) → AreRanges ranges → Tabulates table ranges → Searched ranges n place end
+Searches table n index end =
+    (ranges : List Entry) → AreRanges ranges → Tabulates table ranges → Searched ranges n index end
 
 -- ---- an answer
 

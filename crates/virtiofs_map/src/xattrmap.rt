@@ -43,6 +43,7 @@ mod client;
 mod errors;
 pub mod image;
 pub mod laws;
+mod le_u64;
 mod listed;
 mod lookup;
 mod names;
@@ -52,7 +53,6 @@ mod scopes;
 mod spans;
 mod trie;
 mod view;
-mod words;
 mod written;
 
 pub use client::{AppliedRule, PassedName};
@@ -64,7 +64,7 @@ use reader::read_rules;
 pub use scopes::Side;
 use std::alloc::{AllocError, Allocator, Global};
 use std::marker::Model;
-pub(crate) use trie::shared_length;
+pub(crate) use trie::common_prefix_length;
 pub use view::XattrMapRef;
 
 /// A map of attribute names, in one row of bytes: its image. In contracts it is the list of its

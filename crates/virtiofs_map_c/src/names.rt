@@ -193,7 +193,8 @@ pub extern "C" fn virtiofs_map_names_keeps_apart(
         → IsImage others second.now
         → TellsLeast (IsSeen rules others) out.old result all.new len.new out.new }
     ensures no_map { IsNoImage first.now → TellsNo no_map out.old result all.new len.new out.new }
-    ensures no_other { IsNoImage second.now → TellsNo no_map out.old result all.new len.new out.new }
+    ensures no_other { IsNoImage second.now
+        → TellsNo no_map out.old result all.new len.new out.new }
 {
     match (XattrMapRef::of(first), XattrMapRef::of(second)) {
         (Some(one), Some(other)) => tell(keeps_apart(alloc, one, other), all, out, len),
@@ -215,7 +216,8 @@ pub extern "C" fn virtiofs_map_names_shares_no_name(
         → IsImage others second.now
         → TellsLeast (IsShared rules others) out.old result all.new len.new out.new }
     ensures no_map { IsNoImage first.now → TellsNo no_map out.old result all.new len.new out.new }
-    ensures no_other { IsNoImage second.now → TellsNo no_map out.old result all.new len.new out.new }
+    ensures no_other { IsNoImage second.now
+        → TellsNo no_map out.old result all.new len.new out.new }
 {
     match (XattrMapRef::of(first), XattrMapRef::of(second)) {
         (Some(one), Some(other)) => tell(shares_no_name(alloc, one, other), all, out, len),

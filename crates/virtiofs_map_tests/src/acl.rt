@@ -8,7 +8,6 @@ mod told;
 use crate::common::users_of;
 use by_linux::{CAPABILITIES, LISTS, REVISION_2};
 use std::alloc::Global;
-use std::process::Abort;
 use std::test::Fail;
 use told::{SHIFTED, check_capability, check_list, check_written, value_of};
 use virtiofs_acl::{CapabilityError, EntryRoom, ValueKind, carries_ids};
@@ -104,39 +103,22 @@ fn writes_the_same_in_revision_3(rt: HostRuntime) -> Result<(), Fail> {
 
 #[test]
 fn sets_values_of_the_guest(rt: HostRuntime) -> Result<(), Fail> {
-    let (guest, host) = LISTS[0];
-    let value = value_of(rt.alloc(), host)?;
-    assert_set(
-        &rt,
-        rt.alloc(),
-        b"system.posix_acl_access",
-        guest,
-        Some(value.as_slice()),
-    )?;
-    let value = value_of(rt.alloc(), guest)?;
-    assert_set(&rt, rt.alloc(), b"user.note", guest, Some(value.as_slice()))?;
-    assert_set(&rt, rt.alloc(), b"security.capability", guest, None)
-}
-
-fn assert_set(
-    rt: &impl Abort,
-    alloc: Global,
-    name: &[u8],
-    words: &[u32],
-    wanted: Option<&[u8]>,
-) -> Result<(), Fail> {
-    let value = value_of(alloc, words)?;
-    let set = set_on_host(alloc, name, &value)?;
-    assert!(rt; set.as_deref() == wanted, "of {name:?}");
+    let (alloc, (guest, host)) = (rt.alloc(), LISTS[0]);
+    let told = set_on_host(alloc, b"system.posix_acl_access", guest)?;
+    assert!(rt; told == Some(value_of(alloc, host)?));
+    let told = set_on_host(alloc, b"user.note", guest)?;
+    assert!(rt; told == Some(value_of(alloc, guest)?));
+    let told = set_on_host(alloc, b"security.capability", guest)?;
+    assert!(rt; told.is_none());
     Ok(())
 }
 
 /// What becomes of a value of that name; `None` where it is refused.
-fn set_on_host(alloc: Global, name: &[u8], value: &[u8]) -> Result<Option<Vec<u8>>, Fail> {
+fn set_on_host(alloc: Global, name: &[u8], words: &[u32]) -> Result<Option<Vec<u8>>, Fail> {
     let name = XattrName::new(name).ok_or("a name holds a zero")?;
     let users = users_of(alloc, SHIFTED.users).ok_or("no map")?;
     let groups: IdMap<GuestGid, HostGid> = IdMap::empty(alloc);
-    let mut value = value.to_vec(alloc)?;
+    let mut value = value_of(alloc, words)?;
     let mut room = [EntryRoom::new(); 8];
     let is_set = set_by_guest(&users, &groups, name, value.as_mut_slice(), &mut room);
     Ok(is_set.then_some(value))

@@ -1,6 +1,6 @@
 //! Each request for memory of each call, refused in turn. A run ends with out of memory, in the
 //! call's own form, or with the answer that it has with ample memory, and gives back all that it
-//! was granted. A map that was asked keeps its answers.
+//! was granted.
 
 mod calls;
 
@@ -16,28 +16,19 @@ use std::alloc::Global;
 use std::process::Abort;
 
 /// Calls that cannot do without memory.
-static TAKE: [Asked; 75] = [
+static TAKE: [Asked; 64] = [
     FromStr("foo:x"),
-    FromStr("foo:1"),
     FromStr("foo"),
     FromStr(":0:1:2"),
-    FromStr("map-0:1"),
-    FromStr("map:1:2"),
     FromStr("forbid-guest:1:2:3"),
     FromStr("map:0:1000:10"),
     FromStr("map:-0:1:2"),
     TryFrom(MEETING),
     TryFrom(MIXED),
-    TryFrom("host:5000:1:2|squash-guest:20:7:5|map:0:1000:10"),
     WriteImage(MEETING),
     WriteImage(MIXED),
     FromSpecs(MEETING),
     FromSpecs(MIXED),
-    FromSpecs("squash-guest:20:7:5|host:5000:1:2|map:0:1000:10"),
-    FromSpecs("map:0:1000:10|squash-guest:20:7:5|host:5000:1:2"),
-    FromSpecs("map:0:1000:10|host:5000:1:2|squash-guest:20:7:5"),
-    FromSpecs("host:5000:1:2|squash-guest:20:7:5|map:0:1000:10"),
-    FromSpecs("host:5000:1:2|map:0:1000:10|squash-guest:20:7:5"),
     FromSpecs("guest:0:100:10|guest:5:200:1|map:1:2"),
     Asked::Ids(IsAlone, TEN, ""),
     Asked::Ids(IsAlone, "squash-guest:20:7:5|guest:0:1000:10", ""),
@@ -56,7 +47,6 @@ static TAKE: [Asked; 75] = [
     Rules(":\u{170}refix:all:::"),
     Rules(":ok:nope:::"),
     Rules(LABELS),
-    Rules(":map::user.virtiofs.:"),
     Rules(":TOMATOPIRATE:trusted.:virtiofs.user.:"),
     WrittenRules(":bad:all:x:y: :map::P: :ok:all:::"),
     WrittenRules(LABELS),
@@ -64,7 +54,6 @@ static TAKE: [Asked; 75] = [
     Of(THREE, Cloned, ANY),
     Of(LABELS, Cloned, ANY),
     Of(LABELS, Client("trusted.a"), ANY),
-    Of(":map::user.virtiofs.:", Client(""), ANY),
     Of(LABELS, Server("trusted.b\0"), ANY),
     Of(LABELS, Server("user.virtiofs.foo\0"), ANY),
     Of(

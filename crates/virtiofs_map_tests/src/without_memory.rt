@@ -107,25 +107,14 @@ fn are_mapped<A: Allocator>(map: &Users<A>, rows: &[Numbers]) -> bool {
 }
 
 fn is_mapped<A: Allocator>(map: &Users<A>, row: &Numbers) -> bool {
-    let (number, host, guest) = *row;
-    let wanted = (host.map(HostUid::from), guest.map(GuestUid::from));
-    looked_up(map, number) == wanted && counted(map, number) == wanted
-}
-
-fn looked_up<A: Allocator>(map: &Users<A>, number: u32) -> (Option<HostUid>, Option<GuestUid>) {
-    let host = map.map_guest(GuestUid::from(number)).ok();
-    (host, map.map_host(HostUid::from(number)).ok())
-}
-
-fn counted<A: Allocator>(map: &Users<A>, number: u32) -> (Option<HostUid>, Option<GuestUid>) {
-    let mut steps = Steps::new();
-    let host = map
-        .map_guest_counted(GuestUid::from(number), &mut steps)
-        .ok();
-    (
-        host,
-        map.map_host_counted(HostUid::from(number), &mut steps).ok(),
-    )
+    let (number, on_host, in_guest) = *row;
+    let (guest, host, mut steps) = (GuestUid::from(number), HostUid::from(number), Steps::new());
+    let counted = map.map_guest_counted(guest, &mut steps).ok();
+    let counted_back = map.map_host_counted(host, &mut steps).ok();
+    counted == on_host.map(HostUid::from)
+        && counted_back == in_guest.map(GuestUid::from)
+        && map.map_guest(guest).ok() == counted
+        && map.map_host(host).ok() == counted_back
 }
 
 /// Asks a map for its pieces and about all its ids.

@@ -19,29 +19,29 @@ use Rattle.virtiofs_map.specs.declared.soft_idmap.piece.Outcome.TheVariants.{Kep
 use Rattle.virtiofs_map.specs.declared.soft_idmap.piece.Outcome.{Outcome}
 use Rattle.virtiofs_map.specs.declared.soft_idmap.piece.Piece.{Piece}
 use Rattle.virtiofs_mapaudit.specs.FindingJson.{count_if, ids_word, finding_data, named_data, fault_data, span_data, ids_data, acting_data}
-use Rattle.virtiofs_mapaudit.specs.FindingKinds.{kind_of, name_of}
+use Rattle.virtiofs_findings.specs.FindingKinds.{kind_of, name_of}
 use Rattle.virtiofs_mapaudit.specs.IdJson.{piece_data, outcome_data, namespace_data, id_table, IsIdTable}
 use Rattle.virtiofs_mapaudit.specs.NameJson.{name_data, answer_data, least_data, becomes_data, stands_data}
 use Rattle.virtiofs_mapaudit.specs.NameJson.{told_data, name_line, name_table}
-use Rattle.virtiofs_mapaudit.specs.NameTable.{shown}
-use Rattle.virtiofs_mapaudit.specs.RefusalText.{refusal_text}
-use Rattle.virtiofs_mapaudit.specs.declared.guest.Guest.{Guest}
-use Rattle.virtiofs_mapaudit.specs.declared.refusal.Refusal.{Refusal}
+use Rattle.virtiofs_tables.specs.NameTable.{shown}
+use Rattle.virtiofs_setup.specs.RefusalText.{refusal_text}
+use Rattle.virtiofs_setup.specs.declared.guest.Guest.{Guest}
+use Rattle.virtiofs_setup.specs.declared.refusal.Refusal.{Refusal}
 use Rattle.virtiofs_mapaudit.specs.ReportJson.{IsTableIf, IsNamesOf, IsGuest, AreGuests, part_data, parts_data, guest_words, option_words, rules_words, acl_words, words_data, advised_data, report_data, IsJson}
-use Rattle.virtiofs_mapaudit.specs.declared.advice.Advised.{Advised}
-use Rattle.virtiofs_mapaudit.specs.declared.audit.Part.{Part}
-use Rattle.virtiofs_mapaudit.specs.declared.audit.Report.{Report}
-use Rattle.virtiofs_mapaudit.specs.declared.finding.Finding.{Finding}
-use Rattle.virtiofs_mapaudit.specs.declared.finding.Finding.TheVariants as findings
-use Rattle.virtiofs_mapaudit.specs.declared.ids.found.IdFault.{IdFault}
-use Rattle.virtiofs_mapaudit.specs.declared.ids.found.IdFault.TheVariants.{NotBack, Lacking}
-use Rattle.virtiofs_mapaudit.specs.declared.ids.found.IdFault.TheVariants as faults
-use Rattle.virtiofs_mapaudit.specs.declared.ids.found.IdsFound.{IdsFound}
-use Rattle.virtiofs_mapaudit.specs.declared.ids.kind.IdKind.{IdKind}
-use Rattle.virtiofs_mapaudit.specs.declared.ids.ranges.RangeFault.{RangeFault}
-use Rattle.virtiofs_mapaudit.specs.declared.ids.ranges.RangeFault.TheVariants.{Empty, Beyond, TooMany, PastPage, NotGiven, MeetsInside, MeetsOutside}
-use Rattle.virtiofs_mapaudit.specs.declared.names.found.LeastName.{LeastName}
-use Rattle.virtiofs_mapaudit.specs.declared.setup.SetUp.{SetUp}
+use Rattle.virtiofs_advice.specs.declared.Advised.{Advised}
+use Rattle.virtiofs_findings.specs.declared.audit.Part.{Part}
+use Rattle.virtiofs_findings.specs.declared.audit.Report.{Report}
+use Rattle.virtiofs_findings.specs.declared.finding.Finding.{Finding}
+use Rattle.virtiofs_findings.specs.declared.finding.Finding.TheVariants as findings
+use Rattle.virtiofs_findings.specs.declared.ids.found.IdFault.{IdFault}
+use Rattle.virtiofs_findings.specs.declared.ids.found.IdFault.TheVariants.{NotBack, Lacking}
+use Rattle.virtiofs_findings.specs.declared.ids.found.IdFault.TheVariants as faults
+use Rattle.virtiofs_findings.specs.declared.ids.found.IdsFound.{IdsFound}
+use Rattle.virtiofs_setup.specs.declared.ids.kind.IdKind.{IdKind}
+use Rattle.virtiofs_setup.specs.declared.ids.ranges.RangeFault.{RangeFault}
+use Rattle.virtiofs_setup.specs.declared.ids.ranges.RangeFault.TheVariants.{Empty, Beyond, TooMany, PastPage, NotGiven, MeetsInside, MeetsOutside}
+use Rattle.virtiofs_findings.specs.declared.names.found.LeastName.{LeastName}
+use Rattle.virtiofs_setup.specs.declared.setup.SetUp.{SetUp}
 use Rattle.virtiofs_options.specs.declared.front.Asked.{Asked}
 use Rattle.virtiofs_options.specs.declared.guest.Guest.{Guest as GuestOptions}
 

@@ -5,9 +5,9 @@ use Rattle.std.proofs.lemmas.List.{take_all, length-take-le, map-append}
 use Rattle.serde_json.specs.Data.{Data}
 use Rattle.serde_json.specs.View.{view}
 use Rattle.serde_json.specs.declared.value.Value.{Value}
-use Rattle.virtiofs_mapaudit.proofs.ListLemmas.{more_at}
+use Rattle.virtiofs_setup.proofs.ForCallers.{more_at}
 use Rattle.virtiofs_mapaudit.specs.ReportJson.{IsGuest, AreGuests}
-use Rattle.virtiofs_mapaudit.specs.declared.setup.SetUp.{SetUp}
+use Rattle.virtiofs_setup.specs.declared.setup.SetUp.{SetUp}
 use Rattle.virtiofs_options.specs.declared.front.Asked.{Asked}
 
 -- one more guest

@@ -4,20 +4,20 @@ use Rattle.std.specs.Prelude.{ℕ, ◌+◌, Bool, List, codes, map, Option, Some
 use Rattle.serde_json.specs.Data.{Data, null, boolean, string, array, object, Members, member, no_members, item, no_items}
 use Rattle.serde_json.specs.View.{items_of}
 use Rattle.virtiofs_id_audit.specs.declared.spans.Span.{Span}
-use Rattle.virtiofs_mapaudit.specs.AclNames.{acl_bytes}
-use Rattle.virtiofs_mapaudit.specs.FindingKinds.{kind_of, name_of}
+use Rattle.virtiofs_findings.specs.AclNames.{acl_bytes}
+use Rattle.virtiofs_findings.specs.FindingKinds.{kind_of, name_of}
 use Rattle.virtiofs_mapaudit.specs.IdJson.{count}
 use Rattle.virtiofs_mapaudit.specs.NameJson.{name_data, least_data}
-use Rattle.virtiofs_mapaudit.specs.declared.finding.Finding.{Finding}
-use Rattle.virtiofs_mapaudit.specs.declared.finding.Finding.TheVariants as findings
-use Rattle.virtiofs_mapaudit.specs.declared.ids.found.IdFault.{IdFault}
-use Rattle.virtiofs_mapaudit.specs.declared.ids.found.IdFault.TheVariants.{NotBack, Lacking, Kept}
-use Rattle.virtiofs_mapaudit.specs.declared.ids.found.IdsFound.{IdsFound}
-use Rattle.virtiofs_mapaudit.specs.declared.ids.kind.IdKind.{IdKind}
-use Rattle.virtiofs_mapaudit.specs.declared.ids.kind.IdKind.TheVariants.{Users, Groups}
-use Rattle.virtiofs_mapaudit.specs.declared.ids.ranges.RangeFault.{RangeFault}
-use Rattle.virtiofs_mapaudit.specs.declared.ids.ranges.RangeFault.TheVariants.{Empty, Beyond, TooMany, PastPage, NotGiven, MeetsInside, MeetsOutside}
-use Rattle.virtiofs_mapaudit.specs.declared.names.acl.AclName.{AclName}
+use Rattle.virtiofs_findings.specs.declared.finding.Finding.{Finding}
+use Rattle.virtiofs_findings.specs.declared.finding.Finding.TheVariants as findings
+use Rattle.virtiofs_findings.specs.declared.ids.found.IdFault.{IdFault}
+use Rattle.virtiofs_findings.specs.declared.ids.found.IdFault.TheVariants.{NotBack, Lacking, Kept}
+use Rattle.virtiofs_findings.specs.declared.ids.found.IdsFound.{IdsFound}
+use Rattle.virtiofs_setup.specs.declared.ids.kind.IdKind.{IdKind}
+use Rattle.virtiofs_setup.specs.declared.ids.kind.IdKind.TheVariants.{Users, Groups}
+use Rattle.virtiofs_setup.specs.declared.ids.ranges.RangeFault.{RangeFault}
+use Rattle.virtiofs_setup.specs.declared.ids.ranges.RangeFault.TheVariants.{Empty, Beyond, TooMany, PastPage, NotGiven, MeetsInside, MeetsOutside}
+use Rattle.virtiofs_findings.specs.declared.names.acl.AclName.{AclName}
 
 -- ---- of one guest
 
@@ -92,17 +92,30 @@ range_data accepted guest what ids number fault other =
     (member (codes "other") (count_if other)
     (member (codes "range") (count number) no_members)))))))
 
+-- the name of what is wrong with a range
+abbrev pub fault_word : RangeFault → List ℕ
+fault_word Empty = codes "empty"
+fault_word Beyond = codes "beyond"
+fault_word TooMany = codes "too_many"
+fault_word PastPage = codes "past_page"
+fault_word NotGiven = codes "not_given"
+fault_word (MeetsInside earlier) = codes "overlaps_inside"
+fault_word (MeetsOutside earlier) = codes "overlaps_outside"
+
+-- the number of the earlier range that it overlaps
+abbrev pub other_number : RangeFault → Option ℕ
+other_number Empty = None
+other_number Beyond = None
+other_number TooMany = None
+other_number PastPage = None
+other_number NotGiven = None
+other_number (MeetsInside earlier) = Some (earlier + 1)
+other_number (MeetsOutside earlier) = Some (earlier + 1)
+
 -- the same, by its place, counted from 0, and its fault
 abbrev pub fault_data : Bool → ℕ → List ℕ → IdKind → ℕ → RangeFault → Data
-fault_data accepted guest what kind place Empty = range_data accepted guest what (ids_word kind) (place + 1) (codes "empty") None
-fault_data accepted guest what kind place Beyond = range_data accepted guest what (ids_word kind) (place + 1) (codes "beyond") None
-fault_data accepted guest what kind place TooMany = range_data accepted guest what (ids_word kind) (place + 1) (codes "too_many") None
-fault_data accepted guest what kind place PastPage = range_data accepted guest what (ids_word kind) (place + 1) (codes "past_page") None
-fault_data accepted guest what kind place NotGiven = range_data accepted guest what (ids_word kind) (place + 1) (codes "not_given") None
-fault_data accepted guest what kind place (MeetsInside earlier) =
-    range_data accepted guest what (ids_word kind) (place + 1) (codes "overlaps_inside") (Some (earlier + 1))
-fault_data accepted guest what kind place (MeetsOutside earlier) =
-    range_data accepted guest what (ids_word kind) (place + 1) (codes "overlaps_outside") (Some (earlier + 1))
+fault_data accepted guest what kind place fault =
+    range_data accepted guest what (ids_word kind) (place + 1) (fault_word fault) (other_number fault)
 
 -- a finding that has no members of its own
 abbrev pub plain_data : Bool → ℕ → List ℕ → Data

@@ -8,7 +8,7 @@ use Rattle.virtiofs_map.specs.declared.soft_idmap.entry.Direction.TheVariants.{G
 use Rattle.virtiofs_map.specs.declared.soft_idmap.piece.Outcome.TheVariants.{Kept, OneToOne, AllToOne, Forbidden}
 use Rattle.virtiofs_map.specs.declared.soft_idmap.piece.Outcome.{Outcome}
 use Rattle.virtiofs_map.specs.declared.soft_idmap.piece.Piece.{Piece}
-use Rattle.virtiofs_mapaudit.specs.declared.setup.IdSetUp.{IdSetUp}
+use Rattle.virtiofs_setup.specs.declared.setup.IdSetUp.{IdSetUp}
 
 -- a number
 abbrev pub count : ℕ → Data

@@ -11,8 +11,8 @@ use Rattle.virtiofs_map.specs.declared.audit.answer.Audit.{Audit}
 use Rattle.virtiofs_map.specs.declared.audit.answer.Audit.TheVariants.{Yes, No}
 use Rattle.virtiofs_map.specs.declared.soft_idmap.entry.Direction.{Direction}
 use Rattle.virtiofs_map.specs.declared.soft_idmap.entry.Direction.TheVariants.{GuestToHost, HostToGuest}
-use Rattle.virtiofs_mapaudit.specs.NameTable.{shown}
-use Rattle.virtiofs_mapaudit.specs.declared.names.found.LeastName.{LeastName}
+use Rattle.virtiofs_tables.specs.NameTable.{shown}
+use Rattle.virtiofs_findings.specs.declared.names.found.LeastName.{LeastName}
 use Rattle.virtiofs_output.specs.Written.{written}
 
 -- a text, and whether it is an escaped one

@@ -7,14 +7,14 @@ use Rattle.serde_json.specs.Written.{compact_text}
 use Rattle.virtiofs_mapaudit.specs.FindingJson.{count_if, finding_data}
 use Rattle.virtiofs_mapaudit.specs.IdJson.{count, IsIdTable}
 use Rattle.virtiofs_mapaudit.specs.NameJson.{IsNameTable}
-use Rattle.virtiofs_mapaudit.specs.RefusalText.{refusal_text}
-use Rattle.virtiofs_mapaudit.specs.declared.advice.Advised.{Advised}
-use Rattle.virtiofs_mapaudit.specs.declared.audit.Part.{Part}
-use Rattle.virtiofs_mapaudit.specs.declared.audit.Report.{Report}
-use Rattle.virtiofs_mapaudit.specs.declared.guest.Guest.{Guest}
-use Rattle.virtiofs_mapaudit.specs.declared.refusal.Refusal.{Refusal}
-use Rattle.virtiofs_mapaudit.specs.declared.setup.NamesSetUp.{NamesSetUp}
-use Rattle.virtiofs_mapaudit.specs.declared.setup.SetUp.{SetUp}
+use Rattle.virtiofs_setup.specs.RefusalText.{refusal_text}
+use Rattle.virtiofs_advice.specs.declared.Advised.{Advised}
+use Rattle.virtiofs_findings.specs.declared.audit.Part.{Part}
+use Rattle.virtiofs_findings.specs.declared.audit.Report.{Report}
+use Rattle.virtiofs_setup.specs.declared.guest.Guest.{Guest}
+use Rattle.virtiofs_setup.specs.declared.refusal.Refusal.{Refusal}
+use Rattle.virtiofs_setup.specs.declared.setup.NamesSetUp.{NamesSetUp}
+use Rattle.virtiofs_setup.specs.declared.setup.SetUp.{SetUp}
 use Rattle.virtiofs_options.specs.declared.front.Asked.{Asked}
 use Rattle.virtiofs_options.specs.declared.guest.Guest.{Guest as GuestOptions}
 

@@ -3,31 +3,29 @@ use Rattle.std.specs.Prelude.{◌≡◌, ◌≢◌, ◌⊎◌, ◌↔◌, ℕ, �
 use Rattle.std.specs.Prelude.{codes, flat_map, if◌then◌else◌, length, Option, Some, None, IfSome, slice_get, string_bytes}
 use Rattle.std.specs.Global.{Global}
 use Rattle.std.specs.Borrow.{Bor}
-use Rattle.std.specs.List.{AllZip}
-use Rattle.virtiofs_mapaudit.specs.Advice.{IsAudited, IsBetter, IsAdvice}
-use Rattle.virtiofs_mapaudit.specs.AdviceText.{advised_text, mend_text}
-use Rattle.virtiofs_mapaudit.specs.AlikeGuests.{alike_to, likes_of, is_first, is_told}
-use Rattle.virtiofs_mapaudit.specs.FindingText.{found_text}
-use Rattle.virtiofs_mapaudit.specs.Guests.{SetsUp}
-use Rattle.virtiofs_mapaudit.specs.IdTable.{ShowsIds}
-use Rattle.virtiofs_mapaudit.specs.NameTable.{ShowsNames}
-use Rattle.virtiofs_mapaudit.specs.Refusals.{IsSomeRefused, TellsGuests}
-use Rattle.virtiofs_mapaudit.specs.Report.{FindsReport, IsFound, HasAccepted}
+use Rattle.virtiofs_advice.specs.Advice.{IsAudited, IsBetter, IsAdvice}
+use Rattle.virtiofs_advice.specs.AdviceText.{advised_text, mend_text}
+use Rattle.virtiofs_findings.specs.Audited.{Audits}
+use Rattle.virtiofs_setup.specs.AlikeGuests.{alike_to, likes_of, is_first, is_told}
+use Rattle.virtiofs_findings.specs.FindingText.{found_text}
+use Rattle.virtiofs_tables.specs.IdTable.{ShowsIds}
+use Rattle.virtiofs_tables.specs.NameTable.{ShowsNames}
+use Rattle.virtiofs_findings.specs.Report.{IsFound, HasAccepted}
 use Rattle.virtiofs_mapaudit.specs.ReportJson.{IsJson}
-use Rattle.virtiofs_mapaudit.specs.SummaryText.{SumsUp}
-use Rattle.virtiofs_mapaudit.specs.declared.advice.Advised.{Advised}
-use Rattle.virtiofs_mapaudit.specs.declared.alike.Alike.{Alike}
-use Rattle.virtiofs_mapaudit.specs.declared.audit.Audited.{Audited}
-use Rattle.virtiofs_mapaudit.specs.declared.audit.Part.{Part}
-use Rattle.virtiofs_mapaudit.specs.declared.audit.Report.{Report}
-use Rattle.virtiofs_mapaudit.specs.declared.audit.Said.{Said}
+use Rattle.virtiofs_tables.specs.SummaryText.{SumsUp}
+use Rattle.virtiofs_advice.specs.declared.Advised.{Advised}
+use Rattle.virtiofs_setup.specs.declared.alike.Alike.{Alike}
+use Rattle.virtiofs_findings.specs.declared.audit.Audited.{Audited}
+use Rattle.virtiofs_findings.specs.declared.audit.Part.{Part}
+use Rattle.virtiofs_findings.specs.declared.audit.Report.{Report}
+use Rattle.virtiofs_setup.specs.declared.said.Said.{Said}
 use Rattle.virtiofs_options.specs.declared.front.Asked.{Asked}
-use Rattle.virtiofs_mapaudit.specs.declared.guest.Guest.{Guest}
-use Rattle.virtiofs_mapaudit.specs.declared.ids.kind.IdKind.{IdKind}
-use Rattle.virtiofs_mapaudit.specs.declared.ids.kind.IdKind.TheVariants.{Users, Groups}
-use Rattle.virtiofs_mapaudit.specs.declared.refusal.Refusal.{Refusal}
-use Rattle.virtiofs_mapaudit.specs.declared.setup.IdSetUp.{IdSetUp}
-use Rattle.virtiofs_mapaudit.specs.declared.setup.SetUp.{SetUp}
+use Rattle.virtiofs_setup.specs.declared.guest.Guest.{Guest}
+use Rattle.virtiofs_setup.specs.declared.ids.kind.IdKind.{IdKind}
+use Rattle.virtiofs_setup.specs.declared.ids.kind.IdKind.TheVariants.{Users, Groups}
+use Rattle.virtiofs_setup.specs.declared.refusal.Refusal.{Refusal}
+use Rattle.virtiofs_setup.specs.declared.setup.IdSetUp.{IdSetUp}
+use Rattle.virtiofs_setup.specs.declared.setup.SetUp.{SetUp}
 
 -- the text shows it where it was asked for, and is empty otherwise
 abbrev pub ShownIf : Bool → (List ℕ → Type 0) → List ℕ → Type 0
@@ -134,16 +132,6 @@ pub record IsPlain {A : Type 0} (asked : Asked) (guests : List (Guest A)) (sets 
   pub accepting : IsTrue has_accepted ↔ HasAccepted report
   pub whole : text ≡ of_guests ++ parts_text (likes_of guests) report.pairs.items
       ++ closing is_found has_accepted refusals advised
-
--- what is set up, found and refused of the guests, where findings of kinds with these names are accepted: exactly the
--- others count
-pub record Audits (isolated : Bool) (accepted : List (Bor (List ℕ))) (guests : List (Guest Global)) (all : Audited) : Type
-    0 where
-  pub sets_up : AllZip SetsUp guests all.sets.items
-  pub finds : FindsReport isolated accepted all.sets.items all.report
-  pub found : IsTrue all.is_found ↔ IsFound all.report
-  pub refused : (all.refusals.items ≢ []) ↔ IsSomeRefused guests all.sets.items
-  pub refusals : TellsGuests 1 guests all.refusals.items
 
 -- what is written of the guests. With `quiet` the text is empty
 pub record Says (asked : Asked) (accepted : List (Bor (List ℕ))) (guests : List (Guest Global)) (said : Said) : Type

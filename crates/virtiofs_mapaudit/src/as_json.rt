@@ -4,24 +4,24 @@ ghost use Rattle.serde_json.specs.Data.{Data, string};
 ghost use Rattle.serde_json.specs.View.{view};
 ghost use Rattle.virtiofs_mapaudit.specs.ReportJson.{IsTableIf, IsNamesOf, IsGuest, AreGuests, part_data, parts_data, report_data, IsJson};
 ghost use Rattle.virtiofs_mapaudit.specs.IdJson.{IsIdTable};
-ghost use Rattle.virtiofs_mapaudit.specs.RefusalText.{refusal_text};
+ghost use Rattle.virtiofs_setup.specs.RefusalText.{refusal_text};
 
 mod advised;
 mod findings;
 mod ids;
 mod names;
 
-use crate::advice::Advised;
-use crate::audit::{Part, Report};
-use crate::refusal::Refusal;
-use crate::setup::{IdSetUp, NamesSetUp, SetUp};
 use advised::advised_value;
 use findings::push_findings;
 use ids::id_table;
 use names::name_table;
 use serde_json::{Value, json};
 use std::alloc::{AllocError, Global};
+use virtiofs_advice::Advised;
+use virtiofs_findings::audit::{Part, Report};
 use virtiofs_options::front::Asked;
+use virtiofs_setup::refusal::Refusal;
+use virtiofs_setup::setup::{IdSetUp, NamesSetUp, SetUp};
 
 /// A value that was built; an error if memory ran out.
 type Built = Result<Value, AllocError>;

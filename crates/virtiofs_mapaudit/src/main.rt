@@ -3,38 +3,20 @@
 
 ghost use Rattle.std.specs.Prelude.{◌≡◌, ◌≢◌, ◌↔◌, [], IsTrue, IsFalse};
 
-mod accept;
-mod advice;
-mod alike;
 mod as_json;
-mod audit;
-mod explain;
-mod finding;
-mod guest;
 mod host;
-mod ids;
 mod mend;
-mod names;
-mod ordinal;
-mod pairs;
-mod picture;
-mod refusal;
-mod report;
-mod setup;
-mod shell;
-mod summary;
+mod say;
 
-use crate::accept::no_kind;
-use crate::audit::{Said, say};
-use crate::explain::asking::{Question, Questions, read_questions};
-use crate::explain::say_explained;
-use crate::guest::Guest;
 use crate::host::{Host, HostFault, HostProcess, ask};
 use crate::mend::say_mended;
-use crate::picture::say_drawn;
+use crate::say::say;
 use std::alloc::{AllocError, Global};
 use std::process::ExitCode;
 use std::{env, io};
+use virtiofs_explain::asking::{Question, Questions, read_questions};
+use virtiofs_explain::say_explained;
+use virtiofs_findings::accept::no_kind;
 use virtiofs_options::front::Asked;
 use virtiofs_options::guest::Guest as GuestOptions;
 use virtiofs_options::guests::Process;
@@ -44,9 +26,12 @@ use virtiofs_options::words::{ProcessWords, Words, read_process, read_words};
 use virtiofs_output::emit::emit;
 use virtiofs_output::outcome::{AnswerFault, Answered, status};
 use virtiofs_output::tally::{Tally, WriteFailed};
+use virtiofs_picture::say_drawn;
 use virtiofs_process::command_line::read_command_line;
 use virtiofs_process::error::ReadError;
 use virtiofs_process::runner::Runner;
+use virtiofs_setup::guest::Guest;
+use virtiofs_setup::said::Said;
 
 const USAGE: &str = "usage: virtiofs_mapaudit [OPTIONS] [-- COMMAND LINE OF THE DAEMON]..
 virtiofs_mapaudit(1) says more: man virtiofs_mapaudit

@@ -2,11 +2,12 @@
 ghost use Rattle.std.specs.Prelude.{IfOk};
 ghost use Rattle.virtiofs_mapaudit.specs.Said.{SaysMended};
 
-use crate::advice::text::push_mend;
-use crate::advice::{guests_of, options_of, tried};
-use crate::audit::{Audited, Said, audit_all};
-use crate::guest::Guest;
 use std::alloc::{AllocError, Global};
+use virtiofs_advice::text::push_mend;
+use virtiofs_advice::{guests_of, options_of, tried};
+use virtiofs_findings::audit::{Audited, audit_all};
+use virtiofs_setup::guest::Guest;
+use virtiofs_setup::said::Said;
 
 /// What is to be written of guests, isolated or not: the options that are advised, or else those that
 /// they have. What is found is what is found with the options that are written; findings of kinds with

@@ -62,7 +62,8 @@ fn has_value(parts: &[Part<'_>], option: &str) -> bool
 
 /// Whether something is asked for that `--explain` does not go with.
 fn asks_more(asked: Asked) -> bool
-    ensures { result ≡ (asked.json || asked.quiet || asked.svg || asked.mend || asked.ids || asked.names) }
+    ensures { result
+        ≡ (asked.json || asked.quiet || asked.svg || asked.mend || asked.ids || asked.names) }
 {
     asked.json || asked.quiet || asked.svg || asked.mend || asked.ids || asked.names
 }

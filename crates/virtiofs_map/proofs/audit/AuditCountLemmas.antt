@@ -9,10 +9,10 @@ use Rattle.std.proofs.lemmas.List.Sums.{sum_by-cons}
 use Rattle.virtiofs_map.specs.Audit.{most_tried}
 use Rattle.virtiofs_map.specs.AuditParts.{TriedSoFar, none_tried, Tries, most_guest_names}
 use Rattle.virtiofs_map.specs.FirstRule.{acts}
-use Rattle.virtiofs_map.specs.GatheredParts.{front_of, host_pattern, part_of}
+use Rattle.virtiofs_map.specs.GatheredParts.{added_prefix_of, host_pattern, part_of}
 use Rattle.virtiofs_map.specs.Rule.{MappingRule}
 use Rattle.virtiofs_map.specs.Steps.{count_after, CountsBetween}
-use Rattle.virtiofs_map.specs.declared.audit.gathered.Part.TheVariants.{Key, Front, Host}
+use Rattle.virtiofs_map.specs.declared.audit.gathered.Part.TheVariants.{Key, Added, Host}
 use Rattle.virtiofs_map.specs.declared.xattrmap.scopes.Side.{Side}
 use Rattle.virtiofs_map.specs.declared.xattrmap.scopes.Side.TheVariants.{Client, Server}
 
@@ -49,15 +49,15 @@ few_keys rules names are =
       length_permutation (filter_map (part_of Key) rules) names are,
     )
 
-pub few_fronts : (rules : List MappingRule) (names : List (List ℕ))
-    → IsPermutation (filter_map (part_of (Front Client)) rules) names
+pub few_added : (rules : List MappingRule) (names : List (List ℕ))
+    → IsPermutation (filter_map (part_of (Added Client)) rules) names
     → length names ≤ count_by (λ rule. rule.client) rules
-few_fronts rules names are =
+few_added rules names are =
     omega (
       arith,
-      length_gathered (part_of (Front Client)) (λ rule. rule.client)
-          (λ rule. one_where rule.client (front_of rule)) rules,
-      length_permutation (filter_map (part_of (Front Client)) rules) names are,
+      length_gathered (part_of (Added Client)) (λ rule. rule.client)
+          (λ rule. one_where rule.client (added_prefix_of rule)) rules,
+      length_permutation (filter_map (part_of (Added Client)) rules) names are,
     )
 
 pub few_patterns : (side : Side) (rules : List MappingRule) (names : List (List ℕ))
@@ -71,17 +71,17 @@ few_patterns side rules names are =
       length_permutation (filter_map (part_of (Host side)) rules) names are,
     )
 
-pub few_guest_names : (side : Side) (others rules : List MappingRule) (keys fronts patterns : List (List ℕ))
+pub few_guest_names : (side : Side) (others rules : List MappingRule) (keys all_added patterns : List (List ℕ))
     → IsPermutation (filter_map (part_of Key) rules) keys
-    → IsPermutation (filter_map (part_of (Front Client)) rules) fronts
+    → IsPermutation (filter_map (part_of (Added Client)) rules) all_added
     → IsPermutation (filter_map (part_of (Host side)) others) patterns
-    → length keys + length fronts * length patterns + 255 ≤ most_guest_names side others rules
-few_guest_names side others rules keys fronts patterns are_keys are_fronts are_patterns =
+    → length keys + length all_added * length patterns + 255 ≤ most_guest_names side others rules
+few_guest_names side others rules keys all_added patterns are_keys are_added are_patterns =
     omega (
       arith,
       few_keys rules keys are_keys,
-      mul-le (length fronts) (length patterns) (count_by (λ rule. rule.client) rules)
-          (count_by (λ rule. acts side rule) others) (few_fronts rules fronts are_fronts)
+      mul-le (length all_added) (length patterns) (count_by (λ rule. rule.client) rules)
+          (count_by (λ rule. acts side rule) others) (few_added rules all_added are_added)
           (few_patterns side others patterns are_patterns),
     )
 

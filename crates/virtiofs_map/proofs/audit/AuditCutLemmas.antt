@@ -2,7 +2,7 @@
 use Rattle.std.proofs.Common.{◌≡◌, ℕ, Bool, true, false, ◌&&◌, ◌==◌, List, [], ◌∷◌, ◌++◌, length, Option, inl}
 use Rattle.std.proofs.Common.{inr, refl, sym, ap, ◌∙◌, arith}
 use Rattle.std.proofs.lemmas.Bool.{cases_Bool, cases_lt, eqb-true, false≢true}
-use Rattle.virtiofs_map.specs.AuditParts.{front, cuts, within, is_cut}
+use Rattle.virtiofs_map.specs.AuditParts.{added_prefix, cuts, within, is_cut}
 use Rattle.virtiofs_map.specs.Names.{begins}
 use Rattle.virtiofs_map.specs.Rule.{MappingRule}
 use Rattle.virtiofs_map.specs.declared.xattrmap.scopes.Side.TheVariants.{Server}
@@ -14,7 +14,7 @@ cut_empty rules [] e = refl
 cut_empty rules (x ∷ cut) e = absurd (let l = eqb-true (length (x ∷ cut)) 0 e in omega arith)
 
 pub cut_some : (rules : List MappingRule) (cut : List ℕ) (found : Option (List ℕ)) → (length cut == 0) ≡ false
-    → front Server rules cut ≡ found → cuts cut found ≡ is_cut rules cut
+    → added_prefix Server rules cut ≡ found → cuts cut found ≡ is_cut rules cut
 cut_some rules [] found e at = absurd (false≢true (sym e))
 cut_some rules (x ∷ cut) found e at = ap (cuts (x ∷ cut)) (sym at)
 

@@ -12,9 +12,9 @@ use Rattle.std.proofs.lemmas.Option.{slice_get_within, get_or_from_slice_get}
 use Rattle.virtiofs_map.specs.AuditParts.{rest_after, rest_of, rests, guest_names, wholes, live_wholes}
 use Rattle.virtiofs_map.specs.AuditParts.{host_names, whole_of, is_cut, IsRest, IsWhole, one_byte_names}
 use Rattle.virtiofs_map.specs.FirstRule.{acts}
-use Rattle.virtiofs_map.specs.GatheredParts.{front_of, host_pattern, part_of}
+use Rattle.virtiofs_map.specs.GatheredParts.{added_prefix_of, host_pattern, part_of}
 use Rattle.virtiofs_map.specs.Rule.{MappingRule}
-use Rattle.virtiofs_map.specs.declared.audit.gathered.Part.TheVariants.{Key, Front, Host}
+use Rattle.virtiofs_map.specs.declared.audit.gathered.Part.TheVariants.{Key, Added, Host}
 use Rattle.virtiofs_map.specs.declared.xattrmap.scopes.Side.{Side}
 use Rattle.virtiofs_map.specs.declared.xattrmap.scopes.Side.TheVariants.{Client, Server}
 use Rattle.virtiofs_map.proofs.AuditAlikeLemmas.{Member}
@@ -94,13 +94,13 @@ gathered_member f rule (one ∷ rules) name (inl same) e =
 gathered_member f rule (one ∷ rules) name (inr m) e =
     contains_later (f one) (filter_map f rules) name (gathered_member f rule rules name m e)
 
--- ---- the pattern of a rule, or what its front leads to
+-- ---- the pattern of a rule, or what its added prefix leads to
 
 abbrev Parts : (MappingRule → Bool) → (MappingRule → List ℕ) → (List ℕ → List (List ℕ)) → List MappingRule → List ℕ
     → Type 0
 Parts on pattern more rules name =
     Contains (filter_map (λ rule. cond (on rule) (Some (pattern rule)) None) rules) name
-    ⊎ ((added : List ℕ) × Contains (filter_map (λ rule. cond (on rule) (front_of rule) None) rules) added
+    ⊎ ((added : List ℕ) × Contains (filter_map (λ rule. cond (on rule) (added_prefix_of rule) None) rules) added
     × Contains (more added) name)
 
 one_rule : (more : List ℕ → List (List ℕ)) (on : Bool) (pattern : List ℕ) (o : Option (List ℕ)) (name : List ℕ)
@@ -117,24 +117,24 @@ one_rule more false pattern o name c = absurd (contains_none name c)
 
 parts_of : (on : MappingRule → Bool) (pattern : MappingRule → List ℕ) (more : List ℕ → List (List ℕ))
     (rules : List MappingRule) (name : List ℕ)
-    → Contains (flat_map (λ rule. cond (on rule) (pattern rule ∷ option_map_or more (front_of rule) []) []) rules) name
+    → Contains (flat_map (λ rule. cond (on rule) (pattern rule ∷ option_map_or more (added_prefix_of rule) []) []) rules) name
     → Parts on pattern more rules name
 parts_of on pattern more [] name c = absurd (contains_none name c)
 parts_of on pattern more (rule ∷ rules) name c =
     let names : MappingRule → List (List ℕ) =
-    λ rule. cond (on rule) (pattern rule ∷ option_map_or more (front_of rule) []) [] in
+    λ rule. cond (on rule) (pattern rule ∷ option_map_or more (added_prefix_of rule) []) [] in
     let keys = filter_map (λ rule. cond (on rule) (Some (pattern rule)) None) rules in
-    let fronts = filter_map (λ rule. cond (on rule) (front_of rule) None) rules in
+    let all_added = filter_map (λ rule. cond (on rule) (added_prefix_of rule) None) rules in
     elim (Contains-append_cases (names rule) (flat_map names rules) name c) [
-      | inl mine ↦ elim (one_rule more (on rule) (pattern rule) (front_of rule) name mine) [
+      | inl mine ↦ elim (one_rule more (on rule) (pattern rule) (added_prefix_of rule) name mine) [
         | inl key ↦ inl (contains_first (cond (on rule) (Some (pattern rule)) None) keys name key)
         | inr led ↦ inr
-            (led.0, contains_first (cond (on rule) (front_of rule) None) fronts led.0 led.1, led.2)
+            (led.0, contains_first (cond (on rule) (added_prefix_of rule) None) all_added led.0 led.1, led.2)
       ]
       | inr others ↦ elim (parts_of on pattern more rules name others) [
         | inl key ↦ inl (contains_later (cond (on rule) (Some (pattern rule)) None) keys name key)
         | inr led ↦ inr
-            (led.0, contains_later (cond (on rule) (front_of rule) None) fronts led.0 led.1, led.2)
+            (led.0, contains_later (cond (on rule) (added_prefix_of rule) None) all_added led.0 led.1, led.2)
       ]
     ]
 
@@ -167,13 +167,13 @@ rests_parts side (rule ∷ others) added name c =
           ))
     ]
 
-pub guest_cover : (side : Side) (others rules : List MappingRule) (keys fronts patterns : List (List ℕ))
+pub guest_cover : (side : Side) (others rules : List MappingRule) (keys all_added patterns : List (List ℕ))
     → IsPermutation (filter_map (part_of Key) rules) keys
-    → IsPermutation (filter_map (part_of (Front Client)) rules) fronts
+    → IsPermutation (filter_map (part_of (Added Client)) rules) all_added
     → IsPermutation (filter_map (part_of (Host side)) others) patterns
     → (name : List ℕ) → Contains (guest_names side others rules ++ one_byte_names) name
-    → (Contains keys name ⊎ IsRest fronts patterns name) ⊎ Contains one_byte_names name
-guest_cover side others rules keys fronts patterns are_keys are_fronts are_patterns name c =
+    → (Contains keys name ⊎ IsRest all_added patterns name) ⊎ Contains one_byte_names name
+guest_cover side others rules keys all_added patterns are_keys are_added are_patterns name c =
     elim (Contains-append_cases (guest_names side others rules) one_byte_names name c) [
       | inr byte ↦ inr byte
       | inl one ↦ inl
@@ -183,7 +183,7 @@ guest_cover side others rules keys fronts patterns are_keys are_fronts are_patte
             | inr led ↦ inr
                 (let (pattern, among, rest) = rests_parts side others led.0 name led.2 in (
                   led.0,
-                  Contains-permutation (filter_map (part_of (Front Client)) rules) fronts led.0 are_fronts led.1,
+                  Contains-permutation (filter_map (part_of (Added Client)) rules) all_added led.0 are_added led.1,
                   (
                     pattern,
                     Contains-permutation (filter_map (part_of (Host side)) others) patterns pattern are_patterns among,
@@ -223,7 +223,7 @@ wholes_parts (rule ∷ others) cut name c =
 
 pub host_cover : (rules : List MappingRule) (prepends cuts keys : List (List ℕ))
     → IsPermutation (filter_map (part_of (Host Server)) rules) prepends
-    → IsPermutation (filter_map (part_of (Front Server)) rules) cuts
+    → IsPermutation (filter_map (part_of (Added Server)) rules) cuts
     → IsPermutation (filter_map (part_of Key) rules) keys
     → (name : List ℕ) → Contains (host_names rules rules ++ one_byte_names) name
     → (Contains prepends name ⊎ IsWhole rules cuts keys name) ⊎ Contains one_byte_names name
@@ -239,7 +239,7 @@ host_cover rules prepends cuts keys are_prepends are_cuts are_keys name c =
                 (let (on, whole) = live (is_cut rules led.0) (wholes rules led.0) name led.2 in
                 let (key, among, is) = wholes_parts rules led.0 name whole in (
                   led.0,
-                  Contains-permutation (filter_map (part_of (Front Server)) rules) cuts led.0 are_cuts led.1,
+                  Contains-permutation (filter_map (part_of (Added Server)) rules) cuts led.0 are_cuts led.1,
                   on,
                   (key, Contains-permutation (filter_map (part_of Key) rules) keys key are_keys among, is),
                 ))

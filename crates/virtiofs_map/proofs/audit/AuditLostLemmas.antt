@@ -8,16 +8,16 @@ use Rattle.std.proofs.lemmas.Bool.{eqb-true, eq-eqb, ne_eqb, false_from_ne_true}
 use Rattle.std.proofs.lemmas.List.{length-append, length-drop, drop_at}
 use Rattle.std.proofs.lemmas.List.Elements.{All-append, All-head}
 use Rattle.virtiofs_map.specs.Audit.{Within, Sound, IsLost}
-use Rattle.virtiofs_map.specs.AuditParts.{front, some_byte, cuts, is_lost, within, guest_names}
-use Rattle.virtiofs_map.specs.GatheredParts.{front_of}
+use Rattle.virtiofs_map.specs.AuditParts.{added_prefix, some_byte, cuts, is_lost, within, guest_names}
+use Rattle.virtiofs_map.specs.GatheredParts.{added_prefix_of}
 use Rattle.virtiofs_map.specs.MapRule.{IsName}
 use Rattle.virtiofs_map.specs.Names.{begins, HostAnswer, IsListed, IsHidden, IsUndecided, host_answer, server_answer}
 use Rattle.virtiofs_map.specs.Names.{ListsBack}
 use Rattle.virtiofs_map.specs.Rule.{MappingRule, HasNoZero}
 use Rattle.virtiofs_map.specs.declared.xattrmap.scopes.Side.TheVariants.{Client, Server}
 use Rattle.virtiofs_map.proofs.AuditAlikeLemmas.{Cover, FareAlike, fare_alike, server_alike}
-use Rattle.virtiofs_map.proofs.AuditFrontLemmas.{passes_front, front_passes, listed_front, front_listed, answer_to_one}
-use Rattle.virtiofs_map.proofs.AuditFrontLemmas.{server_one, front_no_zero}
+use Rattle.virtiofs_map.proofs.AuditAddedLemmas.{passes_added, added_passes, listed_cut, cut_listed, answer_to_one}
+use Rattle.virtiofs_map.proofs.AuditAddedLemmas.{server_one, added_no_zero}
 use Rattle.virtiofs_map.proofs.audit.AuditLeastLemmas.{Decide, HasBadFront, decide_within}
 use Rattle.virtiofs_map.proofs.MapRuleLemmas.{not_zero_name}
 use Rattle.virtiofs_map.proofs.NoZeroLemmas.{IsNotZero}
@@ -31,9 +31,9 @@ some_byte_is name e none = let zero = ap some_byte none in absurd (true≢false 
 
 -- what a name becomes holds no zero, and is not empty
 pub host_no_zero : (rules : List MappingRule) (name added : List ℕ) → All HasNoZero rules → IsName name
-    → front Client rules name ≡ Some added → All IsNotZero (added ++ name)
+    → added_prefix Client rules name ≡ Some added → All IsNotZero (added ++ name)
 host_no_zero rules name added no_zero is e =
-    All-append IsNotZero added name (front_no_zero Client rules name added no_zero e) (not_zero_name name is)
+    All-append IsNotZero added name (added_no_zero Client rules name added no_zero e) (not_zero_name name is)
 
 pub host_not_empty : (added name : List ℕ) → name ≢ [] → added ++ name ≢ []
 host_not_empty [] name some e = some e
@@ -48,15 +48,15 @@ cuts_is added (Some cut) e = (cut, refl, eqb-true (length cut) (length added) e)
 
 -- a name of which just as much is taken off as was put before it lists back
 pub back_where_cut : (rules : List MappingRule) (name added : List ℕ) → All HasNoZero rules → IsName name → name ≢ []
-    → front Client rules name ≡ Some added → cuts added (front Server rules (added ++ name)) ≡ true
+    → added_prefix Client rules name ≡ Some added → cuts added (added_prefix Server rules (added ++ name)) ≡ true
     → ListsBack rules name
 back_where_cut rules name added no_zero is some e c =
-    let (cut, at, long) = cuts_is added (front Server rules (added ++ name)) c in
-    let listed = front_listed rules (added ++ name) cut at in
+    let (cut, at, long) = cuts_is added (added_prefix Server rules (added ++ name)) c in
+    let listed = cut_listed rules (added ++ name) cut at in
     let rest : drop (length cut) (added ++ name) ≡ name = drop_at added name (length cut) (sym long) in
     record {
       becomes = added ++ name;
-      passes = front_passes rules name added e;
+      passes = added_passes rules name added e;
       lists = server_one rules (added ++ name) (host_not_empty added name some)
           (host_no_zero rules name added no_zero is e) ∙ ap answer_to_one (listed ∙ ap IsListed rest);
     }
@@ -82,17 +82,17 @@ listed_as IsUndecided name some e = absurd (cc)
 
 -- a name that lists back is one of which just as much is taken off
 pub cut_where_back : (rules : List MappingRule) (name added : List ℕ) → All HasNoZero rules → IsName name → name ≢ []
-    → front Client rules name ≡ Some added → ListsBack rules name
-    → cuts added (front Server rules (added ++ name)) ≡ true
+    → added_prefix Client rules name ≡ Some added → ListsBack rules name
+    → cuts added (added_prefix Server rules (added ++ name)) ≡ true
 cut_where_back rules name added no_zero is some e back =
-    let passes = front_passes rules name added e in
+    let passes = added_passes rules name added e in
     let same : back.becomes ≡ added ++ name = (let both = sym back.passes ∙ passes in cc) in
     let lists = subst (λ host. server_answer rules (host ++ 0 ∷ []) ≡ Some (name ++ 0 ∷ [])) same back.lists in
     let one =
     server_one rules (added ++ name) (host_not_empty added name some)
     (host_no_zero rules name added no_zero is e) in
     let (shown, listed, long) = listed_as (host_answer rules (added ++ name)) name some (sym one ∙ lists) in
-    let by = listed_front rules (added ++ name) shown listed in
+    let by = listed_cut rules (added ++ name) shown listed in
     let cut = length_back added name by.cut some (sym (ap length by.name_is) ∙ long) in
     ap (cuts added) by.is ∙ eq-eqb (length by.cut) (length added) cut
 
@@ -101,25 +101,25 @@ cut_where_back rules name added no_zero is some e back =
 -- the test, at what is put before the name
 lost_by : List MappingRule → List ℕ → Option (List ℕ) → Bool
 lost_by rules name o =
-    option_map_or (λ added. not (cuts added (front Server rules (added ++ name)))) o false
+    option_map_or (λ added. not (cuts added (added_prefix Server rules (added ++ name)))) o false
 
-pub lost_at : (rules : List MappingRule) (name added : List ℕ) → name ≢ [] → front Client rules name ≡ Some added
-    → is_lost rules name ≡ not (cuts added (front Server rules (added ++ name)))
+pub lost_at : (rules : List MappingRule) (name added : List ℕ) → name ≢ [] → added_prefix Client rules name ≡ Some added
+    → is_lost rules name ≡ not (cuts added (added_prefix Server rules (added ++ name)))
 lost_at rules name added some e = rw (some_byte_from name some, e) refl
 
-lost_front : (rules : List MappingRule) (name : List ℕ) (o : Option (List ℕ))
-    → option_map_or (λ added. not (cuts added (front Server rules (added ++ name)))) o false ≡ true
+lost_added : (rules : List MappingRule) (name : List ℕ) (o : Option (List ℕ))
+    → option_map_or (λ added. not (cuts added (added_prefix Server rules (added ++ name)))) o false ≡ true
     → (added : List ℕ) × (o ≡ Some added)
-lost_front rules name None e = absurd (false≢true e)
-lost_front rules name (Some added) e = (added, refl)
+lost_added rules name None e = absurd (false≢true e)
+lost_added rules name (Some added) e = (added, refl)
 
 pub lost_test : (rules : List MappingRule) → All HasNoZero rules → (name : List ℕ) → IsLost rules name
     → is_lost rules name ≡ true
 lost_test rules no_zero name lost =
-    let by = passes_front rules name lost.host lost.passes in
+    let by = passes_added rules name lost.host lost.passes in
     lost_at rules name by.added lost.not_empty by.is
-    ∙ not_from_false (cuts by.added (front Server rules (by.added ++ name)))
-    (false_from_ne_true (cuts by.added (front Server rules (by.added ++ name)))
+    ∙ not_from_false (cuts by.added (added_prefix Server rules (by.added ++ name)))
+    (false_from_ne_true (cuts by.added (added_prefix Server rules (by.added ++ name)))
     (λ c. lost.not_back (back_where_cut rules name by.added no_zero lost.is_name lost.not_empty by.is c)))
 
 pub test_lost : (rules : List MappingRule) → All HasNoZero rules → (name : List ℕ) → IsName name
@@ -127,18 +127,18 @@ pub test_lost : (rules : List MappingRule) → All HasNoZero rules → (name : L
 test_lost rules no_zero name is e =
     let parts =
     and_parts (some_byte name)
-    (option_map_or (λ added. not (cuts added (front Server rules (added ++ name)))) (front Client rules name) false)
+    (option_map_or (λ added. not (cuts added (added_prefix Server rules (added ++ name)))) (added_prefix Client rules name) false)
     e in
     let some = some_byte_is name parts.0 in
-    let (added, at) = lost_front rules name (front Client rules name) parts.1 in
+    let (added, at) = lost_added rules name (added_prefix Client rules name) parts.1 in
     record {
       is_name = is;
       not_empty = some;
       host = added ++ name;
-      passes = front_passes rules name added at;
+      passes = added_passes rules name added at;
       not_back = λ back.
           (let c = cut_where_back rules name added no_zero is some at back in
-          let n = not-true (cuts added (front Server rules (added ++ name)))
+          let n = not-true (cuts added (added_prefix Server rules (added ++ name)))
           (sym (lost_at rules name added some at) ∙ e) in
           true≢false (sym c ∙ n));
     }
@@ -146,11 +146,11 @@ test_lost rules no_zero name is e =
 -- ---- the names tried decide
 
 lost_alike : (rules : List MappingRule) (name c added : List ℕ) → name ≢ [] → c ≢ []
-    → FareAlike Server rules rules name c → front Client rules name ≡ Some added → is_lost rules c ≡ is_lost rules name
+    → FareAlike Server rules rules name c → added_prefix Client rules name ≡ Some added → is_lost rules c ≡ is_lost rules name
 lost_alike rules name c added some other alike e =
-    let at = ap (option_and_then front_of) (sym alike.client) ∙ e in
+    let at = ap (option_and_then added_prefix_of) (sym alike.client) ∙ e in
     let same = server_alike rules (added ++ name) (added ++ c) (alike.hosts added e) in
-    lost_at rules c added other at ∙ ap (λ o. not (cuts added (option_and_then front_of o))) (sym same)
+    lost_at rules c added other at ∙ ap (λ o. not (cuts added (option_and_then added_prefix_of o))) (sym same)
     ∙ sym (lost_at rules name added some e)
 
 lost_front_tried : (rules : List MappingRule) → All HasNoZero rules → (beginning : List ℕ) (tried : List (List ℕ))
@@ -161,7 +161,7 @@ lost_front_tried rules no_zero beginning tried cover [] lost b = absurd (lost.no
 lost_front_tried rules no_zero beginning tried cover (x ∷ xs) lost b =
     let bounds = All-head (λ byte. (0 < byte) × (byte < 256)) x xs lost.is_name in
     let found = cover x xs bounds.0 bounds.1 b in
-    let by = passes_front rules (x ∷ xs) lost.host lost.passes in
+    let by = passes_added rules (x ∷ xs) lost.host lost.passes in
     let alike = fare_alike Server rules rules tried (x ∷ xs) found.by found.stands in
     record {
       by = found.by;
@@ -184,14 +184,14 @@ lost_decide rules no_zero beginning tried cover =
 pub sound_where_none : (rules : List MappingRule) → All HasNoZero rules → ((name : List ℕ) → ¬ IsLost rules name)
     → Sound rules
 sound_where_none rules no_zero none name host is some passes =
-    let by = passes_front rules name host passes in
-    elim (cases_Bool (cuts by.added (front Server rules (by.added ++ name)))) [
+    let by = passes_added rules name host passes in
+    elim (cases_Bool (cuts by.added (added_prefix Server rules (by.added ++ name)))) [
       | inl c ↦ back_where_cut rules name by.added no_zero is some by.is c
       | inr c ↦ absurd
           (none name
           (test_lost rules no_zero name is
           (lost_at rules name by.added some by.is
-          ∙ not_from_false (cuts by.added (front Server rules (by.added ++ name))) c)))
+          ∙ not_from_false (cuts by.added (added_prefix Server rules (by.added ++ name))) c)))
     ]
 
 pub none_where_sound : (rules : List MappingRule) → Sound rules → (name : List ℕ) → ¬ IsLost rules name

@@ -8,8 +8,8 @@ use Rattle.std.proofs.lemmas.Bool.{and_parts, and_from, false≢true, lt-ltb, lt
 use Rattle.std.proofs.lemmas.List.{append_assoc}
 use Rattle.std.proofs.lemmas.List.Elements.{All-head, All-tail, All-nil, All-cons}
 use Rattle.virtiofs_map.specs.Audit.{Within}
-use Rattle.virtiofs_map.specs.AuditParts.{front, some_byte, all_bytes, passes_where, within, guest_names}
-use Rattle.virtiofs_map.specs.GatheredParts.{front_of}
+use Rattle.virtiofs_map.specs.AuditParts.{added_prefix, some_byte, all_bytes, passes_where, within, guest_names}
+use Rattle.virtiofs_map.specs.GatheredParts.{added_prefix_of}
 use Rattle.virtiofs_map.specs.AuditParts.{one_byte_names}
 use Rattle.virtiofs_map.specs.MapRule.{IsName}
 use Rattle.virtiofs_map.specs.Names.{begins}
@@ -61,13 +61,13 @@ all_bytes_below (x ∷ xs) below =
 -- the name passes as a host name, not empty, of which the test holds
 pub record PassesWhere (test : List ℕ → Bool) (rules : List MappingRule) (name : List ℕ) : Type 0 where
   pub added : List ℕ
-  pub is : front Client rules name ≡ Some added
+  pub is : added_prefix Client rules name ≡ Some added
   pub some : added ++ name ≢ []
   pub bytes : all_bytes (added ++ name) ≡ true
   pub holds : test (added ++ name) ≡ true
 
 where_at : (test : List ℕ → Bool) (rules : List MappingRule) (name added : List ℕ)
-    → front Client rules name ≡ Some added
+    → added_prefix Client rules name ≡ Some added
     → passes_where test rules name ≡ (some_byte (added ++ name) && (all_bytes (added ++ name) && test (added ++ name)))
 where_at test rules name added e = rw e refl
 
@@ -79,16 +79,16 @@ where_test test rules name passes =
     ∙ and_from (some_byte host) (all_bytes host && test host) (some_byte_from host passes.some)
     (and_from (all_bytes host) (test host) passes.bytes passes.holds)
 
-where_front : (test : List ℕ → Bool) (name : List ℕ) (o : Option (List ℕ))
+where_added : (test : List ℕ → Bool) (name : List ℕ) (o : Option (List ℕ))
     → option_map_or (λ added. some_byte (added ++ name) && (all_bytes (added ++ name) && test (added ++ name))) o
     false ≡ true → (added : List ℕ) × (o ≡ Some added)
-where_front test name None e = absurd (false≢true e)
-where_front test name (Some added) e = (added, refl)
+where_added test name None e = absurd (false≢true e)
+where_added test name (Some added) e = (added, refl)
 
 pub test_where : (test : List ℕ → Bool) (rules : List MappingRule) (name : List ℕ) → passes_where test rules name ≡ true
     → PassesWhere test rules name
 test_where test rules name e =
-    let (added, at) = where_front test name (front Client rules name) e in
+    let (added, at) = where_added test name (added_prefix Client rules name) e in
     let host = added ++ name in
     let parts =
     and_parts (some_byte host) (all_bytes host && test host) (sym (where_at test rules name added at) ∙ e) in
@@ -103,7 +103,7 @@ where_is_name test rules no_zero name is passes =
 
 -- the answer of the code
 pub where_result : (test : List ℕ → Bool) (rules : List MappingRule) (name added host : List ℕ) (holds : Bool)
-    → front Client rules name ≡ Some added → host ≡ added ++ name → some_byte host ≡ true → all_bytes host ≡ true
+    → added_prefix Client rules name ≡ Some added → host ≡ added ++ name → some_byte host ≡ true → all_bytes host ≡ true
     → holds ≡ test host → holds ≡ passes_where test rules name
 where_result test rules name added host holds e is some bytes answer =
     answer ∙ sym
@@ -155,7 +155,7 @@ front_tried test side rules others holds beginning (x ∷ xs) is passes b =
       is_bad = and_from (begins beginning found.by) (passes_where test rules found.by) found.front
           (where_test test rules found.by (record {
             added = passes.added;
-            is = ap (option_and_then front_of) (sym alike.client) ∙ passes.is;
+            is = ap (option_and_then added_prefix_of) (sym alike.client) ∙ passes.is;
             some = host_not_empty passes.added found.by found.stands.not_empty;
             bytes = longer_front passes.added found.by (x ∷ xs) front passes.bytes;
             holds = holds (passes.added ++ x ∷ xs) (passes.added ++ found.by) hosts (alike.hosts passes.added passes.is)

@@ -11,19 +11,19 @@ use Rattle.std.proofs.lemmas.Bool.{and_parts, and_from, cases_Bool, cases_lt, eq
 use Rattle.std.proofs.lemmas.List.Sorted.{Contains-permutation}
 use Rattle.std.proofs.lemmas.List.Sums.{common_prefix_len-le}
 use Rattle.virtiofs_map.specs.Audit.{IsBefore}
-use Rattle.virtiofs_map.specs.AuditParts.{front, adds, passes_with, is_reached}
+use Rattle.virtiofs_map.specs.AuditParts.{added_prefix, adds, passes_with, is_reached}
 use Rattle.virtiofs_map.specs.FirstRule.{shared}
-use Rattle.virtiofs_map.specs.GatheredParts.{front_of, part_of, IsLast}
+use Rattle.virtiofs_map.specs.GatheredParts.{added_prefix_of, part_of, IsLast}
 use Rattle.virtiofs_map.specs.Names.{begins}
 use Rattle.virtiofs_map.specs.Rule.{MappingRule}
-use Rattle.virtiofs_map.specs.declared.audit.gathered.Part.TheVariants.{Front}
+use Rattle.virtiofs_map.specs.declared.audit.gathered.Part.TheVariants.{Added}
 use Rattle.virtiofs_map.specs.declared.xattrmap.scopes.Side.TheVariants.{Client}
 use Rattle.virtiofs_map.proofs.AuditAlikeLemmas.{shorter_begins}
 use Rattle.virtiofs_map.proofs.BeginsLemmas.{begins_split, begins_length, begins-append}
 use Rattle.virtiofs_map.proofs.audit.AuditGatheredLemmas.{gathered_member}
 use Rattle.virtiofs_map.proofs.audit.AuditOrderLemmas.{level, between, front_not_before}
 use Rattle.virtiofs_map.proofs.audit.AuditSharedLemmas.{LeadsTo, leads_from, leads_test, test_leads, rule_member}
-use Rattle.virtiofs_map.proofs.audit.AuditSharedLemmas.{rule_fits, rest_is, front_is}
+use Rattle.virtiofs_map.proofs.audit.AuditSharedLemmas.{rule_fits, rest_is, added_is}
 use Rattle.virtiofs_map.proofs.audit.AuditStrayLemmas.{adds_is, bytes_same}
 
 -- ---- what two rows share
@@ -84,18 +84,18 @@ same_front (x ∷ p) (y ∷ name) b e =
     let tail = same_front p name parts.1 (omega arith) in
     cc
 
--- ---- the fronts that are left
+-- ---- the added prefixes that are left
 
--- the rest begins the host name, and of the fronts that are longer none leads to it
-pub record IsLeft (rules : List MappingRule) (fronts : List (List ℕ)) (host rest : List ℕ) : Type 0 where
+-- the rest begins the host name, and of the added prefixes that are longer none leads to it
+pub record IsLeft (rules : List MappingRule) (all_added : List (List ℕ)) (host rest : List ℕ) : Type 0 where
   pub begun : begins rest host ≡ true
-  pub others : (added : List ℕ) → Contains fronts added → length rest < length added
+  pub others : (added : List ℕ) → Contains all_added added → length rest < length added
       → passes_with rules host added ≡ false
 
 passes_begins : (rules : List MappingRule) (host added : List ℕ) → passes_with rules host added ≡ true
     → begins added host ≡ true
 passes_begins rules host added e =
-    (and_parts (begins added host) (adds added (front Client rules (drop (length added) host))) e).0
+    (and_parts (begins added host) (adds added (added_prefix Client rules (drop (length added) host))) e).0
 
 false_where : (b : Bool) → (b ≡ true → ⊥) → b ≡ false
 false_where true f = absurd (f refl)
@@ -105,20 +105,20 @@ begins_itself : (name : List ℕ) → begins name name ≡ true
 begins_itself [] = refl
 begins_itself (x ∷ name) = and_from (eqb x x) (begins name name) (eq-eqb x x refl) (begins_itself name)
 
-pub left_first : (rules : List MappingRule) (fronts : List (List ℕ)) (host : List ℕ) → IsLeft rules fronts host host
-left_first rules fronts host = record {
+pub left_first : (rules : List MappingRule) (all_added : List (List ℕ)) (host : List ℕ) → IsLeft rules all_added host host
+left_first rules all_added host = record {
   begun = begins_itself host;
   others = λ added among l.
       false_where (passes_with rules host added)
       (λ e. let within = begins_length added host (passes_begins rules host added e) in omega arith);
 }
 
--- a front that leads to the host name and is no longer than the rest begins the last one up to the rest
-leads_last : (rules : List MappingRule) (fronts : List (List ℕ)) (host rest last added : List ℕ)
-    → IsLeft rules fronts host rest → IsLast fronts rest last → Contains fronts added
+-- an added prefix that leads to the host name and is no longer than the rest begins the last one up to the rest
+leads_last : (rules : List MappingRule) (all_added : List (List ℕ)) (host rest last added : List ℕ)
+    → IsLeft rules all_added host rest → IsLast all_added rest last → Contains all_added added
     → passes_with rules host added ≡ true
     → (begins added rest ≡ true) × (begins added last ≡ true)
-leads_last rules fronts host rest last added left is among e =
+leads_last rules all_added host rest last added left is among e =
     elim (cases_lt (length rest) (length added)) [
       | inl longer ↦ absurd (true≢false (sym e ∙ left.others added among longer))
       | inr within ↦
@@ -128,11 +128,11 @@ leads_last rules fronts host rest last added left is among e =
     ]
 
 -- none is longer than what the last one shares with the rest
-leads_shared : (rules : List MappingRule) (fronts : List (List ℕ)) (host rest last added : List ℕ)
-    → IsLeft rules fronts host rest → IsLast fronts rest last → Contains fronts added
+leads_shared : (rules : List MappingRule) (all_added : List (List ℕ)) (host rest last added : List ℕ)
+    → IsLeft rules all_added host rest → IsLast all_added rest last → Contains all_added added
     → passes_with rules host added ≡ true → length added ≤ shared last rest
-leads_shared rules fronts host rest last added left is among e =
-    let (one, other) = leads_last rules fronts host rest last added left is among e in
+leads_shared rules all_added host rest last added left is among e =
+    let (one, other) = leads_last rules all_added host rest last added left is among e in
     front_shared added last rest other one
 
 begins_take : (k : ℕ) (rest host : List ℕ) → begins rest host ≡ true → begins (take k rest) host ≡ true
@@ -149,39 +149,39 @@ take_within (suc k) [] l = absurd (omega arith)
 take_within (suc k) (x ∷ rest) l = let e = take_within k rest (omega arith) in omega arith
 
 -- the last one does not begin the rest
-pub left_shared : (rules : List MappingRule) (fronts : List (List ℕ)) (host rest last less : List ℕ) (count : ℕ)
-    → IsLeft rules fronts host rest → IsLast fronts rest last → count ≡ shared last rest → less ≡ take count rest
-    → IsLeft rules fronts host less
-left_shared rules fronts host rest last less count left is e at =
-    subst (IsLeft rules fronts host) (sym at) (record {
+pub left_shared : (rules : List MappingRule) (all_added : List (List ℕ)) (host rest last less : List ℕ) (count : ℕ)
+    → IsLeft rules all_added host rest → IsLast all_added rest last → count ≡ shared last rest → less ≡ take count rest
+    → IsLeft rules all_added host less
+left_shared rules all_added host rest last less count left is e at =
+    subst (IsLeft rules all_added host) (sym at) (record {
       begun = begins_take count rest host left.begun;
       others = λ added among l.
           false_where (passes_with rules host added)
           (λ holds.
-          (let most = leads_shared rules fronts host rest last added left is among holds in
+          (let most = leads_shared rules all_added host rest last added left is among holds in
           let size = take_within count rest (let w = (shared_within last rest).1 in omega arith) in omega arith));
     })
 
 -- the last one begins the rest, and does not lead to the host name
-pub left_shorter : (rules : List MappingRule) (fronts : List (List ℕ)) (host rest last less : List ℕ) (count : ℕ)
-    → IsLeft rules fronts host rest → IsLast fronts rest last → count ≡ shared last rest → length last ≤ count
+pub left_shorter : (rules : List MappingRule) (all_added : List (List ℕ)) (host rest last less : List ℕ) (count : ℕ)
+    → IsLeft rules all_added host rest → IsLast all_added rest last → count ≡ shared last rest → length last ≤ count
     → passes_with rules host last ≡ false → 0 < count → less ≡ take (count - 1) rest
-    → IsLeft rules fronts host less
-left_shorter rules fronts host rest last less count left is e whole fails some at =
-    subst (IsLeft rules fronts host) (sym at) (record {
+    → IsLeft rules all_added host less
+left_shorter rules all_added host rest last less count left is e whole fails some at =
+    subst (IsLeft rules all_added host) (sym at) (record {
       begun = begins_take (count - 1) rest host left.begun;
       others = λ added among l.
           false_where (passes_with rules host added)
-          (λ holds. shorter_fails rules fronts host rest last added left is among holds fails
+          (λ holds. shorter_fails rules all_added host rest last added left is among holds fails
           (let size = take_within (count - 1) rest (let w = (shared_within last rest).1 in omega arith) in
           omega arith));
     }) where
-      shorter_fails : (rules : List MappingRule) (fronts : List (List ℕ)) (host rest last added : List ℕ)
-          → IsLeft rules fronts host rest → IsLast fronts rest last → Contains fronts added
+      shorter_fails : (rules : List MappingRule) (all_added : List (List ℕ)) (host rest last added : List ℕ)
+          → IsLeft rules all_added host rest → IsLast all_added rest last → Contains all_added added
           → passes_with rules host added ≡ true → passes_with rules host last ≡ false
           → length last ≤ length added → ⊥
-      shorter_fails rules fronts host rest last added left is among holds fails l =
-          let (one, other) = leads_last rules fronts host rest last added left is among holds in
+      shorter_fails rules all_added host rest last added left is among holds fails l =
+          let (one, other) = leads_last rules all_added host rest last added left is among holds in
           let within = begins_length added last other in
           let same = same_front added last other (omega arith) in
           true≢false (sym (subst (λ a. passes_with rules host a ≡ true) same holds) ∙ fails)
@@ -192,47 +192,47 @@ pub reached_where : (rules : List MappingRule) (host added : List ℕ) → passe
     → is_reached rules host ≡ true
 reached_where rules host added e =
     let rest = drop (length added) host in
-    let parts = and_parts (begins added host) (adds added (front Client rules rest)) e in
+    let parts = and_parts (begins added host) (adds added (added_prefix Client rules rest)) e in
     leads_test rules host
-    (leads_from rules rest added host (adds_is added (front Client rules rest) parts.1)
+    (leads_from rules rest added host (adds_is added (added_prefix Client rules rest) parts.1)
     (begins_split added host parts.0))
 
 leads_with : (rules : List MappingRule) (host : List ℕ) (leads : LeadsTo rules host)
     → passes_with rules host leads.added ≡ true
 leads_with rules host leads =
-    and_from (begins leads.added host) (adds leads.added (front Client rules (drop (length leads.added) host)))
+    and_from (begins leads.added host) (adds leads.added (added_prefix Client rules (drop (length leads.added) host)))
     (ap (begins leads.added) leads.host_is ∙ begins-append leads.added leads.name)
-    (ap (λ n. adds leads.added (front Client rules n)) (rest_is rules host leads)
-    ∙ ap (adds leads.added) (front_is rules host leads) ∙ bytes_same leads.added)
+    (ap (λ n. adds leads.added (added_prefix Client rules n)) (rest_is rules host leads)
+    ∙ ap (adds leads.added) (added_is rules host leads) ∙ bytes_same leads.added)
 
-front_where : (on : Bool) (o : Option (List ℕ)) (added : List ℕ) → on ≡ true → o ≡ Some added
+added_where : (on : Bool) (o : Option (List ℕ)) (added : List ℕ) → on ≡ true → o ≡ Some added
     → cond on o None ≡ Some added
-front_where true o added e p = p
-front_where false o added e p = absurd (false≢true e)
+added_where true o added e p = p
+added_where false o added e p = absurd (false≢true e)
 
--- where no front leads to the host name, nothing does
-pub not_reached : (rules : List MappingRule) (fronts : List (List ℕ)) (host : List ℕ)
-    → IsPermutation (filter_map (part_of (Front Client)) rules) fronts
-    → ((added : List ℕ) → Contains fronts added → passes_with rules host added ≡ true → ⊥)
+-- where no added prefix leads to the host name, nothing does
+pub not_reached : (rules : List MappingRule) (all_added : List (List ℕ)) (host : List ℕ)
+    → IsPermutation (filter_map (part_of (Added Client)) rules) all_added
+    → ((added : List ℕ) → Contains all_added added → passes_with rules host added ≡ true → ⊥)
     → is_reached rules host ≡ false
-not_reached rules fronts host are none =
+not_reached rules all_added host are none =
     false_where (is_reached rules host)
     (λ e.
     (let leads = test_leads rules host e in
     let fit = rule_fits rules host leads in
     let among =
-    gathered_member (part_of (Front Client)) leads.rule rules leads.added (rule_member rules host leads)
-    (front_where leads.rule.client (front_of leads.rule) leads.added fit.0 leads.puts) in
+    gathered_member (part_of (Added Client)) leads.rule rules leads.added (rule_member rules host leads)
+    (added_where leads.rule.client (added_prefix_of leads.rule) leads.added fit.0 leads.puts) in
     none leads.added
-    (Contains-permutation (filter_map (part_of (Front Client)) rules) fronts leads.added are among)
+    (Contains-permutation (filter_map (part_of (Added Client)) rules) all_added leads.added are among)
     (leads_with rules host leads)))
 
 -- all of them come after the rest
-pub not_reached_past : (rules : List MappingRule) (fronts : List (List ℕ)) (host rest : List ℕ)
-    → IsPermutation (filter_map (part_of (Front Client)) rules) fronts → IsLeft rules fronts host rest
-    → ((added : List ℕ) → Contains fronts added → IsBefore rest added) → is_reached rules host ≡ false
-not_reached_past rules fronts host rest are left past =
-    not_reached rules fronts host are
+pub not_reached_past : (rules : List MappingRule) (all_added : List (List ℕ)) (host rest : List ℕ)
+    → IsPermutation (filter_map (part_of (Added Client)) rules) all_added → IsLeft rules all_added host rest
+    → ((added : List ℕ) → Contains all_added added → IsBefore rest added) → is_reached rules host ≡ false
+not_reached_past rules all_added host rest are left past =
+    not_reached rules all_added host are
     (λ added among e. elim (cases_lt (length rest) (length added)) [
       | inl longer ↦ true≢false (sym e ∙ left.others added among longer)
       | inr within ↦
@@ -241,14 +241,14 @@ not_reached_past rules fronts host rest are left past =
     ])
 
 -- the last one up to the rest is empty, and does not lead to the host name
-pub not_reached_empty : (rules : List MappingRule) (fronts : List (List ℕ)) (host rest last : List ℕ)
-    → IsPermutation (filter_map (part_of (Front Client)) rules) fronts → IsLeft rules fronts host rest
-    → IsLast fronts rest last → shared last rest ≡ 0 → length last ≤ shared last rest
+pub not_reached_empty : (rules : List MappingRule) (all_added : List (List ℕ)) (host rest last : List ℕ)
+    → IsPermutation (filter_map (part_of (Added Client)) rules) all_added → IsLeft rules all_added host rest
+    → IsLast all_added rest last → shared last rest ≡ 0 → length last ≤ shared last rest
     → passes_with rules host last ≡ false → is_reached rules host ≡ false
-not_reached_empty rules fronts host rest last are left is none whole fails =
-    not_reached rules fronts host are
+not_reached_empty rules all_added host rest last are left is none whole fails =
+    not_reached rules all_added host are
     (λ added among e.
-    (let most = leads_shared rules fronts host rest last added left is among e in
+    (let most = leads_shared rules all_added host rest last added left is among e in
     let empty : last ≡ [] = no_bytes last (omega arith) in
     let same : added ≡ [] = no_bytes added (omega arith) in
     let as_last : added ≡ last = same ∙ sym empty in

@@ -9,14 +9,14 @@ use Rattle.std.proofs.lemmas.List.Elements.{All-nil, All-cons, All-append, All-w
 use Rattle.std.proofs.lemmas.List.Splits.{slice_split_at}
 use Rattle.virtiofs_map.specs.Audit.{Within, Reached, Apart, IsSeen, Leaves, IsList, Isolated}
 use Rattle.virtiofs_map.specs.AuditParts.{is_hidden, is_seen, within, guest_names, one_byte_names}
-use Rattle.virtiofs_map.specs.GatheredParts.{front_of}
+use Rattle.virtiofs_map.specs.GatheredParts.{added_prefix_of}
 use Rattle.virtiofs_map.specs.MapRule.{IsName}
 use Rattle.virtiofs_map.specs.Names.{HostAnswer, IsListed, IsHidden, IsUndecided, host_answer, is_decided, listed_name}
 use Rattle.virtiofs_map.specs.Names.{names, as_list, server_answer}
 use Rattle.virtiofs_map.specs.Rule.{MappingRule, HasNoZero}
 use Rattle.virtiofs_map.specs.declared.xattrmap.scopes.Side.TheVariants.{Server}
 use Rattle.virtiofs_map.proofs.AuditAlikeLemmas.{server_alike}
-use Rattle.virtiofs_map.proofs.AuditFrontLemmas.{passes_front, front_passes, hidden_test, test_hidden}
+use Rattle.virtiofs_map.proofs.AuditAddedLemmas.{passes_added, added_passes, hidden_test, test_hidden}
 use Rattle.virtiofs_map.proofs.audit.AuditLeastLemmas.{Decide}
 use Rattle.virtiofs_map.proofs.audit.AuditPassLemmas.{IsByteOfName, all_bytes_from, PassesWhere, where_is_name}
 use Rattle.virtiofs_map.proofs.audit.AuditPassLemmas.{HoldsOfFronts}
@@ -39,7 +39,7 @@ those_seen rules others no_zero = record {
     host = passes.added ++ name;
     is_host = where_is_name (is_shown others) rules no_zero name is passes;
     not_empty = passes.some;
-    passes = front_passes rules name passes.added passes.is;
+    passes = added_passes rules name passes.added passes.is;
     not_hidden =
         λ k. true≢false
         (sym (hidden_test others (passes.added ++ name) k)
@@ -49,7 +49,7 @@ those_seen rules others no_zero = record {
 } where
   of_seen : (name : List ℕ) → IsSeen rules others name → PassesWhere (is_shown others) rules name
   of_seen name seen =
-      let by = passes_front rules name seen.host seen.passes in
+      let by = passes_added rules name seen.host seen.passes in
       let shown =
       false_from_ne_true (is_hidden others (by.added ++ name))
       (λ k. seen.not_hidden (ap (host_answer others) by.host_is ∙ test_hidden others (by.added ++ name) k)) in
@@ -64,7 +64,7 @@ those_seen rules others no_zero = record {
 -- the names tried decide
 shown_of_fronts : (others : List MappingRule) → HoldsOfFronts (is_shown others) Server others
 shown_of_fronts others host other front both shown =
-    ap (λ o. not (option_map_or (λ rule. is_none (front_of rule)) o false)) (sym (server_alike others host other both))
+    ap (λ o. not (option_map_or (λ rule. is_none (added_prefix_of rule)) o false)) (sym (server_alike others host other both))
     ∙ shown
 
 pub seen_decide : (rules others : List MappingRule) → All HasNoZero rules → (beginning : List ℕ)

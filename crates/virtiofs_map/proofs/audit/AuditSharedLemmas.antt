@@ -8,15 +8,15 @@ use Rattle.std.proofs.lemmas.Bool.{and_parts, and_from, cases_Bool, cond_both, f
 use Rattle.std.proofs.lemmas.List.{append_assoc, drop_at}
 use Rattle.std.proofs.lemmas.List.Elements.{All-drop}
 use Rattle.virtiofs_map.specs.Audit.{Within, Reached, SharesNoName, IsShared}
-use Rattle.virtiofs_map.specs.AuditParts.{front, adds, passes_as, is_reached, is_shared, within, guest_names}
-use Rattle.virtiofs_map.specs.GatheredParts.{front_of}
+use Rattle.virtiofs_map.specs.AuditParts.{added_prefix, adds, passes_as, is_reached, is_shared, within, guest_names}
+use Rattle.virtiofs_map.specs.GatheredParts.{added_prefix_of}
 use Rattle.virtiofs_map.specs.AuditParts.{one_byte_names}
 use Rattle.virtiofs_map.specs.MapRule.{IsName}
 use Rattle.virtiofs_map.specs.Names.{begins, fits, deciding, Passes}
 use Rattle.virtiofs_map.specs.Rule.{MappingRule, HasNoZero}
 use Rattle.virtiofs_map.specs.declared.xattrmap.scopes.Side.TheVariants.{Client}
 use Rattle.virtiofs_map.proofs.AuditAlikeLemmas.{Member, all_member, begins-append_both, decides_front, BeginsBoth}
-use Rattle.virtiofs_map.proofs.AuditFrontLemmas.{passes_front, front_passes}
+use Rattle.virtiofs_map.proofs.AuditAddedLemmas.{passes_added, added_passes}
 use Rattle.virtiofs_map.proofs.audit.AuditLeastLemmas.{Decide}
 use Rattle.virtiofs_map.proofs.audit.AuditPassLemmas.{IsByteOfName, all_bytes_from, PassesWhere, where_is_name}
 use Rattle.virtiofs_map.proofs.audit.AuditPassLemmas.{HoldsOfFronts}
@@ -33,15 +33,15 @@ pub record LeadsTo (rules : List MappingRule) (host : List ℕ) : Type 0 where
   pub added : List ℕ
   pub name : List ℕ
   pub decides : deciding Client rules name ≡ Some rule
-  pub puts : front_of rule ≡ Some added
+  pub puts : added_prefix_of rule ≡ Some added
   pub host_is : host ≡ added ++ name
 
-rule_of : (o : Option MappingRule) (added : List ℕ) → option_and_then front_of o ≡ Some added
-    → (rule : MappingRule) × (o ≡ Some rule) × (front_of rule ≡ Some added)
+rule_of : (o : Option MappingRule) (added : List ℕ) → option_and_then added_prefix_of o ≡ Some added
+    → (rule : MappingRule) × (o ≡ Some rule) × (added_prefix_of rule ≡ Some added)
 rule_of None added e = absurd (cc)
 rule_of (Some rule) added e = (rule, refl, e)
 
-pub leads_from : (rules : List MappingRule) (name added host : List ℕ) → front Client rules name ≡ Some added
+pub leads_from : (rules : List MappingRule) (name added host : List ℕ) → added_prefix Client rules name ≡ Some added
     → host ≡ added ++ name → LeadsTo rules host
 leads_from rules name added host e is =
     let (rule, decides, puts) = rule_of (deciding Client rules name) added e in
@@ -85,27 +85,27 @@ pub rest_is : (rules : List MappingRule) (host : List ℕ) (leads : LeadsTo rule
 rest_is rules host leads =
     ap (drop (length leads.added)) leads.host_is ∙ drop_at leads.added leads.name (length leads.added) refl
 
-pub front_is : (rules : List MappingRule) (host : List ℕ) (leads : LeadsTo rules host)
-    → front Client rules leads.name ≡ Some leads.added
-front_is rules host leads = ap (option_and_then front_of) leads.decides ∙ leads.puts
+pub added_is : (rules : List MappingRule) (host : List ℕ) (leads : LeadsTo rules host)
+    → added_prefix Client rules leads.name ≡ Some leads.added
+added_is rules host leads = ap (option_and_then added_prefix_of) leads.decides ∙ leads.puts
 
 -- the test, at what the rule puts before a name
 abbrev passes_by : List MappingRule → List ℕ → MappingRule → List ℕ → Bool
 passes_by rules host rule added =
     begins added host &&
-    (begins rule.key (drop (length added) host) && adds added (front Client rules (drop (length added) host)))
+    (begins rule.key (drop (length added) host) && adds added (added_prefix Client rules (drop (length added) host)))
 
 -- the answers of the code
 pub passes_at : (rules : List MappingRule) (host : List ℕ) (rule : MappingRule) (added rest : List ℕ)
-    → rule.client ≡ true → front_of rule ≡ Some added → begins added host ≡ true → rest ≡ drop (length added) host
-    → begins rule.key rest ≡ true → passes_as rules host rule ≡ adds added (front Client rules rest)
+    → rule.client ≡ true → added_prefix_of rule ≡ Some added → begins added host ≡ true → rest ≡ drop (length added) host
+    → begins rule.key rest ≡ true → passes_as rules host rule ≡ adds added (added_prefix Client rules rest)
 passes_at rules host rule added rest on puts begun is keyed =
     let left = drop (length added) host in
-    ap (λ b. b && option_map_or (passes_by rules host rule) (front_of rule) false) on
+    ap (λ b. b && option_map_or (passes_by rules host rule) (added_prefix_of rule) false) on
     ∙ ap (λ o. option_map_or (passes_by rules host rule) o false) puts
-    ∙ ap (λ b. b && (begins rule.key left && adds added (front Client rules left))) begun
-    ∙ ap (λ n. begins rule.key n && adds added (front Client rules n)) (sym is)
-    ∙ ap (λ b. b && adds added (front Client rules rest)) keyed
+    ∙ ap (λ b. b && (begins rule.key left && adds added (added_prefix Client rules left))) begun
+    ∙ ap (λ n. begins rule.key n && adds added (added_prefix Client rules n)) (sym is)
+    ∙ ap (λ b. b && adds added (added_prefix Client rules rest)) keyed
 
 leads_passes : (rules : List MappingRule) (host : List ℕ) (leads : LeadsTo rules host)
     → passes_as rules host leads.rule ≡ true
@@ -115,7 +115,7 @@ leads_passes rules host leads =
     let fit = rule_fits rules host leads in
     let begun = ap (begins added) leads.host_is ∙ begins-append added leads.name in
     passes_at rules host rule added leads.name fit.0 leads.puts begun (sym (rest_is rules host leads)) fit.1
-    ∙ ap (adds added) (front_is rules host leads) ∙ bytes_same added
+    ∙ ap (adds added) (added_is rules host leads) ∙ bytes_same added
 
 puts_some : (rules : List MappingRule) (host : List ℕ) (rule : MappingRule) (o : Option (List ℕ))
     → option_map_or (passes_by rules host rule) o false ≡ true
@@ -127,12 +127,12 @@ passes_leads : (rules : List MappingRule) (host : List ℕ) (rule : MappingRule)
     → LeadsTo rules host
 passes_leads rules host rule e =
     let (added, by) =
-    puts_some rules host rule (front_of rule)
-    (and_parts rule.client (option_map_or (passes_by rules host rule) (front_of rule) false) e).1 in
+    puts_some rules host rule (added_prefix_of rule)
+    (and_parts rule.client (option_map_or (passes_by rules host rule) (added_prefix_of rule) false) e).1 in
     let rest = drop (length added) host in
-    let parts = and_parts (begins added host) (begins rule.key rest && adds added (front Client rules rest)) by in
-    let more = and_parts (begins rule.key rest) (adds added (front Client rules rest)) parts.1 in
-    leads_from rules rest added host (adds_is added (front Client rules rest) more.1) (begins_split added host parts.0)
+    let parts = and_parts (begins added host) (begins rule.key rest && adds added (added_prefix Client rules rest)) by in
+    let more = and_parts (begins rule.key rest) (adds added (added_prefix Client rules rest)) parts.1 in
+    leads_from rules rest added host (adds_is added (added_prefix Client rules rest) more.1) (begins_split added host parts.0)
 
 pub leads_test : (rules : List MappingRule) (host : List ℕ) → LeadsTo rules host → is_reached rules host ≡ true
 leads_test rules host leads =
@@ -146,7 +146,7 @@ test_leads rules host e =
 
 reached_leads : (rules : List MappingRule) (host : List ℕ) → Reached rules host → LeadsTo rules host
 reached_leads rules host reached =
-    let by = passes_front rules reached.name host reached.passes in
+    let by = passes_added rules reached.name host reached.passes in
     leads_from rules reached.name by.added host by.is by.host_is
 
 leads_reached : (rules : List MappingRule) (host : List ℕ) → IsName host → host ≢ [] → LeadsTo rules host
@@ -156,7 +156,7 @@ leads_reached rules host is some leads = record {
   not_empty = some;
   name = leads.name;
   is_name = subst IsName (rest_is rules host leads) (All-drop IsByteOfName (length leads.added) host is);
-  passes = front_passes rules leads.name leads.added (front_is rules host leads) ∙ ap Passes (sym leads.host_is);
+  passes = added_passes rules leads.name leads.added (added_is rules host leads) ∙ ap Passes (sym leads.host_is);
 }
 
 -- a rule that leads to a host name leads to each front of it that its pattern for host names begins
@@ -195,7 +195,7 @@ those_shared rules others no_zero = record {
   only = λ name is passes. record {
     is_name = is;
     host = passes.added ++ name;
-    passes = front_passes rules name passes.added passes.is;
+    passes = added_passes rules name passes.added passes.is;
     reached =
         leads_reached others (passes.added ++ name) (where_is_name (is_reached others) rules no_zero name is passes)
         passes.some (test_leads others (passes.added ++ name) passes.holds);
@@ -204,7 +204,7 @@ those_shared rules others no_zero = record {
 } where
   of_shared : (name : List ℕ) → IsShared rules others name → PassesWhere (is_reached others) rules name
   of_shared name shared =
-      let by = passes_front rules name shared.host shared.passes in
+      let by = passes_added rules name shared.host shared.passes in
       record {
         added = by.added;
         is = by.is;

@@ -10,20 +10,20 @@ use Rattle.std.proofs.lemmas.Bool.{false_from_ne_true, eq-eqb, eqb-true}
 use Rattle.std.proofs.lemmas.List.{length-append}
 use Rattle.std.proofs.lemmas.List.Elements.{All-head}
 use Rattle.virtiofs_map.specs.Audit.{Within, OpensListed, IsStray}
-use Rattle.virtiofs_map.specs.AuditParts.{front, some_byte, adds, is_stray, within, host_names}
-use Rattle.virtiofs_map.specs.GatheredParts.{front_of}
+use Rattle.virtiofs_map.specs.AuditParts.{added_prefix, some_byte, adds, is_stray, within, host_names}
+use Rattle.virtiofs_map.specs.GatheredParts.{added_prefix_of}
 use Rattle.virtiofs_map.specs.AuditParts.{one_byte_names}
 use Rattle.virtiofs_map.specs.MapRule.{IsName}
 use Rattle.virtiofs_map.specs.Names.{begins, Passes, client_answer}
 use Rattle.virtiofs_map.specs.Rule.{MappingRule}
 use Rattle.virtiofs_map.specs.declared.xattrmap.scopes.Side.TheVariants.{Client, Server}
 use Rattle.virtiofs_map.proofs.AuditAlikeLemmas.{cover_within, ListedAlike, listed_alike}
-use Rattle.virtiofs_map.proofs.AuditFrontLemmas.{passes_front, front_passes, listed_front, front_listed, front_begins}
+use Rattle.virtiofs_map.proofs.AuditAddedLemmas.{passes_added, added_passes, listed_cut, cut_listed, cut_begins}
 use Rattle.virtiofs_map.proofs.audit.AuditLeastLemmas.{Decide, HasBadFront, decide_within}
 use Rattle.virtiofs_map.proofs.audit.AuditLostLemmas.{some_byte_from, some_byte_is}
 use Rattle.virtiofs_map.proofs.BeginsLemmas.{begins_split, begins_length}
 
--- two fronts of one list that leave the same rest are one
+-- two added prefixes of one list that leave the same rest are one
 same_fronts : (a b rest : List ℕ) → a ++ rest ≡ b ++ rest → a ≡ b
 same_fronts [] [] rest e = refl
 same_fronts [] (y ∷ b) rest e = absurd (omega (arith, ap length e, length-append b rest))
@@ -56,58 +56,58 @@ adds_is cut None e = absurd (false≢true e)
 adds_is cut (Some added) e = ap Some (same_bytes added cut e)
 
 -- where just that is put before the name that was taken off, the name opens its host name
-opened_where_added : (rules : List MappingRule) (cut name : List ℕ) → adds cut (front Client rules name) ≡ true
+opened_where_added : (rules : List MappingRule) (cut name : List ℕ) → adds cut (added_prefix Client rules name) ≡ true
     → client_answer rules name ≡ Passes (cut ++ name)
 opened_where_added rules cut name e =
-    front_passes rules name cut (adds_is cut (front Client rules name) e)
+    added_passes rules name cut (adds_is cut (added_prefix Client rules name) e)
 
 added_where_opened : (rules : List MappingRule) (cut name : List ℕ) → client_answer rules name ≡ Passes (cut ++ name)
-    → adds cut (front Client rules name) ≡ true
+    → adds cut (added_prefix Client rules name) ≡ true
 added_where_opened rules cut name e =
-    let by = passes_front rules name (cut ++ name) e in
+    let by = passes_added rules name (cut ++ name) e in
     let same = same_fronts cut by.added name by.host_is in
     ap (adds cut) by.is ∙ ap (λ added. pointwise nat_eq added cut) (sym same) ∙ bytes_same cut
 
 -- ---- the test
 
-stray_at : (rules : List MappingRule) (host cut : List ℕ) → host ≢ [] → front Server rules host ≡ Some cut
-    → is_stray rules host ≡ not (adds cut (front Client rules (drop (length cut) host)))
+stray_at : (rules : List MappingRule) (host cut : List ℕ) → host ≢ [] → added_prefix Server rules host ≡ Some cut
+    → is_stray rules host ≡ not (adds cut (added_prefix Client rules (drop (length cut) host)))
 stray_at rules host cut some e = rw (some_byte_from host some, e) refl
 
 -- the answers of the code
 pub stray_none : (rules : List MappingRule) (host cut rest : List ℕ) → some_byte host ≡ true
-    → front Server rules host ≡ Some cut → rest ≡ drop (length cut) host → front Client rules rest ≡ None
+    → added_prefix Server rules host ≡ Some cut → rest ≡ drop (length cut) host → added_prefix Client rules rest ≡ None
     → true ≡ is_stray rules host
 stray_none rules host cut rest some e is none =
-    sym (stray_at rules host cut (some_byte_is host some) e ∙ ap (λ r. not (adds cut (front Client rules r))) (sym is)
+    sym (stray_at rules host cut (some_byte_is host some) e ∙ ap (λ r. not (adds cut (added_prefix Client rules r))) (sym is)
     ∙ ap (λ o. not (adds cut o)) none)
 
 pub stray_some : (rules : List MappingRule) (host cut rest added : List ℕ) (differ : Bool) → some_byte host ≡ true
-    → front Server rules host ≡ Some cut → rest ≡ drop (length cut) host → front Client rules rest ≡ Some added
+    → added_prefix Server rules host ≡ Some cut → rest ≡ drop (length cut) host → added_prefix Client rules rest ≡ Some added
     → differ ≡ not (pointwise nat_eq added cut) → differ ≡ is_stray rules host
 stray_some rules host cut rest added differ some e is found d =
     d ∙ sym (stray_at rules host cut (some_byte_is host some) e
-    ∙ ap (λ r. not (adds cut (front Client rules r))) (sym is) ∙ ap (λ o. not (adds cut o)) found)
+    ∙ ap (λ r. not (adds cut (added_prefix Client rules r))) (sym is) ∙ ap (λ o. not (adds cut o)) found)
 
-stray_front : (rules : List MappingRule) (host : List ℕ) (o : Option (List ℕ))
-    → option_map_or (λ cut. not (adds cut (front Client rules (drop (length cut) host)))) o false ≡ true
+stray_cut : (rules : List MappingRule) (host : List ℕ) (o : Option (List ℕ))
+    → option_map_or (λ cut. not (adds cut (added_prefix Client rules (drop (length cut) host)))) o false ≡ true
     → (cut : List ℕ) × (o ≡ Some cut)
-stray_front rules host None e = absurd (false≢true e)
-stray_front rules host (Some cut) e = (cut, refl)
+stray_cut rules host None e = absurd (false≢true e)
+stray_cut rules host (Some cut) e = (cut, refl)
 
 -- what is taken off is no longer than the host name
-pub front_length : (rules : List MappingRule) (host cut : List ℕ) → front Server rules host ≡ Some cut
+pub cut_length : (rules : List MappingRule) (host cut : List ℕ) → added_prefix Server rules host ≡ Some cut
     → length cut ≤ length host
-front_length rules host cut e = begins_length cut host (front_begins rules host cut e)
+cut_length rules host cut e = begins_length cut host (cut_begins rules host cut e)
 
 stray_test : (rules : List MappingRule) (host : List ℕ) → IsStray rules host → is_stray rules host ≡ true
 stray_test rules host stray =
-    let by = listed_front rules host stray.name stray.listed in
+    let by = listed_cut rules host stray.name stray.listed in
     let rest = drop (length by.cut) host in
-    let split = begins_split by.cut host (front_begins rules host by.cut by.is) in
+    let split = begins_split by.cut host (cut_begins rules host by.cut by.is) in
     stray_at rules host by.cut stray.not_empty by.is
-    ∙ not_from_false (adds by.cut (front Client rules rest))
-    (false_from_ne_true (adds by.cut (front Client rules rest))
+    ∙ not_from_false (adds by.cut (added_prefix Client rules rest))
+    (false_from_ne_true (adds by.cut (added_prefix Client rules rest))
     (λ a. stray.not_opened
     (ap (client_answer rules) by.name_is ∙ opened_where_added rules by.cut rest a ∙ ap Passes (sym split))))
 
@@ -115,33 +115,33 @@ test_stray : (rules : List MappingRule) (host : List ℕ) → IsName host → is
 test_stray rules host is e =
     let parts =
     and_parts (some_byte host)
-    (option_map_or (λ cut. not (adds cut (front Client rules (drop (length cut) host)))) (front Server rules host)
+    (option_map_or (λ cut. not (adds cut (added_prefix Client rules (drop (length cut) host)))) (added_prefix Server rules host)
     false) e in
     let some = some_byte_is host parts.0 in
-    let (cut, at) = stray_front rules host (front Server rules host) parts.1 in
+    let (cut, at) = stray_cut rules host (added_prefix Server rules host) parts.1 in
     let rest = drop (length cut) host in
-    let split = begins_split cut host (front_begins rules host cut at) in
+    let split = begins_split cut host (cut_begins rules host cut at) in
     record {
       is_name = is;
       not_empty = some;
       name = rest;
-      listed = front_listed rules host cut at;
+      listed = cut_listed rules host cut at;
       not_opened = λ opened.
           (let a = added_where_opened rules cut rest (opened ∙ ap Passes split) in
-          let n = not-true (adds cut (front Client rules rest)) (sym (stray_at rules host cut some at) ∙ e) in
+          let n = not-true (adds cut (added_prefix Client rules rest)) (sym (stray_at rules host cut some at) ∙ e) in
           true≢false (sym a ∙ n));
     }
 
 -- ---- the names tried decide
 
 stray_alike : (rules : List MappingRule) (host c cut : List ℕ) → host ≢ [] → c ≢ [] → ListedAlike rules rules host c
-    → front Server rules host ≡ Some cut → is_stray rules c ≡ is_stray rules host
+    → added_prefix Server rules host ≡ Some cut → is_stray rules c ≡ is_stray rules host
 stray_alike rules host c cut some other alike e =
-    let at = ap (option_and_then front_of) (sym alike.server) ∙ e in
-    let split = begins_split cut host (front_begins rules host cut e) in
-    let parted = begins_split cut c (front_begins rules c cut at) in
+    let at = ap (option_and_then added_prefix_of) (sym alike.server) ∙ e in
+    let split = begins_split cut host (cut_begins rules host cut e) in
+    let parted = begins_split cut c (cut_begins rules c cut at) in
     let same = alike.client cut (drop (length cut) host) (drop (length cut) c) e split parted in
-    stray_at rules c cut other at ∙ ap (λ o. not (adds cut (option_and_then front_of o))) (sym same)
+    stray_at rules c cut other at ∙ ap (λ o. not (adds cut (option_and_then added_prefix_of o))) (sym same)
     ∙ sym (stray_at rules host cut some e)
 
 stray_front_tried : (rules : List MappingRule) (beginning host : List ℕ) → IsStray rules host
@@ -151,7 +151,7 @@ stray_front_tried rules beginning [] stray b = absurd (stray.not_empty refl)
 stray_front_tried rules beginning (x ∷ xs) stray b =
     let bounds = All-head (λ byte. (0 < byte) × (byte < 256)) x xs stray.is_name in
     let found = cover_within beginning (host_names rules rules) x xs bounds.0 bounds.1 b in
-    let by = listed_front rules (x ∷ xs) stray.name stray.listed in
+    let by = listed_cut rules (x ∷ xs) stray.name stray.listed in
     let alike = listed_alike rules rules (beginning ∷ host_names rules rules ++ one_byte_names)
     (x ∷ xs) found.by found.stands in
     record {
@@ -174,15 +174,15 @@ stray_decide rules beginning =
 
 pub opens_where_none : (rules : List MappingRule) → ((host : List ℕ) → ¬ IsStray rules host) → OpensListed rules
 opens_where_none rules none host name is some listed =
-    let by = listed_front rules host name listed in
+    let by = listed_cut rules host name listed in
     let rest = drop (length by.cut) host in
-    let split = begins_split by.cut host (front_begins rules host by.cut by.is) in
-    elim (cases_Bool (adds by.cut (front Client rules rest))) [
+    let split = begins_split by.cut host (cut_begins rules host by.cut by.is) in
+    elim (cases_Bool (adds by.cut (added_prefix Client rules rest))) [
       | inl a ↦ ap (client_answer rules) by.name_is ∙ opened_where_added rules by.cut rest a ∙ ap Passes (sym split)
       | inr a ↦ absurd
           (none host
           (test_stray rules host is
-          (stray_at rules host by.cut some by.is ∙ not_from_false (adds by.cut (front Client rules rest)) a)))
+          (stray_at rules host by.cut some by.is ∙ not_from_false (adds by.cut (added_prefix Client rules rest)) a)))
     ]
 
 pub none_where_opens : (rules : List MappingRule) → OpensListed rules → (host : List ℕ) → ¬ IsStray rules host

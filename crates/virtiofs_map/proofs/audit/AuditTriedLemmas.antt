@@ -55,7 +55,7 @@ below_same xs n x none below = elim (below_more xs n x below) [
   | inr here ↦ absurd (let both = sym none ∙ here in cc)
 ]
 
--- ---- what is left of patterns after a front
+-- ---- what is left of patterns after an added prefix
 
 -- it is left of a pattern before that place
 pub record RestBelow (patterns : List (List ℕ)) (added : List ℕ) (n : ℕ) (name : List ℕ) : Type 0 where
@@ -101,7 +101,7 @@ pub rests_same : (patterns : List (List ℕ)) (added : List ℕ) (n : ℕ) (name
 rests_same patterns added n name none one =
     record { pattern = one.pattern; below = below_same patterns n one.pattern none one.below; rest = one.rest }
 
--- once a pattern does not begin with the front, nor do those after it
+-- once a pattern does not begin with the added prefix, nor do those after it
 pub rests_end : (patterns : List (List ℕ)) (added : List ℕ) (count n : ℕ) (pattern : List ℕ) (name : List ℕ)
     → AreOrdered patterns → CountsBefore patterns added count → count ≤ n → slice_get patterns n ≡ Some pattern
     → begins added pattern ≡ false → IsRestOf patterns added name → RestBelow patterns added n name
@@ -121,30 +121,30 @@ pub rests_all : (patterns : List (List ℕ)) (added : List ℕ) (n : ℕ) (name 
 rests_all patterns added n name l (pattern, among, e) =
     record { pattern = pattern; below = below_all patterns n pattern l among; rest = e }
 
--- ---- what is left after each of some fronts
+-- ---- what is left after each of some added prefixes
 
-pub record FrontRest (fronts patterns : List (List ℕ)) (n : ℕ) (name : List ℕ) : Type 0 where
+pub record AddedRest (all_added patterns : List (List ℕ)) (n : ℕ) (name : List ℕ) : Type 0 where
   pub added : List ℕ
-  pub below : Below fronts n added
+  pub below : Below all_added n added
   pub rest : IsRestOf patterns added name
 
-pub fronts_none : (fronts patterns : List (List ℕ)) (name : List ℕ) → ¬ FrontRest fronts patterns 0 name
-fronts_none fronts patterns name one = below_none fronts one.added one.below
+pub added_none : (all_added patterns : List (List ℕ)) (name : List ℕ) → ¬ AddedRest all_added patterns 0 name
+added_none all_added patterns name one = below_none all_added one.added one.below
 
-pub fronts_more : (fronts patterns : List (List ℕ)) (n : ℕ) (name added : List ℕ) → slice_get fronts n ≡ Some added
-    → FrontRest fronts patterns (n + 1) name → FrontRest fronts patterns n name ⊎ IsRestOf patterns added name
-fronts_more fronts patterns n name added here one =
-    elim (below_more fronts n one.added one.below) [
+pub added_more : (all_added patterns : List (List ℕ)) (n : ℕ) (name added : List ℕ) → slice_get all_added n ≡ Some added
+    → AddedRest all_added patterns (n + 1) name → AddedRest all_added patterns n name ⊎ IsRestOf patterns added name
+added_more all_added patterns n name added here one =
+    elim (below_more all_added n one.added one.below) [
       | inl less ↦ inl (record { added = one.added; below = less; rest = one.rest })
       | inr at ↦ inr
           (let same : one.added ≡ added = (let both = sym at ∙ here in cc) in
           subst (λ a. IsRestOf patterns a name) same one.rest)
     ]
 
-pub fronts_same : (fronts patterns : List (List ℕ)) (n : ℕ) (name : List ℕ) → slice_get fronts n ≡ None
-    → FrontRest fronts patterns (n + 1) name → FrontRest fronts patterns n name
-fronts_same fronts patterns n name none one =
-    record { added = one.added; below = below_same fronts n one.added none one.below; rest = one.rest }
+pub added_same : (all_added patterns : List (List ℕ)) (n : ℕ) (name : List ℕ) → slice_get all_added n ≡ None
+    → AddedRest all_added patterns (n + 1) name → AddedRest all_added patterns n name
+added_same all_added patterns n name none one =
+    record { added = one.added; below = below_same all_added n one.added none one.below; rest = one.rest }
 
 -- an element that stands just before it too
 below_repeated : {X : Type 0} (xs : List X) (n : ℕ) (x : X) → 0 < n → slice_get xs (n - 1) ≡ slice_get xs n
@@ -154,15 +154,15 @@ below_repeated xs n x some same below = elim (below_more xs n x below) [
   | inr here ↦ record { place = n - 1; before = omega arith; here = same ∙ here }
 ]
 
-pub fronts_repeated : (fronts patterns : List (List ℕ)) (n : ℕ) (name : List ℕ) → IsRepeated fronts n
-    → FrontRest fronts patterns (n + 1) name → FrontRest fronts patterns n name
-fronts_repeated fronts patterns n name (some, same) one =
-    record { added = one.added; below = below_repeated fronts n one.added some same one.below; rest = one.rest }
+pub added_repeated : (all_added patterns : List (List ℕ)) (n : ℕ) (name : List ℕ) → IsRepeated all_added n
+    → AddedRest all_added patterns (n + 1) name → AddedRest all_added patterns n name
+added_repeated all_added patterns n name (some, same) one =
+    record { added = one.added; below = below_repeated all_added n one.added some same one.below; rest = one.rest }
 
-pub fronts_all : (fronts patterns : List (List ℕ)) (n : ℕ) (name : List ℕ) → length fronts ≤ n
-    → IsRest fronts patterns name → FrontRest fronts patterns n name
-fronts_all fronts patterns n name l (added, among, rest) =
-    record { added = added; below = below_all fronts n added l among; rest = rest }
+pub added_all : (all_added patterns : List (List ℕ)) (n : ℕ) (name : List ℕ) → length all_added ≤ n
+    → IsRest all_added patterns name → AddedRest all_added patterns n name
+added_all all_added patterns n name l (added, among, rest) =
+    record { added = added; below = below_all all_added n added l among; rest = rest }
 
 -- ---- keys after cuts
 

@@ -11,13 +11,13 @@ use Rattle.virtiofs_map.proofs.StoredLemmas.{found_entry}
 use Rattle.virtiofs_map.specs.Build.{HasSource, HasTarget, Meet, Accepted}
 use Rattle.virtiofs_map.specs.Mapping.{entry_of, first_of, count_of, EntryCovers, Covers}
 use Rattle.virtiofs_map.specs.LookupSteps.{acting}
-use Rattle.virtiofs_map.specs.RangeParts.{Precedes, HasNumbers, AreRanges, IsOfOne, Stores, StandsAt, IsPlaced, Places}
-use Rattle.virtiofs_map.specs.RangeParts.{PlacesInOrder, ArePrecedingBelow, KeepsApartTo, HasRoomBothWays}
+use Rattle.virtiofs_map.specs.RangeParts.{Precedes, HasNumbers, AreRanges, IsOfOne, Stores, StandsAt, IsIndexed, AreIndexed}
+use Rattle.virtiofs_map.specs.RangeParts.{AreSorted, ArePrecedingBelow, KeepsApartTo, HasRoomBothWays}
 use Rattle.virtiofs_map.specs.declared.cmdline.IdMap.{IdMap}
 use Rattle.virtiofs_map.specs.declared.soft_idmap.entry.Direction.{Direction}
 use Rattle.virtiofs_map.specs.declared.soft_idmap.entry.Direction.TheVariants.{GuestToHost, HostToGuest}
 use Rattle.virtiofs_map.specs.declared.soft_idmap.entry.Entry.{Entry}
-use Rattle.virtiofs_map.specs.declared.soft_idmap.placed.Placed.{Placed}
+use Rattle.virtiofs_map.specs.declared.soft_idmap.indexed.IndexedEntry.{IndexedEntry}
 
 -- two elements at two places are related
 pair_at : {X : Type 0} (R : X → X → Type 0) (xs : List X) (a b : ℕ) (x y : X) → AllPairs R xs → a < b → b < length xs
@@ -33,33 +33,33 @@ no_room : (range other : Entry) (m : ℕ) → EntryCovers range m → EntryCover
 no_room range other m (from, to) (low, high) precedes = omega arith
 
 -- so two placed entries that cover one number are at one index
-no_meeting : (count i j : ℕ) (placed : List Placed) (x y : Entry) (m : ℕ) → ArePrecedingBelow count placed → i < count
-    → j < count → i ≢ j → EntryCovers x m → EntryCovers y m → Contains placed (record { entry = x; index = i })
-    → Contains placed (record { entry = y; index = j }) → ⊥
-no_meeting count i j placed x y m preceding below under differ first second (a, within, here) (b, inside, there) =
-    let R = λ (one other : Placed). one.index < count → other.index < count → Precedes one.entry other.entry in
-    let p : Placed = record { entry = x; index = i } in
-    let q : Placed = record { entry = y; index = j } in
+no_meeting : (count i j : ℕ) (indexed : List IndexedEntry) (x y : Entry) (m : ℕ) → ArePrecedingBelow count indexed → i < count
+    → j < count → i ≢ j → EntryCovers x m → EntryCovers y m → Contains indexed (record { entry = x; index = i })
+    → Contains indexed (record { entry = y; index = j }) → ⊥
+no_meeting count i j indexed x y m preceding below under differ first second (a, within, here) (b, inside, there) =
+    let R = λ (one other : IndexedEntry). one.index < count → other.index < count → Precedes one.entry other.entry in
+    let p : IndexedEntry = record { entry = x; index = i } in
+    let q : IndexedEntry = record { entry = y; index = j } in
     elim (cases_order a b) [
       | inl same ↦ absurd
-          (differ (ap (λ (one : Placed). one.index)
-          (sym here ∙ get_or_default placed a p q within ∙ ap (λ (k : ℕ). get_or placed k q) same ∙ there)))
+          (differ (ap (λ (one : IndexedEntry). one.index)
+          (sym here ∙ get_or_default indexed a p q within ∙ ap (λ (k : ℕ). get_or indexed k q) same ∙ there)))
       | inr (inl before) ↦ no_room x y m first second
-          (pair_at R placed a b p q preceding before inside here there below under)
+          (pair_at R indexed a b p q preceding before inside here there below under)
       | inr (inr after) ↦ no_room y x m second first
-          (pair_at R placed b a q p preceding after within there here under below)
+          (pair_at R indexed b a q p preceding after within there here under below)
     ]
 
-pub apart_from_places : (specs : List IdMap) (direction : Direction) (count : ℕ) (placed : List Placed)
-    → count ≤ length specs → Places specs direction (length specs) placed → ArePrecedingBelow count placed
+pub apart_from_indexed : (specs : List IdMap) (direction : Direction) (count : ℕ) (indexed : List IndexedEntry)
+    → count ≤ length specs → AreIndexed specs direction (length specs) indexed → ArePrecedingBelow count indexed
     → AllPairs (λ spec other. ¬ Meet spec other direction) (take count specs)
-apart_from_places specs direction count placed within places preceding i j d before below =
+apart_from_indexed specs direction count indexed within are_indexed preceding i j d before below =
     let below' : j < count = omega (arith, length-take count specs) in
     rw (get_or-take count specs i d (omega arith), get_or-take count specs j d below') (met below') where
-      placed_at : (k : ℕ) (entry : Entry) → k < count → entry_of (get_or specs k d) direction ≡ Some entry
-          → 1 ≤ count_of entry → Contains placed (record { entry = entry; index = k })
-      placed_at k entry under is some =
-          places.each k (get_or specs k d) entry (omega arith)
+      indexed_at : (k : ℕ) (entry : Entry) → k < count → entry_of (get_or specs k d) direction ≡ Some entry
+          → 1 ≤ count_of entry → Contains indexed (record { entry = entry; index = k })
+      indexed_at k entry under is some =
+          are_indexed.each k (get_or specs k d) entry (omega arith)
           (omega arith, get_or_default specs k (get_or specs k d) d (omega arith)) is some
 
       met : j < count → ¬ Meet (get_or specs i d) (get_or specs j d) direction
@@ -70,9 +70,9 @@ apart_from_places specs direction count placed within places preceding i j d bef
           let x_high : m < first_of x.entry + count_of x.entry = x.holds.1 in
           let y_low : first_of y.entry ≤ m = y.holds.0 in
           let y_high : m < first_of y.entry + count_of y.entry = y.holds.1 in
-          no_meeting count i j placed x.entry y.entry m preceding (omega arith) below' (λ same. omega arith) x.holds
-          y.holds (placed_at i x.entry (omega arith) x.is (omega arith))
-          (placed_at j y.entry below' y.is (omega arith))
+          no_meeting count i j indexed x.entry y.entry m preceding (omega arith) below' (λ same. omega arith) x.holds
+          y.holds (indexed_at i x.entry (omega arith) x.is (omega arith))
+          (indexed_at j y.entry below' y.is (omega arith))
 
 -- ---- from specifications to places
 
@@ -98,8 +98,8 @@ covers_own : (spec : IdMap) (direction : Direction) (entry : Entry) (m : ℕ) �
     → EntryCovers entry m → Covers spec direction m
 covers_own spec direction entry m is covers = rw is covers
 
-preceding_at : (specs : List IdMap) (direction : Direction) (count : ℕ) (one other : Placed)
-    → Accepted (take count specs) → count ≤ length specs → IsPlaced specs direction one → IsPlaced specs direction other
+preceding_at : (specs : List IdMap) (direction : Direction) (count : ℕ) (one other : IndexedEntry)
+    → Accepted (take count specs) → count ≤ length specs → IsIndexed specs direction one → IsIndexed specs direction other
     → one.index ≢ other.index → first_of one.entry ≤ first_of other.entry → one.index < count → other.index < count
     → Precedes one.entry other.entry
 preceding_at specs direction count one other accepted within first second differ rises below under =
@@ -118,23 +118,23 @@ preceding_at specs direction count one other accepted within first second differ
             covers_own second.spec direction other.entry m second.sets_up (omega arith, omega arith),
           )
 
-pub preceding_from_accepted : (specs : List IdMap) (direction : Direction) (count : ℕ) (placed : List Placed)
-    → Accepted (take count specs) → count ≤ length specs → PlacesInOrder specs direction placed
-    → ArePrecedingBelow count placed
-preceding_from_accepted specs direction count placed accepted within sorted a b d before below one_below other_below =
-    let P = λ (one : Placed). IsPlaced specs direction one × (one.index < length specs) in
-    let first = All-get_or P placed a d (omega arith) sorted.places.from in
-    let second = All-get_or P placed b d below sorted.places.from in
-    preceding_at specs direction count (get_or placed a d) (get_or placed b d) accepted within first.0 second.0
-    (sorted.places.once a b d before below) (sorted.rising a b d (omega arith) below) one_below other_below
+pub preceding_from_accepted : (specs : List IdMap) (direction : Direction) (count : ℕ) (indexed : List IndexedEntry)
+    → Accepted (take count specs) → count ≤ length specs → AreSorted specs direction indexed
+    → ArePrecedingBelow count indexed
+preceding_from_accepted specs direction count indexed accepted within sorted a b d before below one_below other_below =
+    let P = λ (one : IndexedEntry). IsIndexed specs direction one × (one.index < length specs) in
+    let first = All-get_or P indexed a d (omega arith) sorted.are_indexed.from in
+    let second = All-get_or P indexed b d below sorted.are_indexed.from in
+    preceding_at specs direction count (get_or indexed a d) (get_or indexed b d) accepted within first.0 second.0
+    (sorted.are_indexed.once a b d before below) (sorted.rising a b d (omega arith) below) one_below other_below
 
 -- ---- a front is accepted
 
-pub Accepted-from_front : (specs : List IdMap) (count : ℕ) (guests hosts : List Placed) → count ≤ length specs
-    → All HasRoomBothWays (take count specs) → PlacesInOrder specs GuestToHost guests
-    → PlacesInOrder specs HostToGuest hosts → ArePrecedingBelow count guests → ArePrecedingBelow count hosts
+pub Accepted-from_front : (specs : List IdMap) (count : ℕ) (guests hosts : List IndexedEntry) → count ≤ length specs
+    → All HasRoomBothWays (take count specs) → AreSorted specs GuestToHost guests
+    → AreSorted specs HostToGuest hosts → ArePrecedingBelow count guests → ArePrecedingBelow count hosts
     → Accepted (take count specs)
-Accepted-from_front specs count guests hosts within room placed_guests placed_hosts guests_apart hosts_apart = record {
+Accepted-from_front specs count guests hosts within room indexed_guests indexed_hosts guests_apart hosts_apart = record {
   source = source;
   target = target;
   apart = apart;
@@ -156,145 +156,145 @@ Accepted-from_front specs count guests hosts within room placed_guests placed_ho
       (λ spec both. both.host.target) (take count specs) room
 
   apart : (direction : Direction) → AllPairs (λ spec other. ¬ Meet spec other direction) (take count specs)
-  apart GuestToHost = apart_from_places specs GuestToHost count guests within placed_guests.places guests_apart
-  apart HostToGuest = apart_from_places specs HostToGuest count hosts within placed_hosts.places hosts_apart
+  apart GuestToHost = apart_from_indexed specs GuestToHost count guests within indexed_guests.are_indexed guests_apart
+  apart HostToGuest = apart_from_indexed specs HostToGuest count hosts within indexed_hosts.are_indexed hosts_apart
 
 -- ---- how far the test of a front has come
 
 -- an entry that begins at the end so far or above it
-added : (count end next : ℕ) (front : List Placed) (one : Placed) → next ≡ first_of one.entry + count_of one.entry
+added : (count end next : ℕ) (front : List IndexedEntry) (one : IndexedEntry) → next ≡ first_of one.entry + count_of one.entry
     → KeepsApartTo count end front → one.index < count → end ≤ first_of one.entry
     → KeepsApartTo count next (front ++ one ∷ [])
 added count end next front one is so_far counts begins = record {
   preceding =
-      all_pairs_push (λ (one other : Placed). one.index < count → other.index < count → Precedes one.entry other.entry)
+      all_pairs_push (λ (one other : IndexedEntry). one.index < count → other.index < count → Precedes one.entry other.entry)
       front one so_far.preceding (λ k e below first second. ends (get_or front k e) (so_far.before k e below first));
   before =
-      All-push (λ (other : Placed). other.index < count → first_of other.entry + count_of other.entry ≤ next) front one
+      All-push (λ (other : IndexedEntry). other.index < count → first_of other.entry + count_of other.entry ≤ next) front one
       (λ k e below first. grows (get_or front k e) (so_far.before k e below first)) (λ _. omega arith);
   reached = inr (one, Contains-push front one, counts, sym is);
 } where
-  ends : (other : Placed) → first_of other.entry + count_of other.entry ≤ end → Precedes other.entry one.entry
+  ends : (other : IndexedEntry) → first_of other.entry + count_of other.entry ≤ end → Precedes other.entry one.entry
   ends other before = omega arith
 
-  grows : (other : Placed) → first_of other.entry + count_of other.entry ≤ end
+  grows : (other : IndexedEntry) → first_of other.entry + count_of other.entry ≤ end
       → first_of other.entry + count_of other.entry ≤ next
   grows other before = omega arith
 
-pub KeepsApartTo-add : (count end next i : ℕ) (placed : List Placed) (d : Placed) → i < length placed
-    → KeepsApartTo count end (take i placed) → (get_or placed i d).index < count
-    → end ≤ first_of (get_or placed i d).entry
-    → next ≡ first_of (get_or placed i d).entry + count_of (get_or placed i d).entry
-    → KeepsApartTo count next (take (i + 1) placed)
-KeepsApartTo-add count end next i placed d within so_far counts begins is =
-    rw (take_more placed i d within) (added count end next (take i placed) (get_or placed i d) is so_far counts begins)
+pub KeepsApartTo-add : (count end next i : ℕ) (indexed : List IndexedEntry) (d : IndexedEntry) → i < length indexed
+    → KeepsApartTo count end (take i indexed) → (get_or indexed i d).index < count
+    → end ≤ first_of (get_or indexed i d).entry
+    → next ≡ first_of (get_or indexed i d).entry + count_of (get_or indexed i d).entry
+    → KeepsApartTo count next (take (i + 1) indexed)
+KeepsApartTo-add count end next i indexed d within so_far counts begins is =
+    rw (take_more indexed i d within) (added count end next (take i indexed) (get_or indexed i d) is so_far counts begins)
 
 -- an entry that does not count
-pub KeepsApartTo-pass : (count end i : ℕ) (placed : List Placed) (d : Placed) → i < length placed
-    → KeepsApartTo count end (take i placed) → count ≤ (get_or placed i d).index
-    → KeepsApartTo count end (take (i + 1) placed)
-KeepsApartTo-pass count end i placed d within so_far past =
-    rw (take_more placed i d within) (added (take i placed) (get_or placed i d) so_far past) where
-      added : (front : List Placed) (one : Placed) → KeepsApartTo count end front → count ≤ one.index
+pub KeepsApartTo-pass : (count end i : ℕ) (indexed : List IndexedEntry) (d : IndexedEntry) → i < length indexed
+    → KeepsApartTo count end (take i indexed) → count ≤ (get_or indexed i d).index
+    → KeepsApartTo count end (take (i + 1) indexed)
+KeepsApartTo-pass count end i indexed d within so_far past =
+    rw (take_more indexed i d within) (added (take i indexed) (get_or indexed i d) so_far past) where
+      added : (front : List IndexedEntry) (one : IndexedEntry) → KeepsApartTo count end front → count ≤ one.index
           → KeepsApartTo count end (front ++ one ∷ [])
       added front one so_far past = record {
         preceding =
             all_pairs_push
-            (λ (one other : Placed). one.index < count → other.index < count → Precedes one.entry other.entry) front one
+            (λ (one other : IndexedEntry). one.index < count → other.index < count → Precedes one.entry other.entry) front one
             so_far.preceding (λ k e below first second. absurd (omega arith));
         before =
-            All-push (λ (other : Placed). other.index < count → first_of other.entry + count_of other.entry ≤ end) front
+            All-push (λ (other : IndexedEntry). other.index < count → first_of other.entry + count_of other.entry ≤ end) front
             one so_far.before (λ first. absurd (omega arith));
         reached = still so_far.reached;
       } where
         still : (end ≡ 0)
-            ⊎ ((other : Placed) × Contains front other × (other.index < count)
+            ⊎ ((other : IndexedEntry) × Contains front other × (other.index < count)
             × (first_of other.entry + count_of other.entry ≡ end))
             → (end ≡ 0)
-            ⊎ ((other : Placed) × Contains (front ++ one ∷ []) other × (other.index < count)
+            ⊎ ((other : IndexedEntry) × Contains (front ++ one ∷ []) other × (other.index < count)
             × (first_of other.entry + count_of other.entry ≡ end))
         still (inl none) = inl none
         still (inr (other, listed, counts, ends)) =
             inr (other, Contains-append_left front (one ∷ []) other listed, counts, ends)
 
 -- one that begins below the end so far
-pub overlap_found : (count end i : ℕ) (placed : List Placed) (d : Placed) → i < length placed
-    → KeepsApartTo count end (take i placed) → (get_or placed i d).index < count
-    → first_of (get_or placed i d).entry < end → ¬ ArePrecedingBelow count placed
-overlap_found count end i placed d within so_far counts begins preceding = found so_far.reached where
+pub overlap_found : (count end i : ℕ) (indexed : List IndexedEntry) (d : IndexedEntry) → i < length indexed
+    → KeepsApartTo count end (take i indexed) → (get_or indexed i d).index < count
+    → first_of (get_or indexed i d).entry < end → ¬ ArePrecedingBelow count indexed
+overlap_found count end i indexed d within so_far counts begins preceding = found so_far.reached where
   found : (end ≡ 0)
-      ⊎ ((other : Placed) × Contains (take i placed) other × (other.index < count)
+      ⊎ ((other : IndexedEntry) × Contains (take i indexed) other × (other.index < count)
       × (first_of other.entry + count_of other.entry ≡ end)) → ⊥
   found (inl none) = absurd (omega arith)
   found (inr (other, (k, below, here), other_counts, ends)) =
-      let R = λ (one other : Placed). one.index < count → other.index < count → Precedes one.entry other.entry in
-      let before : k < i = omega (arith, length-take i placed) in
-      let there : get_or placed k other ≡ other = sym (get_or-take i placed k other before) ∙ here in
-      let own : get_or placed i (get_or placed i d) ≡ get_or placed i d =
-      get_or_default placed i (get_or placed i d) d within in
-      let precedes : first_of other.entry + count_of other.entry ≤ first_of (get_or placed i d).entry =
-      pair_at R placed k i other (get_or placed i d) preceding before within there own other_counts counts in
+      let R = λ (one other : IndexedEntry). one.index < count → other.index < count → Precedes one.entry other.entry in
+      let before : k < i = omega (arith, length-take i indexed) in
+      let there : get_or indexed k other ≡ other = sym (get_or-take i indexed k other before) ∙ here in
+      let own : get_or indexed i (get_or indexed i d) ≡ get_or indexed i d =
+      get_or_default indexed i (get_or indexed i d) d within in
+      let precedes : first_of other.entry + count_of other.entry ≤ first_of (get_or indexed i d).entry =
+      pair_at R indexed k i other (get_or indexed i d) preceding before within there own other_counts counts in
       absurd (omega arith)
 
 -- ---- the ranges of an accepted list
 
-target_of_one : (specs : List IdMap) (direction : Direction) (one : Placed) → Accepted specs
-    → IsPlaced specs direction one → HasTarget one.entry
-target_of_one specs direction one accepted placed =
-    rw placed.sets_up at (All-contains (λ (spec : IdMap). IfSome (entry_of spec direction) HasTarget) specs placed.spec
-    (accepted.target direction) (one.index, placed.here.0, placed.here.1))
+target_of_one : (specs : List IdMap) (direction : Direction) (one : IndexedEntry) → Accepted specs
+    → IsIndexed specs direction one → HasTarget one.entry
+target_of_one specs direction one accepted indexed =
+    rw indexed.sets_up at (All-contains (λ (spec : IdMap). IfSome (entry_of spec direction) HasTarget) specs indexed.spec
+    (accepted.target direction) (one.index, indexed.here.0, indexed.here.1))
 
-numbers_of_one : (specs : List IdMap) (direction : Direction) (one : Placed) → Accepted specs
-    → IsPlaced specs direction one → HasNumbers one.entry
-numbers_of_one specs direction one accepted placed =
+numbers_of_one : (specs : List IdMap) (direction : Direction) (one : IndexedEntry) → Accepted specs
+    → IsIndexed specs direction one → HasNumbers one.entry
+numbers_of_one specs direction one accepted indexed =
     let source : HasSource one.entry =
-    rw placed.sets_up at (All-contains (λ (spec : IdMap). IfSome (entry_of spec direction) HasSource) specs
-    placed.spec (accepted.source direction) (one.index, placed.here.0, placed.here.1)) in
-    record { some = placed.counted; source = source placed.counted }
+    rw indexed.sets_up at (All-contains (λ (spec : IdMap). IfSome (entry_of spec direction) HasSource) specs
+    indexed.spec (accepted.source direction) (one.index, indexed.here.0, indexed.here.1)) in
+    record { some = indexed.counted; source = source indexed.counted }
 
-pub AreRanges-placed : (specs : List IdMap) (direction : Direction) (placed : List Placed) → Accepted specs
-    → PlacesInOrder specs direction placed → AreRanges (map (λ one. one.entry) placed)
-AreRanges-placed specs direction placed accepted sorted = record {
+pub AreRanges-indexed : (specs : List IdMap) (direction : Direction) (indexed : List IndexedEntry) → Accepted specs
+    → AreSorted specs direction indexed → AreRanges (map (λ one. one.entry) indexed)
+AreRanges-indexed specs direction indexed accepted sorted = record {
   numbers =
-      All-map HasNumbers (λ (one : Placed). one.entry) placed
-      (All-weaker (λ (one : Placed). IsPlaced specs direction one × (one.index < length specs))
-      (λ (one : Placed). HasNumbers one.entry) (λ one (is, _). numbers_of_one specs direction one accepted is) placed
-      sorted.places.from);
+      All-map HasNumbers (λ (one : IndexedEntry). one.entry) indexed
+      (All-weaker (λ (one : IndexedEntry). IsIndexed specs direction one × (one.index < length specs))
+      (λ (one : IndexedEntry). HasNumbers one.entry) (λ one (is, _). numbers_of_one specs direction one accepted is) indexed
+      sorted.are_indexed.from);
   target =
-      All-map HasTarget (λ (one : Placed). one.entry) placed
-      (All-weaker (λ (one : Placed). IsPlaced specs direction one × (one.index < length specs))
-      (λ (one : Placed). HasTarget one.entry) (λ one (is, _). target_of_one specs direction one accepted is) placed
-      sorted.places.from);
+      All-map HasTarget (λ (one : IndexedEntry). one.entry) indexed
+      (All-weaker (λ (one : IndexedEntry). IsIndexed specs direction one × (one.index < length specs))
+      (λ (one : IndexedEntry). HasTarget one.entry) (λ one (is, _). target_of_one specs direction one accepted is) indexed
+      sorted.are_indexed.from);
   ordered = ordered;
 } where
-  ordered : AllPairs Precedes (map (λ (one : Placed). one.entry) placed)
+  ordered : AllPairs Precedes (map (λ (one : IndexedEntry). one.entry) indexed)
   ordered a b d before below =
-      let entry = λ (one : Placed). one.entry in
-      let below' : b < length placed = rw (length-map placed entry) at below in
-      let some = get_or placed a (record { entry = d; index = 0 }) in
-      let P = λ (one : Placed). IsPlaced specs direction one × (one.index < length specs) in
+      let entry = λ (one : IndexedEntry). one.entry in
+      let below' : b < length indexed = rw (length-map indexed entry) at below in
+      let some = get_or indexed a (record { entry = d; index = 0 }) in
+      let P = λ (one : IndexedEntry). IsIndexed specs direction one × (one.index < length specs) in
       let whole : Accepted (take (length specs) specs) = rw (take-length specs) accepted in
-      let first = All-get_or P placed a some (omega arith) sorted.places.from in
-      let second = All-get_or P placed b some below' sorted.places.from in
-      rw (get_or-map entry placed a some d (omega arith), get_or-map entry placed b some d below')
-      (preceding_from_accepted specs direction (length specs) placed whole (omega arith) sorted a b some before below'
+      let first = All-get_or P indexed a some (omega arith) sorted.are_indexed.from in
+      let second = All-get_or P indexed b some below' sorted.are_indexed.from in
+      rw (get_or-map entry indexed a some d (omega arith), get_or-map entry indexed b some d below')
+      (preceding_from_accepted specs direction (length specs) indexed whole (omega arith) sorted a b some before below'
       first.1 second.1)
 
-pub Stores-placed : (specs : List IdMap) (direction : Direction) (placed : List Placed)
-    → PlacesInOrder specs direction placed → Stores specs direction (map (λ one. one.entry) placed)
-Stores-placed specs direction placed sorted = record {
-  from = All-map (IsOfOne specs direction) (λ (one : Placed). one.entry) placed
-      (All-weaker (λ (one : Placed). IsPlaced specs direction one × (one.index < length specs))
-      (λ (one : Placed). IsOfOne specs direction one.entry)
-      (λ one (is, _). (is.spec, (one.index, is.here.0, is.here.1), is.sets_up)) placed sorted.places.from);
+pub Stores-indexed : (specs : List IdMap) (direction : Direction) (indexed : List IndexedEntry)
+    → AreSorted specs direction indexed → Stores specs direction (map (λ one. one.entry) indexed)
+Stores-indexed specs direction indexed sorted = record {
+  from = All-map (IsOfOne specs direction) (λ (one : IndexedEntry). one.entry) indexed
+      (All-weaker (λ (one : IndexedEntry). IsIndexed specs direction one × (one.index < length specs))
+      (λ (one : IndexedEntry). IsOfOne specs direction one.entry)
+      (λ one (is, _). (is.spec, (one.index, is.here.0, is.here.1), is.sets_up)) indexed sorted.are_indexed.from);
   each = each;
-  counted = length-map placed (λ (one : Placed). one.entry) ∙ sorted.places.counted
+  counted = length-map indexed (λ (one : IndexedEntry). one.entry) ∙ sorted.are_indexed.counted
       ∙ ap (λ (list : List IdMap). acting list direction) (take-length specs);
 } where
   each : (spec : IdMap) (range : Entry) → Contains specs spec → entry_of spec direction ≡ Some range
-      → 1 ≤ count_of range → Contains (map (λ (one : Placed). one.entry) placed) range
+      → 1 ≤ count_of range → Contains (map (λ (one : IndexedEntry). one.entry) indexed) range
   each spec range (k, below, here) is some =
-      let (at, within, there) = sorted.places.each k spec range below (below, here) is some in
-      let entry = λ (one : Placed). one.entry in
-      let inside : at < length (map entry placed) = rw (length-map placed entry) within in
-      (at, inside, get_or-map entry placed at (record { entry = range; index = k }) range within ∙ ap entry there)
+      let (at, within, there) = sorted.are_indexed.each k spec range below (below, here) is some in
+      let entry = λ (one : IndexedEntry). one.entry in
+      let inside : at < length (map entry indexed) = rw (length-map indexed entry) within in
+      (at, inside, get_or-map entry indexed at (record { entry = range; index = k }) range within ∙ ap entry there)

@@ -9,19 +9,19 @@ use Rattle.virtiofs_map.specs.Build.{Accepted}
 use Rattle.virtiofs_map.specs.Image.{IsImage, image_length, IsWritten}
 use Rattle.virtiofs_map.specs.LookupSteps.{covers_some, acting}
 use Rattle.virtiofs_map.specs.Mapping.{entry_of}
-use Rattle.virtiofs_map.specs.RangeParts.{PlacesInOrder, ArePlaced}
+use Rattle.virtiofs_map.specs.RangeParts.{AreSorted, AreSortedBothWays}
 use Rattle.virtiofs_map.specs.WordParts.{AreFirstsBelow, AreRowsBelow, KeepsBefore, IsAt, HasRanges, table_in}
 use Rattle.virtiofs_map.specs.declared.cmdline.IdMap.{IdMap}
 use Rattle.virtiofs_map.specs.declared.soft_idmap.entry.Direction.{Direction}
 use Rattle.virtiofs_map.specs.declared.soft_idmap.entry.Direction.TheVariants.{GuestToHost, HostToGuest}
 use Rattle.virtiofs_map.specs.declared.soft_idmap.entry.Entry.{Entry}
-use Rattle.virtiofs_map.specs.declared.soft_idmap.placed.Placed.{Placed}
-use Rattle.virtiofs_map.proofs.soft_idmap.FrontLemmas.{AreRanges-placed, Stores-placed}
+use Rattle.virtiofs_map.specs.declared.soft_idmap.indexed.IndexedEntry.{IndexedEntry}
+use Rattle.virtiofs_map.proofs.soft_idmap.FrontLemmas.{AreRanges-indexed, Stores-indexed}
 use Rattle.virtiofs_map.proofs.WordLemmas.{AreRanges-count}
 
 -- the ranges of what was placed
-abbrev pub entries : List Placed → List Entry
-entries placed = map (λ one. one.entry) placed
+abbrev pub entries : List IndexedEntry → List Entry
+entries indexed = map (λ one. one.entry) indexed
 
 -- what was written before that place stays
 pub firsts_kept : (old new : List ℕ) (start at : ℕ) (ranges : List Entry) (count : ℕ)
@@ -45,32 +45,32 @@ pub keeps_further : (old middle new : List ℕ) (at next : ℕ) → KeepsBefore 
 keeps_further old middle new at next first second order k below = second k (omega arith) ∙ first k below
 
 -- the ranges of a direction stand there
-has_ranges : (specs : List IdMap) (direction : Direction) (placed : List Placed) (words : List ℕ)
+has_ranges : (specs : List IdMap) (direction : Direction) (indexed : List IndexedEntry) (words : List ℕ)
     (firsts rows count : ℕ)
-    → Accepted specs → PlacesInOrder specs direction placed → length placed ≡ count
-    → AreFirstsBelow words firsts (entries placed) (length placed)
-    → AreRowsBelow words rows (entries placed) (length placed)
+    → Accepted specs → AreSorted specs direction indexed → length indexed ≡ count
+    → AreFirstsBelow words firsts (entries indexed) (length indexed)
+    → AreRowsBelow words rows (entries indexed) (length indexed)
     → HasRanges specs direction (record { words = words; firsts = firsts; rows = rows; count = count })
-has_ranges specs direction placed words firsts rows count accepted sorted counted are_firsts are_rows = record {
-  ranges = entries placed;
-  stores = Stores-placed specs direction placed sorted;
-  ordered = AreRanges-placed specs direction placed accepted sorted;
-  stand = record { counted = length-map placed (λ (one : Placed). one.entry) ∙ counted; each = each };
+has_ranges specs direction indexed words firsts rows count accepted sorted counted are_firsts are_rows = record {
+  ranges = entries indexed;
+  stores = Stores-indexed specs direction indexed sorted;
+  ordered = AreRanges-indexed specs direction indexed accepted sorted;
+  stand = record { counted = length-map indexed (λ (one : IndexedEntry). one.entry) ∙ counted; each = each };
 } where
-  each : (k : ℕ) (range : Entry) → slice_get (entries placed) k ≡ Some range
+  each : (k : ℕ) (range : Entry) → slice_get (entries indexed) k ≡ Some range
       → IsAt (record { words = words; firsts = firsts; rows = rows; count = count }) k range
   each k range here =
-      let below : k < length placed =
+      let below : k < length indexed =
       omega (
         arith,
-        slice_get_within (entries placed) k range here,
-        length-map placed (λ (one : Placed). one.entry),
+        slice_get_within (entries indexed) k range here,
+        length-map indexed (λ (one : IndexedEntry). one.entry),
       ) in
       record { first = are_firsts k range below here; row = are_rows k range below here }
 
 -- the words are those of both directions
-pub IsImage-written : (specs : List IdMap) (guests hosts : List Placed) (words : List ℕ)
-    → Accepted specs → PlacesInOrder specs GuestToHost guests → PlacesInOrder specs HostToGuest hosts
+pub IsImage-written : (specs : List IdMap) (guests hosts : List IndexedEntry) (words : List ℕ)
+    → Accepted specs → AreSorted specs GuestToHost guests → AreSorted specs HostToGuest hosts
     → slice_index words 0 ≡ 1768190721 → slice_index words 1 ≡ length guests → slice_index words 2 ≡ length hosts
     → 3 + 4 * length guests + 4 * length hosts ≤ length words
     → AreFirstsBelow words 3 (entries guests) (length guests)
@@ -93,28 +93,28 @@ IsImage-written specs guests hosts words accepted from_guest from_host kind many
           (rw many_guests host_firsts) (rw (many_guests, many_hosts) host_rows)
 
 -- what is placed is less than a word can count
-pub placed-count : (specs : List IdMap) (direction : Direction) (placed : List Placed) → Accepted specs
-    → PlacesInOrder specs direction placed → length placed < 4294967296
-placed-count specs direction placed accepted sorted =
+pub indexed-count : (specs : List IdMap) (direction : Direction) (indexed : List IndexedEntry) → Accepted specs
+    → AreSorted specs direction indexed → length indexed < 4294967296
+indexed-count specs direction indexed accepted sorted =
     omega (
       arith,
-      AreRanges-count (entries placed) (AreRanges-placed specs direction placed accepted sorted),
-      length-map placed (λ (one : Placed). one.entry),
+      AreRanges-count (entries indexed) (AreRanges-indexed specs direction indexed accepted sorted),
+      length-map indexed (λ (one : IndexedEntry). one.entry),
     )
 
 -- and as many as specifications act
-pub placed-acting : (specs : List IdMap) (direction : Direction) (placed : List Placed)
-    → PlacesInOrder specs direction placed → length placed ≡ acting specs direction
-placed-acting specs direction placed sorted = sorted.places.counted
+pub indexed-acting : (specs : List IdMap) (direction : Direction) (indexed : List IndexedEntry)
+    → AreSorted specs direction indexed → length indexed ≡ acting specs direction
+indexed-acting specs direction indexed sorted = sorted.are_indexed.counted
     ∙ ap (λ (list : List IdMap). acting list direction) (take-length specs)
 
 -- how long an image is
-pub image-length : (specs : List IdMap) (guests hosts : List Placed) (len : ℕ) → ArePlaced specs guests hosts
+pub image-length : (specs : List IdMap) (guests hosts : List IndexedEntry) (len : ℕ) → AreSortedBothWays specs guests hosts
     → len ≡ 3 + 4 * length guests + 4 * length hosts → len ≡ image_length specs
-image-length specs guests hosts len placed is =
+image-length specs guests hosts len indexed is =
     rw (
-      placed-acting specs GuestToHost guests placed.from_guest,
-      placed-acting specs HostToGuest hosts placed.from_host,
+      indexed-acting specs GuestToHost guests indexed.from_guest,
+      indexed-acting specs HostToGuest hosts indexed.from_host,
     ) at is
 
 pub image-bound : (specs : List IdMap) → image_length specs ≤ 3 + 8 * length specs

@@ -7,14 +7,14 @@ use Rattle.std.proofs.lemmas.Bool.{and_left, cases_Bool, cases_lt, eqb-true, ne_
 use Rattle.std.proofs.lemmas.List.{length-drop, take_all}
 use Rattle.std.proofs.lemmas.List.Elements.{All-contains, All-head, All-tail}
 use Rattle.std.proofs.lemmas.List.Sums.{passes_at_first, split_at_first}
-use Rattle.virtiofs_map.specs.BranchParts.{answer_for, answer_of}
+use Rattle.virtiofs_map.specs.NodeParts.{answer_for, answer_of}
 use Rattle.virtiofs_map.specs.FirstRule.{acts, pattern}
 use Rattle.virtiofs_map.specs.Names.{begins, deciding, first}
 use Rattle.virtiofs_map.specs.Rule.{MappingRule, HasNoZero}
 use Rattle.virtiofs_map.specs.declared.xattrmap.scopes.Side.{Side}
 use Rattle.virtiofs_map.proofs.xattrmap.FittingLemmas.{fits_is, same_first}
 use Rattle.virtiofs_map.proofs.ServerListLemmas.{is_zero}
-use Rattle.virtiofs_map.proofs.xattrmap.WayLemmas.{pattern_no_zero}
+use Rattle.virtiofs_map.proofs.xattrmap.PathLemmas.{pattern_no_zero}
 
 -- ---- a name, and a zero after it
 

@@ -27,24 +27,24 @@ begins_front (x ∷ p) [] (suc k) l = refl
 begins_front (x ∷ p) (y ∷ name) zero l = absurd (omega (arith, l))
 begins_front (x ∷ p) (y ∷ name) (suc k) l = ap (λ b. eqb x y && b) (begins_front p name k (omega (arith, l)))
 
--- a way, and the byte after it
-pub front_more : (way left name : List ℕ) (byte : ℕ) → name ≡ way ++ byte ∷ left
-    → take (suc (length way)) name ≡ way ++ byte ∷ []
-front_more way left name byte e =
-    ap (λ n. take n name) (sym (add-one (length way))) ∙ ap (take (length way + 1)) e
-    ∙ take-append-add way (byte ∷ left) 1
+-- a path, and the byte after it
+pub front_more : (path left name : List ℕ) (byte : ℕ) → name ≡ path ++ byte ∷ left
+    → take (suc (length path)) name ≡ path ++ byte ∷ []
+front_more path left name byte e =
+    ap (λ n. take n name) (sym (add-one (length path))) ∙ ap (take (length path + 1)) e
+    ∙ take-append-add path (byte ∷ left) 1
 
 -- where a pattern goes on with a label and begins the name, the label begins what is left of the name
-pub label_begins : (way label left name p : List ℕ) (byte : ℕ) → name ≡ way ++ byte ∷ left
-    → begins (way ++ byte ∷ label) p ≡ true → begins p name ≡ true → begins label left ≡ true
-label_begins way label left name p byte split goes_on fit =
-    let more = drop (length (way ++ byte ∷ label)) p ++ drop (length p) name in
-    let whole : name ≡ way ++ (byte ∷ (label ++ more)) =
-    begins_split p name fit ∙ ap (λ row. row ++ drop (length p) name) (begins_split (way ++ byte ∷ label) p goes_on)
-    ∙ append_assoc (way ++ byte ∷ label) (drop (length (way ++ byte ∷ label)) p) (drop (length p) name)
-    ∙ append_assoc way (byte ∷ label) more in
-    let both : byte ∷ left ≡ byte ∷ (label ++ more) = sym (drop_at way (byte ∷ left) (length way) refl)
-    ∙ ap (drop (length way)) (sym split ∙ whole) ∙ drop_at way (byte ∷ (label ++ more)) (length way) refl in
+pub label_begins : (path label left name p : List ℕ) (byte : ℕ) → name ≡ path ++ byte ∷ left
+    → begins (path ++ byte ∷ label) p ≡ true → begins p name ≡ true → begins label left ≡ true
+label_begins path label left name p byte split goes_on fit =
+    let more = drop (length (path ++ byte ∷ label)) p ++ drop (length p) name in
+    let whole : name ≡ path ++ (byte ∷ (label ++ more)) =
+    begins_split p name fit ∙ ap (λ row. row ++ drop (length p) name) (begins_split (path ++ byte ∷ label) p goes_on)
+    ∙ append_assoc (path ++ byte ∷ label) (drop (length (path ++ byte ∷ label)) p) (drop (length p) name)
+    ∙ append_assoc path (byte ∷ label) more in
+    let both : byte ∷ left ≡ byte ∷ (label ++ more) = sym (drop_at path (byte ∷ left) (length path) refl)
+    ∙ ap (drop (length path)) (sym split ∙ whole) ∙ drop_at path (byte ∷ (label ++ more)) (length path) refl in
     let tails : left ≡ label ++ more = cc in
     begins_from label left more tails
 

@@ -7,7 +7,7 @@ use Rattle.std.specs.Option.{option_map}
 use Rattle.std.proofs.lemmas.List.{take-append-le, drop-append-le, map-append, length-map, take_more, take_all}
 use Rattle.std.proofs.lemmas.List.Elements.{All-head, All-tail, All-push}
 use Rattle.std.proofs.lemmas.Option.{slice_get-map, slice_get_within, get_or_from_slice_get}
-use Rattle.virtiofs_map.specs.BranchParts.{AreSpans, IsSpan}
+use Rattle.virtiofs_map.specs.NodeParts.{AreSpans, IsSpan}
 use Rattle.virtiofs_map.specs.NamesImage.{pattern_bytes}
 use Rattle.virtiofs_map.specs.Rule.{MappingRule, same_rule, same_rules}
 use Rattle.virtiofs_map.specs.RuleParts.{rule_with, rule_meant, rule_kept, AreKept, IsAmong}

@@ -1,4 +1,4 @@
--- How many nodes the trie of some texts has at most: with holes, 6 for each text and 1 for each of its bytes.
+-- How many text nodes the trie of some texts has at most: with holes, 6 for each text and 1 for each of its bytes.
 use Rattle.std.proofs.Common.{◌≡◌, ℕ, zero, suc, ◌+◌, ◌-◌, ◌*◌, ◌<◌, ◌≤◌, Bool, true, false, ◌&&◌, ◌||◌, cond, eqb, List, []}
 use Rattle.std.proofs.Common.{◌∷◌, ◌++◌, length, drop, map, nat_lt, Option, Some, None, refl, sym, ap, subst, ◌∙◌, arith, inl, inr}
 use Rattle.std.proofs.Common.{◌⊎◌, append_assoc, length-append}
@@ -6,8 +6,8 @@ use Rattle.std.specs.List.{filter, flat_map, list_any, range_with_len}
 use Rattle.std.proofs.lemmas.Bool.{cases_Bool, cases_lt, cond_both, eqb-true, false_from_ne_true, true≢false}
 use Rattle.std.proofs.lemmas.Bool.Decides.{nat_tests}
 use Rattle.virtiofs_map.specs.Names.{begins}
-use Rattle.virtiofs_map.specs.PatternTrie.{Node, root, leads, next_bytes, label_after, node_after, child, children, slots}
-use Rattle.virtiofs_map.specs.PatternTrie.{are_sparse, span, levels, longest_of, nodes}
+use Rattle.virtiofs_map.specs.PatternTrie.{TextNode, root, leads, next_bytes, label_after, text_node_after, child, children, slots}
+use Rattle.virtiofs_map.specs.PatternTrie.{are_sparse, span, levels, longest_of, text_nodes}
 use Rattle.virtiofs_map.proofs.BeginsLemmas.{begins_from, begins_length, begins_split}
 use Rattle.virtiofs_map.proofs.xattrmap.SlotLemmas.{Rising, rising_filter, length-range, slots_placed, slots_upto}
 
@@ -130,7 +130,7 @@ all_through path (text ∷ texts) low count =
     let rest = all_through path texts low count in
     omega (arith, both, here, rest)
 
--- ---- what is below a node
+-- ---- what is below a text node
 
 module _ (path : List ℕ) (byte : ℕ) (label : List ℕ) where
   begun_before : (text : List ℕ) → begins (path ++ byte ∷ label) text ≡ true → begins (path ++ byte ∷ []) text ≡ true
@@ -223,13 +223,13 @@ sum_ones : {X : Type 0} (xs : List X) → sum_of (λ (x : X). 1) xs ≡ length x
 sum_ones [] = refl
 sum_ones (x ∷ xs) = let rest = sum_ones xs in omega (arith, rest)
 
--- ---- all nodes
+-- ---- all text nodes
 
 module _ (most : ℕ) (texts : List (List ℕ)) where
-  -- the most nodes and holes below one
-  abbrev pub below_most : Option Node → ℕ
+  -- the most text nodes and holes below one
+  abbrev pub below_most : Option TextNode → ℕ
   below_most None = 0
-  below_most (Some node) = held texts node.path - 6
+  below_most (Some text_node) = held texts text_node.path - 6
 
   child_most : (path : List ℕ) (byte : ℕ)
       → below_most (child most texts path byte) + cond (leads texts (path ++ byte ∷ [])) 7 0
@@ -240,14 +240,14 @@ module _ (most : ℕ) (texts : List (List ℕ)) where
       elim (cases_Bool (list_any (begins (path ++ byte ∷ [])) texts)) [
         | inl led ↦
             (let less = less_below path byte label texts led in
-            subst (λ b. below_most (cond b (Some (node_after path byte label)) None) + cond b 7 0
+            subst (λ b. below_most (cond b (Some (text_node_after path byte label)) None) + cond b 7 0
             ≤ sum_of (λ t. through path t byte) texts) (sym led) (omega (arith, less.0, less.1)))
         | inr none ↦
-            subst (λ b. below_most (cond b (Some (node_after path byte label)) None) + cond b 7 0
+            subst (λ b. below_most (cond b (Some (text_node_after path byte label)) None) + cond b 7 0
             ≤ sum_of (λ t. through path t byte) texts) (sym none) (omega arith)
       ]
 
-  -- 7 for each byte that leads on, and what is below the children, is no more than the node has
+  -- 7 for each byte that leads on, and what is below the children, is no more than the text node has
   range_most : (path range bytes : List ℕ) → bytes ≡ filter (λ b. leads texts (path ++ b ∷ [])) range
       → Rising 1 256 bytes
       → ((f : ℕ → ℕ) (low n : ℕ) → 1 ≤ low → low + n ≤ 256 → sum_of f (range_with_len low n) ≤ sum_of f range)
@@ -273,29 +273,29 @@ module _ (most : ℕ) (texts : List (List ℕ)) where
       range_most path (range_with_len 1 255) (filter (λ b. leads texts (path ++ b ∷ [])) (range_with_len 1 255)) refl
       (rising_filter (λ b. leads texts (path ++ b ∷ [])) 1 255) (λ f. sum_part f 1 255) (all_through path texts 1 255)
 
-  -- a node or hole, and the most below it
-  abbrev with_below : Option Node → ℕ
+  -- a text node or hole, and the most below it
+  abbrev with_below : Option TextNode → ℕ
   with_below of = 1 + below_most of
 
-  children_most : (of : Option Node) → sum_of with_below (children most texts of) ≤ below_most of
+  children_most : (of : Option TextNode) → sum_of with_below (children most texts of) ≤ below_most of
   unfolding children
   children_most None = omega arith
-  children_most (Some node) =
-      let bytes = next_bytes texts node.path in
-      let below : ℕ → ℕ = λ b. below_most (child most texts node.path b) in
-      let mapped = sum_map with_below (child most texts node.path) (slots bytes) in
+  children_most (Some text_node) =
+      let bytes = next_bytes texts text_node.path in
+      let below : ℕ → ℕ = λ b. below_most (child most texts text_node.path b) in
+      let mapped = sum_map with_below (child most texts text_node.path) (slots bytes) in
       elim (slot_count bytes) [
         | inl few ↦
             (let both = sum_both (λ (b : ℕ). 1) below (slots bytes) in
             let ones = sum_ones (slots bytes) in
-            let led = slots_most node.path in
+            let led = slots_most text_node.path in
             omega (arith, mapped, few, both, ones, led))
         | inr none ↦
-            (let empty = ap (sum_of (λ b. with_below (child most texts node.path b))) none in
+            (let empty = ap (sum_of (λ b. with_below (child most texts text_node.path b))) none in
             omega (arith, mapped, empty))
       ]
 
-  level_most : (level : List (Option Node))
+  level_most : (level : List (Option TextNode))
       → length level + sum_of with_below (flat_map (children most texts) level) ≤ sum_of with_below level
   level_most [] = omega arith
   level_most (of ∷ level) =
@@ -304,7 +304,7 @@ module _ (most : ℕ) (texts : List (List ℕ)) where
       let rest = level_most level in
       omega (arith, both, here, rest)
 
-  levels_most : (n : ℕ) (level : List (Option Node))
+  levels_most : (n : ℕ) (level : List (Option TextNode))
       → length (levels (children most texts) n level) ≤ sum_of with_below level
   levels_most zero level = omega arith
   levels_most (suc n) level =
@@ -314,6 +314,6 @@ module _ (most : ℕ) (texts : List (List ℕ)) where
       let here = level_most level in
       omega (arith, size, below, here)
 
-  pub nodes_most : length (nodes most texts) ≤ 1 + (held texts [] - 6)
-  unfolding nodes
-  nodes_most = let all = levels_most (suc (longest_of texts)) (Some root ∷ []) in omega (arith, all)
+  pub text_nodes_most : length (text_nodes most texts) ≤ 1 + (held texts [] - 6)
+  unfolding text_nodes
+  text_nodes_most = let all = levels_most (suc (longest_of texts)) (Some root ∷ []) in omega (arith, all)

@@ -12,7 +12,7 @@ use Rattle.virtiofs_map.specs.Rule.{RuleType, Prefix, Okay, Bad, Unsupported, Ma
 use Rattle.virtiofs_map.specs.declared.xattrmap.scopes.Side.{Side}
 use Rattle.virtiofs_map.specs.declared.xattrmap.scopes.Side.TheVariants.{Client, Server}
 use Rattle.virtiofs_map.proofs.AuditAlikeLemmas.{fits_more}
-use Rattle.virtiofs_map.proofs.AuditFrontLemmas.{answer_to_one, server_one}
+use Rattle.virtiofs_map.proofs.AuditAddedLemmas.{answer_to_one, server_one}
 use Rattle.virtiofs_map.proofs.BeginsLemmas.{begins_from}
 use Rattle.virtiofs_map.proofs.FirstRuleLemmas.{deciding-find}
 use Rattle.virtiofs_map.proofs.MapRuleLemmas.{not_zero_name, some_name}

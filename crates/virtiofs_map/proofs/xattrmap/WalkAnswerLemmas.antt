@@ -4,7 +4,7 @@ use Rattle.std.proofs.Common.{Some, None, refl, sym, ap, ◌∙◌, arith}
 use Rattle.std.specs.List.{position_or_len, slice_get}
 use Rattle.std.specs.Option.{option_and_then, option_map_or}
 use Rattle.std.proofs.lemmas.Bool.{ltb-true}
-use Rattle.virtiofs_map.specs.BranchParts.{AreFew, answer_for, answer_of, no_answer, type_at}
+use Rattle.virtiofs_map.specs.NodeParts.{AreFew, answer_for, answer_of, no_answer, type_at}
 use Rattle.virtiofs_map.specs.Names.{fits, first, deciding}
 use Rattle.virtiofs_map.specs.Rule.{MappingRule, RuleType, Prefix, Okay, Bad, Unsupported, type_number}
 use Rattle.virtiofs_map.specs.declared.xattrmap.scopes.Side.{Side}

@@ -1,8 +1,8 @@
-mod BranchOfLemmas
-mod HeadLemmas
+mod NodesOfLemmas
+mod NextByteLemmas
 mod LabelLemmas
 mod LevelOrderLemmas
-mod NodeLemmas
+mod TextNodeLemmas
 mod PatternLemmas
 mod PatternTrieLemmas
 mod SameTextsLemmas

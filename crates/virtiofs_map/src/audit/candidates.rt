@@ -65,10 +65,10 @@ pub(crate) fn try_guest_names<A: Allocator + Copy>(
     ensures counted { OnOk result (0 < tried.new.count) }
 {
     let keys = gathered(alloc, map, Part::Key)?;
-    let fronts = gathered(alloc, map, Part::Front(Side::Client))?;
+    let all_added = gathered(alloc, map, Part::Added(Side::Client))?;
     let patterns = gathered(alloc, other, Part::Host(side))?;
     try_all(alloc, question, &keys, tried)?;
-    try_rests(alloc, question, &fronts, &patterns, tried)?;
+    try_rests(alloc, question, &all_added, &patterns, tried)?;
     try_one_byte_names(alloc, question, tried)
 }
 
@@ -91,23 +91,23 @@ fn try_all<A: Allocator + Copy>(
     Ok(())
 }
 
-/// Tries what is left of each pattern that begins with one of the fronts, after that front.
+/// Tries what is left of each pattern that begins with one of the added prefixes, after it.
 fn try_rests<A: Allocator + Copy>(
     alloc: A,
     question: &Question<'_, A>,
-    fronts: &Ordered<A>,
+    all_added: &Ordered<A>,
     patterns: &Ordered<A>,
     tried: &mut Tried<A>,
 ) -> Result<(), AllocError>
     ensures { OnOk result (AreMaps question.now.asked
-        → Tries (bad question.now) (IsRest fronts.now patterns.now)
-        (length fronts.now * length patterns.now) tried.old tried.new) }
+        → Tries (bad question.now) (IsRest all_added.now patterns.now)
+        (length all_added.now * length patterns.now) tried.old tried.new) }
 {
-    for place in 0..fronts.len() {
-        if fronts.is_repeated(place) {
+    for place in 0..all_added.len() {
+        if all_added.is_repeated(place) {
             continue;
         }
-        let Some(added) = fronts.get(place) else {
+        let Some(added) = all_added.get(place) else {
             continue;
         };
         try_rests_of(alloc, question, patterns, added.bytes, tried)?;
@@ -115,7 +115,7 @@ fn try_rests<A: Allocator + Copy>(
     Ok(())
 }
 
-/// Tries what is left of each pattern that begins with a front, after it.
+/// Tries what is left of each pattern that begins with an added prefix, after it.
 fn try_rests_of<A: Allocator + Copy>(
     alloc: A,
     question: &Question<'_, A>,
@@ -170,7 +170,7 @@ fn try_host_names<A: Allocator + Copy>(
         (Contains (host_names rules rules ++ one_byte_names)) tried.old tried.new) }
 {
     let prepends = gathered(alloc, map, Part::Host(Side::Server))?;
-    let cuts = gathered(alloc, map, Part::Front(Side::Server))?;
+    let cuts = gathered(alloc, map, Part::Added(Side::Server))?;
     let keys = gathered(alloc, map, Part::Key)?;
     try_all(alloc, question, &prepends, tried)?;
     try_wholes(alloc, question, map, &cuts, &keys, tried)?;

@@ -19,7 +19,7 @@ pub(crate) enum Part {
     /// The key of a rule for the client.
     Key,
     /// What a rule for that side puts before a name or takes off it.
-    Front(Side),
+    Added(Side),
     /// What a name of the host begins with by a rule for that side.
     Host(Side),
 }
@@ -49,7 +49,7 @@ fn host_pattern<A: Allocator + Copy>(
 {
     let added = match side {
         Side::Server => return copied(alloc, rule.prepend),
-        Side::Client => rule.front(),
+        Side::Client => rule.added_prefix(),
     };
     let Some(bytes) = added else {
         return Ok(None);
@@ -71,14 +71,14 @@ fn part_of<A: Allocator + Copy>(
 {
     let side = match part {
         Part::Key => Side::Client,
-        Part::Front(side) | Part::Host(side) => side,
+        Part::Added(side) | Part::Host(side) => side,
     };
     if !rule.acts_on(side) {
         return Ok(None);
     }
     let found = match part {
         Part::Key => Some(rule.key),
-        Part::Front(_) => rule.front(),
+        Part::Added(_) => rule.added_prefix(),
         Part::Host(side) => return host_pattern(alloc, rule, side),
     };
     let Some(bytes) = found else {

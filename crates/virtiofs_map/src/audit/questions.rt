@@ -1,8 +1,8 @@
 //! What an audit asks of a name.
 
 ghost use Rattle.std.specs.Prelude.{◌≡◌, ◌++◌, false, ℕ, List, Some, None, MatchOption, IfOk, OnOk, IsFalse};
-ghost use Rattle.virtiofs_map.specs.AuditParts.{front, is_lost, is_hidden, is_seen, is_shared, is_cut};
-ghost use Rattle.virtiofs_map.specs.GatheredParts.{front_of};
+ghost use Rattle.virtiofs_map.specs.AuditParts.{added_prefix, is_lost, is_hidden, is_seen, is_shared, is_cut};
+ghost use Rattle.virtiofs_map.specs.GatheredParts.{added_prefix_of};
 ghost use Rattle.virtiofs_map.specs.AuditParts.{is_stray, IsReachOf};
 ghost use Rattle.virtiofs_map.specs.NamesImage.{IsMapOf};
 ghost use Rattle.virtiofs_map.specs.Rule.{MappingRule};
@@ -80,9 +80,9 @@ impl<A: Allocator> Question<'_, A> {
 
 impl<'m> RuleRef<'m> {
     /// What a host's name has before the guest's, where the rule lets names through.
-    pub(crate) fn front(self) -> Option<&'m [u8]>
-        ensures { MatchOption result (front_of (rule_meant self.entry) ≡ None)
-            (λ found. front_of (rule_meant self.entry) ≡ Some found.now) }
+    pub(crate) fn added_prefix(self) -> Option<&'m [u8]>
+        ensures { MatchOption result (added_prefix_of (rule_meant self.entry) ≡ None)
+            (λ found. added_prefix_of (rule_meant self.entry) ≡ Some found.now) }
     {
         match self.kind {
             RuleKind::Okay => Some(&[]),
@@ -94,10 +94,10 @@ impl<'m> RuleRef<'m> {
 
 /// What a host's name has before the guest's by the first rule that fits the name on that side;
 /// `None` where that rule lets no name through, or no rule fits.
-pub(crate) fn front<'m>(map: XattrMapRef<'m>, side: Side, name: &[u8]) -> Option<&'m [u8]>
+pub(crate) fn added_prefix<'m>(map: XattrMapRef<'m>, side: Side, name: &[u8]) -> Option<&'m [u8]>
     ensures { (rules : List MappingRule) → IsMapOf rules map.entry
-        → MatchOption result (front side rules name.now ≡ None)
-        (λ found. front side rules name.now ≡ Some found.now) }
+        → MatchOption result (added_prefix side rules name.now ≡ None)
+        (λ found. added_prefix side rules name.now ≡ Some found.now) }
 {
     let (decision, _) = map.decide(side, name);
     match decision {
@@ -107,16 +107,16 @@ pub(crate) fn front<'m>(map: XattrMapRef<'m>, side: Side, name: &[u8]) -> Option
     }
 }
 
-/// Makes `room` hold the front and then the name.
+/// Makes `room` hold the added prefix and then the name.
 pub(crate) fn put_together<A: Allocator>(
     room: &mut Vec<u8, A>,
-    front: &[u8],
+    added: &[u8],
     name: &[u8],
 ) -> Result<(), AllocError>
-    ensures { OnOk result (room.new.items ≡ front.now ++ name.now) }
+    ensures { OnOk result (room.new.items ≡ added.now ++ name.now) }
 {
     room.clear();
-    room.extend_from_slice(front)?;
+    room.extend_from_slice(added)?;
     room.extend_from_slice(name)
 }
 
@@ -132,11 +132,11 @@ fn is_lost<A: Allocator>(
     if name.is_empty() {
         return Ok(false);
     }
-    let Some(added) = front(map, Side::Client, name) else {
+    let Some(added) = added_prefix(map, Side::Client, name) else {
         return Ok(false);
     };
     put_together(room, added, name)?;
-    let Some(cut) = front(map, Side::Server, room.as_slice()) else {
+    let Some(cut) = added_prefix(map, Side::Server, room.as_slice()) else {
         return Ok(true);
     };
     Ok(cut.len() != added.len())
@@ -162,7 +162,7 @@ fn is_seen<A: Allocator>(
         → IsMapOf rules map.entry → IsMapOf others other.entry
         → answer ≡ is_seen rules others name.now) }
 {
-    let Some(added) = front(map, Side::Client, name) else {
+    let Some(added) = added_prefix(map, Side::Client, name) else {
         return Ok(false);
     };
     put_together(room, added, name)?;
@@ -181,7 +181,7 @@ fn is_shared<A: Allocator>(
         → IsMapOf rules map.entry → IsReachOf others other.now
         → answer ≡ is_shared rules others name.now) }
 {
-    let Some(added) = front(map, Side::Client, name) else {
+    let Some(added) = added_prefix(map, Side::Client, name) else {
         return Ok(false);
     };
     put_together(room, added, name)?;
@@ -196,7 +196,7 @@ pub(crate) fn is_cut(map: XattrMapRef<'_>, cut: &[u8]) -> bool
     if cut.is_empty() {
         return true;
     }
-    let Some(found) = front(map, Side::Server, cut) else {
+    let Some(found) = added_prefix(map, Side::Server, cut) else {
         return false;
     };
     found.len() == cut.len()
@@ -210,13 +210,13 @@ fn is_stray(map: XattrMapRef<'_>, host: &[u8]) -> bool
     if host.is_empty() {
         return false;
     }
-    let Some(cut) = front(map, Side::Server, host) else {
+    let Some(cut) = added_prefix(map, Side::Server, host) else {
         return false;
     };
     let Some((_, listed)) = host.split_at_checked(cut.len()) else {
         return false;
     };
-    let Some(added) = front(map, Side::Client, listed) else {
+    let Some(added) = added_prefix(map, Side::Client, listed) else {
         return true;
     };
     added != cut

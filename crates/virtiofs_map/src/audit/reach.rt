@@ -7,23 +7,23 @@ ghost use Rattle.virtiofs_map.specs.AuditParts.{IsReachOf, is_reached, passes_wi
 ghost use Rattle.virtiofs_map.specs.GatheredParts.{part_of};
 ghost use Rattle.virtiofs_map.specs.NamesImage.{IsMapOf};
 ghost use Rattle.virtiofs_map.specs.Rule.{MappingRule};
-ghost use Rattle.virtiofs_map.specs.declared.audit.gathered.Part.TheVariants.{Front};
+ghost use Rattle.virtiofs_map.specs.declared.audit.gathered.Part.TheVariants.{Added};
 ghost use Rattle.virtiofs_map.specs.declared.xattrmap.scopes.Side.TheVariants.{Client};
 
 use crate::audit::gathered::{Part, gathered};
 use crate::audit::ordered::Ordered;
-use crate::audit::questions::front;
-use crate::xattrmap::{Side, XattrMapRef, shared_length};
+use crate::audit::questions::added_prefix;
+use crate::xattrmap::{Side, XattrMapRef, common_prefix_length};
 use std::alloc::{AllocError, Allocator};
 
 /// A map, and what its rules for the client put before names.
 #[derive(Drop)]
 pub(crate) struct Reach<'m, A: Allocator> {
     map: XattrMapRef<'m>,
-    fronts: Ordered<A>,
+    all_added: Ordered<A>,
 }
 
-/// Whether what is left of the name of the host after that front is a name before which that is put.
+/// Whether what is left of the name of the host after `added` is a name before which that is put.
 fn passes_with(map: XattrMapRef<'_>, host: &[u8], added: &[u8]) -> bool
     ensures { (rules : List MappingRule) → IsMapOf rules map.entry
         → result ≡ passes_with rules host.now added.now }
@@ -31,22 +31,22 @@ fn passes_with(map: XattrMapRef<'_>, host: &[u8], added: &[u8]) -> bool
     let Some(name) = host.strip_prefix(added) else {
         return false;
     };
-    front(map, Side::Client, name) == Some(added)
+    added_prefix(map, Side::Client, name) == Some(added)
 }
 
-/// Whether some name passes as the name of the host, where the fronts are what rules for the client
-/// put before names.
+/// Whether some name passes as the name of the host, where `all_added` are the prefixes that rules
+/// for the client put before names.
 ///
-/// What is put before such a name begins the name of the host. So of the fronts that begin it each is
-/// tried, the longest first.
-fn is_reached<A: Allocator>(map: XattrMapRef<'_>, fronts: &Ordered<A>, host: &[u8]) -> bool
+/// What is put before such a name begins the name of the host. So each of these prefixes that begins
+/// it is tried, the longest first.
+fn is_reached<A: Allocator>(map: XattrMapRef<'_>, all_added: &Ordered<A>, host: &[u8]) -> bool
     ensures { (rules : List MappingRule) → IsMapOf rules map.entry
-        → IsPermutation (filter_map (part_of (Front Client)) rules) fronts.now
+        → IsPermutation (filter_map (part_of (Added Client)) rules) all_added.now
         → result ≡ is_reached rules host.now }
 {
     let mut rest = host;
-    while let Some(last) = fronts.last_up_to(rest) {
-        let count = shared_length(last.bytes, rest);
+    while let Some(last) = all_added.last_up_to(rest) {
+        let count = common_prefix_length(last.bytes, rest);
         if count < last.bytes.len() {
             rest = &rest[..count];
             continue;
@@ -68,8 +68,8 @@ impl<'m, A: Allocator + Copy> Reach<'m, A> {
         ensures { IfOk result (λ reach. (rules : List MappingRule) → IsMapOf rules map.entry
             → IsReachOf rules reach) }
     {
-        let fronts = gathered(alloc, map, Part::Front(Side::Client))?;
-        Ok(Reach { map, fronts })
+        let all_added = gathered(alloc, map, Part::Added(Side::Client))?;
+        Ok(Reach { map, all_added })
     }
 }
 
@@ -79,6 +79,6 @@ impl<A: Allocator> Reach<'_, A> {
         ensures { (rules : List MappingRule) → IsReachOf rules self.now
             → result ≡ is_reached rules host.now }
     {
-        is_reached(self.map, &self.fronts, host)
+        is_reached(self.map, &self.all_added, host)
     }
 }

@@ -4,12 +4,12 @@ ghost use Rattle.virtiofs_map.specs.Mapping.{entry_of};
 ghost use Rattle.virtiofs_map.specs.Build.{Accepted, Fits, HasFirstFault, build_fault_of};
 ghost use Rattle.virtiofs_map.specs.BuildParts.{EntryMeets, EntryMeetsEarlier, IsFaultHere};
 ghost use Rattle.virtiofs_map.specs.Image.{IsImage};
-ghost use Rattle.virtiofs_map.specs.RangeParts.{PlacesInOrder, ArePlaced, HasRoom, HasRoomBothWays, IsLongestAccepted};
+ghost use Rattle.virtiofs_map.specs.RangeParts.{AreSorted, AreSortedBothWays, HasRoom, HasRoomBothWays, IsLongestAccepted};
 ghost use Rattle.virtiofs_map.specs.Refusal.{OutOfMemoryOr};
 ghost use Rattle.virtiofs_map.specs.declared.soft_idmap.entry.Direction.TheVariants.{GuestToHost, HostToGuest};
 
 use super::entry::{Entry, entry_of};
-use super::placed::{Placed, keep_apart, place};
+use super::indexed::{IndexedEntry, keep_apart, sorted_entries};
 use super::write::write_words;
 use super::{Direction, IdMapBuildError, RangeEnd};
 use crate::cmdline::IdMap;
@@ -101,10 +101,15 @@ fn have_room(specs: &[IdMap]) -> bool
 }
 
 /// Whether the first `count` specifications are accepted.
-fn is_accepted(specs: &[IdMap], guests: &[Placed], hosts: &[Placed], count: usize) -> bool
+fn is_accepted(
+    specs: &[IdMap],
+    guests: &[IndexedEntry],
+    hosts: &[IndexedEntry],
+    count: usize,
+) -> bool
     requires within { count ≤ length specs.now }
-    requires guests { PlacesInOrder specs.now GuestToHost guests.now }
-    requires hosts { PlacesInOrder specs.now HostToGuest hosts.now }
+    requires guests { AreSorted specs.now GuestToHost guests.now }
+    requires hosts { AreSorted specs.now HostToGuest hosts.now }
     ensures { IsTrue result ↔ Accepted (take count specs.now) }
 {
     if !have_room(&specs[..count]) {
@@ -120,10 +125,10 @@ fn is_accepted(specs: &[IdMap], guests: &[Placed], hosts: &[Placed], count: usiz
 /// list is not.
 ///
 /// It is found by halves: each test halves the part of the list in which it may lie.
-fn longest_accepted(specs: &[IdMap], guests: &[Placed], hosts: &[Placed]) -> usize
+fn longest_accepted(specs: &[IdMap], guests: &[IndexedEntry], hosts: &[IndexedEntry]) -> usize
     requires refused { ¬ Accepted specs.now }
-    requires guests { PlacesInOrder specs.now GuestToHost guests.now }
-    requires hosts { PlacesInOrder specs.now HostToGuest hosts.now }
+    requires guests { AreSorted specs.now GuestToHost guests.now }
+    requires hosts { AreSorted specs.now HostToGuest hosts.now }
     ensures { IsLongestAccepted specs.now result }
 {
     let mut low = 0;
@@ -140,9 +145,13 @@ fn longest_accepted(specs: &[IdMap], guests: &[Placed], hosts: &[Placed]) -> usi
 }
 
 /// Finds the first fault of a list of specifications.
-fn check(specs: &[IdMap], guests: &[Placed], hosts: &[Placed]) -> Result<(), IdMapBuildError>
-    requires guests { PlacesInOrder specs.now GuestToHost guests.now }
-    requires hosts { PlacesInOrder specs.now HostToGuest hosts.now }
+fn check(
+    specs: &[IdMap],
+    guests: &[IndexedEntry],
+    hosts: &[IndexedEntry],
+) -> Result<(), IdMapBuildError>
+    requires guests { AreSorted specs.now GuestToHost guests.now }
+    requires hosts { AreSorted specs.now HostToGuest hosts.now }
     ensures { MatchResult result
         (λ _. Accepted specs.now)
         (λ e. OutOfMemoryOr (build_fault_of e) (HasFirstFault specs.now)) }
@@ -159,16 +168,16 @@ fn check(specs: &[IdMap], guests: &[Placed], hosts: &[Placed]) -> Result<(), IdM
 }
 
 /// The entries of an accepted list of specifications, from guest to host and from host to guest.
-pub(crate) fn placed_both<A: Allocator + Copy>(
+pub(crate) fn sorted_both<A: Allocator + Copy>(
     alloc: A,
     specs: &[IdMap],
-) -> Result<(Vec<Placed, A>, Vec<Placed, A>), IdMapBuildError>
+) -> Result<(Vec<IndexedEntry, A>, Vec<IndexedEntry, A>), IdMapBuildError>
     ensures { MatchResult result
-        (λ both. ArePlaced specs.now both.0.items both.1.items)
+        (λ both. AreSortedBothWays specs.now both.0.items both.1.items)
         (λ e. OutOfMemoryOr (build_fault_of e) (HasFirstFault specs.now)) }
 {
-    let guests = place(alloc, specs, Direction::GuestToHost)?;
-    let hosts = place(alloc, specs, Direction::HostToGuest)?;
+    let guests = sorted_entries(alloc, specs, Direction::GuestToHost)?;
+    let hosts = sorted_entries(alloc, specs, Direction::HostToGuest)?;
     check(specs, &guests, &hosts)?;
     Ok((guests, hosts))
 }
@@ -182,7 +191,7 @@ pub(crate) fn words_of<A: Allocator + Copy>(
         (λ words. IsImage specs.now words.items)
         (λ e. OutOfMemoryOr (build_fault_of e) (HasFirstFault specs.now)) }
 {
-    let (guests, hosts) = placed_both(alloc, specs)?;
+    let (guests, hosts) = sorted_both(alloc, specs)?;
     let mut words = Vec::from_elem(alloc, 0, 3 + 4 * guests.len() + 4 * hosts.len())?;
     write_words(&mut words, &guests, &hosts);
     Ok(words)

@@ -14,15 +14,15 @@ use super::row::Answer;
 use super::words::{Last, Ranges};
 use crate::Steps;
 
-/// The place of the last range that begins at or below a number, or of the first range where none
+/// The index of the last range that begins at or below a number, or of the first range where none
 /// does: no other range can cover the number.
 ///
 /// Each reading of a range is a step. With one range there is nothing to search, and it is read.
 #[inline(always)]
 pub(crate) fn last_from(ranges: &Ranges<'_>, n: u32, steps: &mut Steps) -> Last
     requires { 1 ≤ ranges.now.count }
-    ensures within { result.place < ranges.now.count }
-    ensures found { Searches ranges.now n result.place (result.place + 1) }
+    ensures within { result.index < ranges.now.count }
+    ensures found { Searches ranges.now n result.index (result.index + 1) }
     ensures steps { CountsBetween 1 (binary_digits ranges.now.count) steps.old steps.new }
 {
     if ranges.len() == 1 {
@@ -34,7 +34,7 @@ pub(crate) fn last_from(ranges: &Ranges<'_>, n: u32, steps: &mut Steps) -> Last
     let mut taken = Steps::new();
     while size > 1 {
         let half = size / 2;
-        let range = ranges.read(last.place() + half, &mut taken);
+        let range = ranges.read(last.index() + half, &mut taken);
         last = last.or(range, n);
         size -= half;
     }
@@ -55,5 +55,5 @@ pub(crate) fn look_up(ranges: &Ranges<'_>, n: u32, steps: &mut Steps) -> Answer
         return Answer::Becomes(n);
     }
     let last = last_from(ranges, n, steps);
-    ranges.say_by(last, n)
+    ranges.answer_by(last, n)
 }

@@ -59,16 +59,16 @@ pub(crate) fn stretch(ranges: &Ranges<'_>, n: u32) -> Piece
         return kept(n, u32::MAX);
     }
     let mut steps = Steps::new();
-    let place = last_from(ranges, n, &mut steps).place();
-    let range = ranges.entry(place, &mut steps);
+    let index = last_from(ranges, n, &mut steps).index();
+    let range = ranges.entry(index, &mut steps);
     if range.covers(n) {
         return covered(range, n);
     }
     if n < range.first() {
         return kept(n, range.first() - 1);
     }
-    if place + 1 < ranges.len() {
-        let next = ranges.entry(place + 1, &mut steps).first();
+    if index + 1 < ranges.len() {
+        let next = ranges.entry(index + 1, &mut steps).first();
         return kept(n, next - 1);
     }
     kept(n, u32::MAX)

@@ -69,18 +69,18 @@ impl<'a> Model for Ranges<'a> {
     }) };
 }
 
-/// A range that was read: its place, and its first number.
+/// A range that was read: its index, and its first number.
 #[derive(Clone, Copy)]
 pub(crate) struct Range {
-    place: usize,
+    index: usize,
     first: u32,
 }
 
-/// The place of the last of the ranges that were read and begin at or below a number, or of the
+/// The index of the last of the ranges that were read and begin at or below a number, or of the
 /// first range.
 #[derive(Clone, Copy)]
 pub(crate) struct Last {
-    place: usize,
+    index: usize,
 }
 
 /// The words of the map of no specification, which keeps none.
@@ -166,13 +166,13 @@ impl<'a> Ranges<'a> {
     /// Hands out a range, and counts a step.
     pub(crate) fn read(&self, at: usize, steps: &mut Steps) -> Range
         requires { at < self.now.count }
-        ensures place { result.place ≡ at }
+        ensures index { result.index ≡ at }
         ensures first { result.first ≡ slice_index self.now.words (self.now.firsts + at) }
         ensures counted { steps.new ≡ count_after steps.old 1 }
     {
         steps.tick();
         let first = self.words[self.firsts + at];
-        Range { place: at, first }
+        Range { index: at, first }
     }
 
     /// The whole of a range, and counts a step.
@@ -190,14 +190,14 @@ impl<'a> Ranges<'a> {
         )
     }
 
-    /// What the range at the place makes of a number.
-    pub(crate) fn say_by(&self, last: Last, n: u32) -> Answer
-        requires { last.place < self.now.count }
-        ensures { (range : Entry) → IsAt self.now last.place range
+    /// What the range at the index makes of a number.
+    pub(crate) fn answer_by(&self, last: Last, n: u32) -> Answer
+        requires { last.index < self.now.count }
+        ensures { (range : Entry) → IsAt self.now last.index range
             → HasNumbers range → HasTarget range → SaysEntry range n result }
     {
-        let row = self.rows + 3 * last.place;
-        let first = self.words[self.firsts + last.place];
+        let row = self.rows + 3 * last.index;
+        let first = self.words[self.firsts + last.index];
         say(
             first,
             self.words[row],
@@ -209,33 +209,33 @@ impl<'a> Ranges<'a> {
 }
 
 impl Last {
-    /// The place of the first range.
+    /// The index of the first range.
     pub(crate) fn first() -> Last
-        ensures { result.place ≡ 0 }
+        ensures { result.index ≡ 0 }
     {
-        Last { place: 0 }
+        Last { index: 0 }
     }
 
-    /// The place.
-    pub(crate) fn place(self) -> usize
-        ensures { result ≡ self.place }
+    /// The index.
+    pub(crate) fn index(self) -> usize
+        ensures { result ≡ self.index }
     {
-        self.place
+        self.index
     }
 
-    /// The place of the later range if it begins at or below the number, else this one. It is chosen
+    /// The index of the later range if it begins at or below the number, else this one. It is chosen
     /// without a branch.
     pub(crate) fn or(self, later: Range, n: u32) -> Last
-        requires later { self.place ≤ later.place }
-        requires near { later.place < self.place + 4294967296 }
-        ensures begins { later.first ≤ n → result.place ≡ later.place }
-        ensures above { n < later.first → result.place ≡ self.place }
-        ensures within { result.place ≤ later.place }
+        requires later { self.index ≤ later.index }
+        requires near { later.index < self.index + 4294967296 }
+        ensures begins { later.first ≤ n → result.index ≡ later.index }
+        ensures above { n < later.first → result.index ≡ self.index }
+        ensures within { result.index ≤ later.index }
     {
         let above = ones_if_below(u64::from(n), u64::from(later.first));
-        let step = later.place - self.place;
+        let step = later.index - self.index;
         Last {
-            place: later.place - (step & above as usize),
+            index: later.index - (step & above as usize),
         }
     }
 }

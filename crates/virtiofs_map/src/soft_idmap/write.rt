@@ -2,13 +2,13 @@
 ghost use Rattle.std.specs.Prelude.{◌≡◌, ◌+◌, ◌*◌, ◌<◌, ◌≤◌, List, length, map, slice_get, slice_index, Some};
 ghost use Rattle.virtiofs_map.specs.Build.{Accepted};
 ghost use Rattle.virtiofs_map.specs.Image.{IsImage};
-ghost use Rattle.virtiofs_map.specs.RangeParts.{PlacesInOrder};
+ghost use Rattle.virtiofs_map.specs.RangeParts.{AreSorted};
 ghost use Rattle.virtiofs_map.specs.WordParts.{IsRow, AreFirstsBelow, AreRowsBelow, KeepsBefore};
 ghost use Rattle.virtiofs_map.specs.declared.cmdline.IdMap.{IdMap as Specification};
 ghost use Rattle.virtiofs_map.specs.declared.soft_idmap.entry.Direction.TheVariants.{GuestToHost, HostToGuest};
 
 use super::entry::Entry;
-use super::placed::Placed;
+use super::indexed::IndexedEntry;
 use super::row::{FAILS, MAPS, SQUASHES};
 
 /// The first word of every map of ids: the letters `ids` in the three upper bytes, and the version
@@ -16,11 +16,11 @@ use super::row::{FAILS, MAPS, SQUASHES};
 pub(crate) const KIND: u32 = 0x6964_7301;
 
 /// An entry that was placed.
-fn entry_at(placed: &[Placed], at: usize) -> Entry
-    requires { at < length placed.now }
-    ensures { slice_get (map (λ one. one.entry) placed.now) at ≡ Some result }
+fn entry_at(indexed: &[IndexedEntry], at: usize) -> Entry
+    requires { at < length indexed.now }
+    ensures { slice_get (map (λ one. one.entry) indexed.now) at ≡ Some result }
 {
-    placed[at].entry
+    indexed[at].entry
 }
 
 /// Writes the first word, and how many ranges there are in each direction.
@@ -53,36 +53,36 @@ fn write_row(words: &mut [u32], at: usize, entry: Entry)
 }
 
 /// Writes the rows of a direction.
-fn write_rows(words: &mut [u32], start: usize, placed: &[Placed])
-    requires room { start + 3 * length placed.now ≤ length words.old }
-    ensures rows { AreRowsBelow words.new start (map (λ one. one.entry) placed.now)
-        (length placed.now) }
+fn write_rows(words: &mut [u32], start: usize, indexed: &[IndexedEntry])
+    requires room { start + 3 * length indexed.now ≤ length words.old }
+    ensures rows { AreRowsBelow words.new start (map (λ one. one.entry) indexed.now)
+        (length indexed.now) }
     ensures before { KeepsBefore start words.old words.new }
 {
-    for at in 0..placed.len() {
-        write_row(words, start + 3 * at, entry_at(placed, at));
+    for at in 0..indexed.len() {
+        write_row(words, start + 3 * at, entry_at(indexed, at));
     }
 }
 
 /// Writes the first numbers of a direction.
-fn write_firsts(words: &mut [u32], start: usize, placed: &[Placed])
-    requires room { start + length placed.now ≤ length words.old }
-    ensures firsts { AreFirstsBelow words.new start (map (λ one. one.entry) placed.now)
-        (length placed.now) }
+fn write_firsts(words: &mut [u32], start: usize, indexed: &[IndexedEntry])
+    requires room { start + length indexed.now ≤ length words.old }
+    ensures firsts { AreFirstsBelow words.new start (map (λ one. one.entry) indexed.now)
+        (length indexed.now) }
     ensures before { KeepsBefore start words.old words.new }
 {
-    for at in 0..placed.len() {
-        words[start + at] = entry_at(placed, at).first();
+    for at in 0..indexed.len() {
+        words[start + at] = entry_at(indexed, at).first();
     }
 }
 
 /// Writes the image of the entries of both directions.
-pub(crate) fn write_words(words: &mut [u32], guests: &[Placed], hosts: &[Placed])
+pub(crate) fn write_words(words: &mut [u32], guests: &[IndexedEntry], hosts: &[IndexedEntry])
     requires guests { length guests.now < 4294967296 }
     requires hosts { length hosts.now < 4294967296 }
     requires room { 3 + 4 * length guests.now + 4 * length hosts.now ≤ length words.old }
     ensures { (specs : List Specification) → Accepted specs
-        → PlacesInOrder specs GuestToHost guests.now → PlacesInOrder specs HostToGuest hosts.now
+        → AreSorted specs GuestToHost guests.now → AreSorted specs HostToGuest hosts.now
         → IsImage specs words.new }
 {
     let rows = 3 + guests.len() + hosts.len();

@@ -4,7 +4,7 @@
 ghost use Rattle.std.specs.Option.{option_map};
 ghost use Rattle.std.specs.Prelude.{◌≡◌, ◌+◌, ◌<◌, ◌==◌, ℕ, List, ◌++◌, ◌∷◌, [], length, slice_get, IfOk, IsSomeAnd};
 ghost use Rattle.std.specs.Prelude.{MatchOption, OnOk};
-ghost use Rattle.virtiofs_map.specs.BranchParts.{AreSpans, IsSpan};
+ghost use Rattle.virtiofs_map.specs.NodeParts.{AreSpans, IsSpan};
 ghost use Rattle.virtiofs_map.specs.FirstRule.{acts, pattern};
 ghost use Rattle.virtiofs_map.specs.NamesImage.{pattern_bytes};
 ghost use Rattle.virtiofs_map.specs.Rule.{MappingRule, same_rule};

@@ -1,15 +1,15 @@
 //! The tries of a map: for each side, one of the patterns of the rules that act there.
 //!
-//! A trie is made once, as rows of bytes, by sorting the patterns and growing the branches level by
+//! A trie is made once, as rows of bytes, by sorting the patterns and building the nodes level by
 //! level. Then it is only read, by walks along the bytes of a name.
 
 ghost use Rattle.std.specs.Prelude.{All, IfOk};
-ghost use Rattle.virtiofs_map.specs.BranchParts.{IsTrieWith};
+ghost use Rattle.virtiofs_map.specs.NodeParts.{IsTrieWith};
 ghost use Rattle.virtiofs_map.specs.Rule.{HasNoZero};
 
-mod branch;
-mod fronts;
-mod growth;
+mod build;
+mod compare;
+mod node;
 mod patterns;
 mod reading;
 mod rows;
@@ -17,9 +17,9 @@ mod walk;
 
 use crate::xattrmap::rules::Rules;
 use crate::xattrmap::scopes::Side;
-pub(crate) use branch::{Branch, NO_ANSWER};
-pub(crate) use fronts::shared_length;
-use growth::grow;
+use build::build_trie;
+pub(crate) use compare::common_prefix_length;
+pub(crate) use node::{NO_ANSWER, Node};
 use patterns::patterns_of;
 pub(crate) use reading::Trie;
 pub(crate) use rows::{ROW, push_rows};
@@ -29,19 +29,19 @@ pub(crate) use walk::{first_place, look_up};
 /// From this many rules on, an answer has too few bits for the place of a rule.
 const TOO_MANY_RULES: usize = 70368744177663;
 
-/// The branches of the trie of the patterns of the rules that act on a side, the root first.
+/// The nodes of the trie of the patterns of the rules that act on a side, the root first.
 pub(crate) fn trie_of<A: Allocator + Copy>(
     alloc: A,
     rules: &Rules<A>,
     side: Side,
-) -> Result<Vec<Branch, A>, AllocError>
+) -> Result<Vec<Node, A>, AllocError>
     requires { All HasNoZero rules.now.list }
-    ensures { IfOk result (λ branches.
-        IsTrieWith side rules.now.list branches.items rules.now.bytes) }
+    ensures { IfOk result (λ nodes.
+        IsTrieWith side rules.now.list nodes.items rules.now.bytes) }
 {
     if rules.len() >= TOO_MANY_RULES {
         return Err(AllocError);
     }
     let patterns = patterns_of(alloc, rules, side)?;
-    grow(alloc, patterns.as_slice(), rules.bytes())
+    build_trie(alloc, patterns.as_slice(), rules.bytes())
 }

@@ -3,7 +3,7 @@
 ghost use Rattle.std.specs.List.{before_first};
 ghost use Rattle.std.specs.Option.{option_map};
 ghost use Rattle.std.specs.Prelude.{◌≡◌, ◌≢◌, ◌==◌, ◌↔◌, ◌≤◌, ℕ, List, length, take, slice_get, All, IsNone, IsSomeAnd, is_some};
-ghost use Rattle.virtiofs_map.specs.BranchParts.{answer_of};
+ghost use Rattle.virtiofs_map.specs.NodeParts.{answer_of};
 ghost use Rattle.virtiofs_map.specs.FirstRule.{CountsFronts, CountsLookup};
 ghost use Rattle.virtiofs_map.specs.Names.{deciding, first};
 ghost use Rattle.virtiofs_map.specs.NamesImage.{IsImage, IsMapOf, IsNoImage, Says};
@@ -113,21 +113,30 @@ impl<'m> XattrMapRef<'m> {
     }
 
     /// What the answer of a name says. No rule is read but one whose prepend is wanted.
+    // (two tests of a bit each are faster than the table that a match of four numbers becomes)
     #[inline(always)]
-    fn say(self, answer: u64) -> Decision<'m>
+    fn decode(self, answer: u64) -> Decision<'m>
         ensures { (side : Side) (rules : List MappingRule) (name : List ℕ)
             → IsMapOf rules self.entry → answer ≡ answer_of side rules name
             → Says side rules name result }
     {
-        match answer % 4 {
-            0 => match self.prepend((answer / 4) as usize) {
+        let (is_odd, is_high) = (answer % 2 == 1, answer / 2 % 2 == 1);
+        if !is_odd {
+            if is_high {
+                return Decision::Bad;
+            }
+            return match self.prepend((answer / 4) as usize) {
                 Some(prepend) => Decision::Prefix(prepend),
                 None => Decision::NoMap,
-            },
-            1 => Decision::Okay,
-            2 => Decision::Bad,
-            _ if answer == NO_ANSWER => Decision::Undecided,
-            _ => Decision::Unsupported,
+            };
+        }
+        if !is_high {
+            return Decision::Okay;
+        }
+        if answer == NO_ANSWER {
+            Decision::Undecided
+        } else {
+            Decision::Unsupported
         }
     }
 
@@ -145,7 +154,7 @@ impl<'m> XattrMapRef<'m> {
         ensures within { result.1 ≤ length name.now }
     {
         let (answer, passed) = look_up(self.trie(side), name);
-        (self.say(answer), passed)
+        (self.decode(answer), passed)
     }
 
     /// Whether some rule fits the name.

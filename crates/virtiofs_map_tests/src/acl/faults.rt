@@ -48,44 +48,24 @@ static CAPABILITIES: [(&[u32], usize, RootFault); 5] = [
 ];
 
 /// A fault of a list, and its text.
-static SAID: [(AclError, &str); 9] = [
+static SAID: [(AclError, &str); 4] = [
     (TooShort, "the value has no header"),
     (Version { version: 3 }, "the version is 3"),
     (Length, "the last entry is cut"),
     (Room { needed: 8 }, "there are 8 entries"),
+];
+
+/// A fault of entry 3 of a list, and its text.
+static SAID_OF_ENTRIES: [(EntryFault, &str); 5] = [
+    (UnknownTag, "entry 3: there is no such tag"),
+    (Permission, "entry 3: the permissions are above 7"),
+    (NoId, "entry 3: 4294967295 is no id"),
     (
-        Entry {
-            entry: 3,
-            fault: UnknownTag,
-        },
-        "entry 3: there is no such tag",
-    ),
-    (
-        Entry {
-            entry: 3,
-            fault: Permission,
-        },
-        "entry 3: the permissions are above 7",
-    ),
-    (
-        Entry {
-            entry: 3,
-            fault: NoId,
-        },
-        "entry 3: 4294967295 is no id",
-    ),
-    (
-        Entry {
-            entry: 3,
-            fault: Forbidden,
-        },
+        Forbidden,
         "entry 3: use of the id has been configured to fail",
     ),
     (
-        Entry {
-            entry: 3,
-            fault: Merges,
-        },
+        Merges,
         "entry 3: the id would become that of an earlier entry",
     ),
 ];
@@ -144,6 +124,10 @@ fn capabilities_at_fault_are_refused(rt: HostRuntime) -> Result<(), Fail> {
 fn prints_why(rt: HostRuntime) -> Result<(), Fail> {
     for (fault, text) in &SAID {
         assert_eq!(rt; fault.to_string(rt.alloc())?.as_str(), *text);
+    }
+    for &(fault, text) in &SAID_OF_ENTRIES {
+        let told = Entry { entry: 3, fault };
+        assert_eq!(rt; told.to_string(rt.alloc())?.as_str(), text);
     }
     for (fault, text) in &SAID_OF_CAPABILITIES {
         assert_eq!(rt; fault.to_string(rt.alloc())?.as_str(), *text);

@@ -1,18 +1,16 @@
-//! What the calls make of values, by maps and by their images.
+//! What the calls make of values. Those on images are what these call.
 
 use crate::common::{map_of, users_of};
-use crate::soft_idmap::image_of;
 use std::alloc::{AllocError, Global};
 use std::process::Abort;
 use std::test::Fail;
 use virtiofs_acl::{
     AclError, CapabilityError, EntryRoom, acl_to_guest, acl_to_host, capability_to_guest,
     capability_to_guest_in_revision_3, capability_to_host, capability_to_host_in_revision_3,
-    translate_acl, translate_capability, write_revision_3,
 };
 use virtiofs_map::id_types::{GuestGid, HostGid};
 use virtiofs_map::soft_idmap::Direction::{self, GuestToHost, HostToGuest};
-use virtiofs_map::soft_idmap::{IdMap, IdMapRef};
+use virtiofs_map::soft_idmap::IdMap;
 
 /// The specifications of users and of groups, with a bar between each two.
 #[derive(Clone, Copy)]
@@ -36,7 +34,7 @@ pub(super) fn value_of(alloc: Global, words: &[u32]) -> Result<Vec<u8>, AllocErr
     Ok(value)
 }
 
-/// Sees that a list becomes another, or stays where it is refused: by maps and by images.
+/// Sees that a list becomes another, or stays where it is refused.
 pub(super) fn check_list(
     rt: &impl Abort,
     alloc: Global,
@@ -47,15 +45,12 @@ pub(super) fn check_list(
     refusal: Option<AclError>,
 ) -> Result<(), Fail> {
     let mut value = from.to_vec(alloc)?;
-    let told = list_by_maps(alloc, maps, direction, &mut value)?;
-    assert!(rt; value.as_slice() == to && told == refusal, "{from:?}");
-    let mut value = from.to_vec(alloc)?;
-    let told = list_by_images(alloc, maps, direction, &mut value)?;
+    let told = list_by(alloc, maps, direction, &mut value)?;
     assert!(rt; value.as_slice() == to && told == refusal, "{from:?}");
     Ok(())
 }
 
-fn list_by_maps(
+fn list_by(
     alloc: Global,
     maps: Maps,
     direction: Direction,
@@ -71,20 +66,7 @@ fn list_by_maps(
     Ok(done.err())
 }
 
-fn list_by_images(
-    alloc: Global,
-    maps: Maps,
-    direction: Direction,
-    value: &mut [u8],
-) -> Result<Option<AclError>, Fail> {
-    let (users, groups) = (image_of(alloc, maps.users)?, image_of(alloc, maps.groups)?);
-    let users = IdMapRef::of(&users).ok_or("no image")?;
-    let groups = IdMapRef::of(&groups).ok_or("no image")?;
-    let mut room = [EntryRoom::new(); 16];
-    Ok(translate_acl(&users, &groups, direction, value, &mut room).err())
-}
-
-/// Sees that a capability becomes another, or stays where it is refused: by a map and by an image.
+/// Sees that a capability becomes another, or stays where it is refused.
 pub(super) fn check_capability(
     rt: &impl Abort,
     alloc: Global,
@@ -94,42 +76,18 @@ pub(super) fn check_capability(
     to: &[u8],
     refusal: Option<CapabilityError>,
 ) -> Result<(), Fail> {
+    let map = users_of(alloc, users).ok_or("no map")?;
     let mut value = from.to_vec(alloc)?;
-    let told = capability_by_map(alloc, users, direction, &mut value)?;
-    assert!(rt; value.as_slice() == to && told == refusal, "{from:?}");
-    let mut value = from.to_vec(alloc)?;
-    let told = capability_by_image(alloc, users, direction, &mut value)?;
-    assert!(rt; value.as_slice() == to && told == refusal, "{from:?}");
+    let done = match direction {
+        GuestToHost => capability_to_host(&map, &mut value),
+        HostToGuest => capability_to_guest(&map, &mut value),
+    };
+    assert!(rt; value.as_slice() == to && done.err() == refusal, "{from:?}");
     Ok(())
 }
 
-fn capability_by_map(
-    alloc: Global,
-    users: &str,
-    direction: Direction,
-    value: &mut [u8],
-) -> Result<Option<CapabilityError>, Fail> {
-    let map = users_of(alloc, users).ok_or("no map")?;
-    let done = match direction {
-        GuestToHost => capability_to_host(&map, value),
-        HostToGuest => capability_to_guest(&map, value),
-    };
-    Ok(done.err())
-}
-
-fn capability_by_image(
-    alloc: Global,
-    users: &str,
-    direction: Direction,
-    value: &mut [u8],
-) -> Result<Option<CapabilityError>, Fail> {
-    let words = image_of(alloc, users)?;
-    let map = IdMapRef::of(&words).ok_or("no image")?;
-    Ok(translate_capability(&map, direction, value).err())
-}
-
 /// Sees that a capability is written in revision 3 as another, or that nothing is written over the
-/// bytes of 255 where it is refused: by a map and by an image.
+/// bytes of 255 where it is refused.
 pub(super) fn check_written(
     rt: &impl Abort,
     alloc: Global,
@@ -139,40 +97,15 @@ pub(super) fn check_written(
     to: &[u8],
     refusal: Option<CapabilityError>,
 ) -> Result<(), Fail> {
-    let (written, told) = written_by_map(alloc, users, direction, from)?;
-    assert!(rt; written.as_slice() == to && told == refusal, "{from:?}");
-    let (written, told) = written_by_image(alloc, users, direction, from)?;
-    assert!(rt; written.as_slice() == to && told == refusal, "{from:?}");
-    Ok(())
-}
-
-/// The bytes of revision 3, and why they are not written.
-type Written = ([u8; 24], Option<CapabilityError>);
-
-fn written_by_map(
-    alloc: Global,
-    users: &str,
-    direction: Direction,
-    from: &[u8],
-) -> Result<Written, Fail> {
     let map = users_of(alloc, users).ok_or("no map")?;
     let mut written = [255; 24];
     let done = match direction {
         GuestToHost => capability_to_host_in_revision_3(&map, from, &mut written),
         HostToGuest => capability_to_guest_in_revision_3(&map, from, &mut written),
     };
-    Ok((written, done.err()))
-}
-
-fn written_by_image(
-    alloc: Global,
-    users: &str,
-    direction: Direction,
-    from: &[u8],
-) -> Result<Written, Fail> {
-    let words = image_of(alloc, users)?;
-    let map = IdMapRef::of(&words).ok_or("no image")?;
-    let mut written = [255; 24];
-    let done = write_revision_3(&map, direction, from, &mut written);
-    Ok((written, done.err()))
+    assert!(rt;
+        written.as_slice() == to && done.err() == refusal,
+        "{from:?}"
+    );
+    Ok(())
 }

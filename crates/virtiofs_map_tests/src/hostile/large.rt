@@ -1,12 +1,11 @@
 //! Texts of 1 MiB, and names of 64 KiB: a character takes some microseconds in this build.
-//! `tests/embedding/large.c` reads such texts of 16 MiB, in an optimized build.
+//! `tests/embedding/large.c` reads such texts of 16 MiB, and of ranges, in an optimized build.
 
 use crate::common::first;
 use std::alloc::{AllocError, Global};
 use std::process::Abort;
 use std::test::Fail;
 use virtiofs_map::cmdline;
-use virtiofs_map::idmap::{IdMapError, UidMap};
 use virtiofs_map::xattrmap::{AppliedRule, Side, XattrMap, XattrName};
 
 /// A text's front, a character that comes after it over and over, its back, and how the text of the
@@ -37,17 +36,6 @@ fn large_specifications_are_refused(rt: HostRuntime) -> Result<(), Fail> {
         let said = read.err().ok_or("read")?.to_string(rt.alloc())?;
         assert!(rt; said.starts_with(wanted), "{wanted}");
     }
-    Ok(())
-}
-
-#[test]
-fn large_ranges_are_refused(rt: HostRuntime) -> Result<(), Fail> {
-    let text = large(rt.alloc(), "", ":", "")?;
-    let fault = UidMap::from_str(text.as_str()).err();
-    assert!(rt; fault == Some(IdMapError::IncompleteMap));
-    let text = large(rt.alloc(), ":0:", "9", ":1:")?;
-    let fault = UidMap::from_str(text.as_str()).err();
-    assert!(rt; matches!(fault, Some(IdMapError::InvalidValue(_))));
     Ok(())
 }
 

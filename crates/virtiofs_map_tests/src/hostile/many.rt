@@ -1,10 +1,10 @@
 //! 20,000 rules and 20,000 specifications: a rule takes some hundred microseconds in this build.
-//! `tests/embedding/large.c` reads 200,000 of each, and asks about all ids, in an optimized build.
+//! `tests/embedding/large.c` reads 200,000 of each, in other orders too, and asks about all ids, in an
+//! optimized build.
 
 use crate::common::first;
 use std::alloc::Global;
 use std::test::Fail;
-use virtiofs_id_audit::{Astray, IdAudit, Shared, comes_back, ids_apart, is_alone, reaches};
 use virtiofs_map::id_types::{GuestUid, HostUid};
 use virtiofs_map::soft_idmap::{Direction, IdMap};
 use virtiofs_map::xattrmap::Side::{self, Client, Server};
@@ -37,15 +37,6 @@ fn many_rules_are_read(rt: HostRuntime) -> Result<(), Fail> {
     Ok(())
 }
 
-#[test]
-fn many_rules_alike_are_read(rt: HostRuntime) -> Result<(), Fail> {
-    let text = ":bad:all:::".repeat(rt.alloc(), 20_000)?;
-    let map = XattrMap::try_from(rt.alloc(), text.as_str())?;
-    assert_eq!(rt; first(&map, Client, "a")?, (Some(0), 1));
-    assert!(rt; map.is_terminated() && !map.decides(1) && !map.decides(19_999));
-    Ok(())
-}
-
 /// A guest's number, and the host's, where each `map:10N:5000000+10N:5` maps five.
 static IDS: [(u32, u32); 4] = [
     (4, 5_000_004),
@@ -56,44 +47,28 @@ static IDS: [(u32, u32); 4] = [
 
 #[test]
 fn many_specifications_are_read(rt: HostRuntime) -> Result<(), Fail> {
-    // Rising, falling, and all over the place.
-    for stride in [1, MANY - 1, 12_361] {
-        let map = many(rt.alloc(), stride)?;
-        for &(number, wanted) in &IDS {
-            let mut steps = Steps::new();
-            let guest = GuestUid::from(number);
-            let host = map.map_guest_counted(guest, &mut steps).ok();
-            assert!(rt; host == Some(HostUid::from(wanted)), "{number}");
-            assert!(rt; steps.count() <= 15, "{number}");
-        }
-        assert!(rt; map.pieces(Direction::GuestToHost).count() == 40_000);
+    let map = many(rt.alloc())?;
+    for &(number, wanted) in &IDS {
+        let mut steps = Steps::new();
+        let host = map
+            .map_guest_counted(GuestUid::from(number), &mut steps)
+            .ok();
+        assert!(rt; host == Some(HostUid::from(wanted)), "{number}");
+        assert!(rt; steps.count() <= 15, "{number}");
     }
+    assert!(rt; map.pieces(Direction::GuestToHost).count() == 40_000);
     Ok(())
 }
 
-#[test]
-fn many_specifications_are_audited(rt: HostRuntime) -> Result<(), Fail> {
-    let map = many(rt.alloc(), 1)?;
-    let (guest, host) = (GuestUid::from(5_000_000), HostUid::from(5_000_000));
-    let back = GuestUid::from(0);
-    assert!(rt; comes_back(&map) == IdAudit::No(Astray { guest, host, back }));
-    let (guest, other) = (back, guest);
-    assert!(rt; is_alone(rt.alloc(), &map)? == IdAudit::No(Shared { guest, other, host }));
-    assert!(rt; ids_apart(rt.alloc(), &map, &map)? == IdAudit::No(guest));
-    let reached = reaches(&map, HostUid::from(5_199_994), HostUid::from(5_199_995));
-    assert!(rt; reached == Some(GuestUid::from(199_994)));
-    Ok(())
-}
-
-/// The map of many specifications, counted by `stride` round the list of them.
-fn many(alloc: Global, stride: u32) -> Result<IdMap<GuestUid, HostUid>, Fail> {
+/// The map of many specifications, which stand all over the place.
+fn many(alloc: Global) -> Result<IdMap<GuestUid, HostUid>, Fail> {
     let mut specs = Vec::new(alloc);
     let mut at: u32 = 0;
     for _ in 0..MANY {
         let (guest, count) = (at.wrapping_mul(10), 5);
         let host = guest.wrapping_add(5_000_000);
         specs.push(cmdline::IdMap::Bidirectional { guest, host, count })?;
-        at = at.wrapping_add(stride).checked_rem(MANY).unwrap_or(0);
+        at = at.wrapping_add(12_361).checked_rem(MANY).unwrap_or(0);
     }
     Ok(IdMap::try_from(alloc, specs)?)
 }

@@ -197,8 +197,6 @@ fn ask_ids<A: Allocator + Copy>(
     }
 }
 
-/// Asks a question of the map of these rules. The map stays what it was, and makes of names what it
-/// did.
 fn about_names<A: Allocator + Copy>(
     ample: A,
     alloc: A,
@@ -208,20 +206,7 @@ fn about_names<A: Allocator + Copy>(
 ) -> Option<String<A>> {
     let map = XattrMap::try_from(ample, rules).ok()?;
     let other = XattrMap::try_from(ample, others).ok()?;
-    ask_and_see(ample, alloc, asked, &map, &other)
-}
-
-fn ask_and_see<A: Allocator + Copy>(
-    ample: A,
-    alloc: A,
-    asked: Names,
-    map: &XattrMap<A>,
-    other: &XattrMap<A>,
-) -> Option<String<A>> {
-    let before = seen(ample, map)?;
-    let told = ask(ample, alloc, asked, map, other)?;
-    let is_same = seen(ample, map) == Some(before);
-    is_same.then_some(told)
+    ask(ample, alloc, asked, &map, &other)
 }
 
 fn ask<A: Allocator + Copy>(
@@ -234,7 +219,7 @@ fn ask<A: Allocator + Copy>(
     match asked {
         Cloned => printed(ample, &map.clone(alloc)),
         Client(name) => client(ample, alloc, map, name),
-        Server(list) => server(ample, alloc, map, list.as_bytes()),
+        Server(list) => server(ample, alloc, map, list),
         Audit => printed(ample, &audit::audit(alloc, map)),
         AuditCounted => printed(ample, &audit::audit_counted(alloc, map, &mut Steps::new())),
         AuditListed => printed(ample, &audit::audit_listed(alloc, map)),
@@ -283,22 +268,8 @@ fn server<A: Allocator + Copy>(
     ample: A,
     alloc: A,
     map: &XattrMap<A>,
-    list: &[u8],
+    list: &str,
 ) -> Option<String<A>> {
-    let list = Vec::from_slice(ample, list).ok()?;
+    let list = Vec::from_slice(ample, list.as_bytes()).ok()?;
     printed(ample, &map.map_server_xattrlist(alloc, list))
-}
-
-/// What a map is, and what it makes of some names.
-fn seen<A: Allocator + Copy>(ample: A, map: &XattrMap<A>) -> Option<String<A>> {
-    let text = printed(ample, map)?;
-    let text = and(text, client(ample, ample, map, "trusted.a"))?;
-    let text = and(text, client(ample, ample, map, "user.virtiofs.a"))?;
-    let list = b"user.virtiofs.a\0trusted.b\0c\0";
-    and(text, server(ample, ample, map, list))
-}
-
-fn and<A: Allocator>(mut text: String<A>, more: Option<String<A>>) -> Option<String<A>> {
-    text.push_str(more?.as_str()).ok()?;
-    Some(text)
 }

@@ -4,12 +4,12 @@ ghost use Rattle.serde_json.specs.View.{view};
 ghost use Rattle.serde_json.specs.Data.{string};
 ghost use Rattle.virtiofs_mapaudit.specs.ReportJson.{option_words, rules_words, acl_words, words_data, guest_words, advised_data};
 
-use super::{Built, BuiltList, findings_value};
-use crate::advice::Advised;
-use crate::guest::Guest;
+use crate::as_json::{Built, BuiltList, findings_value};
 use serde_json::{Value, json};
 use std::alloc::{AllocError, Global};
+use virtiofs_advice::Advised;
 use virtiofs_options::guest::Guest as GuestOptions;
+use virtiofs_setup::guest::Guest;
 
 /// Adds a word.
 fn push_word(alloc: Global, list: &mut Vec<Value>, word: &str) -> Result<(), AllocError>

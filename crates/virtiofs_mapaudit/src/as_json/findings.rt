@@ -2,21 +2,21 @@
 ghost use Rattle.std.specs.Prelude.{◌≡◌, ◌+◌, ◌++◌, IfOk, OnOk, map};
 ghost use Rattle.serde_json.specs.View.{view};
 ghost use Rattle.virtiofs_mapaudit.specs.NameJson.{least_data};
-ghost use Rattle.virtiofs_mapaudit.specs.FindingKinds.{kind_of, name_of};
-ghost use Rattle.virtiofs_mapaudit.specs.FindingJson.{ids_word, span_data, alone_data, not_back_data, ids_data, acting_data, root_data, range_data, fault_data, other_data, idle_data, acl_data, names_data, between_data, met_data, plain_data, named_data, finding_data};
+ghost use Rattle.virtiofs_findings.specs.FindingKinds.{kind_of, name_of};
+ghost use Rattle.virtiofs_mapaudit.specs.FindingJson.{ids_word, span_data, alone_data, not_back_data, ids_data, acting_data, root_data, range_data, fault_word, other_number, fault_data, other_data, idle_data, acl_data, names_data, between_data, met_data, plain_data, named_data, finding_data};
 
 use super::names::{least_value, name_value};
-use super::{Built, BuiltList};
-use crate::advice::kinds::{kind_of, name_of};
-use crate::finding::Finding;
-use crate::ids::found::{IdFault, IdsFound};
-use crate::ids::kind::IdKind;
-use crate::ids::ranges::{RangeFault, RangeFound};
-use crate::names::acl::{AclName, acl_name};
-use crate::names::found::LeastName;
+use crate::as_json::{Built, BuiltList};
 use serde_json::{Value, json};
 use std::alloc::{AllocError, Global};
+use virtiofs_findings::finding::Finding;
+use virtiofs_findings::ids::found::{IdFault, IdsFound};
+use virtiofs_findings::kinds::{kind_of, name_of};
+use virtiofs_findings::names::acl::{AclName, acl_name};
+use virtiofs_findings::names::found::LeastName;
 use virtiofs_id_audit::Span;
+use virtiofs_setup::ids::kind::IdKind;
+use virtiofs_setup::ids::ranges::{RangeFault, RangeFound};
 
 /// The word for a kind of ids.
 fn word(kind: IdKind) -> &'static str
@@ -161,6 +161,33 @@ fn range_value(
     })
 }
 
+/// The name of what is wrong with a range.
+fn fault_word(fault: RangeFault) -> &'static str
+    ensures { result.now ≡ fault_word fault }
+{
+    match fault {
+        RangeFault::Empty => "empty",
+        RangeFault::Beyond => "beyond",
+        RangeFault::TooMany => "too_many",
+        RangeFault::PastPage => "past_page",
+        RangeFault::NotGiven => "not_given",
+        RangeFault::MeetsInside(_) => "overlaps_inside",
+        RangeFault::MeetsOutside(_) => "overlaps_outside",
+    }
+}
+
+/// The number of the earlier range that one overlaps.
+fn other_number(fault: RangeFault) -> Result<Option<usize>, AllocError>
+    ensures { IfOk result (λ number. number ≡ other_number fault) }
+{
+    match fault {
+        RangeFault::MeetsInside(place) | RangeFault::MeetsOutside(place) => {
+            Ok(Some(number_at(place)?))
+        }
+        _ => Ok(None),
+    }
+}
+
 /// What is wrong with a range.
 fn fault_value(
     alloc: Global,
@@ -173,63 +200,9 @@ fn fault_value(
     ensures { IfOk result (λ value.
         view value ≡ fault_data accepted guest what.now kind found.place found.fault) }
 {
-    let ids = word(kind);
-    let number = number_at(found.place)?;
-    match found.fault {
-        RangeFault::Empty => range_value(alloc, accepted, guest, what, ids, number, "empty", None),
-        RangeFault::Beyond => range_value(
-            alloc, accepted, guest, what, ids, number, "beyond", None,
-        ),
-        RangeFault::TooMany => range_value(
-            alloc, accepted, guest, what, ids, number, "too_many", None,
-        ),
-        RangeFault::PastPage => range_value(
-            alloc,
-            accepted,
-            guest,
-            what,
-            ids,
-            number,
-            "past_page",
-            None,
-        ),
-        RangeFault::NotGiven => range_value(
-            alloc,
-            accepted,
-            guest,
-            what,
-            ids,
-            number,
-            "not_given",
-            None,
-        ),
-        RangeFault::MeetsInside(place) => {
-            let other = number_at(place)?;
-            range_value(
-                alloc,
-                accepted,
-                guest,
-                what,
-                ids,
-                number,
-                "overlaps_inside",
-                Some(other),
-            )
-        }
-        RangeFault::MeetsOutside(place) => {
-            let other = number_at(place)?;
-            range_value(
-                alloc,
-                accepted,
-                guest,
-                what,
-                ids,
-                number,
-                "overlaps_outside",
-                Some(other),
-            )
-        }
-    }
+    let (ids, fault) = (word(kind), fault_word(found.fault));
+    let (number, other) = (number_at(found.place)?, other_number(found.fault)?);
+    range_value(alloc, accepted, guest, what, ids, number, fault, other)
 }
 
 /// That the kernel shows other ranges of these ids.

@@ -5,13 +5,13 @@ ghost use Rattle.virtiofs_map.specs.Pieces.{ArePieces};
 ghost use Rattle.virtiofs_map.specs.declared.soft_idmap.piece.Piece.{Piece};
 ghost use Rattle.virtiofs_mapaudit.specs.IdJson.{piece_data, namespace_data, IsIdTable};
 
-use super::{Built, BuiltList};
-use crate::ids::audits::Ids;
-use crate::setup::IdSetUp;
+use crate::as_json::{Built, BuiltList};
 use serde_json::{Value, json};
 use std::alloc::Global;
 use virtiofs_map::idmap::UidMap;
 use virtiofs_map::soft_idmap::{Direction, Outcome, Piece};
+use virtiofs_setup::ids::Ids;
+use virtiofs_setup::setup::IdSetUp;
 
 /// A piece: its first and last id, and what becomes of them.
 fn piece_value(alloc: Global, piece: Piece) -> Built

@@ -4,17 +4,17 @@ ghost use Rattle.std.specs.Prelude.{◌≡◌, true, IfOk, map};
 ghost use Rattle.serde_json.specs.View.{view};
 ghost use Rattle.virtiofs_map.specs.Names.{client_answer, host_answer};
 ghost use Rattle.virtiofs_mapaudit.specs.NameJson.{text_data, name_data, answer_data, least_data, becomes_data, stands_data, named_data, told_data, name_line, table_data, IsNameTable};
-ghost use Rattle.virtiofs_mapaudit.specs.NameTableParts.{is_shown, names_of};
+ghost use Rattle.virtiofs_tables.specs.NameTableParts.{is_shown, names_of};
 
-use super::{Built, BuiltList};
-use crate::names::found::LeastName;
-use crate::names::table::SHOWN;
+use crate::as_json::{Built, BuiltList};
 use serde_json::{Value, json};
 use std::alloc::{AllocError, Global};
+use virtiofs_findings::names::found::LeastName;
 use virtiofs_map::audit::Audit;
 use virtiofs_map::soft_idmap::Direction;
 use virtiofs_map::xattrmap::{AppliedRule, ErrorKind, XattrMap, XattrName};
 use virtiofs_output::written::push_written;
+use virtiofs_tables::names::SHOWN;
 
 /// A text, and whether it is an escaped one.
 fn text_value(alloc: Global, text: &str, escaped: bool) -> Built

@@ -18,7 +18,7 @@ use Rattle.virtiofs_map.proofs.StoredLemmas.{Becomes-itself, Becomes-by_range}
 
 -- ---- ranges that were read
 
--- what was read at a place is the range there
+-- what was read at an index is the range there
 pub range_at : (specs : List IdMap) (direction : Direction) (table : Table) (at : ℕ) (range : Entry)
     (has : HasRanges specs direction table) → at < table.count → ((other : Entry) → IsAt table at other → range ≡ other)
     → slice_get has.ranges at ≡ Some range
@@ -68,7 +68,7 @@ IsStretch-covered specs direction table n at range piece has here covers made =
 
 -- ---- numbers that no range covers
 
--- the range before a place ends at or below a number, so no range before that place covers a greater one
+-- the range before an index ends at or below a number, so no range before that index covers a greater one
 before_covers : (ranges : List Entry) (n end k j : ℕ) (range : Entry) → AllPairs Precedes ranges → end ≤ length ranges
     → ((last : Entry) → slice_get ranges (end - 1) ≡ Some last → first_of last + count_of last ≤ n)
     → n ≤ k → j < end → get_or ranges j range ≡ range → ¬ EntryCovers range k
@@ -141,7 +141,7 @@ IsStretch-kept specs direction table n end piece has inside ends next first orde
             (λ other is. let above : piece.last < first_of other = next other is in omega arith) from' below here
             covers
 
--- there is no range from that place on
+-- there is no range from that index on
 pub no_next : (specs : List IdMap) (direction : Direction) (table : Table) (end : ℕ) (range : Entry)
     (has : HasRanges specs direction table) → table.count ≤ end → slice_get has.ranges end ≢ Some range
 no_next specs direction table end range has beyond here =
@@ -150,22 +150,22 @@ no_next specs direction table end range has beyond here =
     omega arith
 
 -- no range covers a number below the first range
-pub IsStretch-below : (specs : List IdMap) (direction : Direction) (table : Table) (n place : ℕ) (range : Entry)
-    (piece : Piece) (has : HasRanges specs direction table) → Searches table n place (place + 1)
-    → slice_get has.ranges place ≡ Some range → n < first_of range → piece.last < first_of range
+pub IsStretch-below : (specs : List IdMap) (direction : Direction) (table : Table) (n index : ℕ) (range : Entry)
+    (piece : Piece) (has : HasRanges specs direction table) → Searches table n index (index + 1)
+    → slice_get has.ranges index ≡ Some range → n < first_of range → piece.last < first_of range
     → piece.first ≡ n → n ≤ piece.last → piece.last ≤ 4294967295 → piece.becomes ≡ Kept
     → IsStretch specs direction piece
-IsStretch-below specs direction table n place range piece has searches here above last first order within kept =
+IsStretch-below specs direction table n index range piece has searches here above last first order within kept =
     IsStretch-kept specs direction table n 0 piece has (omega arith) (λ before some is. absurd (omega arith))
     (λ next is. rw (same_Some _ _ (sym (rw at_first at here) ∙ is)) at last) first order within kept where
-      at_first : place ≡ 0
+      at_first : index ≡ 0
       at_first =
-          elim (cases_order place 0) [
+          elim (cases_order index 0) [
             | inl same ↦ same
             | inr (inl before) ↦ absurd (omega arith)
             | inr (inr after) ↦
                 let begins : first_of range ≤ n =
-                rw (get_or_from_slice_get has.ranges place range range here) at
+                rw (get_or_from_slice_get has.ranges index range range here) at
                 ((searches has.ranges has.ordered has.stand).begins range (omega arith)) in
                 absurd (omega arith)
           ]
@@ -181,23 +181,23 @@ ends_before range n begins beyond =
     ]
 
 -- nor one after the range at which the search ended, and below the next one
-pub IsStretch-after : (specs : List IdMap) (direction : Direction) (table : Table) (n place : ℕ) (range : Entry)
-    (piece : Piece) (has : HasRanges specs direction table) → place < table.count
-    → slice_get has.ranges place ≡ Some range → first_of range ≤ n → (¬ EntryCovers range n)
-    → ((next : Entry) → slice_get has.ranges (place + 1) ≡ Some next → piece.last < first_of next)
+pub IsStretch-after : (specs : List IdMap) (direction : Direction) (table : Table) (n index : ℕ) (range : Entry)
+    (piece : Piece) (has : HasRanges specs direction table) → index < table.count
+    → slice_get has.ranges index ≡ Some range → first_of range ≤ n → (¬ EntryCovers range n)
+    → ((next : Entry) → slice_get has.ranges (index + 1) ≡ Some next → piece.last < first_of next)
     → piece.first ≡ n → n ≤ piece.last → piece.last ≤ 4294967295 → piece.becomes ≡ Kept
     → IsStretch specs direction piece
-IsStretch-after specs direction table n place range piece has inside here begins beyond next first order within kept =
-    let back : place + 1 - 1 ≡ place = omega arith in
-    IsStretch-kept specs direction table n (place + 1) piece has (omega arith)
+IsStretch-after specs direction table n index range piece has inside here begins beyond next first order within kept =
+    let back : index + 1 - 1 ≡ index = omega arith in
+    IsStretch-kept specs direction table n (index + 1) piece has (omega arith)
     (λ last some is. rw (same_Some _ _ (sym here ∙ rw back at is)) at (ends_before range n begins beyond)) next first
     order within kept
 
 -- the next range begins above the number
-pub next_above : (specs : List IdMap) (direction : Direction) (table : Table) (n place : ℕ) (range : Entry)
-    (has : HasRanges specs direction table) → Searches table n place (place + 1)
-    → slice_get has.ranges (place + 1) ≡ Some range → n < first_of range
-next_above specs direction table n place range has searches here =
+pub next_above : (specs : List IdMap) (direction : Direction) (table : Table) (n index : ℕ) (range : Entry)
+    (has : HasRanges specs direction table) → Searches table n index (index + 1)
+    → slice_get has.ranges (index + 1) ≡ Some range → n < first_of range
+next_above specs direction table n index range has searches here =
     let searched = searches has.ranges has.ordered has.stand in
-    rw (get_or_from_slice_get has.ranges (place + 1) range range here) at (searched.above (place + 1) range
-    (omega arith) (slice_get_within has.ranges (place + 1) range here))
+    rw (get_or_from_slice_get has.ranges (index + 1) range range here) at (searched.above (index + 1) range
+    (omega arith) (slice_get_within has.ranges (index + 1) range here))

@@ -7,17 +7,17 @@ use Rattle.std.specs.Str.{IsUtf8, chars, drop_trailing_whitespace, encode_utf8_a
 use Rattle.std.proofs.lemmas.Bool.{cond_both}
 use Rattle.std.proofs.lemmas.List.Concat.{flat_map-append}
 use Rattle.std.proofs.lemmas.Str.{encodes-append, encodes-chars, length-le-encodes}
-use Rattle.virtiofs_map.specs.BranchParts.{branch_count, patterns_on}
+use Rattle.virtiofs_map.specs.NodeParts.{patterns_on}
 use Rattle.virtiofs_map.specs.FirstRule.{acts, pattern}
 use Rattle.virtiofs_map.specs.NamesImage.{image_length, pattern_bytes}
 use Rattle.virtiofs_map.specs.PatternTrie.{longest_label}
 use Rattle.virtiofs_map.specs.Rule.{MappingRule, RuleType}
-use Rattle.virtiofs_map.specs.RuleText.{All, Client, Fields, Map, Opens, RuleAsWritten, RuleHead, RuleText, RuleThen}
-use Rattle.virtiofs_map.specs.RuleText.{RulesThen, SaysRules, ScopeName, Server, Typed, expanded, head_fields, rule_fields}
-use Rattle.virtiofs_map.specs.RuleText.{rules_of, scope_word, trimmed, type_word}
+use Rattle.virtiofs_map.specs.RuleText.{All, Client, Fields, Map, RuleAsWritten, RuleHead, RuleThen}
+use Rattle.virtiofs_map.specs.RuleText.{RulesThen, SaysRules, ScopeName, Server, Typed, expanded, rule_fields}
+use Rattle.virtiofs_map.specs.RuleText.{rules_of, trimmed}
 use Rattle.virtiofs_map.specs.declared.xattrmap.scopes.Side.{Side}
 use Rattle.virtiofs_map.specs.declared.xattrmap.scopes.Side.TheVariants as sides
-use Rattle.virtiofs_map.proofs.xattrmap.NodeCountLemmas.{held, nodes_most, sum_append, sum_of}
+use Rattle.virtiofs_map.proofs.xattrmap.NodeCountLemmas.{held, text_nodes_most, sum_append, sum_of}
 
 -- ---- what rules add
 
@@ -37,7 +37,7 @@ held_is side (rule ∷ rules) = by (acts side rule) (held_is side rules) where
   by true rest = omega (arith, rest)
   by false rest = omega (arith, rest)
 
--- what rules add to an image, with 6 nodes more for each side than it can have
+-- what rules add to an image, with 6 text nodes more for each side than it can have
 abbrev cost : List MappingRule → ℕ
 cost rules =
     24 * (side_worth sides.Client rules + side_worth sides.Server rules + length rules) + pattern_bytes rules
@@ -61,8 +61,8 @@ image_most : (rules : List MappingRule)
     + pattern_bytes rules
 unfolding image_length
 image_most rules =
-    let client = nodes_most longest_label (patterns_on sides.Client rules) in
-    let server = nodes_most longest_label (patterns_on sides.Server rules) in
+    let client = text_nodes_most longest_label (patterns_on sides.Client rules) in
+    let server = text_nodes_most longest_label (patterns_on sides.Server rules) in
     let of_client = held_is sides.Client rules in
     let of_server = held_is sides.Server rules in
     omega (arith, client, server, of_client, of_server)

@@ -13,13 +13,13 @@ use Rattle.std.proofs.lemmas.Bool.Decides.{nat_tests}
 use Rattle.std.proofs.lemmas.List.Sorted.{All-permutation, Contains-permutation, ranks_by, sorted_far}
 use Rattle.std.proofs.lemmas.List.Elements.{All-contains, All-push, Contains-append_left, Contains-push}
 use Rattle.std.proofs.lemmas.Option.{same_Some, slice_get_past, slice_get_within, get_or_from_slice_get}
-use Rattle.virtiofs_map.specs.BranchParts.{IsPattern, IsPatternAt, ArePatterns, ArePatternsBelow, AreInOrder}
+use Rattle.virtiofs_map.specs.NodeParts.{IsPattern, IsPatternAt, ArePatterns, ArePatternsBelow, AreInOrder}
 use Rattle.virtiofs_map.specs.FirstRule.{acts, pattern}
-use Rattle.virtiofs_map.specs.GrowthParts.{AreReady}
+use Rattle.virtiofs_map.specs.TrieBuildParts.{AreReady}
 use Rattle.virtiofs_map.specs.Rule.{HasNoZero, MappingRule, type_number}
 use Rattle.virtiofs_map.specs.declared.xattrmap.trie.patterns.Pattern.{Pattern}
 use Rattle.virtiofs_map.specs.declared.xattrmap.scopes.Side.{Side}
-use Rattle.virtiofs_map.proofs.xattrmap.WayLemmas.{pattern_no_zero}
+use Rattle.virtiofs_map.proofs.xattrmap.PathLemmas.{pattern_no_zero}
 
 -- the rule at the place has a pattern
 pub patterns_more : (side : Side) (rules : List MappingRule) (bytes : List ℕ) (place : ℕ) (patterns : List Pattern)

@@ -1,4 +1,4 @@
--- The nodes of a trie stand in the order of their levels, and no other list does.
+-- The text nodes of a trie stand in the order of their levels, and no other list does.
 use Rattle.std.proofs.Common.{◌≡◌, ℕ, suc, ◌<◌, ◌≤◌, Bool, false, ◌||◌, cond, List, [], ◌∷◌, ◌++◌}
 use Rattle.std.proofs.Common.{length, map, Option, Some, None, refl, ap, ◌∙◌, arith, length-append, inl, inr}
 use Rattle.std.specs.List.{flat_map, filter, range_with_len, AllByRecursion}
@@ -7,8 +7,8 @@ use Rattle.std.proofs.lemmas.List.Prefix.{front_fits}
 use Rattle.std.proofs.lemmas.Slice.Eq.{starts_is}
 use Rattle.std.proofs.lemmas.Bool.Decides.{Decides-eqb}
 use Rattle.virtiofs_map.specs.Names.{begins}
-use Rattle.virtiofs_map.specs.PatternTrie.{Node, root, leads, next_bytes, label_after, node_after, child, children}
-use Rattle.virtiofs_map.specs.PatternTrie.{slots, longest_of, nodes}
+use Rattle.virtiofs_map.specs.PatternTrie.{TextNode, root, leads, next_bytes, label_after, text_node_after, child, children}
+use Rattle.virtiofs_map.specs.PatternTrie.{slots, longest_of, text_nodes}
 use Rattle.virtiofs_map.proofs.xattrmap.trie.LevelOrderLemmas.{all_levels, all_map, only_levels}
 
 -- ---- how long paths are
@@ -33,41 +33,41 @@ none_left p (x ∷ xs) none =
     ap (λ b. cond b (x ∷ filter p xs) (filter p xs)) (none x) ∙ none_left p xs none
 
 module _ (most : ℕ) (texts : List (List ℕ)) where
-  -- the path to a node has so many bytes or more
-  abbrev IsDeep : ℕ → Option Node → Type 0
+  -- the path to a text node has so many bytes or more
+  abbrev IsDeep : ℕ → Option TextNode → Type 0
   IsDeep depth None = Unit {0}
-  IsDeep depth (Some node) = depth ≤ length node.path
+  IsDeep depth (Some text_node) = depth ≤ length text_node.path
 
-  deeper : (depth : ℕ) (of : Option Node) → IsDeep depth of → AllByRecursion (IsDeep (suc depth)) (children most texts of)
+  deeper : (depth : ℕ) (of : Option TextNode) → IsDeep depth of → AllByRecursion (IsDeep (suc depth)) (children most texts of)
   unfolding children child
   deeper depth None deep = tt
-  deeper depth (Some node) deep =
-      all_map (IsDeep (suc depth)) (child most texts node.path) (λ byte.
-      (let label = label_after most texts (node.path ++ byte ∷ []) in
-      cond_both (leads texts (node.path ++ byte ∷ [])) (Some (node_after node.path byte label)) None
+  deeper depth (Some text_node) deep =
+      all_map (IsDeep (suc depth)) (child most texts text_node.path) (λ byte.
+      (let label = label_after most texts (text_node.path ++ byte ∷ []) in
+      cond_both (leads texts (text_node.path ++ byte ∷ [])) (Some (text_node_after text_node.path byte label)) None
       (IsDeep (suc depth))
-      (λ _. let long = length-append node.path (byte ∷ label) in omega (arith, long, deep)) (λ _. tt)))
-      (slots (next_bytes texts node.path))
+      (λ _. let long = length-append text_node.path (byte ∷ label) in omega (arith, long, deep)) (λ _. tt)))
+      (slots (next_bytes texts text_node.path))
 
-  ended : (depth : ℕ) (of : Option Node) → longest_of texts ≤ depth → IsDeep depth of → children most texts of ≡ []
+  ended : (depth : ℕ) (of : Option TextNode) → longest_of texts ≤ depth → IsDeep depth of → children most texts of ≡ []
   unfolding children next_bytes slots
   ended depth None past deep = refl
-  ended depth (Some node) past deep =
-      ap (λ bytes. map (child most texts node.path) (slots bytes))
-      (none_left (λ byte. leads texts (node.path ++ byte ∷ [])) (range_with_len 1 255) (λ byte.
-      none_leads texts (node.path ++ byte ∷ [])
-      (let long = length-append node.path (byte ∷ []) in omega (arith, long, past, deep))))
+  ended depth (Some text_node) past deep =
+      ap (λ bytes. map (child most texts text_node.path) (slots bytes))
+      (none_left (λ byte. leads texts (text_node.path ++ byte ∷ [])) (range_with_len 1 255) (λ byte.
+      none_leads texts (text_node.path ++ byte ∷ [])
+      (let long = length-append text_node.path (byte ∷ []) in omega (arith, long, past, deep))))
 
-  some : (of : Option Node) → IsDeep 0 of
+  some : (of : Option TextNode) → IsDeep 0 of
   some None = tt
-  some (Some node) = omega arith
+  some (Some text_node) = omega arith
 
-  -- the root, and then what is below each node in turn
-  pub nodes_order : nodes most texts ≡ Some root ∷ flat_map (children most texts) (nodes most texts)
-  unfolding nodes
-  nodes_order = all_levels (children most texts) IsDeep (longest_of texts) some deeper ended (Some root)
+  -- the root, and then what is below each text node in turn
+  pub text_nodes_order : text_nodes most texts ≡ Some root ∷ flat_map (children most texts) (text_nodes most texts)
+  unfolding text_nodes
+  text_nodes_order = all_levels (children most texts) IsDeep (longest_of texts) some deeper ended (Some root)
 
-  pub nodes_only : (all : List (Option Node)) → all ≡ Some root ∷ flat_map (children most texts) all
-      → all ≡ nodes most texts
-  unfolding nodes
-  nodes_only = only_levels (children most texts) IsDeep (longest_of texts) some deeper ended (Some root)
+  pub text_nodes_only : (all : List (Option TextNode)) → all ≡ Some root ∷ flat_map (children most texts) all
+      → all ≡ text_nodes most texts
+  unfolding text_nodes
+  text_nodes_only = only_levels (children most texts) IsDeep (longest_of texts) some deeper ended (Some root)

@@ -1,22 +1,22 @@
--- The nodes of a trie do not depend on the order of its texts, nor on how often one stands among them.
+-- The text nodes of a trie do not depend on the order of its texts, nor on how often one stands among them.
 use Rattle.std.proofs.Common.{◌≡◌, ℕ, zero, suc, ◌<◌, Bool, true, false, ◌&&◌, ◌||◌, not, cond, eqb, List, [], ◌∷◌, ◌++◌}
 use Rattle.std.proofs.Common.{length, take, drop, get_or, map, Option, Some, None, refl, sym, ap, ◌∙◌, arith, inl, inr}
 use Rattle.std.proofs.Math.Path.{fun_ext}
 use Rattle.std.specs.List.{filter, flat_map, list_any, range_with_len, slice_get, AllByRecursion}
 use Rattle.std.proofs.lemmas.Bool.{cases_Bool, cond_both, and_parts, eqb-true, false_from_ne_true, or_right, true≢false}
 use Rattle.std.proofs.lemmas.List.Elements.{recursion_from_All}
-use Rattle.virtiofs_map.specs.BranchParts.{ArePatterns, IsPattern, branch_count, patterns_on}
+use Rattle.virtiofs_map.specs.NodeParts.{ArePatterns, IsPattern, node_count, patterns_on}
 use Rattle.virtiofs_map.specs.FirstRule.{acts, pattern}
 use Rattle.virtiofs_map.specs.Names.{begins}
-use Rattle.virtiofs_map.specs.PatternTrie.{Node, root, leads, next_bytes, common, label_after, node_after, child, children}
-use Rattle.virtiofs_map.specs.PatternTrie.{longest_label, slots, nodes}
+use Rattle.virtiofs_map.specs.PatternTrie.{TextNode, root, leads, next_bytes, common, label_after, text_node_after, child, children}
+use Rattle.virtiofs_map.specs.PatternTrie.{longest_label, slots, text_nodes}
 use Rattle.virtiofs_map.specs.Rule.{MappingRule}
 use Rattle.virtiofs_map.specs.TrieParts.{texts_of}
 use Rattle.virtiofs_map.specs.declared.xattrmap.scopes.Side.{Side}
 use Rattle.virtiofs_map.specs.declared.xattrmap.trie.patterns.Pattern.{Pattern}
 use Rattle.virtiofs_map.proofs.xattrmap.trie.LabelLemmas.{all_common, begun_by, of_left}
-use Rattle.virtiofs_map.proofs.xattrmap.trie.NodeLemmas.{child_some}
-use Rattle.virtiofs_map.proofs.xattrmap.trie.PatternTrieLemmas.{nodes_order, nodes_only}
+use Rattle.virtiofs_map.proofs.xattrmap.trie.TextNodeLemmas.{child_some}
+use Rattle.virtiofs_map.proofs.xattrmap.trie.PatternTrieLemmas.{text_nodes_order, text_nodes_only}
 
 -- each text of the one list is one of the other: what one of those passes, one of these passes
 pub record AreAmong (texts other : List (List ℕ)) : Type 0 where
@@ -79,13 +79,13 @@ more_common texts other front among led =
     (carried (begins front) (begins whole) texts other among
     (of_left (λ t. begins whole t ≡ true) front other (all_common (filter (begins front) other))))
 
--- ---- nodes
+-- ---- text nodes
 
 child_none : (most : ℕ) (texts : List (List ℕ)) (path : List ℕ) (byte : ℕ) → leads texts (path ++ byte ∷ []) ≡ false
     → child most texts path byte ≡ None
 unfolding child
 child_none most texts path byte none =
-    ap (λ b. cond b (Some (node_after path byte (label_after most texts (path ++ byte ∷ [])))) None) none
+    ap (λ b. cond b (Some (text_node_after path byte (label_after most texts (path ++ byte ∷ [])))) None) none
 
 module _ (most : ℕ) (texts other : List (List ℕ)) (there : AreAmong texts other) (back : AreAmong other texts) where
   leads_same : (path : List ℕ) → leads texts path ≡ leads other path
@@ -107,7 +107,7 @@ module _ (most : ℕ) (texts other : List (List ℕ)) (there : AreAmong texts ot
   child_same : (path : List ℕ) (byte : ℕ) → child most texts path byte ≡ child most other path byte
   child_same path byte = elim (cases_Bool (leads texts (path ++ byte ∷ []))) [
     | inl led ↦ child_some most texts path byte led
-        ∙ ap (λ label. Some (node_after path byte label)) (label_same (path ++ byte ∷ []) led)
+        ∙ ap (λ label. Some (text_node_after path byte label)) (label_same (path ++ byte ∷ []) led)
         ∙ sym (child_some most other path byte (sym (leads_same (path ++ byte ∷ [])) ∙ led))
     | inr none ↦ child_none most texts path byte none
         ∙ sym (child_none most other path byte (sym (leads_same (path ++ byte ∷ [])) ∙ none))
@@ -120,19 +120,19 @@ module _ (most : ℕ) (texts other : List (List ℕ)) (there : AreAmong texts ot
       fun_ext (λ byte. leads_same (path ++ byte ∷ [])) in
       ap (λ p. filter p (range_with_len 1 255)) same
 
-  below_same : (of : Option Node) → children most texts of ≡ children most other of
+  below_same : (of : Option TextNode) → children most texts of ≡ children most other of
   unfolding children
   below_same None = refl
-  below_same (Some node) =
-      let same : child most texts node.path ≡ child most other node.path = fun_ext (child_same node.path) in
-      ap (λ child_at. map child_at (slots (next_bytes texts node.path))) same
-      ∙ ap (λ bytes. map (child most other node.path) (slots bytes)) (next_same node.path)
+  below_same (Some text_node) =
+      let same : child most texts text_node.path ≡ child most other text_node.path = fun_ext (child_same text_node.path) in
+      ap (λ child_at. map child_at (slots (next_bytes texts text_node.path))) same
+      ∙ ap (λ bytes. map (child most other text_node.path) (slots bytes)) (next_same text_node.path)
 
-  pub nodes_same : nodes most texts ≡ nodes most other
-  nodes_same =
+  pub text_nodes_same : text_nodes most texts ≡ text_nodes most other
+  text_nodes_same =
       let same : children most texts ≡ children most other = fun_ext below_same in
-      nodes_only most other (nodes most texts)
-      (nodes_order most texts ∙ ap (λ below. Some root ∷ flat_map below (nodes most texts)) same)
+      text_nodes_only most other (text_nodes most texts)
+      (text_nodes_order most texts ∙ ap (λ below. Some root ∷ flat_map below (text_nodes most texts)) same)
 
 -- ---- the patterns of a side
 
@@ -207,13 +207,13 @@ module _ (side : Side) (p : List ℕ → Bool) where
         (sym (ap (λ b. b || list_any p (texts_of patterns)) fails) ∙ some)
   ]
 
--- their trie has as many nodes as that of what names are compared with
+-- their trie has as many text nodes as that of what names are compared with
 pub count_same : (side : Side) (rules : List MappingRule) (bytes : List ℕ) (patterns : List Pattern)
     → ArePatterns side rules bytes patterns
-    → length (nodes longest_label (texts_of patterns)) ≡ branch_count side rules
+    → length (text_nodes longest_label (texts_of patterns)) ≡ node_count side rules
 count_same side rules bytes patterns are =
     ap length
-    (nodes_same longest_label (texts_of patterns) (patterns_on side rules)
+    (text_nodes_same longest_label (texts_of patterns) (patterns_on side rules)
     record {
       passed = λ p. passed_among side p rules bytes patterns
           (recursion_from_All (IsPattern side rules bytes) patterns are.each);

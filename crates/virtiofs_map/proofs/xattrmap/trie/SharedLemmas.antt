@@ -16,7 +16,7 @@ use Rattle.virtiofs_map.specs.Steps.{count_after}
 use Rattle.virtiofs_map.specs.declared.xattrmap.scopes.Side.{Side}
 use Rattle.virtiofs_map.proofs.BeginsLemmas.{begins_split, deciding_fits}
 use Rattle.virtiofs_map.proofs.xattrmap.FittingLemmas.{fits_is}
-use Rattle.virtiofs_map.proofs.xattrmap.WayLemmas.{no_longer}
+use Rattle.virtiofs_map.proofs.xattrmap.PathLemmas.{no_longer}
 
 -- ---- two rows
 
@@ -86,28 +86,28 @@ shared_ended one other n past so_far =
     let within = shared_within (drop n one) (drop n other) in
     omega (arith, within.0, within.1, length-drop n one, length-drop n other, past, so_far)
 
--- ---- a way and a label
+-- ---- a path and a label
 
-module _ (way label left name p : List ℕ) (byte : ℕ) where
+module _ (path label left name p : List ℕ) (byte : ℕ) where
   -- a pattern that goes on with a label, which does not begin what is left of the name
-  pub shared_misses : name ≡ way ++ byte ∷ left → begins (way ++ byte ∷ label) p ≡ true → begins label left ≡ false
-      → shared p name ≡ length way + (1 + shared label left)
+  pub shared_misses : name ≡ path ++ byte ∷ left → begins (path ++ byte ∷ label) p ≡ true → begins label left ≡ false
+      → shared p name ≡ length path + (1 + shared label left)
   shared_misses split goes_on unlike =
-      let more = drop (length (way ++ byte ∷ label)) p in
-      let whole : p ≡ way ++ (byte ∷ (label ++ more)) = begins_split (way ++ byte ∷ label) p goes_on
-      ∙ append_assoc way (byte ∷ label) more in
+      let more = drop (length (path ++ byte ∷ label)) p in
+      let whole : p ≡ path ++ (byte ∷ (label ++ more)) = begins_split (path ++ byte ∷ label) p goes_on
+      ∙ append_assoc path (byte ∷ label) more in
       ap (λ row. shared row name) whole
-      ∙ ap (shared (way ++ (byte ∷ (label ++ more)))) split
-      ∙ shared_past way (byte ∷ (label ++ more)) (byte ∷ left)
-      ∙ ap (λ n. length way + n) (shared_past (byte ∷ []) (label ++ more) left
+      ∙ ap (shared (path ++ (byte ∷ (label ++ more)))) split
+      ∙ shared_past path (byte ∷ (label ++ more)) (byte ∷ left)
+      ∙ ap (λ n. length path + n) (shared_past (byte ∷ []) (label ++ more) left
       ∙ ap (λ n. 1 + n) (shared_label label more left unlike))
 
--- a pattern that goes on after the way
-pub shared_way : (way rest name p : List ℕ) → name ≡ way ++ rest → begins way p ≡ true → length way ≤ shared p name
-shared_way way rest name p split goes_on =
-    let more = drop (length way) p in
-    let same = ap (λ row. shared row name) (begins_split way p goes_on) ∙ ap (shared (way ++ more)) split
-    ∙ shared_past way more rest in
+-- a pattern that goes on after the path
+pub shared_path : (path rest name p : List ℕ) → name ≡ path ++ rest → begins path p ≡ true → length path ≤ shared p name
+shared_path path rest name p split goes_on =
+    let more = drop (length path) p in
+    let same = ap (λ row. shared row name) (begins_split path p goes_on) ∙ ap (shared (path ++ more)) split
+    ∙ shared_past path more rest in
     omega (arith, same)
 
 -- ---- the patterns of all rules

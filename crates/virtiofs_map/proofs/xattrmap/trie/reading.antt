@@ -1,1 +1,1 @@
-mod BranchLemmas
+mod ChildStepLemmas

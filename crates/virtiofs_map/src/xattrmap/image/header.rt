@@ -3,7 +3,8 @@
 ghost use Rattle.std.specs.Prelude.{◌≡◌, ◌<◌, ◌≤◌, ◌↔◌, length, IsFalse};
 ghost use Rattle.virtiofs_map.specs.NamesImage.{HasPart, IsNoImage, part, part_start};
 
-use crate::xattrmap::words::word_at;
+use crate::xattrmap::le_u64::le_u64_at;
+use crate::xattrmap::trie::ROW;
 
 /// What an image begins with: the letters `vfsname`, and the version 2.
 pub(crate) const KIND: u64 = 172664425955944054;
@@ -11,12 +12,15 @@ pub(crate) const KIND: u64 = 172664425955944054;
 /// How many bytes stand before the first part.
 pub(crate) const HEADER: usize = 48;
 
+/// How many bytes an image has at least: those before the first part, and the row of a root.
+const SHORTEST: usize = HEADER + ROW;
+
 /// Whether the bytes begin as an image does.
 #[inline(always)]
 pub(crate) fn is_image(image: &[u8]) -> bool
     ensures { IsFalse result ↔ IsNoImage image.now }
 {
-    image.len() >= HEADER && word_at(image, 0) == KIND
+    image.len() >= SHORTEST && le_u64_at(image, 0) == KIND
 }
 
 /// Where the part of that number starts; 0 where nothing says so.
@@ -28,7 +32,7 @@ pub(crate) fn part_start(image: &[u8], which: usize) -> usize
     if image.len() < HEADER {
         return 0;
     }
-    word_at(image, 8 * which + 8) as usize
+    le_u64_at(image, 8 * which + 8) as usize
 }
 
 /// The part of that number; nothing where it is not all there.
@@ -41,8 +45,8 @@ pub(crate) fn part(image: &[u8], which: usize) -> &[u8]
     if image.len() < HEADER {
         return &[];
     }
-    let from = word_at(image, 8 * which + 8) as usize;
-    let to = word_at(image, 8 * which + 16) as usize;
+    let from = le_u64_at(image, 8 * which + 8) as usize;
+    let to = le_u64_at(image, 8 * which + 16) as usize;
     if from <= to && to <= image.len() {
         &image[from..to]
     } else {

@@ -2,16 +2,16 @@
 
 ghost use Rattle.std.specs.Option.{option_map};
 ghost use Rattle.std.specs.Prelude.{◌≡◌, ◌<◌, List, Some, length, slice_get};
-ghost use Rattle.virtiofs_map.specs.BranchParts.{IsSpan};
+ghost use Rattle.virtiofs_map.specs.NodeParts.{IsSpan};
 ghost use Rattle.virtiofs_map.specs.NamesImage.{AreRuleRows, rule_row};
 ghost use Rattle.virtiofs_map.specs.Rule.{MappingRule};
 ghost use Rattle.virtiofs_map.specs.RuleParts.{rule_meant};
 ghost use Rattle.virtiofs_map.specs.declared.xattrmap.spans.Span.{Span};
 
+use crate::xattrmap::le_u64::le_u64_at;
 use crate::xattrmap::rules::{RuleKind, RuleRef};
 use crate::xattrmap::scopes::Scope;
 use crate::xattrmap::trie::ROW;
-use crate::xattrmap::words::word_at;
 use bitflags::Flags;
 
 /// Where two numbers share eight bytes, the second is multiplied by this.
@@ -37,10 +37,10 @@ fn rule_of<'a>(row: &[u8], bytes: &'a [u8]) -> Option<RuleRef<'a>>
         → IsSpan bytes.now rule span → length bytes.now < 281474976710656
         → option_map rule_meant result ≡ Some rule }
 {
-    let first = word_at(row, 0);
+    let first = le_u64_at(row, 0);
     let key = (first % SHARE) as usize;
-    let prepend = word_at(row, 8) as usize;
-    let end = word_at(row, 16) as usize;
+    let prepend = le_u64_at(row, 8) as usize;
+    let end = le_u64_at(row, 16) as usize;
     if key <= prepend && prepend <= end && end <= bytes.len() {
         Some(RuleRef {
             kind: RuleKind::numbered(first / SHARE % 4),
@@ -77,8 +77,8 @@ fn prepend_of<'a>(row: &[u8], bytes: &'a [u8]) -> Option<&'a [u8]>
         → IsSpan bytes.now rule span → length bytes.now < 281474976710656
         → option_map (λ prepend. prepend.now) result ≡ Some rule.prepend }
 {
-    let prepend = word_at(row, 8) as usize;
-    let end = word_at(row, 16) as usize;
+    let prepend = le_u64_at(row, 8) as usize;
+    let end = le_u64_at(row, 16) as usize;
     if prepend <= end && end <= bytes.len() {
         Some(&bytes[prepend..end])
     } else {

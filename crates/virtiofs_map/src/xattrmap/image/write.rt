@@ -8,11 +8,11 @@ ghost use Rattle.virtiofs_map.specs.RuleParts.{rule_meant};
 
 use crate::xattrmap::image::header::{HEADER, KIND};
 use crate::xattrmap::image::stored::SHARE;
+use crate::xattrmap::le_u64::push_le_u64;
 use crate::xattrmap::rules::{RuleRef, Rules};
 use crate::xattrmap::scopes::Side;
 use crate::xattrmap::spans::Span;
 use crate::xattrmap::trie::{ROW, push_rows, trie_of};
-use crate::xattrmap::words::push_word;
 use std::alloc::{AllocError, Allocator};
 
 /// Every place of an image is below this.
@@ -38,7 +38,7 @@ fn end_of(from: usize, count: usize, size: usize) -> Option<usize>
     if end < LIMIT { Some(end) } else { None }
 }
 
-/// Where the parts of an image stand, of tries with so many branches and of rules.
+/// Where the parts of an image stand, of tries with so many nodes and of rules.
 fn places_of<A: Allocator>(client: usize, server: usize, rules: &Rules<A>) -> Option<Places>
     ensures { IfSome result (ArePlaces (24 * client) (24 * server)
         (length rules.now.list) (length rules.now.bytes)) }
@@ -88,12 +88,12 @@ pub(crate) fn image_of<A: Allocator + Copy>(
 fn push_header<A: Allocator>(image: &mut Vec<u8, A>, places: Places) -> Result<(), AllocError>
     ensures { OnOk result (image.new.items ≡ image.old.items ++ header_of places) }
 {
-    push_word(image, KIND)?;
-    push_word(image, HEADER as u64)?;
-    push_word(image, places.server as u64)?;
-    push_word(image, places.rules as u64)?;
-    push_word(image, places.bytes as u64)?;
-    push_word(image, places.end as u64)
+    push_le_u64(image, KIND)?;
+    push_le_u64(image, HEADER as u64)?;
+    push_le_u64(image, places.server as u64)?;
+    push_le_u64(image, places.rules as u64)?;
+    push_le_u64(image, places.bytes as u64)?;
+    push_le_u64(image, places.end as u64)
 }
 
 /// Appends the rows of rules.
@@ -131,7 +131,7 @@ fn push_rule<A: Allocator>(
     ensures { OnOk result (image.new.items
         ≡ image.old.items ++ rule_row (rule_meant rule.entry) span) }
 {
-    push_word(image, span.key as u64 + SHARE * acts_number(rule))?;
-    push_word(image, span.prepend as u64)?;
-    push_word(image, span.end as u64)
+    push_le_u64(image, span.key as u64 + SHARE * acts_number(rule))?;
+    push_le_u64(image, span.prepend as u64)?;
+    push_le_u64(image, span.end as u64)
 }

@@ -1,7 +1,7 @@
 //! The patterns of a side, in the order of their bytes.
 
 ghost use Rattle.std.specs.Prelude.{◌≡◌, false, slice_get, IfOk, IfNone, IfSome, Some};
-ghost use Rattle.virtiofs_map.specs.BranchParts.{AreFew, AreInOrder, ArePatterns, IsPatternAt};
+ghost use Rattle.virtiofs_map.specs.NodeParts.{AreFew, AreInOrder, ArePatterns, IsPatternAt};
 ghost use Rattle.virtiofs_map.specs.FirstRule.{acts};
 ghost use Rattle.virtiofs_map.specs.Rule.{MappingRule};
 

@@ -2,19 +2,19 @@
 
 ghost use Rattle.std.specs.Prelude.{◌≡◌, ◌↔◌, ◌≤◌, ◌<◌, ◌+◌, ◌*◌, false, ℕ, List, length, take, drop, IfSome, IsTrue};
 ghost use Rattle.std.specs.Prelude.{MatchOption};
-ghost use Rattle.virtiofs_map.specs.BranchParts.{HasBytesAt, HasRows, IsReadable, IsRootRow, IsRow, LeadsNowhere};
-ghost use Rattle.virtiofs_map.specs.BranchParts.{LeadsToRow, StaysAt, StepsToRow};
+ghost use Rattle.virtiofs_map.specs.NodeParts.{HasBytesAt, HasRows, IsReadable, IsRootRow, IsRow, LeadsNowhere};
+ghost use Rattle.virtiofs_map.specs.NodeParts.{LeadsToRow, StaysAt, StepsToRow};
 ghost use Rattle.virtiofs_map.specs.FirstRule.{shared};
 ghost use Rattle.virtiofs_map.specs.Steps.{count_after};
-ghost use Rattle.virtiofs_map.specs.declared.xattrmap.trie.branch.Branch.{Branch};
+ghost use Rattle.virtiofs_map.specs.declared.xattrmap.trie.node.Node.{Node};
 
 use crate::steps::Steps;
-use crate::xattrmap::trie::fronts::{are_same, begins_alike, shared_length};
+use crate::xattrmap::trie::compare::{are_same, begins_alike, common_prefix_length};
 use crate::xattrmap::trie::rows::{
-    first_of, head_of, is_scattered, label_of, length_of, low_of, row_at, width_of,
+    base_of, first_byte_of, is_sparse, label_of, length_of, low_byte_of, row_at, width_of,
 };
 
-/// The row of a branch that answers that no rule fits, and has no children.
+/// The row of a node that answers that no rule fits, and has no children.
 const BARE: [u8; 24] = [
     0, 0, 0, 0, 0, 0, 0, 0, 1, 0, 0, 0, 0, 0, 0, 0, 255, 255, 255, 255, 255, 255, 0, 0,
 ];
@@ -37,13 +37,13 @@ impl<'a> Trie<'a> {
         Trie { image, root }
     }
 
-    /// The row of the root, which counts as one step. Where there is none, the row of a branch that
+    /// The row of the root, which counts as one step. Where there is none, the row of a node that
     /// answers that no rule fits.
     #[inline(always)]
     pub(crate) fn root(self, steps: &mut Steps) -> &'a [u8; 24]
-        ensures root { (first labels : ℕ) (branches : List Branch) → self.entry.root ≡ 8 * first
-            → HasRows self.entry.image.now first labels branches → 0 < length branches
-            → IsRootRow first labels branches result.now }
+        ensures root { (first labels : ℕ) (nodes : List Node) → self.entry.root ≡ 8 * first
+            → HasRows self.entry.image.now first labels nodes → 0 < length nodes
+            → IsRootRow first labels nodes result.now }
         ensures counted { steps.new ≡ count_after steps.old 1 }
     {
         steps.tick();
@@ -69,43 +69,43 @@ impl<'a> Trie<'a> {
 
     /// The child to which a byte leads, where the children stand as their bytes do.
     #[inline(always)]
-    fn child_in_slot(self, parent: &'a [u8; 24], byte: u8) -> Option<&'a [u8; 24]>
-        ensures { (first labels : ℕ) (branches : List Branch) (bytes : List ℕ) (branch : Branch)
-            → HasRows self.entry.image.now first labels branches
-            → IsReadable branches bytes branch → IsRow first labels branch parent.now
-            → branch.scattered ≡ false
+    fn dense_child(self, parent: &'a [u8; 24], byte: u8) -> Option<&'a [u8; 24]>
+        ensures { (first labels : ℕ) (nodes : List Node) (bytes : List ℕ) (node : Node)
+            → HasRows self.entry.image.now first labels nodes
+            → IsReadable nodes bytes node → IsRow first labels node parent.now
+            → node.is_sparse ≡ false
             → MatchOption result
-            (LeadsNowhere branches branch byte)
-            (λ child. LeadsToRow first labels branches branch byte child.now) }
+            (LeadsNowhere nodes node byte)
+            (λ child. LeadsToRow first labels nodes node byte child.now) }
     {
-        let behind = byte.wrapping_sub(low_of(parent));
+        let behind = byte.wrapping_sub(low_byte_of(parent));
         if behind >= width_of(parent) {
             return None;
         }
-        let child = self.row(first_of(parent), behind)?;
-        if head_of(child) == byte {
+        let child = self.row(base_of(parent), behind)?;
+        if first_byte_of(child) == byte {
             Some(child)
         } else {
             None
         }
     }
 
-    /// The child to which a byte leads, where the children are scattered.
-    fn scattered_child(self, parent: &'a [u8; 24], byte: u8) -> Option<&'a [u8; 24]>
-        ensures { (first labels : ℕ) (branches : List Branch) (bytes : List ℕ) (branch : Branch)
-            → HasRows self.entry.image.now first labels branches
-            → IsReadable branches bytes branch → IsRow first labels branch parent.now
+    /// The child to which a byte leads, where the children are sparse.
+    fn sparse_child(self, parent: &'a [u8; 24], byte: u8) -> Option<&'a [u8; 24]>
+        ensures { (first labels : ℕ) (nodes : List Node) (bytes : List ℕ) (node : Node)
+            → HasRows self.entry.image.now first labels nodes
+            → IsReadable nodes bytes node → IsRow first labels node parent.now
             → MatchOption result
-            (LeadsNowhere branches branch byte)
-            (λ child. LeadsToRow first labels branches branch byte child.now) }
+            (LeadsNowhere nodes node byte)
+            (λ child. LeadsToRow first labels nodes node byte child.now) }
     {
         if byte == 0 {
             return None;
         }
-        let (from, width) = (first_of(parent), width_of(parent));
+        let (from, width) = (base_of(parent), width_of(parent));
         for behind in 0..width {
             let child = self.row(from, behind)?;
-            if head_of(child) == byte {
+            if first_byte_of(child) == byte {
                 return Some(child);
             }
         }
@@ -115,17 +115,17 @@ impl<'a> Trie<'a> {
     /// The child to which a byte leads.
     #[inline(always)]
     fn child(self, parent: &'a [u8; 24], byte: u8) -> Option<&'a [u8; 24]>
-        ensures { (first labels : ℕ) (branches : List Branch) (bytes : List ℕ) (branch : Branch)
-            → HasRows self.entry.image.now first labels branches
-            → IsReadable branches bytes branch → IsRow first labels branch parent.now
+        ensures { (first labels : ℕ) (nodes : List Node) (bytes : List ℕ) (node : Node)
+            → HasRows self.entry.image.now first labels nodes
+            → IsReadable nodes bytes node → IsRow first labels node parent.now
             → MatchOption result
-            (LeadsNowhere branches branch byte)
-            (λ child. LeadsToRow first labels branches branch byte child.now) }
+            (LeadsNowhere nodes node byte)
+            (λ child. LeadsToRow first labels nodes node byte child.now) }
     {
-        if is_scattered(parent) {
-            self.scattered_child(parent, byte)
+        if is_sparse(parent) {
+            self.sparse_child(parent, byte)
         } else {
-            self.child_in_slot(parent, byte)
+            self.dense_child(parent, byte)
         }
     }
 
@@ -176,7 +176,7 @@ impl<'a> Trie<'a> {
         if from + count > self.image.len() {
             return 0;
         }
-        shared_length(&self.image[from..from + count], row) as u64
+        common_prefix_length(&self.image[from..from + count], row) as u64
     }
 
     /// Goes from a row to that of the child that the first byte leads to, where its label begins
@@ -192,13 +192,13 @@ impl<'a> Trie<'a> {
         whole_count: bool,
         steps: &mut Steps,
     ) -> Option<(&'a [u8; 24], &'n [u8])>
-        ensures step { (first labels : ℕ) (branches : List Branch) (bytes : List ℕ) (branch : Branch)
-            → HasRows self.entry.image.now first labels branches
+        ensures step { (first labels : ℕ) (nodes : List Node) (bytes : List ℕ) (node : Node)
+            → HasRows self.entry.image.now first labels nodes
             → HasBytesAt self.entry.image.now labels bytes
-            → IsReadable branches bytes branch → IsRow first labels branch parent.now
+            → IsReadable nodes bytes node → IsRow first labels node parent.now
             → MatchOption result
-            (StaysAt branches bytes branch rest.now whole_count steps.old steps.new)
-            (λ found. StepsToRow first labels branches bytes branch rest.now
+            (StaysAt nodes bytes node rest.now whole_count steps.old steps.new)
+            (λ found. StepsToRow first labels nodes bytes node rest.now
             found.0.now found.1.now steps.old steps.new) }
         ensures shorter { IfSome result (λ found. length found.1.now < length rest.now) }
     {

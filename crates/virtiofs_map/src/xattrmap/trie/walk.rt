@@ -1,19 +1,19 @@
 //! Walks along a trie.
 
 ghost use Rattle.std.specs.Prelude.{◌≡◌, ◌≤◌, true, ℕ, List, length};
-ghost use Rattle.virtiofs_map.specs.BranchParts.{CountsWalk, IsTrieIn, Passes};
+ghost use Rattle.virtiofs_map.specs.NodeParts.{CountsWalk, IsTrieIn, Passes};
 ghost use Rattle.virtiofs_map.specs.FirstRule.{CountsFronts, CountsLookup};
 ghost use Rattle.virtiofs_map.specs.Names.{first};
 ghost use Rattle.virtiofs_map.specs.Rule.{MappingRule};
 ghost use Rattle.virtiofs_map.specs.declared.xattrmap.scopes.Side.{Side};
 
 use crate::steps::Steps;
-use crate::xattrmap::trie::branch::NO_ANSWER;
+use crate::xattrmap::trie::node::NO_ANSWER;
 use crate::xattrmap::trie::reading::Trie;
 use crate::xattrmap::trie::rows::answer_of;
 
 /// Goes from the root along the bytes of a name, as far as labels fit. Gives the answer of the last
-/// branch, and how many bytes were passed on the way to it.
+/// node, and how many bytes were passed on the way to it.
 ///
 /// A step is counted for the root, and one for each byte that is passed. Where a label does not
 /// fit, the bytes that it shares with the name count if the count is to be whole.
@@ -23,7 +23,8 @@ fn walk(trie: Trie<'_>, name: &[u8], whole_count: bool, steps: &mut Steps) -> (u
         → IsTrieIn side rules trie.entry.image.now trie.entry.root end labels bytes
         → Passes side rules name.now result.0 result.1 }
     ensures counts { (side : Side) (rules : List MappingRule) (end labels : ℕ) (bytes : List ℕ)
-        → IsTrieIn side rules trie.entry.image.now trie.entry.root end labels bytes → whole_count ≡ true
+        → IsTrieIn side rules trie.entry.image.now trie.entry.root end labels bytes
+        → whole_count ≡ true
         → CountsWalk side rules name.now result.0 steps.old steps.new }
     ensures within { result.1 ≤ length name.now }
 {

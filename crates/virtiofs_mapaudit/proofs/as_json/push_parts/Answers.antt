@@ -1,4 +1,4 @@
-use Rattle.virtiofs_mapaudit.proofs.ListLemmas.{flat_pushed}
+use Rattle.virtiofs_setup.proofs.ForCallers.{flat_pushed}
 use Rattle.virtiofs_mapaudit.specs.ReportJson.{part_data}
 use Rattle.virtiofs_mapaudit.proofs.as_json.push_parts.Goals as goal
 

@@ -2,7 +2,7 @@
 use Rattle.std.proofs.Common.{◌≡◌, map, take}
 use Rattle.serde_json.specs.Data.{string}
 use Rattle.serde_json.specs.View.{view}
-use Rattle.virtiofs_mapaudit.specs.RefusalText.{refusal_text}
+use Rattle.virtiofs_setup.specs.RefusalText.{refusal_text}
 use Rattle.virtiofs_mapaudit.proofs.as_json.refused_value.Given as goal
 
 abbrev pub invariant-loop-refusal : goal.invariant-loop-refusal

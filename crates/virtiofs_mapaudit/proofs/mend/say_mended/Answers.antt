@@ -1,6 +1,6 @@
 use Rattle.std.proofs.Common.{refl, inl, inr, rules}
-use Rattle.virtiofs_mapaudit.proofs.ReportLemmas.{audited_long}
-use Rattle.virtiofs_mapaudit.proofs.ListLemmas.{is_some, is_empty_here}
+use Rattle.virtiofs_findings.proofs.ForCallers.{audited_long}
+use Rattle.virtiofs_setup.proofs.ForCallers.{is_some, is_empty_here}
 use Rattle.virtiofs_mapaudit.proofs.mend.say_mended.Goals as goal
 
 pub returns-then-not-is_empty : goal.returns-then-not-is_empty

@@ -5,7 +5,7 @@ use Rattle.std.specs.List.Sorted.{IsPermutation}
 use Rattle.virtiofs_map.specs.GatheredParts.{part_of}
 use Rattle.virtiofs_map.specs.Rule.{HasNoZero}
 use Rattle.virtiofs_map.specs.RuleParts.{rule_meant}
-use Rattle.virtiofs_map.proofs.AuditFrontLemmas.{none_is}
+use Rattle.virtiofs_map.proofs.AuditAddedLemmas.{none_is}
 use Rattle.virtiofs_map.proofs.RuleRowLemmas.{there}
 use Rattle.virtiofs_map.proofs.audit.AuditGatheredLemmas.{gathered_some, gathered_none, rule_has}
 use Rattle.virtiofs_map.proofs.audit.gathered.gathered.Goals as goal

@@ -6,74 +6,74 @@ use Rattle.virtiofs_map.proofs.audit.AuditReachLemmas.{not_reached_empty}
 use Rattle.virtiofs_map.proofs.audit.reach.is_reached.Goals as goal
 
 pub loop-last-init : goal.loop-last-init
-loop-last-init g c = λ rules is fronts. left_first rules c.args.fronts.now c.args.host.now
+loop-last-init g c = λ rules is all_added. left_first rules c.args.all_added.now c.args.host.now
 
 pub slice_bounds-rest-end : goal.slice_bounds-rest-end
 slice_bounds-rest-end g c =
     let rest = c.loop-last.rest.now in
     let within = (shared_within c.in-Some.last.bytes.now rest).1 in
-    sym (take_within c.shared_length-count.result rest (omega (arith, c.shared_length-count.ensures)))
+    sym (take_within c.common_prefix_length-count.result rest (omega (arith, c.common_prefix_length-count.ensures)))
 
 pub loop-last-smaller-then-count-last : goal.loop-last-smaller-then-count-last
 loop-last-smaller-then-count-last g c =
     let rest = c.loop-last.rest.now in
     let last = c.in-Some.last.bytes.now in
-    let count = c.shared_length-count.result in
+    let count = c.common_prefix_length-count.result in
     let within = (shared_within last rest).1 in
     let size : length (take count rest) ≡ count =
-    take_within count rest (omega (arith, c.shared_length-count.ensures)) in
+    take_within count rest (omega (arith, c.common_prefix_length-count.ensures)) in
     let less =
-    shares_less c.args.fronts.now rest last c.in-Some.ensures
-    (omega (arith, c.shared_length-count.ensures, c.if-count-last.true)) in
-    omega (arith, c.shared_length-count.ensures)
+    shares_less c.args.all_added.now rest last c.in-Some.ensures
+    (omega (arith, c.common_prefix_length-count.ensures, c.if-count-last.true)) in
+    omega (arith, c.common_prefix_length-count.ensures)
 
 pub loop-last-preserved-then-count-last : goal.loop-last-preserved-then-count-last
-loop-last-preserved-then-count-last g c = λ rules is fronts.
+loop-last-preserved-then-count-last g c = λ rules is all_added.
     let rest = c.loop-last.rest.now in
-    left_shared rules c.args.fronts.now c.args.host.now rest c.in-Some.last.bytes.now
-    (take c.shared_length-count.result rest) c.shared_length-count.result (c.loop-last.invariant rules is fronts) c.in-Some.ensures
-    c.shared_length-count.ensures refl
+    left_shared rules c.args.all_added.now c.args.host.now rest c.in-Some.last.bytes.now
+    (take c.common_prefix_length-count.result rest) c.common_prefix_length-count.result (c.loop-last.invariant rules is all_added) c.in-Some.ensures
+    c.common_prefix_length-count.ensures refl
 
 pub returns-then-passes_with : goal.returns-then-passes_with
-returns-then-passes_with g c = λ rules is fronts.
+returns-then-passes_with g c = λ rules is all_added.
     sym (reached_where rules c.args.host.now c.in-Some.last.bytes.now
     (sym (c.passes_with.ensures rules is) ∙ c.if-passes_with.true))
 
 pub returns-then-count-eq0 : goal.returns-then-count-eq0
-returns-then-count-eq0 g c = λ rules is fronts.
+returns-then-count-eq0 g c = λ rules is all_added.
     let rest = c.loop-last.rest.now in
     let last = c.in-Some.last.bytes.now in
-    let none : shared last rest ≡ 0 = omega (arith, c.shared_length-count.ensures, c.if-count-eq0.true) in
+    let none : shared last rest ≡ 0 = omega (arith, c.common_prefix_length-count.ensures, c.if-count-eq0.true) in
     let whole : length last ≤ shared last rest =
-    omega (arith, c.shared_length-count.ensures, c.if-count-last.false) in
-    sym (not_reached_empty rules c.args.fronts.now c.args.host.now rest last fronts (c.loop-last.invariant rules is fronts)
+    omega (arith, c.common_prefix_length-count.ensures, c.if-count-last.false) in
+    sym (not_reached_empty rules c.args.all_added.now c.args.host.now rest last all_added (c.loop-last.invariant rules is all_added)
     c.in-Some.ensures none whole (sym (c.passes_with.ensures rules is) ∙ c.if-passes_with.false))
 
 pub slice_bounds-rest-length : goal.slice_bounds-rest-length
 slice_bounds-rest-length g c =
     let rest = c.loop-last.rest.now in
     let within = (shared_within c.in-Some.last.bytes.now rest).1 in
-    sym (take_within (c.shared_length-count.result - 1) rest (omega (arith, c.shared_length-count.ensures)))
+    sym (take_within (c.common_prefix_length-count.result - 1) rest (omega (arith, c.common_prefix_length-count.ensures)))
 
 pub loop-last-smaller : goal.loop-last-smaller
 loop-last-smaller g c =
     let rest = c.loop-last.rest.now in
-    let count = c.shared_length-count.result in
+    let count = c.common_prefix_length-count.result in
     let within = (shared_within c.in-Some.last.bytes.now rest).1 in
     let size : length (take (count - 1) rest) ≡ count - 1 =
-    take_within (count - 1) rest (omega (arith, c.shared_length-count.ensures)) in
-    omega (arith, c.shared_length-count.ensures, c.if-count-eq0.false)
+    take_within (count - 1) rest (omega (arith, c.common_prefix_length-count.ensures)) in
+    omega (arith, c.common_prefix_length-count.ensures, c.if-count-eq0.false)
 
 pub loop-last-preserved : goal.loop-last-preserved
-loop-last-preserved g c = λ rules is fronts.
+loop-last-preserved g c = λ rules is all_added.
     let rest = c.loop-last.rest.now in
-    let count = c.shared_length-count.result in
-    left_shorter rules c.args.fronts.now c.args.host.now rest c.in-Some.last.bytes.now
-    (take (count - 1) rest) count (c.loop-last.invariant rules is fronts) c.in-Some.ensures c.shared_length-count.ensures
+    let count = c.common_prefix_length-count.result in
+    left_shorter rules c.args.all_added.now c.args.host.now rest c.in-Some.last.bytes.now
+    (take (count - 1) rest) count (c.loop-last.invariant rules is all_added) c.in-Some.ensures c.common_prefix_length-count.ensures
     (omega (arith, c.if-count-last.false)) (sym (c.passes_with.ensures rules is) ∙ c.if-passes_with.false)
     (omega (arith, c.if-count-eq0.false)) refl
 
 pub returns : goal.returns
-returns g c = λ rules is fronts.
-    sym (not_reached_past rules c.args.fronts.now c.args.host.now c.loop-last.rest.now fronts
-    (c.loop-last.invariant rules is fronts) c.in_default.ensures)
+returns g c = λ rules is all_added.
+    sym (not_reached_past rules c.args.all_added.now c.args.host.now c.loop-last.rest.now all_added
+    (c.loop-last.invariant rules is all_added) c.in_default.ensures)

@@ -4,7 +4,7 @@ use Rattle.virtiofs_map.specs.Build.{HasFirstFault}
 use Rattle.virtiofs_map.proofs.BuildFaultLemmas.{Accepted-no_fault, HasFirstFault-one}
 use Rattle.virtiofs_map.proofs.ReaderLemmas.{out_of_memory, told_fault}
 use Rattle.virtiofs_map.proofs.soft_idmap.WrittenLemmas.{
-  placed-count,
+  indexed-count,
   image-length,
   image-bound,
   IsWritten-none,
@@ -42,13 +42,13 @@ returns-then-words-len-clause-faulty g c =
 pub write_words-requires-clause-guests : goal.write_words-requires-clause-guests
 write_words-requires-clause-guests g c =
     rw c.deref.ensures.value
-    (placed-count c.args.specs.now GuestToHost c.in_ok-guests.guests.items c.in_ok-guests.ensures.accepted
+    (indexed-count c.args.specs.now GuestToHost c.in_ok-guests.guests.items c.in_ok-guests.ensures.accepted
     c.in_ok-guests.ensures.from_guest)
 
 pub write_words-requires-clause-hosts : goal.write_words-requires-clause-hosts
 write_words-requires-clause-hosts g c =
     rw c.deref-2.ensures.value
-    (placed-count c.args.specs.now HostToGuest c.in_ok-guests.hosts.items c.in_ok-guests.ensures.accepted
+    (indexed-count c.args.specs.now HostToGuest c.in_ok-guests.hosts.items c.in_ok-guests.ensures.accepted
     c.in_ok-guests.ensures.from_host)
 
 pub returns-clause-faulty : goal.returns-clause-faulty

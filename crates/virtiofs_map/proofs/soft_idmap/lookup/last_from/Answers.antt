@@ -17,7 +17,7 @@ loop-size-init c = record {
   digits = HasDigitsFor-start _ _ _ (omega arith) c.new-taken.ensures;
   begun = inr (omega arith);
   searched =
-      Searches-start c.args.ranges.now c.args.n c.first-last.result.place _ c.first-last.ensures (omega arith)
+      Searches-start c.args.ranges.now c.args.n c.first-last.result.index _ c.first-last.ensures (omega arith)
       (omega arith);
 }
 
@@ -30,10 +30,10 @@ loop-size-preserved c = record {
   begun = inl (omega arith);
   searched =
       let half = c.loop-size.size / 2 in
-      let middle = c.place.result + half in
-      Searches-turn c.args.ranges.now c.args.n c.loop-size.last.place c.loop-size.size half middle
-      c.or-last.result.place c.loop-size.invariant.searched c.loop-size.invariant.within (omega arith) refl
-      (omega (arith, c.place.ensures))
-      (λ begins. c.or-last.ensures.begins (rw c.read-range.ensures.first begins) ∙ c.read-range.ensures.place)
+      let middle = c.index.result + half in
+      Searches-turn c.args.ranges.now c.args.n c.loop-size.last.index c.loop-size.size half middle
+      c.or-last.result.index c.loop-size.invariant.searched c.loop-size.invariant.within (omega arith) refl
+      (omega (arith, c.index.ensures))
+      (λ begins. c.or-last.ensures.begins (rw c.read-range.ensures.first begins) ∙ c.read-range.ensures.index)
       (λ above. c.or-last.ensures.above (rw c.read-range.ensures.first above));
 }

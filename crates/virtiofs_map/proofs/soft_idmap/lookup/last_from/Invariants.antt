@@ -8,10 +8,10 @@ use Rattle.virtiofs_map.proofs.soft_idmap.lookup.last_from.Given as goal
 abbrev pub invariant-loop-size : goal.invariant-loop-size
 invariant-loop-size l = record {
   some : 1 ≤ l.size;
-  within : l.last.place + l.size ≤ l.ranges.count;
+  within : l.last.index + l.size ≤ l.ranges.count;
   digits : HasDigitsFor (l.size - 1) l.taken (binary_digits l.ranges.count);
   begun : HasBegun l.taken l.size;
-  searched : Searches l.ranges l.n l.last.place (l.last.place + l.size);
+  searched : Searches l.ranges l.n l.last.index (l.last.index + l.size);
 }
 
 -- what is left

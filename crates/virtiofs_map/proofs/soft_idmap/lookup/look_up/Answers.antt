@@ -11,8 +11,8 @@ returns-then-len-eq0-clause-steps c = CountsBetween-none _ _ _ (omega arith) (rw
 
 pub returns-clause-says : goal.returns-clause-says
 returns-clause-says c = λ specs direction has.
-    SaysIn-last specs direction c.args.ranges.now c.args.n c.last_from-last.result.place _ has
-    c.last_from-last.ensures.found c.last_from-last.ensures.within c.say_by.ensures
+    SaysIn-last specs direction c.args.ranges.now c.args.n c.last_from-last.result.index _ has
+    c.last_from-last.ensures.found c.last_from-last.ensures.within c.answer_by.ensures
 
 pub returns-clause-steps : goal.returns-clause-steps
 returns-clause-steps c = CountsBetween-some _ _ _ _ (omega arith) c.last_from-last.ensures.steps

@@ -16,51 +16,51 @@ returns-then-len-eq0-clause-stretch c = λ specs direction has.
 
 pub returns-then-covers-clause-stretch : goal.returns-then-covers-clause-stretch
 returns-then-covers-clause-stretch c = λ specs direction has.
-    let here : slice_get has.ranges c.place-place.result ≡ Some c.entry-range.result =
-    range_at specs direction c.args.ranges.now c.place-place.result c.entry-range.result has (omega arith)
+    let here : slice_get has.ranges c.index-index.result ≡ Some c.entry-range.result =
+    range_at specs direction c.args.ranges.now c.index-index.result c.entry-range.result has (omega arith)
     c.entry-range.ensures in
-    IsStretch-covered specs direction c.args.ranges.now c.args.n c.place-place.result c.entry-range.result
+    IsStretch-covered specs direction c.args.ranges.now c.args.n c.index-index.result c.entry-range.result
     c.covered.result has here (c.if-covers.ensures.0 refl) c.covered.ensures
 
 pub returns-then-n-first-clause-stretch : goal.returns-then-n-first-clause-stretch
 returns-then-n-first-clause-stretch c = λ specs direction has.
-    let searches : Searches c.args.ranges.now c.args.n c.place-place.result (c.place-place.result + 1) =
-    rw c.place-place.ensures c.last_from.ensures.found in
-    let here : slice_get has.ranges c.place-place.result ≡ Some c.entry-range.result =
-    range_at specs direction c.args.ranges.now c.place-place.result c.entry-range.result has (omega arith)
+    let searches : Searches c.args.ranges.now c.args.n c.index-index.result (c.index-index.result + 1) =
+    rw c.index-index.ensures c.last_from.ensures.found in
+    let here : slice_get has.ranges c.index-index.result ≡ Some c.entry-range.result =
+    range_at specs direction c.args.ranges.now c.index-index.result c.entry-range.result has (omega arith)
     c.entry-range.ensures in
     let within : c.first-then-n-first.result < 4294967296 = c.first-then-n-first.type_inv in
     rw c.kept-then-n-first.ensures
-    (IsStretch-below specs direction c.args.ranges.now c.args.n c.place-place.result c.entry-range.result _ has searches
+    (IsStretch-below specs direction c.args.ranges.now c.args.n c.index-index.result c.entry-range.result _ has searches
     here (omega arith) (omega arith) refl (omega arith) (omega arith) refl)
 
 pub overflow_sub-next : goal.overflow_sub-next
 overflow_sub-next c =
     let (specs, direction, has) = c.requires in
-    let searches : Searches c.args.ranges.now c.args.n c.place-place.result (c.place-place.result + 1) =
-    rw c.place-place.ensures c.last_from.ensures.found in
+    let searches : Searches c.args.ranges.now c.args.n c.index-index.result (c.index-index.result + 1) =
+    rw c.index-index.ensures c.last_from.ensures.found in
     let above : c.args.n < first_of c.entry.result =
-    next_above specs direction c.args.ranges.now c.args.n c.place-place.result c.entry.result has searches
-    (range_at specs direction c.args.ranges.now (c.place-place.result + 1) c.entry.result has (omega arith)
+    next_above specs direction c.args.ranges.now c.args.n c.index-index.result c.entry.result has searches
+    (range_at specs direction c.args.ranges.now (c.index-index.result + 1) c.entry.result has (omega arith)
     c.entry.ensures) in
     omega arith
 
-pub returns-then-place-len-clause-stretch : goal.returns-then-place-len-clause-stretch
-returns-then-place-len-clause-stretch c = λ specs direction has.
-    let searches : Searches c.args.ranges.now c.args.n c.place-place.result (c.place-place.result + 1) =
-    rw c.place-place.ensures c.last_from.ensures.found in
-    let here : slice_get has.ranges c.place-place.result ≡ Some c.entry-range.result =
-    range_at specs direction c.args.ranges.now c.place-place.result c.entry-range.result has (omega arith)
+pub returns-then-index-len-clause-stretch : goal.returns-then-index-len-clause-stretch
+returns-then-index-len-clause-stretch c = λ specs direction has.
+    let searches : Searches c.args.ranges.now c.args.n c.index-index.result (c.index-index.result + 1) =
+    rw c.index-index.ensures c.last_from.ensures.found in
+    let here : slice_get has.ranges c.index-index.result ≡ Some c.entry-range.result =
+    range_at specs direction c.args.ranges.now c.index-index.result c.entry-range.result has (omega arith)
     c.entry-range.ensures in
-    let there : slice_get has.ranges (c.place-place.result + 1) ≡ Some c.entry.result =
-    range_at specs direction c.args.ranges.now (c.place-place.result + 1) c.entry.result has (omega arith)
+    let there : slice_get has.ranges (c.index-index.result + 1) ≡ Some c.entry.result =
+    range_at specs direction c.args.ranges.now (c.index-index.result + 1) c.entry.result has (omega arith)
     c.entry.ensures in
     let above : c.args.n < first_of c.entry.result =
-    next_above specs direction c.args.ranges.now c.args.n c.place-place.result c.entry.result has searches there in
+    next_above specs direction c.args.ranges.now c.args.n c.index-index.result c.entry.result has searches there in
     let begins : first_of c.entry-range.result ≤ c.args.n = omega arith in
     let within : c.first-next.result < 4294967296 = c.first-next.type_inv in
-    rw c.kept-then-place-len.ensures
-    (IsStretch-after specs direction c.args.ranges.now c.args.n c.place-place.result c.entry-range.result _ has
+    rw c.kept-then-index-len.ensures
+    (IsStretch-after specs direction c.args.ranges.now c.args.n c.index-index.result c.entry-range.result _ has
     (omega arith) here begins
     (λ covers. false≢true (c.if-covers.ensures.1 covers))
     (λ next is. (let same : c.entry.result ≡ next = same_Some _ _ (sym there ∙ is) in rw (← same) (omega arith)))
@@ -68,13 +68,13 @@ returns-then-place-len-clause-stretch c = λ specs direction has.
 
 pub returns-clause-stretch : goal.returns-clause-stretch
 returns-clause-stretch c = λ specs direction has.
-    let here : slice_get has.ranges c.place-place.result ≡ Some c.entry-range.result =
-    range_at specs direction c.args.ranges.now c.place-place.result c.entry-range.result has (omega arith)
+    let here : slice_get has.ranges c.index-index.result ≡ Some c.entry-range.result =
+    range_at specs direction c.args.ranges.now c.index-index.result c.entry-range.result has (omega arith)
     c.entry-range.ensures in
     let begins : first_of c.entry-range.result ≤ c.args.n = omega arith in
     rw c.kept-2.ensures
-    (IsStretch-after specs direction c.args.ranges.now c.args.n c.place-place.result c.entry-range.result _ has
+    (IsStretch-after specs direction c.args.ranges.now c.args.n c.index-index.result c.entry-range.result _ has
     (omega arith) here begins
     (λ covers. false≢true (c.if-covers.ensures.1 covers))
-    (λ next is. absurd (no_next specs direction c.args.ranges.now (c.place-place.result + 1) next has (omega arith) is))
+    (λ next is. absurd (no_next specs direction c.args.ranges.now (c.index-index.result + 1) next has (omega arith) is))
     refl (omega arith) (omega arith) refl)

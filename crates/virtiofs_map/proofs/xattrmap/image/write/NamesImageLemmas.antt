@@ -5,9 +5,9 @@ use Rattle.std.proofs.Math.Seq.{drop-append_seam, take-append_seam}
 use Rattle.std.proofs.lemmas.List.Elements.{All-cons, All-nil}
 use Rattle.std.proofs.lemmas.List.{length-drop, length-take-le}
 use Rattle.std.specs.List.{flat_map}
-use Rattle.virtiofs_map.specs.BranchParts.{AreSpans, HasBytes, IsBounded, IsSmallIn, IsTrie, IsTrieIn, IsTrieWith}
-use Rattle.virtiofs_map.specs.BranchParts.{row_in}
-use Rattle.virtiofs_map.specs.ByteWordParts.{word_at}
+use Rattle.virtiofs_map.specs.NodeParts.{AreSpans, HasBytes, IsBounded, IsSmallIn, IsTrie, IsTrieIn, IsTrieWith}
+use Rattle.virtiofs_map.specs.NodeParts.{row_in}
+use Rattle.virtiofs_map.specs.LeU64Parts.{le_u64_at}
 use Rattle.virtiofs_map.specs.NamesImage.{HasPart, IsImage, image_kind, image_length, part, part_end, part_start}
 use Rattle.virtiofs_map.specs.NamesImage.{longest_image, pattern_bytes, rule_rows}
 use Rattle.virtiofs_map.specs.NamesImageParts.{ArePlaces, IsWholeImage, header_of, numbers_of}
@@ -15,9 +15,9 @@ use Rattle.virtiofs_map.specs.Rule.{MappingRule, HasNoZero}
 use Rattle.virtiofs_map.specs.declared.xattrmap.image.write.Places.{Places}
 use Rattle.virtiofs_map.specs.declared.xattrmap.scopes.Side.{Side}
 use Rattle.virtiofs_map.specs.declared.xattrmap.scopes.Side.TheVariants.{Client, Server}
-use Rattle.virtiofs_map.specs.declared.xattrmap.trie.branch.Branch.{Branch}
+use Rattle.virtiofs_map.specs.declared.xattrmap.trie.node.Node.{Node}
 use Rattle.virtiofs_map.specs.declared.xattrmap.spans.Span.{Span}
-use Rattle.virtiofs_map.proofs.ByteWordLemmas.{length-rows_in, length-words, word_of_words}
+use Rattle.virtiofs_map.proofs.LeU64Lemmas.{length-rows_in, length-words, word_of_words}
 use Rattle.virtiofs_map.proofs.RuleRowLemmas.{length-rule_rows}
 
 -- ---- parts, as they are written
@@ -95,34 +95,34 @@ module _ (places : Places) (client server rows bytes : List ℕ) (rules : ℕ)
       let d = length-append (header_of places ++ client ++ server ++ rows) bytes in
       omega (arith, a, b, c, d, header_length, are.first, are.second, are.third, are.last, long)
 
-  content_word : (k : ℕ) → k < 6
-      → word_at (content places client server rows bytes) (8 * k) ≡ get_or (numbers_of places) k 0
-  content_word k below =
+  content_u64 : (k : ℕ) → k < 6
+      → le_u64_at (content places client server rows bytes) (8 * k) ≡ get_or (numbers_of places) k 0
+  content_u64 k below =
       let fit =
       numbers_fit places (omega (arith, are.first, are.second, are.third, are.last, are.short))
       (omega (arith, are.second, are.third, are.last, are.short)) (omega (arith, are.third, are.last, are.short))
       (omega (arith, are.last, are.short)) in
       let apart : content places client server rows bytes ≡ header_of places
       ++ (client ++ (server ++ (rows ++ bytes))) = simp append_assoc in
-      ap (λ (l : List ℕ). word_at l (8 * k)) apart
+      ap (λ (l : List ℕ). le_u64_at l (8 * k)) apart
       ∙ word_of_words (numbers_of places) (client ++ (server ++ (rows ++ bytes))) k below fit
 
-  pub content_kind : word_at (content places client server rows bytes) 0 ≡ image_kind
-  content_kind = content_word 0 (omega arith)
+  pub content_kind : le_u64_at (content places client server rows bytes) 0 ≡ image_kind
+  content_kind = content_u64 0 (omega arith)
 
   pub first_part : IsPartAt (content places client server rows bytes) 0 client
   first_part =
       part_laid (content places client server rows bytes) (header_of places) client (server ++ rows ++ bytes) 0 48
       places.server
-      (simp append_assoc) (sym header_length) are.first (content_word 1 (omega arith)) (content_word 2 (omega arith))
+      (simp append_assoc) (sym header_length) are.first (content_u64 1 (omega arith)) (content_u64 2 (omega arith))
 
   pub second_part : IsPartAt (content places client server rows bytes) 1 server
   second_part =
       let a = length-append (header_of places) client in
       part_laid (content places client server rows bytes) (header_of places ++ client) server (rows ++ bytes) 1
       places.server places.rules
-      (simp append_assoc) (omega (arith, a, header_length, are.first)) are.second (content_word 2 (omega arith))
-      (content_word 3 (omega arith))
+      (simp append_assoc) (omega (arith, a, header_length, are.first)) are.second (content_u64 2 (omega arith))
+      (content_u64 3 (omega arith))
 
   pub third_part : IsPartAt (content places client server rows bytes) 2 rows
   third_part =
@@ -131,7 +131,7 @@ module _ (places : Places) (client server rows bytes : List ℕ) (rules : ℕ)
       part_laid (content places client server rows bytes) (header_of places ++ client ++ server) rows bytes 2
       places.rules places.bytes
       refl (omega (arith, a, b, header_length, are.first, are.second)) (omega (arith, are.third, long))
-      (content_word 3 (omega arith)) (content_word 4 (omega arith))
+      (content_u64 3 (omega arith)) (content_u64 4 (omega arith))
 
   pub fourth_part : IsPartAt (content places client server rows bytes) 3 bytes
   fourth_part =
@@ -142,7 +142,7 @@ module _ (places : Places) (client server rows bytes : List ℕ) (rules : ℕ)
       places.bytes places.end
       (sym (append-nil (content places client server rows bytes)))
       (omega (arith, a, b, c, header_length, are.first, are.second, are.third, long)) are.last
-      (content_word 4 (omega arith)) (content_word 5 (omega arith))
+      (content_u64 4 (omega arith)) (content_u64 5 (omega arith))
 
   pub every_part : (which : ℕ) → which < 4 → HasPart (content places client server rows bytes) which
   every_part zero below = first_part.has
@@ -152,68 +152,68 @@ module _ (places : Places) (client server rows bytes : List ℕ) (rules : ℕ)
   every_part (suc (suc (suc (suc n)))) below = absurd (omega arith)
 
 -- what tries, rules and patterns have together
-pub parts_length : (rules : List MappingRule) (client server : List Branch) (bytes : List ℕ)
+pub parts_length : (rules : List MappingRule) (client server : List Node) (bytes : List ℕ)
     → IsTrieWith Client rules client bytes → IsTrieWith Server rules server bytes → length bytes ≡ pattern_bytes rules
     → 48 + 24 * length client + 24 * length server + 24 * length rules + length bytes ≡ image_length rules
 unfolding image_length
 parts_length rules client server bytes clients servers whole =
     omega (arith, clients.counted, servers.counted, whole)
 
--- the numbers of branches fit into the rows of an image that is not too long
-pub rows_fit : (branches : List Branch) (bytes : List ℕ) (first labels : ℕ) → All (IsBounded branches bytes) branches
-    → 8 * first + 24 * length branches ≤ longest_image → labels + length bytes ≤ longest_image
-    → All (IsSmallIn first labels) branches
-rows_fit branches bytes first labels bounded rows texts = λ at d below.
+-- the numbers of nodes fit into the rows of an image that is not too long
+pub rows_fit : (nodes : List Node) (bytes : List ℕ) (first labels : ℕ) → All (IsBounded nodes bytes) nodes
+    → 8 * first + 24 * length nodes ≤ longest_image → labels + length bytes ≤ longest_image
+    → All (IsSmallIn first labels) nodes
+rows_fit nodes bytes first labels bounded rows texts = λ at d below.
     (let one = bounded at d below in
     record {
       answer = let most = one.answer in omega (arith, most);
       label = let most = one.label in omega (arith, most, texts);
       size = one.size;
-      first = let most = one.first in omega (arith, most, rows);
+      base = let most = one.base in omega (arith, most, rows);
       width = one.width;
     })
 
 -- a part of an image that has the rows of a trie
-module _ (side : Side) (rules : List MappingRule) (image : List ℕ) (which first labels : ℕ) (branches : List Branch)
-    (bytes : List ℕ) (of : IsTrieWith side rules branches bytes) (small : All (IsSmallIn first labels) branches)
-    (are_bytes : All HasBytes branches) where
+module _ (side : Side) (rules : List MappingRule) (image : List ℕ) (which first labels : ℕ) (nodes : List Node)
+    (bytes : List ℕ) (of : IsTrieWith side rules nodes bytes) (small : All (IsSmallIn first labels) nodes)
+    (are_bytes : All HasBytes nodes) where
   pub trie_laid : part_start image which ≡ 8 * first → part_start image 3 ≡ labels
-      → IsPartAt image which (flat_map (row_in first labels) branches) → IsPartAt image 3 bytes
+      → IsPartAt image which (flat_map (row_in first labels) nodes) → IsPartAt image 3 bytes
       → IsTrieIn side rules image (part_start image which) (part_end image which) (part_start image 3) (part image 3)
   trie_laid starts begins rows texts =
       let rising = rows.has.rising in
       let within = rows.has.within in
       let long : length (part image which) ≡ part_end image which - part_start image which =
       part_length image which rows.has in
-      let sized : length (part image which) ≡ 24 * length branches = ap length rows.is
-      ∙ length-rows_in first labels branches in
+      let sized : length (part image which) ≡ 24 * length nodes = ap length rows.is
+      ∙ length-rows_in first labels nodes in
       let texts_rising = texts.has.rising in
       let texts_within = texts.has.within in
       let texts_long : length (part image 3) ≡ part_end image 3 - part_start image 3 = part_length image 3 texts.has in
       record {
         first = first;
-        branches = branches;
+        nodes = nodes;
         begins_at = starts;
         ends_at = omega (arith, long, sized, rising);
         rows_of = record {
           within = omega (arith, long, sized, rising, within, starts);
-          are = ap (λ n. take n (drop (8 * first) image)) (let n : 24 * length branches ≡ part_end image which
+          are = ap (λ n. take n (drop (8 * first) image)) (let n : 24 * length nodes ≡ part_end image which
               - part_start image which = omega (arith, long, sized) in n)
               ∙ ap (λ n. take (part_end image which - part_start image which) (drop n image)) (sym starts)
-              ∙ rows.is ∙ ap (λ n. flat_map (row_in first n) branches) (sym begins);
-          small = subst (λ n. All (IsSmallIn first n) branches) (sym begins) small;
+              ∙ rows.is ∙ ap (λ n. flat_map (row_in first n) nodes) (sym begins);
+          small = subst (λ n. All (IsSmallIn first n) nodes) (sym begins) small;
           bytes = are_bytes;
         };
         texts = record {
           within = omega (arith, texts_long, texts_rising, texts_within);
           are = ap (λ n. take n (drop (part_start image 3) image)) texts_long;
         };
-        trie = subst (IsTrie side rules branches) (sym texts.is) of.trie;
+        trie = subst (IsTrie side rules nodes) (sym texts.is) of.trie;
         counted = of.counted;
         few = of.few;
       }
 
-module _ (rules : List MappingRule) (spans : List Span) (client server : List Branch) (bytes : List ℕ) (places : Places)
+module _ (rules : List MappingRule) (spans : List Span) (client server : List Node) (bytes : List ℕ) (places : Places)
     (are : ArePlaces (24 * length client) (24 * length server) (length rules) (length bytes) places)
     (stand : AreSpans bytes rules spans) (whole : length bytes ≡ pattern_bytes rules)
     (no_zero : All HasNoZero rules) (clients : IsTrieWith Client rules client bytes)
@@ -262,9 +262,11 @@ module _ (rules : List MappingRule) (spans : List Span) (client server : List Br
       let three = third_part places client_rows server_rows rows bytes (length rules) laid rows_long in
       let four = fourth_part places client_rows server_rows rows bytes (length rules) laid rows_long in
       let size = content_length places client_rows server_rows rows bytes (length rules) laid rows_long in
-      let starts = content_word places client_rows server_rows rows bytes (length rules) laid rows_long in
+      let starts = content_u64 places client_rows server_rows rows bytes (length rules) laid rows_long in
       record {
-        begun = omega (arith, size, are.first, are.second, are.third, are.last);
+        begun =
+            let rooted = clients.trie.root in
+            omega (arith, size, are.first, are.second, are.third, are.last, rooted);
         kind = content_kind places client_rows server_rows rows bytes (length rules) laid rows_long;
         parts = every_part places client_rows server_rows rows bytes (length rules) laid rows_long;
         first = starts 1 (omega arith);

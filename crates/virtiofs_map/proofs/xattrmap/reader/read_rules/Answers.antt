@@ -1,8 +1,7 @@
-use Rattle.std.proofs.Common.{length, inl, inr, ap, sym, subst, ◌∙◌, arith, rules, ◌+◌, length-append}
+use Rattle.std.proofs.Common.{length, inl, inr, ap, ◌∙◌, arith, rules, ◌+◌, length-append}
 use Rattle.std.proofs.lemmas.Str.{chars-nil}
 use Rattle.std.specs.Str.{chars}
-use Rattle.virtiofs_map.specs.RuleParts.{KeptRules, as_written}
-use Rattle.virtiofs_map.specs.RuleText.{SaysRules}
+use Rattle.virtiofs_map.specs.RuleParts.{as_written}
 use Rattle.virtiofs_map.proofs.ReadSoFarLemmas.{start, opened, refused_at, not_out_of_memory, step, finish, nothing}
 use Rattle.virtiofs_map.proofs.ReadSoFarLemmas.{rule_shorter, items_none, items_some}
 use Rattle.virtiofs_map.proofs.xattrmap.MadeRuleLemmas.{head_is_map}

@@ -1,16 +1,16 @@
-use Rattle.std.proofs.Common.{◌<◌, ◌∙◌, List, length, ap, arith}
+use Rattle.std.proofs.Common.{◌∙◌, List, length, ap, arith}
 use Rattle.std.proofs.lemmas.Result.{IfOk-weaker}
-use Rattle.virtiofs_map.specs.BranchParts.{AreFew, ArePatterns, IsTrieWith}
+use Rattle.virtiofs_map.specs.NodeParts.{AreFew, ArePatterns, IsTrieWith}
 use Rattle.virtiofs_map.specs.Rule.{MappingRule}
 use Rattle.virtiofs_map.specs.TrieParts.{IsTrieOf}
 use Rattle.virtiofs_map.specs.declared.xattrmap.scopes.Side.{Side}
-use Rattle.virtiofs_map.proofs.xattrmap.trie.BranchOfLemmas.{branches_counted}
+use Rattle.virtiofs_map.proofs.xattrmap.trie.NodesOfLemmas.{nodes_counted}
 use Rattle.virtiofs_map.proofs.xattrmap.trie.PatternLemmas.{AreReady-made}
 use Rattle.virtiofs_map.proofs.xattrmap.trie.SameTextsLemmas.{count_same}
 use Rattle.virtiofs_map.proofs.xattrmap.trie.trie_of.Goals as goal
 
-pub grow-requires : goal.grow-requires
-grow-requires g c =
+pub build_trie-requires : goal.build_trie-requires
+build_trie-requires g c =
     rw (c.as_slice.ensures.value, c.bytes.ensures.bytes)
     (AreReady-made _ _ _ _ c.in_ok-patterns.ensures.patterns c.requires c.in_ok-patterns.ensures.order)
 
@@ -22,14 +22,14 @@ returns g c =
     let patterns = c.in_ok-patterns.patterns.items in
     let of_rules = c.in_ok-patterns.ensures.patterns in
     let few : AreFew rules = omega (arith, c.len.ensures, c.if-len-ge-TOO_MANY_RULES.false) in
-    IfOk-weaker c.grow.result
-    (λ branches. (s : Side) (r : List MappingRule) → ArePatterns s r bytes patterns → AreFew r
-    → IsTrieOf s r bytes patterns branches.items)
-    (λ branches. IsTrieWith side rules branches.items bytes)
-    (λ branches of. (let is = of side rules of_rules few in
+    IfOk-weaker c.build_trie.result
+    (λ nodes. (s : Side) (r : List MappingRule) → ArePatterns s r bytes patterns → AreFew r
+    → IsTrieOf s r bytes patterns nodes.items)
+    (λ nodes. IsTrieWith side rules nodes.items bytes)
+    (λ nodes of. (let is = of side rules of_rules few in
     record {
       trie = is.trie;
       bounded = is.bounded;
-      counted = ap length is.exact ∙ branches_counted side rules patterns ∙ count_same side rules bytes patterns of_rules;
+      counted = ap length is.exact ∙ nodes_counted side rules patterns ∙ count_same side rules bytes patterns of_rules;
       few = few;
-    })) (rw (c.as_slice.ensures.value, c.bytes.ensures.bytes) at c.grow.ensures)
+    })) (rw (c.as_slice.ensures.value, c.bytes.ensures.bytes) at c.build_trie.ensures)

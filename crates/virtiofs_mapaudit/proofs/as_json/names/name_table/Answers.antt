@@ -3,7 +3,7 @@ use Rattle.std.proofs.lemmas.Result.{IfOk-weaker}
 use Rattle.serde_json.specs.View.{view}
 use Rattle.virtiofs_map.specs.declared.soft_idmap.entry.Direction.TheVariants.{GuestToHost}
 use Rattle.virtiofs_mapaudit.specs.NameJson.{name_line, table_data}
-use Rattle.virtiofs_mapaudit.specs.NameTable.{shown}
+use Rattle.virtiofs_tables.specs.NameTable.{shown}
 use Rattle.virtiofs_mapaudit.proofs.as_json.names.name_table.Goals as goal
 
 pub returns : goal.returns

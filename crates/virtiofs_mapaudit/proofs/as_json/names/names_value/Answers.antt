@@ -1,6 +1,6 @@
 use Rattle.std.proofs.Common.{ap, ◌∙◌}
-use Rattle.virtiofs_mapaudit.specs.NameTableParts.{is_shown}
-use Rattle.virtiofs_mapaudit.proofs.NameTableLemmas.{each_shown}
+use Rattle.virtiofs_tables.specs.NameTableParts.{is_shown}
+use Rattle.virtiofs_tables.proofs.ForCallers.{each_shown}
 use Rattle.virtiofs_mapaudit.proofs.as_json.names.names_value.Goals as goal
 
 pub told_value-requires : goal.told_value-requires

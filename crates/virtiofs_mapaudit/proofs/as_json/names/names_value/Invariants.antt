@@ -1,7 +1,7 @@
 use Rattle.std.proofs.Common.{◌≡◌, take, map}
 use Rattle.serde_json.specs.View.{view}
 use Rattle.virtiofs_mapaudit.specs.NameJson.{name_line}
-use Rattle.virtiofs_mapaudit.specs.NameTableParts.{names_of}
+use Rattle.virtiofs_tables.specs.NameTableParts.{names_of}
 use Rattle.virtiofs_mapaudit.proofs.as_json.names.names_value.Given as goal
 
 -- the names so far were added

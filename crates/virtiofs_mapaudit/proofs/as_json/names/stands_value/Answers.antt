@@ -1,4 +1,4 @@
-use Rattle.virtiofs_mapaudit.proofs.NameTableLemmas.{told_listed, told_undecided, told_hidden}
+use Rattle.virtiofs_tables.proofs.ForCallers.{told_listed, told_undecided, told_hidden}
 use Rattle.virtiofs_mapaudit.proofs.as_json.names.stands_value.Goals as goal
 
 pub returns-in-Some-Ok : goal.returns-in-Some-Ok

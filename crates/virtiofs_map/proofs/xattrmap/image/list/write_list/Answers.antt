@@ -1,4 +1,4 @@
-use Rattle.std.proofs.Common.{◌≡◌, ◌<◌, ℕ, length, arith, rules}
+use Rattle.std.proofs.Common.{◌≡◌, ◌<◌, length, arith, rules}
 use Rattle.virtiofs_map.proofs.xattrmap.ListingLemmas.{no_map_unseen}
 use Rattle.virtiofs_map.proofs.xattrmap.image.list.NamesListLemmas.{IsWhole, listed_all, listed_hidden, listed_no_name}
 use Rattle.virtiofs_map.proofs.xattrmap.image.list.NamesListLemmas.{listed_shown, listed_undecided, short_more}

@@ -8,16 +8,16 @@ use Rattle.virtiofs_map.proofs.xattrmap.image.stored.rule_of.Goals.{else-key-pre
 pub returns-then-end-bytes : goal.returns-then-end-bytes
 returns-then-end-bytes c = λ rule span are is few.
     let has =
-    words_told c.args.bytes.now rule span c.args.row.now _ _ _ are is few c.word_at-first.ensures
-    c.word_at-prepend.ensures c.word_at-end.ensures in
+    words_told c.args.bytes.now rule span c.args.row.now _ _ _ are is few c.le_u64_at-first.ensures
+    c.le_u64_at-prepend.ensures c.le_u64_at-end.ensures in
     ap Some (rule_from_words c.args.bytes.now rule span _ _ _ _ _ is few has (c.numbered.ensures (omega arith))
     (let e = c.from_bits_retain.ensures tt in omega (arith, e)))
 
 pub returns-else-key-prepend : goal.returns-else-key-prepend
 returns-else-key-prepend c = λ rule span are is few.
     let has =
-    words_told c.args.bytes.now rule span c.args.row.now _ _ _ are is few c.word_at-first.ensures
-    c.word_at-prepend.ensures c.word_at-end.ensures in
+    words_told c.args.bytes.now rule span c.args.row.now _ _ _ are is few c.le_u64_at-first.ensures
+    c.le_u64_at-prepend.ensures c.le_u64_at-end.ensures in
     let places = places_of_words c.args.bytes.now rule span _ _ _ is few has in
     elim c.else-key-prepend.branch [
       | else-key-prepend-via-then-key-prepend+then-prepend-end+else-end-bytes w ↦ absurd

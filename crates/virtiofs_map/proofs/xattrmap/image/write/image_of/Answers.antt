@@ -1,6 +1,6 @@
-use Rattle.std.proofs.Common.{◌*◌, ◌/◌, List, ℕ, length, refl, subst, sym, arith}
+use Rattle.std.proofs.Common.{◌*◌, ◌/◌, length, refl, subst, sym, arith}
 use Rattle.std.specs.List.{flat_map}
-use Rattle.virtiofs_map.specs.BranchParts.{row_in}
+use Rattle.virtiofs_map.specs.NodeParts.{row_in}
 use Rattle.virtiofs_map.specs.NamesImage.{rule_rows}
 use Rattle.virtiofs_map.specs.NamesImageParts.{ArePlaces, IsWholeImage}
 use Rattle.virtiofs_map.proofs.xattrmap.image.write.NamesImageLemmas.{content_is, content_whole}

@@ -8,5 +8,5 @@ pub returns : goal.returns
 returns g c =
     let row =
     three_written (rule_meant c.args.rule) c.args.span c.args.image.now.items _ _ _ c.acts_number.ensures
-    c.in_ok-push_word.ensures c.in_ok-push_word-2.ensures in
-    subst (λ (to : List ℕ). OnOk c.push_word-3.result (c.push_word-3.new.bytes.items ≡ to)) row c.push_word-3.ensures
+    c.in_ok-push_le_u64.ensures c.in_ok-push_le_u64-2.ensures in
+    subst (λ (to : List ℕ). OnOk c.push_le_u64-3.result (c.push_le_u64-3.new.bytes.items ≡ to)) row c.push_le_u64-3.ensures

@@ -1,6 +1,5 @@
 use Rattle.virtiofs_map.specs.RuleParts.{rule_meant}
-use Rattle.std.proofs.Common.{arith}
-use Rattle.virtiofs_map.proofs.RuleRowLemmas.{rule_rows-next, rule_rows-whole}
+use Rattle.virtiofs_map.proofs.RuleRowLemmas.{rule_rows-next}
 use Rattle.virtiofs_map.proofs.xattrmap.image.write.push_rules.Goals as goal
 
 pub loop-place-preserved : goal.loop-place-preserved

@@ -1,4 +1,4 @@
-use Rattle.virtiofs_map.proofs.AuditFrontLemmas.{name_of_bytes}
+use Rattle.virtiofs_map.proofs.AuditAddedLemmas.{name_of_bytes}
 use Rattle.virtiofs_map.proofs.xattrmap.names.XattrNameBuf.copy_of.Goals as goal
 
 pub returns-clause-is_name : goal.returns-clause-is_name

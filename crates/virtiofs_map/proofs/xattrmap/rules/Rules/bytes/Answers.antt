@@ -1,5 +1,5 @@
 use Rattle.std.proofs.Common.{◌≡◌, length, subst}
-use Rattle.virtiofs_map.specs.BranchParts.{AreSpans}
+use Rattle.virtiofs_map.specs.NodeParts.{AreSpans}
 use Rattle.virtiofs_map.specs.NamesImage.{pattern_bytes}
 use Rattle.virtiofs_map.specs.RuleParts.{KeptRules}
 use Rattle.virtiofs_map.proofs.xattrmap.KeptRuleLemmas.{spans_are}

@@ -1,4 +1,4 @@
-use Rattle.virtiofs_map.specs.BranchParts.{ArePatternsBelow}
+use Rattle.virtiofs_map.specs.NodeParts.{ArePatternsBelow}
 use Rattle.virtiofs_map.proofs.xattrmap.trie.patterns.patterns_as_written.Given as goal
 
 -- the patterns so far are those of the rules so far

@@ -1,17 +1,17 @@
 use Rattle.std.proofs.Common.{◌≤◌, ℕ, List, length}
-use Rattle.virtiofs_map.specs.BranchParts.{IsRow, IsTrieIn, StandsAt}
+use Rattle.virtiofs_map.specs.NodeParts.{IsRow, IsTrieIn, StandsAt}
 use Rattle.virtiofs_map.specs.Rule.{MappingRule}
 use Rattle.virtiofs_map.specs.declared.xattrmap.scopes.Side.{Side}
-use Rattle.virtiofs_map.specs.declared.xattrmap.trie.branch.Branch.{Branch}
+use Rattle.virtiofs_map.specs.declared.xattrmap.trie.node.Node.{Node}
 use Rattle.virtiofs_map.proofs.xattrmap.trie.walk.walk.Given as goal
 
--- in each trie whose rows stand there, the walk stands at the branch of the row
+-- in each trie whose rows stand there, the walk stands at the node of the row
 abbrev pub invariant-loop-child : goal.invariant-loop-child
 invariant-loop-child l = record {
   stands : (side : Side) (rules : List MappingRule) (end labels : ℕ) (bytes : List ℕ)
       (inside : IsTrieIn side rules l.trie.image.now l.trie.root end labels bytes)
-      → (branch : Branch) × IsRow inside.first labels branch l.row
-      × StandsAt side rules inside.branches bytes inside.trie l.name branch l.rest l.fn.steps l.steps;
+      → (node : Node) × IsRow inside.first labels node l.row
+      × StandsAt side rules inside.nodes bytes inside.trie l.name node l.rest l.fn.steps l.steps;
   within : length l.rest ≤ length l.name;
 }
 

@@ -3,4 +3,6 @@ use Rattle.virtiofs_map.proofs.RulesInLemmas.{as_many}
 use Rattle.virtiofs_map.proofs.xattrmap.view.XattrMapRef.len.Goals as goal
 
 pub returns : goal.returns
-returns c = λ rules is. rw (c.part.ensures is.begun (is.parts 2 (omega arith))) (as_many rules _ _ is.stored)
+returns c = λ rules is.
+    (let begun = is.begun in
+    rw (c.part.ensures (omega (arith, begun)) (is.parts 2 (omega arith))) (as_many rules _ _ is.stored))

@@ -1,8 +1,10 @@
-use Rattle.std.proofs.Common.{arith}
+use Rattle.std.proofs.Common.{◌≤◌, length, arith}
 use Rattle.virtiofs_map.proofs.xattrmap.view.XattrMapRef.prepend.Goals as goal
 
 pub returns : goal.returns
 returns c = λ rules is.
+    (let begun = is.begun in
+    let long : 48 ≤ length c.args.self.bytes.now = omega (arith, begun) in
     c.prepend_at.ensures rules
-    (rw (c.part.ensures is.begun (is.parts 2 (omega arith)), c.part-2.ensures is.begun (is.parts 3 (omega arith)))
-    is.stored)
+    (rw (c.part.ensures long (is.parts 2 (omega arith)), c.part-2.ensures long (is.parts 3 (omega arith)))
+    is.stored))

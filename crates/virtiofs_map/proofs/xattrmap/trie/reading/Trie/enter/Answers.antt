@@ -2,24 +2,24 @@ use Rattle.std.proofs.Common.{◌≡◌, ◌+◌, ◌-◌, ◌∷◌, ◌++◌, 
 use Rattle.std.proofs.Common.{sym, ap, ◌∙◌, arith, rules}
 use Rattle.std.proofs.lemmas.Bool.{false≢true}
 use Rattle.std.proofs.lemmas.List.{length-drop, length-take-le, take-append-drop, take_all}
-use Rattle.virtiofs_map.specs.BranchParts.{label_of, placed}
+use Rattle.virtiofs_map.specs.NodeParts.{label_of, placed}
 use Rattle.virtiofs_map.specs.Steps.{count_after}
-use Rattle.virtiofs_map.proofs.xattrmap.trie.reading.BranchLemmas.{label_there, stays_nowhere, stays_unlike, unlike_label}
+use Rattle.virtiofs_map.proofs.xattrmap.trie.reading.ChildStepLemmas.{label_there, stays_nowhere, stays_unlike, unlike_label}
 use Rattle.virtiofs_map.proofs.xattrmap.trie.reading.Trie.enter.Goals as goal
 use Rattle.virtiofs_map.proofs.xattrmap.trie.reading.Trie.enter.Goals.{then-whole_count, else-whole_count}
 use Rattle.virtiofs_map.proofs.xattrmap.trie.reading.Trie.enter.Goals.{then-count-after-via-then-count-after}
 use Rattle.virtiofs_map.proofs.xattrmap.trie.reading.Trie.enter.Goals.{then-count-after-via-else-count-after+then-not-begins}
 
 pub returns-in_err-child-clause-step : goal.returns-in_err-child-clause-step
-returns-in_err-child-clause-step c = λ first labels branches bytes branch has texts readable row.
+returns-in_err-child-clause-step c = λ first labels nodes bytes node has texts readable row.
     rw c.from_residual-in_err-child.ensures
-    (stays_nowhere branches bytes branch c.args.rest.now c.args.whole_count c.args.steps.now c.args.steps.now
+    (stays_nowhere nodes bytes node c.args.rest.now c.args.whole_count c.args.steps.now c.args.steps.now
     c.in_ok-byte.byte.now c.in_ok-byte.after.now c.in_ok-byte.ensures.cases.0
-    (c.in_err-child.ensures first labels branches bytes branch has readable row) refl)
+    (c.in_err-child.ensures first labels nodes bytes node has readable row) refl)
 
 pub returns-then-count-after-clause-step : goal.returns-then-count-after-clause-step
-returns-then-count-after-clause-step c = λ first labels branches bytes branch has texts readable row.
-    (let to = c.in_ok-child.ensures first labels branches bytes branch has readable row in
+returns-then-count-after-clause-step c = λ first labels nodes bytes node has texts readable row.
+    (let to = c.in_ok-child.ensures first labels nodes bytes node has readable row in
     let image : List ℕ = c.args.self.image.now in
     let from : ℕ = c.label_of-from.result in
     let count : ℕ = c.length_of-count.result in
@@ -41,7 +41,7 @@ returns-then-count-after-clause-step c = λ first labels branches bytes branch h
           (let fails : w.begins.result ≡ false = search rules in
           absurd (false≢true (sym fails ∙ (w.begins.ensures there.0).1 same)))
     ] in
-    stays_unlike branches bytes branch c.args.rest.now c.args.whole_count c.args.steps.now c.if-whole_count.steps
+    stays_unlike nodes bytes node c.args.rest.now c.args.whole_count c.args.steps.now c.if-whole_count.steps
     c.in_ok-byte.byte.now c.in_ok-byte.after.now c.in_ok-byte.ensures.cases.0 label to.child to.to there.1
     (unlike_label label c.in_ok-byte.after.now count size differ)
     (elim c.if-whole_count.branch [
@@ -51,8 +51,8 @@ returns-then-count-after-clause-step c = λ first labels branches bytes branch h
     ]))
 
 pub returns-clause-step : goal.returns-clause-step
-returns-clause-step c = λ first labels branches bytes branch has texts readable row.
-    (let to = c.in_ok-child.ensures first labels branches bytes branch has readable row in
+returns-clause-step c = λ first labels nodes bytes node has texts readable row.
+    (let to = c.in_ok-child.ensures first labels nodes bytes node has readable row in
     let image : List ℕ = c.args.self.image.now in
     let from : ℕ = c.label_of-from.result in
     let count : ℕ = c.length_of-count.result in

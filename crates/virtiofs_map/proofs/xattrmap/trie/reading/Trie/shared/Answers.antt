@@ -8,4 +8,4 @@ returns-clause-within c =
     let label : List ℕ = take size (drop c.args.from c.args.self.image.now) in
     let within = (shared_within label c.args.row.now).0 in
     let long = length-take size (drop c.args.from c.args.self.image.now) in
-    omega (arith, c.shared_length.ensures, within, long)
+    omega (arith, c.common_prefix_length.ensures, within, long)

@@ -1,0 +1,102 @@
+//! Options in place of those of guests, under which less is found.
+//!
+//! The options are made of those that the guests have, and tried: they are read as any others are, and
+//! audited. They are advised if no text of them is refused, nothing of a new kind is found with them,
+//! and some kind is found no more.
+#![tactic(auto)]
+
+ghost use Rattle.std.specs.Prelude.{◌≡◌, IfOk, IfSome, length};
+ghost use Rattle.virtiofs_advice.specs.Advice.{IsAdvice};
+
+mod better;
+mod mended;
+pub mod options;
+mod rules;
+pub mod text;
+
+use better::is_better;
+use mended::mended_options;
+use options::{Options, guest_of};
+use std::alloc::{AllocError, Allocator};
+use virtiofs_findings::audit::{Report, audit, has_accepted, has_found};
+use virtiofs_setup::guest::Guest;
+use virtiofs_setup::guests::set_up_all;
+use virtiofs_setup::setup::SetUp;
+
+/// Options that are tried in place of those of each guest, isolated or not, of whom that was found, if
+/// any are to be.
+pub fn options_of<'a, A: Allocator + Copy>(
+    alloc: A,
+    isolated: bool,
+    tries: bool,
+    guests: &[Guest<'a, A>],
+    sets: &[SetUp<A>],
+    report: &Report<A>,
+) -> Result<Vec<Options<'a, A>, A>, AllocError>
+    requires same { length sets.now ≡ length guests.now }
+{
+    let mut all = Vec::new(alloc);
+    if !tries {
+        return Ok(all);
+    }
+    for place in 0..guests.len() {
+        let part = report.guests.as_slice().get(place);
+        all.push(mended_options(alloc, isolated, &guests[place], &sets[place], part)?)?;
+    }
+    Ok(all)
+}
+
+/// Guests with these options.
+pub fn guests_of<'a, A: Allocator + Copy>(
+    alloc: A,
+    options: &'a [Options<'a, A>],
+) -> Result<Vec<Guest<'a, A>, A>, AllocError> {
+    let mut guests = Vec::new(alloc);
+    for one in options {
+        guests.push(guest_of(alloc, one)?)?;
+    }
+    Ok(guests)
+}
+
+/// Options of guests that are advised, and what is found with them.
+#[derive(Drop)]
+pub struct Advised<'a, A: Allocator> {
+    /// The guests, with these options.
+    pub guests: Vec<Guest<'a, A>, A>,
+    /// What is found.
+    pub after: Report<A>,
+    /// Whether something is that counts.
+    pub is_left: bool,
+    /// Whether something is that is accepted.
+    pub has_accepted: bool,
+}
+
+/// Tries guests, isolated or not, with other options, in place of those with which that was found
+/// before.
+pub fn tried<'a, A: Allocator + Copy>(
+    alloc: A,
+    isolated: bool,
+    accepted: &[&str],
+    guests: Vec<Guest<'a, A>, A>,
+    before: &Report<A>,
+) -> Result<Option<Advised<'a, A>>, AllocError>
+    ensures { IfOk result (λ advised. IfSome advised
+        (IsAdvice isolated accepted.now before.now)) }
+{
+    let mut refusals = Vec::new(alloc);
+    let sets = set_up_all(alloc, &mut refusals, guests.as_slice())?;
+    if !refusals.as_slice().is_empty() {
+        return Ok(None);
+    }
+    let after = audit(alloc, isolated, accepted, sets.as_slice())?;
+    if !is_better(&after, before) {
+        return Ok(None);
+    }
+    let (is_left, has_accepted) = (has_found(&after), has_accepted(&after));
+    Ok(Some(Advised {
+        guests,
+        after,
+        is_left,
+        has_accepted,
+    }))
+}

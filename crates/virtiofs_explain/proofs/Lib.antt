@@ -1,0 +1,5 @@
+mod ExplainLemmas
+mod ExplainNameLemmas
+mod ExplainQuestionLemmas
+mod ExplainRuleLemmas
+mod ExplainSaidLemmas

@@ -1,0 +1,6 @@
+pub mod Explain
+pub mod ExplainIdText
+pub mod ExplainIds
+pub mod ExplainNameText
+pub mod ExplainNames
+pub mod ExplainQuestion

@@ -1,0 +1,25 @@
+-- Names of access control lists that pass as others.
+use Rattle.std.proofs.Common.{List, ◌++◌, Result, Ok, Err, OnOk, refl}
+use Rattle.virtiofs_map.specs.Rule.{MappingRule}
+use Rattle.virtiofs_setup.proofs.ForCallers.{in_two}
+use Rattle.virtiofs_findings.specs.AclNames.{FindsAclName, FindsAclNames}
+use Rattle.virtiofs_setup.specs.Lists.{Adds}
+use Rattle.virtiofs_findings.specs.declared.finding.Finding.{Finding}
+use Rattle.virtiofs_findings.specs.declared.names.acl.AclName.TheVariants.{Access, Default}
+
+-- what is found of both names
+pub acl_found : {A V E : Type 0} (r : Result V E) (rules : List MappingRule) (a b c : List (Finding A))
+    → Adds (FindsAclName rules Access) a b → OnOk r (Adds (FindsAclName rules Default) b c)
+    → OnOk r (Adds (FindsAclNames rules) a c)
+acl_found (Ok x) rules a b c access default = record {
+  more = access.more ++ default.more;
+  is = record {
+    of_access = access.more;
+    of_default = default.more;
+    access = access.is;
+    default = default.is;
+    whole = refl;
+  };
+  added = in_two a access.more default.more b c access.added default.added;
+}
+acl_found (Err e) rules a b c access default = tt

@@ -1,0 +1,198 @@
+-- Names that are reported, and the rules that decide none.
+use Rattle.std.proofs.Common.{◌≡◌, ◌↔◌, ◌∙◌, ℕ, ◌+◌, ◌<◌, Bool, true, false, cond, ltb, Some, None, List, []}
+use Rattle.std.proofs.Common.{◌∷◌, ◌++◌, ◌≤◌, length, map, Contains, inl, inr, refl, sym, ap, subst, arith, rules, append_assoc, Result, Ok, Err, OnOk}
+use Rattle.std.proofs.lemmas.List.{map-append}
+use Rattle.std.proofs.lemmas.Bool.{cases_eq, ltb-true}
+use Rattle.std.proofs.lemmas.List.Elements.{Contains-append_left, Contains-append_right, Contains-push, Contains-push_cases, All-append}
+use Rattle.virtiofs_map.specs.Audit.{Decides, IsLost, IsStray, IsSeen, IsShared}
+use Rattle.virtiofs_map.specs.Names.{fits, first}
+use Rattle.virtiofs_map.specs.Rule.{MappingRule}
+use Rattle.virtiofs_map.specs.declared.xattrmap.scopes.Side.{Side}
+use Rattle.std.specs.List.{position_or_len}
+use Rattle.virtiofs_setup.specs.Lists.{Adds, AreRising}
+use Rattle.virtiofs_setup.proofs.ForCallers.{in_three, in_four}
+use Rattle.virtiofs_findings.specs.NameFindings.{DecidesWritten, FindsIdle, FindsLeast, FindsNames, FindsUnruled}
+use Rattle.virtiofs_findings.specs.PairFindings.{FindsNamesBetween}
+use Rattle.virtiofs_setup.specs.declared.setup.NamesSetUp.{NamesSetUp}
+use Rattle.virtiofs_findings.specs.NameParts.{DecidesFrom}
+use Rattle.virtiofs_findings.specs.declared.finding.Finding.{Finding}
+use Rattle.virtiofs_findings.specs.declared.finding.Finding.TheVariants.{IdleRule, NotListed, ListedElsewhere, ShownToOther, NameOfBoth}
+
+-- ---- rules that decide no name
+
+-- these are the places below that one of the written rules that decide no name
+abbrev pub AreIdleBelow : List MappingRule → ℕ → ℕ → List ℕ → Type 0
+AreIdleBelow rules written below idle = (place : ℕ)
+    → Contains idle place ↔ ((place < below) × (¬ DecidesWritten rules written place))
+
+pub none_idle : (rules : List MappingRule) (written : ℕ) → AreIdleBelow rules written 0 []
+none_idle rules written place = (λ has. absurd (omega (arith, has.1)), λ idle. absurd (omega (arith, idle.0)))
+
+-- the rule at the next place decides a name
+pub idle_skipped : (rules : List MappingRule) (written i : ℕ) (idle : List ℕ) → AreIdleBelow rules written i idle
+    → DecidesWritten rules written i → AreIdleBelow rules written (i + 1) idle
+idle_skipped rules written i idle below decides place = (
+  λ has. (let found = (below place).0 has in (omega (arith, found.0), found.1)),
+  λ it. elim (cases_eq i place) [
+    | inl same ↦ absurd (it.1 (subst (DecidesWritten rules written) same decides))
+    | inr other ↦ (below place).1 (omega (arith, it.0), it.1)
+  ],
+)
+
+-- the rule at the next place decides none
+pub idle_pushed : (rules : List MappingRule) (written i : ℕ) (idle new : List ℕ) → AreIdleBelow rules written i idle
+    → (¬ DecidesWritten rules written i) → new ≡ idle ++ i ∷ [] → AreIdleBelow rules written (i + 1) new
+idle_pushed rules written i idle new below none pushed =
+    subst (AreIdleBelow rules written (i + 1)) (sym pushed) (λ place. (
+      λ has. elim (Contains-push_cases idle i place has) [
+        | inl before ↦ (let found = (below place).0 before in (omega (arith, found.0), found.1))
+        | inr same ↦ (omega arith, subst (λ (n : ℕ). ¬ DecidesWritten rules written n) same none)
+      ],
+      λ it. elim (cases_eq i place) [
+        | inl same ↦ subst (Contains (idle ++ i ∷ [])) same (Contains-push idle i)
+        | inr other ↦ Contains-append_left idle (i ∷ []) place ((below place).1 (omega (arith, it.0), it.1))
+      ],
+    ))
+
+-- numbers that rise, and a greater one
+rising_push : (ns : List ℕ) (i : ℕ) → AreRising ns → ((n : ℕ) → Contains ns n → n < i) → AreRising (ns ++ i ∷ [])
+rising_push [] i rising below = (search rules, tt)
+rising_push (n ∷ ns) i (above, rising) below = (
+  All-append (λ m. n < m) ns (i ∷ []) above (search (rules, below n (0, search arith, refl))),
+  rising_push ns i rising (λ m has. below m (Contains-append_right (n ∷ []) ns m has)),
+)
+
+-- these are the findings of the places below that one of the written rules that decide no name
+pub record FindsIdleBelow {A : Type 0} (rules : List MappingRule) (written below : ℕ) (found : List (Finding A)) : Type
+    0 where
+  pub places : List ℕ
+  pub idle : AreIdleBelow rules written below places
+  pub order : AreRising places
+  pub are : found ≡ map IdleRule places
+
+pub idle_none : {A : Type 0} (rules : List MappingRule) (written : ℕ) → FindsIdleBelow {A = A} rules written 0 []
+idle_none rules written = record { places = []; idle = none_idle rules written; order = tt; are = refl }
+
+-- the rule at the next place decides a name
+pub idle_goes_on : {A : Type 0} (rules : List MappingRule) (written i : ℕ) (before after : List (Finding A))
+    → Adds (FindsIdleBelow rules written i) before after → DecidesWritten rules written i
+    → Adds (FindsIdleBelow rules written (i + 1)) before after
+idle_goes_on rules written i before after so_far decides = record {
+  more = so_far.more;
+  is = record {
+    places = so_far.is.places;
+    idle = idle_skipped rules written i so_far.is.places so_far.is.idle decides;
+    order = so_far.is.order;
+    are = so_far.is.are;
+  };
+  added = so_far.added;
+}
+
+-- the rule at the next place decides none
+pub idle_grows : {A : Type 0} (rules : List MappingRule) (written i : ℕ) (before after next : List (Finding A))
+    → Adds (FindsIdleBelow rules written i) before after → (¬ DecidesWritten rules written i)
+    → next ≡ after ++ IdleRule i ∷ [] → Adds (FindsIdleBelow rules written (i + 1)) before next
+idle_grows rules written i before after next so_far none pushed = record {
+  more = so_far.more ++ IdleRule i ∷ [];
+  is = record {
+    places = so_far.is.places ++ i ∷ [];
+    idle = idle_pushed rules written i so_far.is.places _ so_far.is.idle none refl;
+    order = rising_push so_far.is.places i so_far.is.order (λ n has. ((so_far.is.idle n).0 has).0);
+    are = ap (λ found. found ++ IdleRule i ∷ []) so_far.is.are ∙ sym (map-append IdleRule so_far.is.places (i ∷ []));
+  };
+  added =
+      pushed ∙ ap (λ found. found ++ IdleRule i ∷ []) so_far.added ∙ append_assoc before so_far.more (IdleRule i ∷ []);
+}
+
+-- all rules were asked
+pub idle_all : {A : Type 0} (rules : List MappingRule) (written i : ℕ) (before after : List (Finding A))
+    → ¬ (i < written) → i ≤ written → Adds (FindsIdleBelow rules written i) before after
+    → Adds (FindsIdle rules written) before after
+idle_all rules written i before after over within so_far = record {
+  more = so_far.more;
+  is = record {
+    places = so_far.is.places;
+    idle =
+        λ place. subst (λ (n : ℕ). Contains so_far.is.places place ↔ ((place < n) × (¬ DecidesWritten rules written place)))
+        (omega (arith, over, within)) (so_far.is.idle place);
+    order = so_far.is.order;
+    are = so_far.is.are;
+  };
+  added = so_far.added;
+}
+
+-- ---- the rules that the last written one stands for
+
+first_within : (side : Side) (rules : List MappingRule) (name : List ℕ) (at : ℕ) → first side rules name ≡ Some at
+    → at < length rules
+first_within side rules name at =
+    through (ltb (position_or_len (fits side name) rules) (length rules)) (position_or_len (fits side name) rules)
+    (λ b. ltb-true (position_or_len (fits side name) rules) (length rules) b) where
+      through : (b : Bool) (n : ℕ) → (b ≡ true → n < length rules) → cond b (Some n) None ≡ Some at → at < length rules
+      through true n below e = let same : n ≡ at = cc in let low = below refl in omega (arith, same, low)
+      through false n below e = cc
+
+-- a rule that decides a name is one of the list
+pub decides_within : (rules : List MappingRule) (place : ℕ) → Decides rules place → place < length rules
+decides_within rules place (side, decides) = first_within side rules decides.name place decides.is_first
+
+pub from_last : (rules : List MappingRule) (written place : ℕ) → place + 1 ≡ written
+    → DecidesFrom rules place ↔ DecidesWritten rules written place
+from_last rules written place last = (
+  λ from. (from.0, (from.1, from.2, inr last), from.3),
+  λ some. (some.0, some.1.0, some.1.1, some.2),
+)
+
+pub from_one : (rules : List MappingRule) (written place : ℕ) → ¬ (place + 1 ≡ written)
+    → Decides rules place ↔ DecidesWritten rules written place
+from_one rules written place not_last = (
+  λ decides. (place, (omega arith, decides_within rules place decides, inl refl), decides),
+  λ some. elim some.1.2 [ inl same ↦ subst (Decides rules) same some.2 | inr last ↦ absurd (not_last last) ],
+)
+
+-- ---- the parts of what is found
+
+-- what is found of names, part by part
+pub names_found : {A V E : Type 0} (r : Result V E) (rules : List MappingRule) (written : ℕ)
+    (a b c d e : List (Finding A))
+    → Adds (FindsUnruled rules) a b → Adds (FindsLeast NotListed (IsLost rules)) b c
+    → Adds (FindsLeast ListedElsewhere (IsStray rules)) c d → OnOk r (Adds (FindsIdle rules written) d e)
+    → OnOk r (Adds (FindsNames rules written) a e)
+names_found (Ok x) rules written a b c d e unruled lost stray idle = record {
+  more = unruled.more ++ lost.more ++ stray.more ++ idle.more;
+  is = record {
+    of_unruled = unruled.more;
+    of_lost = lost.more;
+    of_stray = stray.more;
+    of_idle = idle.more;
+    unruled = unruled.is;
+    lost = lost.is;
+    stray = stray.is;
+    idle = idle.is;
+    whole = refl;
+  };
+  added = in_four a unruled.more lost.more stray.more idle.more b c d e unruled.added lost.added stray.added idle.added;
+}
+names_found (Err f) rules written a b c d e unruled lost stray idle = tt
+
+-- what is found of the names of two guests, part by part
+pub between_found : {A V E : Type 0} (r : Result V E) (number number_2 : ℕ) (one other : NamesSetUp A)
+    (a b c d : List (Finding A))
+    → Adds (FindsLeast (ShownToOther number number_2) (IsSeen one.map other.map)) a b
+    → Adds (FindsLeast (ShownToOther number_2 number) (IsSeen other.map one.map)) b c
+    → OnOk r (Adds (FindsLeast (NameOfBoth number number_2) (IsShared one.map other.map)) c d)
+    → OnOk r (Adds (FindsNamesBetween number number_2 one other) a d)
+between_found (Ok x) number number_2 one other a b c d seen back shared = record {
+  more = seen.more ++ back.more ++ shared.more;
+  is = record {
+    of_seen = seen.more;
+    of_seen_back = back.more;
+    of_shared = shared.more;
+    seen = seen.is;
+    seen_back = back.is;
+    shared = shared.is;
+    whole = refl;
+  };
+  added = in_three a seen.more back.more shared.more b c d seen.added back.added shared.added;
+}
+between_found (Err f) number number_2 one other a b c d seen back shared = tt

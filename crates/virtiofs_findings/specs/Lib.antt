@@ -1,0 +1,14 @@
+pub mod Accepted
+pub mod AclNames
+pub mod AclParts
+pub mod Audited
+pub mod ExtentText
+pub mod FindingKinds
+pub mod FindingText
+pub mod IdFindings
+pub mod KeptParts
+pub mod NameFindings
+pub mod NameParts
+pub mod PairFindings
+pub mod Report
+pub mod ReportParts

@@ -1,0 +1,207 @@
+//! What is decided of all names of a guest.
+ghost use Rattle.std.specs.Prelude.{◌≡◌, ◌<◌, ◌↔◌, codes, IfOk, OnOk, IsTrue};
+ghost use Rattle.virtiofs_map.specs.Audit.{AnswersLeast, Within, IsLost, IsStray};
+ghost use Rattle.virtiofs_setup.specs.Lists.{Adds};
+ghost use Rattle.virtiofs_findings.specs.NameFindings.{FindsName, FindsLeast, DecidesWritten, FindsIdle, FindsUnruled, FindsNames};
+ghost use Rattle.virtiofs_findings.specs.NameParts.{DecidesFrom, HasFault};
+
+use super::found::{LeastName, NameFault};
+use crate::finding::Finding;
+use std::alloc::{AllocError, Allocator};
+use virtiofs_map::audit::{
+    Audit, audit, audit_listed, audit_listed_within, audit_within, keeps_apart, keeps_apart_within,
+    shares_no_name, shares_no_name_within,
+};
+use virtiofs_map::xattrmap::{XattrMap, XattrName};
+
+/// The beginning of names that users set.
+fn user() -> XattrName<'static>
+    ensures { result.bytes.now ≡ codes "user." }
+{
+    XattrName { bytes: b"user." }
+}
+
+/// The beginning of names that only a trusted process sees.
+fn trusted() -> XattrName<'static>
+    ensures { result.bytes.now ≡ codes "trusted." }
+{
+    XattrName { bytes: b"trusted." }
+}
+
+/// The beginning of names that security modules set.
+fn security() -> XattrName<'static>
+    ensures { result.bytes.now ≡ codes "security." }
+{
+    XattrName {
+        bytes: b"security.",
+    }
+}
+
+/// The beginning of names that the kernel sets, as those of access control lists.
+fn system() -> XattrName<'static>
+    ensures { result.bytes.now ≡ codes "system." }
+{
+    XattrName { bytes: b"system." }
+}
+
+/// The least name with a fault.
+fn least<A: Allocator + Copy>(
+    alloc: A,
+    fault: NameFault,
+    map: &XattrMap<A>,
+    other: &XattrMap<A>,
+) -> Result<Audit<A>, AllocError>
+    ensures { IfOk result (AnswersLeast (HasFault fault map.now other.now)) }
+{
+    match fault {
+        NameFault::Lost => audit(alloc, map),
+        NameFault::Stray => audit_listed(alloc, map),
+        NameFault::Seen => keeps_apart(alloc, map, other),
+        NameFault::Shared => shares_no_name(alloc, map, other),
+    }
+}
+
+/// The least name with a fault of those that begin with these bytes.
+fn least_within<A: Allocator + Copy>(
+    alloc: A,
+    fault: NameFault,
+    map: &XattrMap<A>,
+    other: &XattrMap<A>,
+    beginning: XattrName<'_>,
+) -> Result<Audit<A>, AllocError>
+    ensures { IfOk result (AnswersLeast
+        (Within beginning.entry.bytes.now (HasFault fault map.now other.now))) }
+{
+    match fault {
+        NameFault::Lost => audit_within(alloc, map, beginning),
+        NameFault::Stray => audit_listed_within(alloc, map, beginning),
+        NameFault::Seen => keeps_apart_within(alloc, map, other, beginning),
+        NameFault::Shared => shares_no_name_within(alloc, map, other, beginning),
+    }
+}
+
+/// The least names with a fault, if there is any. The second map is that of the other guest; for
+/// faults of one guest it makes no difference.
+pub(crate) fn least_name<A: Allocator + Copy>(
+    alloc: A,
+    fault: NameFault,
+    map: &XattrMap<A>,
+    other: &XattrMap<A>,
+) -> Result<Option<LeastName<A>>, AllocError>
+    ensures { IfOk result (FindsName (HasFault fault map.now other.now)) }
+{
+    let Audit::No(name) = least(alloc, fault, map, other)? else {
+        return Ok(None);
+    };
+    let user = least_within(alloc, fault, map, other, user())?;
+    let trusted = least_within(alloc, fault, map, other, trusted())?;
+    let security = least_within(alloc, fault, map, other, security())?;
+    let system = least_within(alloc, fault, map, other, system())?;
+    Ok(Some(LeastName {
+        name,
+        user,
+        trusted,
+        security,
+        system,
+    }))
+}
+
+/// Whether some rule from that place on decides a name.
+fn decides_from<A: Allocator>(map: &XattrMap<A>, place: usize) -> bool
+    ensures { IsTrue result ↔ DecidesFrom map.now place }
+{
+    for part in place..map.rule_count() {
+        if map.decides(part) {
+            return true;
+        }
+    }
+    false
+}
+
+/// Whether some rule that the written rule at a place stands for decides a name. The last one stands
+/// for all rules of the map from its place on.
+fn decides_written<A: Allocator>(map: &XattrMap<A>, written: usize, place: usize) -> bool
+    requires { place < written }
+    ensures { IsTrue result ↔ DecidesWritten map.now written place }
+{
+    if place + 1 == written {
+        return decides_from(map, place);
+    }
+    map.decides(place)
+}
+
+/// Adds the written rules that decide no name.
+fn push_idle<A: Allocator>(
+    found: &mut Vec<Finding<A>, A>,
+    map: &XattrMap<A>,
+    written: usize,
+) -> Result<(), AllocError>
+    ensures { OnOk result (Adds (FindsIdle map.now written) found.old.items found.new.items) }
+{
+    for place in 0..written {
+        if decides_written(map, written, place) {
+            continue;
+        }
+        found.push(Finding::IdleRule(place))?;
+    }
+    Ok(())
+}
+
+/// Adds that some names have no rule, unless each has one.
+fn push_unruled<A: Allocator>(
+    found: &mut Vec<Finding<A>, A>,
+    map: &XattrMap<A>,
+) -> Result<(), AllocError>
+    ensures { OnOk result (Adds (FindsUnruled map.now) found.old.items found.new.items) }
+{
+    if map.is_terminated() {
+        return Ok(());
+    }
+    found.push(Finding::NoRule)?;
+    Ok(())
+}
+
+/// Adds the least name that the guest sets and that is not listed back, if there is one.
+fn push_lost<A: Allocator + Copy>(
+    alloc: A,
+    found: &mut Vec<Finding<A>, A>,
+    map: &XattrMap<A>,
+) -> Result<(), AllocError>
+    ensures { OnOk result
+        (Adds (FindsLeast Finding.NotListed (IsLost map.now)) found.old.items found.new.items) }
+{
+    if let Some(least) = least_name(alloc, NameFault::Lost, map, map)? {
+        found.push(Finding::NotListed(least))?;
+    }
+    Ok(())
+}
+
+/// Adds the least name of the host that is listed under a name which leads elsewhere, if there is one.
+fn push_stray<A: Allocator + Copy>(
+    alloc: A,
+    found: &mut Vec<Finding<A>, A>,
+    map: &XattrMap<A>,
+) -> Result<(), AllocError>
+    ensures { OnOk result
+        (Adds (FindsLeast Finding.ListedElsewhere (IsStray map.now)) found.old.items found.new.items) }
+{
+    if let Some(least) = least_name(alloc, NameFault::Stray, map, map)? {
+        found.push(Finding::ListedElsewhere(least))?;
+    }
+    Ok(())
+}
+
+/// Adds what is wrong with the names of a guest under these rules, of which that many are written.
+pub fn push_names<A: Allocator + Copy>(
+    alloc: A,
+    found: &mut Vec<Finding<A>, A>,
+    map: &XattrMap<A>,
+    written: usize,
+) -> Result<(), AllocError>
+    ensures { OnOk result (Adds (FindsNames map.now written) found.old.items found.new.items) }
+{
+    push_unruled(found, map)?;
+    push_lost(alloc, found, map)?;
+    push_stray(alloc, found, map)?;
+    push_idle(found, map, written)
+}

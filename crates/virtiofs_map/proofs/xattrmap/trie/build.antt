@@ -1,0 +1,14 @@
+mod AnswerLemmas
+mod ChildrenLemmas
+mod ExactLemmas
+mod BuiltTrieLemmas
+mod TrieBuildLemmas
+mod PatternTextLemmas
+mod FirstBytesLemmas
+mod KidLemmas
+mod KidTextNodeLemmas
+mod LevelLemmas
+mod OrderedLemmas
+mod RangeTextNodeLemmas
+mod PatternOrderLemmas
+mod AppendedRangeLemmas

@@ -1,0 +1,56 @@
+-- The least of the answers of patterns.
+use Rattle.std.proofs.Common.{◌≡◌, ◌⊎◌, ℕ, ◌+◌, ◌<◌, ◌≤◌, List, min, inl, inr, sym, ap, ◌∙◌, arith}
+use Rattle.std.proofs.lemmas.Bool.{cases_lt}
+use Rattle.virtiofs_map.specs.TrieBuildParts.{number, IsLeast, IsLeastOf}
+use Rattle.virtiofs_map.specs.declared.xattrmap.trie.patterns.Pattern.{Pattern}
+
+-- one pattern more
+pub IsLeastOf-more : (patterns : List Pattern) (base low at value next : ℕ) → low ≤ at
+    → IsLeastOf patterns base low at value → next ≡ min value (number patterns at)
+    → IsLeastOf patterns base low (at + 1) next
+IsLeastOf-more patterns base low at value next l least e = record {
+  least = let h = least.least in omega (arith, h, e);
+  below = λ i from upto. elim (cases_lt i at) [
+    | inl b ↦ (let h = least.below i from b in omega (arith, h, e))
+    | inr g ↦ (let same : i ≡ at = omega (arith, upto, g) in let h = ap (number patterns) same in omega (arith, h, e))
+  ];
+  met = elim (cases_lt (number patterns at) value) [
+    | inl b ↦ inr (at, l, omega arith, omega (arith, b, e))
+    | inr g ↦
+        (let same : next ≡ value = omega (arith, g, e) in
+        elim least.met [
+          | inl h ↦ inl (same ∙ h)
+          | inr (i, from, upto, h) ↦ inr (i, from, omega (arith, upto), h ∙ sym same)
+        ])
+  ];
+}
+
+-- the least of those that are chosen, and of some between two places
+pub IsLeast-with : (patterns : List Pattern) (chosen more : ℕ → Type 0) (base low high value : ℕ)
+    → IsLeast patterns chosen base → IsLeastOf patterns base low high value
+    → ((i : ℕ) → chosen i → more i) → ((i : ℕ) → low ≤ i → i < high → more i)
+    → ((i : ℕ) → more i → chosen i ⊎ ((low ≤ i) × (i < high)))
+    → IsLeast patterns more value
+IsLeast-with patterns chosen more base low high value first then old new either = record {
+  top = let a = first.top in let b = then.least in omega (arith, a, b);
+  below = λ i h. elim (either i h) [
+    | inl c ↦ (let a = first.below i c in let b = then.least in omega (arith, a, b))
+    | inr (l, u) ↦ then.below i l u
+  ];
+  met = elim then.met [
+    | inl same ↦ elim first.met [
+      | inl none ↦ inl (same ∙ none)
+      | inr (i, c, e) ↦ inr (i, old i c, e ∙ sym same)
+    ]
+    | inr (i, l, u, e) ↦ inr (i, new i l u, e)
+  ];
+}
+
+-- the same choice in other words
+pub IsLeast-same : (patterns : List Pattern) (chosen other : ℕ → Type 0) (value : ℕ) → IsLeast patterns chosen value
+    → ((i : ℕ) → chosen i → other i) → ((i : ℕ) → other i → chosen i) → IsLeast patterns other value
+IsLeast-same patterns chosen other value least to from = record {
+  top = least.top;
+  below = λ i h. least.below i (from i h);
+  met = elim least.met [ inl e ↦ inl e | inr (i, c, e) ↦ inr (i, to i c, e) ];
+}

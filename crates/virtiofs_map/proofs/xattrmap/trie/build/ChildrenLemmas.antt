@@ -1,0 +1,134 @@
+-- The children of a range, appended one after the other.
+use Rattle.std.proofs.Common.{◌≡◌, ◌≢◌, ℕ, ◌+◌, ◌-◌, ◌<◌, ◌≤◌, List, [], ◌∷◌, ◌++◌, length, take, get_or}
+use Rattle.std.proofs.Common.{inl, inr, refl, sym, ap, subst, ◌∙◌, arith, lit≤}
+use Rattle.std.proofs.lemmas.Bool.{cases_lt}
+use Rattle.std.proofs.lemmas.Option.{slice_get_within}
+use Rattle.virtiofs_map.specs.TrieBuildParts.{text, AreReady, IsLeast, IsUpto, IsPatternRange, IsRangeOrHole, AreAdded, AreHoles, hole}
+use Rattle.virtiofs_map.specs.declared.xattrmap.trie.build.PatternRange.{PatternRange}
+use Rattle.virtiofs_map.specs.declared.xattrmap.trie.patterns.Pattern.{Pattern}
+use Rattle.virtiofs_map.proofs.xattrmap.trie.build.KidLemmas.{IsCut, kid_is_place}
+use Rattle.virtiofs_map.proofs.xattrmap.trie.build.PatternOrderLemmas.{no_zero, goes_on, rising}
+use Rattle.virtiofs_map.proofs.xattrmap.trie.build.AppendedRangeLemmas.{push_cases, IsLonger-refl, IsLonger-push}
+use Rattle.virtiofs_map.proofs.xattrmap.trie.build.AppendedRangeLemmas.{IsLonger-trans}
+
+module _ (most : ℕ) (patterns : List Pattern) (ready : AreReady most patterns) (range : PatternRange)
+    (is : IsPatternRange patterns range) where
+  -- the bytes after the path of a range rise
+  pub row : (i j : ℕ) → range.low ≤ i → i ≤ j → j < range.high
+      → get_or (text patterns i) range.depth 0 ≤ get_or (text patterns j) range.depth 0
+  row i j l le u =
+      let w = is.within in
+      rising most patterns ready i j range.depth le (omega (arith, u, w))
+      (is.same i l (omega (arith, le, u)) ∙ sym (is.same j (omega (arith, l, le)) u))
+
+  -- from a pattern on that is longer than the path, all are
+  pub longer_on : (from i : ℕ) → range.low ≤ from → from ≤ i → i < range.high → range.depth < length (text patterns from)
+      → range.depth < length (text patterns i)
+  longer_on from i l a u longer =
+      let w = is.within in
+      let full = no_zero most patterns ready from range.depth (omega (arith, a, u, w)) longer in
+      let r = row from i l a u in
+      goes_on most patterns ready i range.depth (λ z. full (omega (arith, r, z)))
+
+  -- none yet
+  pub added_none : (ranges : List PatternRange) → AreAdded patterns ranges ranges range
+  added_none ranges = record {
+    longer = IsLonger-refl ranges;
+    places = λ at kid b e. absurd (let h = slice_get_within ranges at kid e in omega (arith, b, h));
+    deeper = λ at kid b e. absurd (let h = slice_get_within ranges at kid e in omega (arith, b, h));
+  }
+
+  -- holes before the next child
+  pub added_holes : (old mid new : List PatternRange) (upto : ℕ) → upto < range.high
+      → range.depth < length (text patterns upto) → AreHoles mid new (range.depth + 1) → AreAdded patterns old mid range
+      → AreAdded patterns old new range
+  added_holes old mid new upto u longer holes added =
+      let w = is.within in
+      let place : IsRangeOrHole patterns (hole (range.depth + 1)) = record {
+        is = inr (record { deep = λ e. omega (arith, e); answer = refl; empty = refl; first_byte = refl });
+        deep = inr (record { at = upto; within = omega (arith, u, w); long = omega (arith, longer) });
+        label = omega arith;
+        size = omega arith;
+        answer = lit≤ tt;
+        empty = λ _. refl;
+      } in
+      record {
+        longer = IsLonger-trans old mid new added.longer holes.longer;
+        places = λ at kid b e. elim (cases_lt at (length mid)) [
+          | inl in' ↦ added.places at kid b (sym (holes.longer.same at in') ∙ e)
+          | inr g ↦ subst (IsRangeOrHole patterns) (sym (holes.holes at kid g e)) place
+        ];
+        deeper = λ at kid b e. elim (cases_lt at (length mid)) [
+          | inl in' ↦ added.deeper at kid b (sym (holes.longer.same at in') ∙ e)
+          | inr g ↦ (let d = ap (λ (p : PatternRange). p.depth) (holes.holes at kid g e) in omega (arith, d))
+        ];
+      }
+
+  -- one child more
+  pub added_kid : (old mid : List PatternRange) (kid : PatternRange) (answer : ℕ) → IsLeast patterns (IsUpto patterns range) answer
+      → IsCut patterns range kid answer → AreAdded patterns old mid range → AreAdded patterns old (mid ++ kid ∷ []) range
+  added_kid old mid kid answer least cut added = record {
+    longer = IsLonger-trans old mid (mid ++ kid ∷ []) added.longer (IsLonger-push mid kid);
+    places = λ at one b e. elim (push_cases mid kid at one e) [
+      | inl (_, h) ↦ added.places at one b h
+      | inr (_, h) ↦ subst (IsRangeOrHole patterns) h (kid_is_place most patterns ready range kid answer is least cut)
+    ];
+    deeper = λ at one b e. elim (push_cases mid kid at one e) [
+      | inl (_, h) ↦ added.deeper at one b h
+      | inr (_, h) ↦ (let d = ap (λ (p : PatternRange). p.depth) h in let k = cut.depth in omega (arith, d, k))
+    ];
+  }
+
+  -- the child that the code makes has all the patterns with its byte
+  pub cut_is : (kid : PatternRange) (answer upto high : ℕ) → range.low ≤ upto → upto < high → high ≤ range.high
+      → kid.low ≡ upto → kid.high ≡ high → kid.answer ≡ answer → kid.first_byte ≡ get_or (text patterns upto) range.depth 0
+      → kid.depth ≡ range.depth + 1 + kid.length → kid.length < 256
+      → kid.depth ≤ length (text patterns upto)
+      → (take (range.depth + 1) (text patterns upto) ≡ take (range.depth + 1) (text patterns (high - 1))
+      → take kid.depth (text patterns upto) ≡ take kid.depth (text patterns (high - 1)))
+      → (kid.length < 255 → kid.depth < length (text patterns upto) → kid.depth < length (text patterns (high - 1))
+      → get_or (text patterns upto) kid.depth 0 ≢ get_or (text patterns (high - 1)) kid.depth 0)
+      → ((i : ℕ) → upto ≤ i → i < high
+      → get_or (text patterns i) range.depth 0 ≡ get_or (text patterns upto) range.depth 0)
+      → (high < range.high → get_or (text patterns high) range.depth 0 ≢ get_or (text patterns upto) range.depth 0)
+      → ((i : ℕ) → range.low ≤ i → i < upto
+      → get_or (text patterns i) range.depth 0 < get_or (text patterns upto) range.depth 0)
+      → IsCut patterns range kid answer
+  cut_is kid answer upto high from some top is_low is_high answered first_byte depth size long same stops bytes other
+      apart = record {
+        from = omega (arith, from, is_low);
+        some = omega (arith, some, is_low, is_high);
+        upto = omega (arith, top, is_high);
+        answered = answered;
+        first_byte = first_byte ∙ here;
+        depth = depth;
+        size = size;
+        long = subst (λ n. kid.depth ≤ length (text patterns n)) (sym is_low) long;
+        same = subst
+            (λ n. take (range.depth + 1) (text patterns n) ≡ take (range.depth + 1) (text patterns (kid.high - 1))
+            → take kid.depth (text patterns n) ≡ take kid.depth (text patterns (kid.high - 1))) (sym is_low)
+            (subst (λ n. take (range.depth + 1) (text patterns upto) ≡ take (range.depth + 1) (text patterns (n - 1))
+            → take kid.depth (text patterns upto) ≡ take kid.depth (text patterns (n - 1))) (sym is_high) same);
+        stops = subst
+            (λ n. kid.length < 255 → kid.depth < length (text patterns n)
+            → kid.depth < length (text patterns (kid.high - 1))
+            → get_or (text patterns n) kid.depth 0 ≢ get_or (text patterns (kid.high - 1)) kid.depth 0) (sym is_low)
+            (subst (λ n. kid.length < 255 → kid.depth < length (text patterns upto)
+            → kid.depth < length (text patterns (n - 1))
+            → get_or (text patterns upto) kid.depth 0 ≢ get_or (text patterns (n - 1)) kid.depth 0) (sym is_high) stops);
+        bytes = λ i a b. bytes i (omega (arith, a, is_low)) (omega (arith, b, is_high)) ∙ here;
+        group = λ i a b e. elim (cases_lt i upto) [
+          | inl l ↦ absurd
+              (let p = apart i a l in let q = e ∙ sym here in omega (arith, p, q))
+          | inr g ↦ elim (cases_lt i high) [
+            | inl l ↦ (omega (arith, g, is_low), omega (arith, l, is_high))
+            | inr h ↦ absurd (
+                let r = row upto high from (omega (arith, some)) (omega (arith, h, b)) in
+                let t = row high i (omega (arith, from, some)) h b in
+                let q = e ∙ sym here in
+                other (omega (arith, h, b)) (omega (arith, r, t, q)))
+          ]
+        ];
+      } where
+        here : get_or (text patterns upto) range.depth 0 ≡ get_or (text patterns kid.low) range.depth 0
+        here = ap (λ n. get_or (text patterns n) range.depth 0) (sym is_low)

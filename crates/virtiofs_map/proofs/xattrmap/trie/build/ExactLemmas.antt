@@ -1,0 +1,276 @@
+-- The node of a range is that of its text node.
+use Rattle.std.proofs.Common.{◌≡◌, ◌≢◌, ℕ, zero, suc, ◌+◌, ◌-◌, ◌<◌, ◌≤◌, Bool, true, false, cond, List, [], ◌∷◌}
+use Rattle.std.proofs.Common.{◌++◌, length, map, take, drop, get_or, Some, refl, sym, ap, subst, ◌∙◌, arith}
+use Rattle.std.proofs.Common.{inl, inr}
+use Rattle.std.specs.List.{slice_get, find, range_with_len}
+use Rattle.std.specs.Option.{option_map_or}
+use Rattle.std.proofs.lemmas.Bool.{cases_Bool, cases_lt}
+use Rattle.std.proofs.lemmas.List.{take-append-drop, take_at, get_or_past}
+use Rattle.virtiofs_map.specs.TrieBuildParts.{text, start_of, AreReady, IsPatternRange, IsRangeOrHole, text_node_of, path_of_range}
+use Rattle.virtiofs_map.specs.Names.{begins}
+use Rattle.virtiofs_map.specs.PatternTrie.{TextNode, leads, next_bytes, child, children, slots, are_sparse}
+use Rattle.virtiofs_map.specs.PatternTrie.{longest_label}
+use Rattle.virtiofs_map.specs.TrieParts.{texts_of, children_of, label_place, lowest, node_with}
+use Rattle.virtiofs_map.specs.declared.xattrmap.trie.node.Node.{Node}
+use Rattle.virtiofs_map.specs.declared.xattrmap.trie.build.PatternRange.{PatternRange}
+use Rattle.virtiofs_map.specs.declared.xattrmap.trie.patterns.Pattern.{Pattern}
+use Rattle.virtiofs_map.proofs.xattrmap.trie.NextByteLemmas.{IsOne, filter_is, no_one}
+use Rattle.virtiofs_map.proofs.BeginsLemmas.{begins_split, begins_from}
+use Rattle.virtiofs_map.proofs.xattrmap.trie.TextNodeLemmas.{next_rising, next_has}
+use Rattle.virtiofs_map.proofs.xattrmap.SlotLemmas.{Rising, filter_passes, between}
+use Rattle.virtiofs_map.proofs.xattrmap.trie.build.ChildrenLemmas.{row}
+use Rattle.virtiofs_map.proofs.xattrmap.trie.build.PatternTextLemmas.{text-here, start_of-here}
+use Rattle.virtiofs_map.proofs.xattrmap.trie.build.RangeTextNodeLemmas.{text_node_real, text_node_hole, path_size, one_at, in_leads}
+use Rattle.virtiofs_map.proofs.xattrmap.trie.build.RangeTextNodeLemmas.{leads_in}
+use Rattle.virtiofs_map.proofs.xattrmap.trie.build.PatternOrderLemmas.{no_zero, goes_on}
+
+-- ---- where the label stands
+
+-- the first pattern that begins with a path
+find_first : (patterns : List Pattern) (path : List ℕ) (at : ℕ) (one : Pattern) → slice_get patterns at ≡ Some one
+    → begins path one.bytes.now ≡ true
+    → ((i : ℕ) (other : Pattern) → i < at → slice_get patterns i ≡ Some other → begins path other.bytes.now ≡ true → ⊥)
+    → find (λ one. begins path one.bytes.now) patterns ≡ Some one
+find_first [] path at one here starts before = absurd cc
+find_first (p ∷ patterns) path zero one here starts before =
+    let same : p ≡ one = cc in
+    ap (λ b. cond b (Some p) (find (λ (one : Pattern). begins path one.bytes.now) patterns))
+    (ap (λ (o : Pattern). begins path o.bytes.now) same ∙ starts) ∙ ap Some same
+find_first (p ∷ patterns) path (suc at) one here starts before = elim (cases_Bool (begins path p.bytes.now)) [
+  | inl e ↦ absurd (before 0 p (omega arith) refl e)
+  | inr e ↦
+      ap (λ b. cond b (Some p) (find (λ (one : Pattern). begins path one.bytes.now) patterns)) e
+      ∙ find_first patterns path at one here starts (λ i other l. before (suc i) other (omega (arith, l)))
+]
+
+module _ (most : ℕ) (patterns : List Pattern) (ready : AreReady most patterns) (range : PatternRange)
+    (is : IsPatternRange patterns range) where
+  abbrev path : List ℕ
+  path = path_of_range patterns range
+
+  abbrev text_node : TextNode
+  text_node = record { path = path; byte = range.first_byte; size = range.length }
+
+  -- a pattern of the range begins with its path, and no other does
+  begins_in : (i : ℕ) → i < length patterns → begins path (text patterns i) ≡ true → (range.low ≤ i) × (i < range.high)
+  begins_in i l starts =
+      is.whole i l
+      (ap (take range.depth) (begins_split path (text patterns i) starts)
+      ∙ take_at path (drop (length path) (text patterns i)) range.depth (path_size most patterns ready range is))
+
+  in_begins : (i : ℕ) → range.low ≤ i → i < range.high → begins path (text patterns i) ≡ true
+  in_begins i l u =
+      begins_from path (text patterns i) (drop range.depth (text patterns i))
+      (sym (take-append-drop range.depth (text patterns i))
+      ∙ ap (λ w. w ++ drop range.depth (text patterns i)) (is.same i l u))
+
+  pub label_is : range.low < range.high → range.length ≤ range.depth → (label : ℕ)
+      → label ≡ start_of patterns range.low + (range.depth - range.length) → label ≡ label_place patterns text_node
+  label_is some short label at =
+      let top = is.within in
+      let one = one_at most patterns ready range is range.low (omega (arith, some, top)) in
+      let found = find_first patterns path range.low one.0 one.1
+      (ap (begins path) (sym one.2) ∙ in_begins range.low (omega arith) some)
+      (λ i other l there starts.
+      let same = text-here patterns i other there in
+      let inside = begins_in i (omega (arith, l, some, top)) (ap (begins path) same ∙ starts) in
+      omega (arith, l, inside)) in
+      let start = start_of-here patterns range.low one.0 one.1 in
+      let size = path_size most patterns ready range is in
+      let place : label_place patterns text_node ≡ one.0.start + length path - range.length =
+      ap (λ o. option_map_or (λ (one : Pattern). one.start + length path - range.length) o 0) found in
+      omega (arith, at, start, size, place, short)
+
+  -- ---- bytes that lead on
+
+  pub none_on : ((i : ℕ) → range.low ≤ i → i < range.high → length (text patterns i) ≡ range.depth)
+      → next_bytes (texts_of patterns) path ≡ []
+  unfolding next_bytes
+  none_on ended =
+      filter_is (λ byte. leads (texts_of patterns) (path ++ byte ∷ [])) 1 255 [] tt
+      (λ x one. absurd (no_one x one))
+      (λ x a b led. absurd (
+      let at = leads_in most patterns ready range is x led in
+      let e = at.3 in
+      let long = goes_on most patterns ready at.0 range.depth (λ z. omega (arith, a, z, e)) in
+      let size = ended at.0 at.1 at.2 in
+      omega (arith, long, size)))
+
+  pub lowest_is : (from : ℕ) → range.low ≤ from → from < range.high
+      → ((i : ℕ) → range.low ≤ i → i < from → length (text patterns i) ≡ range.depth)
+      → range.depth < length (text patterns from) → get_or (text patterns from) range.depth 0 < 256
+      → lowest (next_bytes (texts_of patterns) path) ≡ get_or (text patterns from) range.depth 0
+  unfolding next_bytes
+  lowest_is from l u ended longer small =
+      by_next (next_bytes (texts_of patterns) path) refl (next_rising (texts_of patterns) path)
+      (next_has (texts_of patterns) path byte full small (in_leads most patterns ready range is from byte l u longer refl))
+    where
+      byte : ℕ
+      byte = get_or (text patterns from) range.depth 0
+
+      full : byte ≢ 0
+      full = (let w = is.within in no_zero most patterns ready from range.depth (omega (arith, u, w)) longer)
+
+      lower_byte : (x : ℕ) → IsOne (next_bytes (texts_of patterns) path) x → 1 ≤ x → byte ≤ x
+      lower_byte x one some =
+          (let led = filter_passes (λ byte. leads (texts_of patterns) (path ++ byte ∷ [])) (range_with_len 1 255) one.0 x
+          one.1 in
+          let at = leads_in most patterns ready range is x led in
+          let e = at.3 in
+          elim (cases_lt at.0 from) [
+            | inl d ↦ absurd (let size = ended at.0 at.1 d in
+                let past = get_or_past (text patterns at.0) range.depth 0 (omega (arith, size)) in
+                omega (arith, past, e, some))
+            | inr g ↦ (let r = row most patterns ready range is from at.0 l g at.2 in omega (arith, r, e))
+          ])
+
+      by_next : (next : List ℕ) → next_bytes (texts_of patterns) path ≡ next → Rising 1 256 next
+          → IsOne (next_bytes (texts_of patterns) path) byte → lowest (next_bytes (texts_of patterns) path) ≡ byte
+      by_next [] is_next rising one = absurd (no_one byte (subst (λ b. IsOne b byte) is_next one))
+      by_next (x ∷ xs) is_next rising one =
+          (let here = subst (λ b. IsOne b byte) is_next one in
+          let upper = (between 1 256 x xs here.0 byte rising here.1).0 in
+          let lower = lower_byte x (subst (λ b. IsOne b x) (sym is_next) (zero, refl)) rising.0 in
+          ap lowest is_next ∙ omega (arith, upper, lower))
+
+  -- ---- its node
+
+  -- a node by its label, and by the bytes that lead on
+  abbrev by_next : ℕ → ℕ → ℕ → List ℕ → Node
+  by_next answer base label next = record {
+    answer = answer;
+    label = label;
+    length = range.length;
+    base = base;
+    width = length (map (child longest_label (texts_of patterns) path) (slots next));
+    low_byte = lowest next;
+    first_byte = range.first_byte;
+    is_sparse = are_sparse next;
+  }
+
+  -- that of a range with no children
+  pub exact_ended : (answer base label : ℕ) → next_bytes (texts_of patterns) path ≡ []
+      → label ≡ label_place patterns text_node
+      → ◌≡◌ {A = Node} (record {
+        answer = answer;
+        label = label;
+        length = range.length;
+        base = base;
+        width = 0;
+        low_byte = 1;
+        first_byte = range.first_byte;
+        is_sparse = false;
+      }) (node_with patterns answer base (Some text_node))
+  unfolding children slots
+  exact_ended answer base label none placed =
+      ap (by_next answer base label) (sym none)
+      ∙ ap (λ l. by_next answer base l (next_bytes (texts_of patterns) path)) placed
+
+  -- that of a range with children
+  pub exact_on : (answer base label width low : ℕ) (is_sparse : Bool)
+      → width ≡ length (children_of patterns (Some text_node)) → low ≡ lowest (next_bytes (texts_of patterns) path)
+      → is_sparse ≡ are_sparse (next_bytes (texts_of patterns) path) → label ≡ label_place patterns text_node
+      → ◌≡◌ {A = Node} (record {
+        answer = answer;
+        label = label;
+        length = range.length;
+        base = base;
+        width = width;
+        low_byte = low;
+        first_byte = range.first_byte;
+        is_sparse = is_sparse;
+      }) (node_with patterns answer base (Some text_node))
+  exact_on answer base label width low is_sparse width_is low_is sparse placed =
+      let make : ℕ → ℕ → ℕ → Bool → Node = λ l w b s. record {
+        answer = answer;
+        label = l;
+        length = range.length;
+        base = base;
+        width = w;
+        low_byte = b;
+        first_byte = range.first_byte;
+        is_sparse = s;
+      } in
+      ap (λ l. make l width low is_sparse) placed
+      ∙ ap (λ w. make (label_place patterns text_node) w low is_sparse) width_is
+      ∙ ap (λ b. make (label_place patterns text_node) (length (children_of patterns (Some text_node))) b is_sparse) low_is
+      ∙ ap (make (label_place patterns text_node) (length (children_of patterns (Some text_node)))
+      (lowest (next_bytes (texts_of patterns) path))) sparse
+
+-- no pattern has a range of no depth that is empty
+none_there : (patterns : List Pattern) (range : PatternRange) → IsPatternRange patterns range → range.low ≡ range.high → range.depth ≡ 0
+    → 0 < length patterns → ⊥
+none_there patterns range is bare flat some =
+    let here : take range.depth (text patterns 0) ≡ take range.depth (text patterns range.low) =
+    ap (λ n. take n (text patterns 0)) flat ∙ ap (λ n. take n (text patterns range.low)) (sym flat) in
+    let inside = is.whole 0 some here in
+    omega (arith, inside, bare)
+
+root_label : (patterns : List Pattern) (range : PatternRange) → IsPatternRange patterns range → range.low ≡ range.high → range.depth ≡ 0
+    → (text_node : TextNode) → 0 ≡ label_place patterns text_node
+root_label [] range is bare flat text_node = refl
+root_label (one ∷ patterns) range is bare flat text_node =
+    absurd (none_there (one ∷ patterns) range is bare flat (omega arith))
+
+-- that of a range with no pattern, or of a hole
+pub exact_bare : (most : ℕ) (patterns : List Pattern) → AreReady most patterns → (base : ℕ) (range : PatternRange)
+    → IsRangeOrHole patterns range → range.low ≡ range.high
+    → ◌≡◌ {A = Node} (record {
+      answer = range.answer;
+      label = 0;
+      length = range.length;
+      base = base;
+      width = 0;
+      low_byte = 1;
+      first_byte = range.first_byte;
+      is_sparse = false;
+    }) (node_with patterns range.answer base (text_node_of patterns range))
+exact_bare most patterns ready base range place bare = elim place.is [
+  | inl is ↦ elim is.some [
+    | inl flat ↦
+        (exact_ended most patterns ready range is range.answer base 0
+        (none_on most patterns ready range is (λ i l u. absurd (omega (arith, l, u, bare))))
+        (root_label patterns range is bare flat
+        (record { path = path_of_range patterns range; byte = range.first_byte; size = range.length }))
+        ∙ ap (node_with patterns range.answer base) (sym (text_node_real patterns range (inl flat))))
+    | inr l ↦ absurd (omega (arith, l, bare))
+  ]
+  | inr hole ↦
+      (let make : ℕ → ℕ → Node = λ size first_byte. record {
+        answer = range.answer;
+        label = 0;
+        length = size;
+        base = base;
+        width = 0;
+        low_byte = 1;
+        first_byte = first_byte;
+        is_sparse = false;
+      } in
+      ap (λ size. make size range.first_byte) (place.empty bare) ∙ ap (make 0) hole.first_byte
+      ∙ ap (node_with patterns range.answer base) (sym (text_node_hole patterns range bare hole.deep)))
+]
+
+-- and it has no children
+pub bare_children : (most : ℕ) (patterns : List Pattern) → AreReady most patterns → (range : PatternRange)
+    → IsRangeOrHole patterns range → range.low ≡ range.high → children_of patterns (text_node_of patterns range) ≡ []
+unfolding children slots
+bare_children most patterns ready range place bare = elim place.is [
+  | inl is ↦ elim is.some [
+    | inl flat ↦
+        (ap (children_of patterns) (text_node_real patterns range (inl flat))
+        ∙ ap (λ next. map (child longest_label (texts_of patterns) (path_of_range patterns range)) (slots next))
+        (none_on most patterns ready range is (λ i l u. absurd (omega (arith, l, u, bare)))))
+    | inr l ↦ absurd (omega (arith, l, bare))
+  ]
+  | inr hole ↦ ap (children_of patterns) (text_node_hole patterns range bare hole.deep)
+]
+
+pub ended_children : (most : ℕ) (patterns : List Pattern) → AreReady most patterns → (range : PatternRange)
+    → IsPatternRange patterns range → range.low < range.high
+    → ((i : ℕ) → range.low ≤ i → i < range.high → length (text patterns i) ≡ range.depth)
+    → children_of patterns (text_node_of patterns range) ≡ []
+unfolding children slots
+ended_children most patterns ready range is some ended =
+    ap (children_of patterns) (text_node_real patterns range (inr some))
+    ∙ ap (λ next. map (child longest_label (texts_of patterns) (path_of_range patterns range)) (slots next))
+    (none_on most patterns ready range is ended)

@@ -1,0 +1,152 @@
+-- The child of a range to which a byte leads: the patterns of the range that go on with the byte.
+use Rattle.std.proofs.Common.{◌≡◌, ◌≢◌, ℕ, ◌+◌, ◌-◌, ◌<◌, ◌≤◌, List, length, take, get_or, inl, inr, sym, ap, subst, ◌∙◌}
+use Rattle.std.proofs.Common.{arith}
+use Rattle.std.proofs.lemmas.Bool.{cases_lt}
+use Rattle.std.proofs.lemmas.List.{take-take, take_more_same}
+use Rattle.virtiofs_map.specs.TrieBuildParts.{text, AreReady, IsLeast, IsInside, IsUpto, IsPatternRange, IsRangeOrHole}
+use Rattle.virtiofs_map.specs.declared.xattrmap.trie.build.PatternRange.{PatternRange}
+use Rattle.virtiofs_map.specs.declared.xattrmap.trie.patterns.Pattern.{Pattern}
+use Rattle.virtiofs_map.proofs.xattrmap.trie.build.AnswerLemmas.{IsLeast-same}
+use Rattle.virtiofs_map.proofs.xattrmap.trie.build.PatternOrderLemmas.{shorter, same_byte, no_zero, goes_on, between}
+
+-- the child has the patterns of a range from one place to another, which are all those with that byte
+pub record IsCut (patterns : List Pattern) (range kid : PatternRange) (answer : ℕ) : Type 0 where
+  pub from : range.low ≤ kid.low
+  pub some : kid.low < kid.high
+  pub upto : kid.high ≤ range.high
+  pub answered : kid.answer ≡ answer
+  pub first_byte : kid.first_byte ≡ get_or (text patterns kid.low) range.depth 0
+  pub depth : kid.depth ≡ range.depth + 1 + kid.length
+  pub size : kid.length < 256
+  pub long : kid.depth ≤ length (text patterns kid.low)
+  pub same : take (range.depth + 1) (text patterns kid.low) ≡ take (range.depth + 1) (text patterns (kid.high - 1))
+      → take kid.depth (text patterns kid.low) ≡ take kid.depth (text patterns (kid.high - 1))
+  pub stops : kid.length < 255 → kid.depth < length (text patterns kid.low)
+      → kid.depth < length (text patterns (kid.high - 1))
+      → get_or (text patterns kid.low) kid.depth 0 ≢ get_or (text patterns (kid.high - 1)) kid.depth 0
+  pub bytes : (i : ℕ) → kid.low ≤ i → i < kid.high
+      → get_or (text patterns i) range.depth 0 ≡ get_or (text patterns kid.low) range.depth 0
+  pub group : (i : ℕ) → range.low ≤ i → i < range.high
+      → get_or (text patterns i) range.depth 0 ≡ get_or (text patterns kid.low) range.depth 0
+      → (kid.low ≤ i) × (i < kid.high)
+
+-- a front of a front
+front_of : (s t : List ℕ) (m n : ℕ) → m ≤ n → (w : List ℕ) → take n s ≡ take n t → take m s ≡ w → take m t ≡ w
+front_of s t m n l w e f = sym (shorter s t n m l e) ∙ f
+
+module _ (most : ℕ) (patterns : List Pattern) (ready : AreReady most patterns) (range kid : PatternRange) (answer : ℕ)
+    (is : IsPatternRange patterns range) (least : IsLeast patterns (IsUpto patterns range) answer)
+    (cut : IsCut patterns range kid answer) where
+  inner : (i : ℕ) → kid.low ≤ i → i < kid.high → (range.low ≤ i) × (i < range.high)
+  inner i l u = let a = cut.from in let b = cut.upto in (omega (arith, a, l), omega (arith, b, u))
+
+  front : (i : ℕ) → kid.low ≤ i → i < kid.high
+      → take range.depth (text patterns i) ≡ take range.depth (text patterns kid.low)
+  front i l u =
+      let a = inner i l u in
+      let s = cut.some in
+      let b = inner kid.low (omega arith) s in
+      is.same i a.0 a.1 ∙ sym (is.same kid.low b.0 b.1)
+
+  deeper : range.depth < kid.depth
+  deeper = let d = cut.depth in omega (arith, d)
+
+  -- the last pattern shares the byte with the first
+  one_more : (i : ℕ) → kid.low ≤ i → i < kid.high
+      → take (range.depth + 1) (text patterns i) ≡ take (range.depth + 1) (text patterns kid.low)
+  one_more i l u =
+      let d = deeper in
+      let s = cut.some in
+      let a = cut.upto in
+      let b = is.within in
+      let long = cut.long in
+      let below : range.depth < length (text patterns kid.low) = omega (arith, d, long) in
+      let full = no_zero most patterns ready kid.low range.depth (omega (arith, s, a, b)) below in
+      let byte = cut.bytes i l u in
+      let more = goes_on most patterns ready i range.depth (λ z. full (sym byte ∙ z)) in
+      take_more_same (text patterns i) (text patterns kid.low) range.depth 0 more below (front i l u) byte
+
+  last : take kid.depth (text patterns kid.low) ≡ take kid.depth (text patterns (kid.high - 1))
+  last = let s = cut.some in cut.same (sym (one_more (kid.high - 1) (omega (arith, s)) (omega (arith, s))))
+
+  pub all_same : (i : ℕ) → kid.low ≤ i → i < kid.high
+      → (take kid.depth (text patterns i) ≡ take kid.depth (text patterns kid.low))
+      × (kid.depth ≤ length (text patterns i))
+  all_same i l u =
+      let a = cut.upto in
+      let b = is.within in
+      between most patterns ready kid.depth kid.low i (kid.high - 1) l (omega (arith, u)) (omega (arith, a, b, u))
+      cut.long last
+
+  whole : (i : ℕ) → i < length patterns → take kid.depth (text patterns i) ≡ take kid.depth (text patterns kid.low)
+      → (kid.low ≤ i) × (i < kid.high)
+  whole i within e =
+      let d = deeper in
+      let s = cut.some in
+      let k = inner kid.low (omega arith) s in
+      let less = shorter (text patterns i) (text patterns kid.low) kid.depth range.depth (omega (arith, d)) e in
+      let here = is.whole i within (less ∙ is.same kid.low k.0 k.1) in
+      cut.group i here.0 here.1 (same_byte (text patterns i) (text patterns kid.low) kid.depth range.depth d e)
+
+  to_kid : (i : ℕ) → IsUpto patterns range i → IsInside patterns kid i
+  to_kid i u = record {
+    within = u.within;
+    short = let a = u.short in let d = deeper in omega (arith, a, d);
+    front = let s = cut.some in let k = inner kid.low (omega arith) s in
+        front_of (text patterns range.low) (text patterns kid.low) (length (text patterns i)) range.depth u.short
+        (text patterns i) (sym (is.same kid.low k.0 k.1)) u.front;
+  }
+
+  from_kid : (i : ℕ) → IsInside patterns kid i → IsUpto patterns range i
+  from_kid i n = elim (cases_lt range.depth (length (text patterns i))) [
+    | inr short ↦ record {
+      within = n.within;
+      short = short;
+      front = let s = cut.some in let k = inner kid.low (omega arith) s in
+          front_of (text patterns kid.low) (text patterns range.low) (length (text patterns i)) range.depth short
+          (text patterns i) (is.same kid.low k.0 k.1) n.front;
+    }
+    | inl longer ↦
+        absurd (
+        let more : take (range.depth + 1) (text patterns i) ≡ take (range.depth + 1) (text patterns kid.low) =
+        sym (ap (take (range.depth + 1)) n.front)
+        ∙ take-take (range.depth + 1) (length (text patterns i)) (text patterns kid.low) (omega (arith, longer)) in
+        let s = cut.some in
+        let k = inner kid.low (omega arith) s in
+        let less = shorter (text patterns i) (text patterns kid.low) (range.depth + 1) range.depth (omega arith) more in
+        let here = is.whole i n.within (less ∙ is.same kid.low k.0 k.1) in
+        let there =
+        cut.group i here.0 here.1
+        (same_byte (text patterns i) (text patterns kid.low) (range.depth + 1) range.depth (omega arith) more) in
+        let long = (all_same i there.0 there.1).1 in
+        let short = n.short in
+        omega (arith, long, short))
+  ]
+
+  pub kid_range : IsPatternRange patterns kid
+  kid_range = record {
+    some = inr cut.some;
+    rising = let s = cut.some in omega (arith, s);
+    within = let a = cut.upto in let b = is.within in omega (arith, a, b);
+    long = λ i l u. (all_same i l u).1;
+    same = λ i l u. (all_same i l u).0;
+    whole = whole;
+    least = IsLeast-same patterns (IsUpto patterns range) (IsInside patterns kid) kid.answer
+        (subst (IsLeast patterns (IsUpto patterns range)) (sym cut.answered) least) to_kid from_kid;
+  }
+
+  pub kid_is_place : IsRangeOrHole patterns kid
+  kid_is_place = record {
+    is = inl kid_range;
+    deep = inr
+        (record {
+          at = kid.low;
+          within = let s = cut.some in let a = cut.upto in let b = is.within in
+              omega (arith, a, b, s);
+          long = cut.long;
+        });
+    label = let d = cut.depth in omega (arith, d);
+    size = cut.size;
+    answer = let t = least.top in let e = cut.answered in omega (arith, t, e);
+    empty = λ e. absurd (let s = cut.some in omega (arith, s, e));
+  }

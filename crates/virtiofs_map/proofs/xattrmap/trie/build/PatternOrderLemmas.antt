@@ -1,0 +1,110 @@
+-- Patterns in order, and what those have in common that stand between two.
+use Rattle.std.proofs.Common.{◌≡◌, ◌≢◌, ℕ, zero, suc, ◌+◌, ◌<◌, ◌≤◌, List, length, take, get_or, Some, inl, inr, refl}
+use Rattle.std.proofs.Common.{sym, ap, subst, ◌∙◌, arith, add-one}
+use Rattle.std.specs.List.{All, slice_get}
+use Rattle.std.proofs.lemmas.Bool.{cases_lt}
+use Rattle.std.proofs.lemmas.List.{take_more_same, take-take, get_or-take, get_or_past, length-take}
+use Rattle.std.proofs.lemmas.Option.{slice_get_cases, slice_get-get_or}
+use Rattle.virtiofs_map.specs.TrieBuildParts.{text, start_of, AreReady}
+use Rattle.virtiofs_map.specs.declared.xattrmap.trie.patterns.Pattern.{Pattern}
+use Rattle.virtiofs_map.proofs.xattrmap.trie.build.PatternTextLemmas.{text-here, start_of-here}
+
+-- ---- fronts that are the same
+
+-- rows that share a front share a shorter one
+pub shorter : (one other : List ℕ) (m k : ℕ) → k ≤ m → take m one ≡ take m other → take k one ≡ take k other
+shorter one other m k l e = sym (take-take k m one l) ∙ ap (take k) e ∙ take-take k m other l
+
+-- and the byte there
+pub same_byte : (one other : List ℕ) (m k : ℕ) → k < m → take m one ≡ take m other → get_or one k 0 ≡ get_or other k 0
+same_byte one other m k l e = sym (get_or-take m one k 0 l) ∙ ap (λ (s : List ℕ). get_or s k 0) e
+    ∙ get_or-take m other k 0 l
+
+-- and are as long
+pub same_length : (one other : List ℕ) (m : ℕ) → m ≤ length one → take m one ≡ take m other → m ≤ length other
+same_length one other m l e =
+    let a = length-take m one in
+    let b = length-take m other in
+    let c = ap length e in
+    omega (arith, a, b, c, l)
+
+-- ---- patterns
+
+module _ (most : ℕ) (patterns : List Pattern) (ready : AreReady most patterns) where
+  -- no pattern holds a zero
+  pub no_zero : (i k : ℕ) → i < length patterns → k < length (text patterns i) → get_or (text patterns i) k 0 ≢ 0
+  no_zero i k l m = elim (slice_get_cases patterns i).1 [
+    | inl (one, _, here, _) ↦
+        (let same = text-here patterns i one here in
+        subst (λ (s : List ℕ). k < length s → get_or s k 0 ≢ 0) (sym same) (λ n. full i one here l k n) m)
+    | inr (past, _) ↦ absurd (omega (arith, l, past))
+  ] where
+    full : (i : ℕ) (one : Pattern) → slice_get patterns i ≡ Some one → i < length patterns → (k : ℕ)
+        → k < length one.bytes.now → get_or one.bytes.now k 0 ≢ 0
+    full i one here l k n =
+        let read : get_or patterns i one ≡ one = cc (slice_get-get_or patterns i one l) in
+        subst (λ (p : Pattern). All (λ byte. byte ≢ 0) p.bytes.now) read (ready.each i one l).full k 0 n
+
+  -- a pattern goes on where its byte is not zero
+  pub goes_on : (i k : ℕ) → get_or (text patterns i) k 0 ≢ 0 → k < length (text patterns i)
+  goes_on i k ne =
+      elim (cases_lt k (length (text patterns i))) [
+        | inl l ↦ l
+        | inr g ↦ absurd (ne (get_or_past (text patterns i) k 0 g))
+      ]
+
+  -- patterns that share a front stand in the order of their next bytes
+  pub rising : (i j depth : ℕ) → i ≤ j → j < length patterns
+      → take depth (text patterns i) ≡ take depth (text patterns j)
+      → get_or (text patterns i) depth 0 ≤ get_or (text patterns j) depth 0
+  rising i j depth l within e = elim (cases_lt i j) [
+    | inl below ↦ apart below
+    | inr g ↦ (let same : i ≡ j = omega (arith, l, g) in let same_text =
+        ap (λ n. get_or (text patterns n) depth 0) same in omega (arith, same_text))
+  ] where
+    apart : i < j → get_or (text patterns i) depth 0 ≤ get_or (text patterns j) depth 0
+    apart below = elim (slice_get_cases patterns i).1 [
+      | inr (past, _) ↦ absurd (omega (arith, l, within, past))
+      | inl (one, _, here, _) ↦ elim (slice_get_cases patterns j).1 [
+        | inr (past, _) ↦ absurd (omega (arith, within, past))
+        | inl (other, _, there, _) ↦
+            (let a = text-here patterns i one here in
+            let b = text-here patterns j other there in
+            let low =
+            ready.order.rising i j depth one other below here there
+            (ap (take depth) (sym a) ∙ e ∙ ap (take depth) b) in
+            let c = ap (λ (s : List ℕ). get_or s depth 0) a in
+            let d = ap (λ (s : List ℕ). get_or s depth 0) b in
+            omega (arith, low, c, d))
+      ]
+    ]
+
+  -- what two patterns share, all between them share
+  pub between : (m i k j : ℕ) → i ≤ k → k ≤ j → j < length patterns → m ≤ length (text patterns i)
+      → take m (text patterns i) ≡ take m (text patterns j)
+      → (take m (text patterns k) ≡ take m (text patterns i)) × (m ≤ length (text patterns k))
+  between zero i k j ik kj within long e = (refl, omega arith)
+  between (suc m) i k j ik kj within long e =
+      let less = shorter (text patterns i) (text patterns j) (suc m) m (omega arith) e in
+      let front = between m i k j ik kj within (omega (arith, long)) less in
+      let low = rising i k m ik (omega (arith, kj, within)) (sym front.0) in
+      let high = rising k j m kj within (front.0 ∙ less) in
+      let ends = same_byte (text patterns i) (text patterns j) (suc m) m (omega arith) e in
+      let byte : get_or (text patterns k) m 0 ≡ get_or (text patterns i) m 0 = omega (arith, low, high, ends) in
+      let full = no_zero i m (omega (arith, ik, kj, within)) (omega (arith, long)) in
+      let more : m < length (text patterns k) = goes_on k m (λ z. full (sym byte ∙ z)) in
+      let whole = take_more_same (text patterns k) (text patterns i) m 0 more (omega (arith, long)) front.0 byte in
+      (subst (λ n. take n (text patterns k) ≡ take n (text patterns i)) (add-one m) whole, omega (arith, more))
+
+  -- a pattern ends among the bytes
+  pub ends : (i : ℕ) → i < length patterns → start_of patterns i + length (text patterns i) ≤ most
+  ends i l = elim (slice_get_cases patterns i).1 [
+    | inr (past, _) ↦ absurd (omega (arith, l, past))
+    | inl (one, _, here, _) ↦
+        (let a = text-here patterns i one here in
+        let b = start_of-here patterns i one here in
+        let read : get_or patterns i one ≡ one = cc (slice_get-get_or patterns i one l) in
+        let w = subst (λ (p : Pattern). p.start + length p.bytes.now ≤ most) read (ready.each i one l).within in
+        let d = ap (λ (s : List ℕ). length s) a in
+        omega (arith, b, d, w))
+  ]

@@ -1,0 +1,113 @@
+-- The text node that has the patterns of a range.
+use Rattle.std.proofs.Common.{◌≡◌, ◌≢◌, ◌⊎◌, ℕ, ◌+◌, ◌<◌, ◌≤◌, true, ◌&&◌, not, cond, eqb, List, []}
+use Rattle.std.proofs.Common.{◌∷◌, ◌++◌, length, take, drop, get_or, Some, None, sym, ap, subst, ◌∙◌}
+use Rattle.std.proofs.Common.{arith, append_assoc, inl, inr}
+use Rattle.std.specs.List.{slice_get}
+use Rattle.std.proofs.lemmas.Bool.{cases_Bool, ne_eqb}
+use Rattle.std.proofs.lemmas.Bool.Decides.{Decides-eqb}
+use Rattle.std.proofs.lemmas.List.{take-append-drop, take_at, length-take, length-take-le, drop_more}
+use Rattle.std.proofs.lemmas.Option.{slice_get_cases, slice_get_within}
+use Rattle.std.proofs.Math.Seq.{get_or-append_seam}
+use Rattle.virtiofs_map.specs.TrieBuildParts.{text, AreReady, IsPatternRange, text_node_of, path_of_range}
+use Rattle.virtiofs_map.specs.Names.{begins}
+use Rattle.virtiofs_map.specs.PatternTrie.{TextNode, leads}
+use Rattle.virtiofs_map.specs.TrieParts.{texts_of}
+use Rattle.virtiofs_map.specs.declared.xattrmap.trie.build.PatternRange.{PatternRange}
+use Rattle.virtiofs_map.specs.declared.xattrmap.trie.patterns.Pattern.{Pattern}
+use Rattle.virtiofs_map.proofs.xattrmap.trie.NodesOfLemmas.{begun, leads_by}
+use Rattle.virtiofs_map.proofs.BeginsLemmas.{begins_split, begins_from}
+use Rattle.virtiofs_map.proofs.xattrmap.trie.build.PatternTextLemmas.{text-here}
+
+-- a range that is no hole
+pub text_node_real : (patterns : List Pattern) (range : PatternRange) → (range.depth ≡ 0) ⊎ (range.low < range.high)
+    → text_node_of patterns range
+    ≡ Some record { path = path_of_range patterns range; byte = range.first_byte; size = range.length }
+unfolding text_node_of
+text_node_real patterns range some = elim some [
+  | inl z ↦
+      (let top = ap not ((Decides-eqb range.depth 0).1 z) in
+      elim (cases_Bool (eqb range.low range.high)) [
+        | inl e ↦ ap (λ b. cond (b && not (eqb range.depth 0)) None (Some (is))) e ∙ ap (λ b. cond b None (Some (is))) top
+        | inr e ↦ ap (λ b. cond (b && not (eqb range.depth 0)) None (Some (is))) e
+      ])
+  | inr l ↦
+      (let apart = ne_eqb range.low range.high (λ e. omega (arith, l, e)) in
+      ap (λ b. cond (b && not (eqb range.depth 0)) None (Some (is))) apart)
+] where
+  is : TextNode
+  is = record { path = path_of_range patterns range; byte = range.first_byte; size = range.length }
+
+-- and one that is
+pub text_node_hole : (patterns : List Pattern) (range : PatternRange) → range.low ≡ range.high → range.depth ≢ 0
+    → text_node_of patterns range ≡ None
+unfolding text_node_of
+text_node_hole patterns range empty deep =
+    ap (λ b. cond (b && not (eqb range.depth 0)) None
+    (Some record { path = path_of_range patterns range; byte = range.first_byte; size = range.length }))
+    ((Decides-eqb range.low range.high).1 empty)
+    ∙ ap (λ b. cond (not b) None
+    (Some record { path = path_of_range patterns range; byte = range.first_byte; size = range.length }))
+    (ne_eqb range.depth 0 deep)
+
+-- a front, the byte after it, and what follows
+split_at : (d : ℕ) (s : List ℕ) → d < length s → s ≡ take d s ++ get_or s d 0 ∷ drop (d + 1) s
+split_at d s l = sym (take-append-drop d s) ∙ ap (λ t. take d s ++ t) (drop_more s d 0 l)
+
+module _ (most : ℕ) (patterns : List Pattern) (ready : AreReady most patterns) (range : PatternRange)
+    (is : IsPatternRange patterns range) where
+  pub path_size : length (path_of_range patterns range) ≡ range.depth
+  path_size = elim is.some [
+    | inl z ↦ let h = length-take range.depth (text patterns range.low) in omega (arith, h, z)
+    | inr l ↦ length-take-le range.depth (text patterns range.low) (is.long range.low (omega arith) l)
+  ]
+
+  -- a pattern of the range
+  pub one_at : (i : ℕ) → i < length patterns → (one : Pattern) × (slice_get patterns i ≡ Some one)
+      × (text patterns i ≡ one.bytes.now)
+  one_at i l = elim (slice_get_cases patterns i).1 [
+    | inr (past, _) ↦ absurd (omega (arith, l, past))
+    | inl (one, _, here, _) ↦ (one, here, text-here patterns i one here)
+  ]
+
+  -- the byte with which a pattern of the range goes on leads on
+  pub in_leads : (i byte : ℕ) → range.low ≤ i → i < range.high → range.depth < length (text patterns i)
+      → get_or (text patterns i) range.depth 0 ≡ byte
+      → leads (texts_of patterns) (path_of_range patterns range ++ byte ∷ []) ≡ true
+  in_leads i byte from upto longer next =
+      let w = is.within in
+      let one = one_at i (omega (arith, upto, w)) in
+      let rest = drop (range.depth + 1) (text patterns i) in
+      let whole : text patterns i ≡ (path_of_range patterns range ++ byte ∷ []) ++ rest =
+      split_at range.depth (text patterns i) longer
+      ∙ ap (λ t. t ++ get_or (text patterns i) range.depth 0 ∷ rest) (is.same i from upto)
+      ∙ ap (λ b. path_of_range patterns range ++ b ∷ rest) next
+      ∙ sym (append_assoc (path_of_range patterns range) (byte ∷ []) rest) in
+      leads_by patterns (path_of_range patterns range ++ byte ∷ []) i one.0 one.1
+      (begins_from (path_of_range patterns range ++ byte ∷ []) one.0.bytes.now rest (sym one.2 ∙ whole))
+
+  -- and a byte that leads on is the one with which a pattern of the range goes on
+  pub goes_in : (i byte : ℕ) → i < length patterns
+      → begins (path_of_range patterns range ++ byte ∷ []) (text patterns i) ≡ true
+      → (range.low ≤ i) × (i < range.high) × (get_or (text patterns i) range.depth 0 ≡ byte)
+  goes_in i byte within b =
+      let path = path_of_range patterns range in
+      let rest = drop (length (path ++ byte ∷ [])) (text patterns i) in
+      let split : text patterns i ≡ path ++ (byte ∷ rest) = begins_split (path ++ byte ∷ []) (text patterns i) b
+      ∙ append_assoc path (byte ∷ []) rest in
+      let front : take range.depth (text patterns i) ≡ path = ap (take range.depth) split
+      ∙ take_at path (byte ∷ rest) range.depth path_size in
+      let inside = is.whole i within front in
+      let next : get_or (text patterns i) range.depth 0 ≡ byte =
+      ap (λ (s : List ℕ). get_or s range.depth 0) split
+      ∙ subst (λ n. get_or (path ++ (byte ∷ rest)) n 0 ≡ byte) path_size (get_or-append_seam path byte rest 0) in
+      (inside.0, inside.1, next)
+
+  pub leads_in : (byte : ℕ) → leads (texts_of patterns) (path_of_range patterns range ++ byte ∷ []) ≡ true
+      → (i : ℕ) × (range.low ≤ i) × (i < range.high) × (get_or (text patterns i) range.depth 0 ≡ byte)
+  leads_in byte led =
+      let found = begun patterns (path_of_range patterns range ++ byte ∷ []) led in
+      let inside = slice_get_within patterns found.at found.one found.here in
+      let here = text-here patterns found.at found.one found.here in
+      let goes = goes_in found.at byte inside
+      (ap (begins (path_of_range patterns range ++ byte ∷ [])) here ∙ found.starts) in
+      (found.at, goes.0, goes.1, goes.2)

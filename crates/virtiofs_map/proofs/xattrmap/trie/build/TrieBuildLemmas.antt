@@ -1,0 +1,137 @@
+-- The node of a range, and the places of its children.
+use Rattle.std.proofs.Common.{◌≡◌, ◌≢◌, ◌⊎◌, ℕ, ◌+◌, ◌<◌, ◌≤◌, List, Some, length, take, get_or, inl, inr}
+use Rattle.std.proofs.Common.{refl, sym, ap, subst, ◌∙◌, arith}
+use Rattle.std.specs.List.{slice_get}
+use Rattle.std.proofs.lemmas.Bool.{cases_lt}
+use Rattle.std.proofs.lemmas.List.{take_all}
+use Rattle.std.proofs.lemmas.Option.{slice_get_read, slice_get_within}
+use Rattle.virtiofs_map.specs.TrieBuildParts.{text, AreReady, IsLeast, IsLeastOf, IsInside, IsUpto, IsPatternRange}
+use Rattle.virtiofs_map.specs.TrieBuildParts.{IsRangeOrHole, AreRangesOrHoles, AreAdded, AreDeep, IsBuilt}
+use Rattle.virtiofs_map.specs.TrieBuildParts.{IsExpanded}
+use Rattle.virtiofs_map.specs.declared.xattrmap.trie.node.Node.{Node}
+use Rattle.virtiofs_map.specs.declared.xattrmap.trie.build.PatternRange.{PatternRange}
+use Rattle.virtiofs_map.specs.declared.xattrmap.trie.patterns.Pattern.{Pattern}
+use Rattle.virtiofs_map.proofs.xattrmap.trie.build.AnswerLemmas.{IsLeast-with, IsLeast-same}
+use Rattle.virtiofs_map.proofs.xattrmap.trie.build.ChildrenLemmas.{longer_on}
+use Rattle.virtiofs_map.proofs.xattrmap.trie.build.AppendedRangeLemmas.{IsLonger-refl}
+
+-- a place with patterns has a range
+pub range_of : (patterns : List Pattern) (range : PatternRange) → IsRangeOrHole patterns range → (range.low ≡ range.high → ⊥)
+    → IsPatternRange patterns range
+range_of patterns range place ne = elim place.is [ inl is ↦ is | inr h ↦ absurd (ne h.empty) ]
+
+-- what the code reads at a place
+pub place_here : (ranges : List PatternRange) (at : ℕ) (range : PatternRange) → at < length ranges → range ≡ get_or ranges at range
+    → slice_get ranges at ≡ Some range
+place_here ranges at range l e = slice_get_read ranges (length ranges) at range refl l e
+
+-- a pattern that is the path of a range is one of its patterns
+in_range : (patterns : List Pattern) (range : PatternRange) → IsPatternRange patterns range → (i : ℕ) → IsUpto patterns range i
+    → range.depth ≤ length (text patterns i) → (range.low ≤ i) × (i < range.high)
+in_range patterns range is i upto l =
+    let s = upto.short in
+    let size : length (text patterns i) ≡ range.depth = omega (arith, s, l) in
+    is.whole i upto.within
+    (take_all range.depth (text patterns i) s ∙ sym upto.front ∙ ap (λ n. take n (text patterns range.low)) size)
+
+upto_from_inside : (patterns : List Pattern) (range : PatternRange) (i : ℕ) → IsInside patterns range i → IsUpto patterns range i
+upto_from_inside patterns range i n =
+    record { within = n.within; short = let s = n.short in omega (arith, s); front = n.front }
+
+inside_from_upto : (patterns : List Pattern) (range : PatternRange) (i : ℕ) → IsUpto patterns range i
+    → length (text patterns i) < range.depth → IsInside patterns range i
+inside_from_upto patterns range i u l = record { within = u.within; short = l; front = u.front }
+
+-- the answer of the path of a range with no pattern
+least_bare : (patterns : List Pattern) (range : PatternRange) → range.low ≡ range.high → IsPatternRange patterns range
+    → IsLeast patterns (IsUpto patterns range) range.answer
+least_bare patterns range e is =
+    IsLeast-same patterns (IsInside patterns range) (IsUpto patterns range) range.answer is.least
+    (upto_from_inside patterns range) (λ i u.
+    elim (cases_lt (length (text patterns i)) range.depth) [
+      | inl l ↦ inside_from_upto patterns range i u l
+      | inr g ↦ absurd (let h = in_range patterns range is i u g in omega (arith, h, e))
+    ])
+
+-- the answer of the path of a range whose first patterns have ended
+pub least_ended : (most : ℕ) (patterns : List Pattern) → AreReady most patterns → (range : PatternRange) (from answer : ℕ)
+    → IsPatternRange patterns range → range.low ≤ from → from ≤ range.high
+    → ((i : ℕ) → range.low ≤ i → i < from → length (text patterns i) ≡ range.depth)
+    → (from < range.high → length (text patterns from) ≢ range.depth)
+    → IsLeastOf patterns range.answer range.low from answer → IsLeast patterns (IsUpto patterns range) answer
+least_ended most patterns ready range from answer is l u ended other least =
+    IsLeast-with patterns (IsInside patterns range) (IsUpto patterns range) range.answer range.low from answer is.least
+    least (upto_from_inside patterns range) new either where
+      new : (i : ℕ) → range.low ≤ i → i < from → IsUpto patterns range i
+      new i a b =
+          let e = ended i a b in
+          let w = is.within in
+          record {
+            within = omega (arith, b, u, w);
+            short = omega (arith, e);
+            front = ap (λ n. take n (text patterns range.low)) e ∙ sym (is.same i a (omega (arith, b, u)))
+                ∙ take_all range.depth (text patterns i) (omega (arith, e));
+          }
+
+      either : (i : ℕ) → IsUpto patterns range i → IsInside patterns range i ⊎ ((range.low ≤ i) × (i < from))
+      either i n = elim (cases_lt (length (text patterns i)) range.depth) [
+        | inl short ↦ inl (inside_from_upto patterns range i n short)
+        | inr g ↦
+            (let here = in_range patterns range is i n g in
+            elim (cases_lt i from) [
+              | inl b ↦ inr (here.0, b)
+              | inr past ↦ absurd (
+                  let below : from < range.high = omega (arith, past, here) in
+                  let ne = other below in
+                  let long = is.long from l below in
+                  let more = longer_on most patterns ready range is from i l past here.1 (omega (arith, long, ne)) in
+                  let short = n.short in
+                  omega (arith, more, short))
+            ])
+      ]
+
+none_deeper : (ranges : List PatternRange) (depth : ℕ) → AreDeep ranges (length ranges) depth
+none_deeper ranges depth =
+    record { deep = λ at range b e. absurd (let h = slice_get_within ranges at range e in omega (arith, b, h)) }
+
+-- a range that has no children
+pub expanded_here : (patterns : List Pattern) (ranges : List PatternRange) (range : PatternRange) (node : Node)
+    → AreRangesOrHoles patterns ranges → IsBuilt patterns range node → IsExpanded patterns ranges ranges range node
+expanded_here patterns ranges range node places built = record {
+  longer = IsLonger-refl ranges;
+  places = places;
+  built = built;
+  deeper = none_deeper ranges (range.depth + 1);
+}
+
+-- a range with children
+pub expanded_on : (patterns : List Pattern) (old new : List PatternRange) (range : PatternRange) (node : Node)
+    → AreRangesOrHoles patterns old → AreAdded patterns old new range → IsBuilt patterns range node
+    → IsExpanded patterns old new range node
+expanded_on patterns old new range node places added built = record {
+  longer = added.longer;
+  places = record {
+    each = λ k one e. elim (cases_lt k (length old)) [
+      | inl b ↦ places.each k one (sym (added.longer.same k b) ∙ e)
+      | inr g ↦ added.places k one g e
+    ];
+  };
+  built = built;
+  deeper = record { deep = λ k one b e. let d = added.deeper k one b e in omega (arith, d) };
+}
+
+-- the node of a range with no pattern
+pub built_bare : (patterns : List Pattern) (range : PatternRange) (node : Node) → range.low ≡ range.high
+    → node.answer ≡ range.answer → IsBuilt patterns range node
+built_bare patterns range node bare answer = record {
+  least = λ is. subst (IsLeast patterns (IsUpto patterns range)) (sym answer) (least_bare patterns range bare is);
+  bare = λ _. answer;
+}
+
+-- and of a range with some
+pub built_some : (patterns : List Pattern) (range : PatternRange) (node : Node) (answer : ℕ) → range.low < range.high
+    → IsLeast patterns (IsUpto patterns range) answer → node.answer ≡ answer → IsBuilt patterns range node
+built_some patterns range node answer some least is = record {
+  least = λ _. subst (IsLeast patterns (IsUpto patterns range)) (sym is) least;
+  bare = λ e. absurd (omega (arith, some, e));
+}

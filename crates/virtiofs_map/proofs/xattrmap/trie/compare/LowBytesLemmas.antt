@@ -1,0 +1,238 @@
+-- The lowest bytes of a number of eight bytes are the first ones of its row.
+use Rattle.std.proofs.Common.{◌≡◌, ℕ, zero, suc, ◌+◌, ◌-◌, ◌*◌, ◌/◌, ◌%◌, ◌^◌, ◌<◌, ◌≤◌, List, [], ◌∷◌, length, take, get_or, refl, sym, ap, ◌∙◌, arith}
+use Rattle.std.specs.Int.{w64, from_le_bytes}
+use Rattle.std.proofs.lemmas.Nat.{mod-pow-add, and_mask}
+use Rattle.std.specs.Prelude.{bit_and, IsTrue, ◌↔◌}
+use Rattle.std.proofs.Common.{eqb}
+use Rattle.std.proofs.lemmas.Bool.Decides.{Decides-eqb}
+use Rattle.std.proofs.Common.{drop, ◌++◌}
+use Rattle.std.proofs.lemmas.List.{length-take-le, length-drop, drop-drop, drop-take, take-take}
+use Rattle.virtiofs_map.specs.LeU64Parts.{le_u64_at}
+
+-- the number of a row of any length
+abbrev pub low : List ℕ → ℕ
+low [] = 0
+low (b ∷ bs) = b + 256 * low bs
+
+abbrev pub AreBytes : List ℕ → Type 0
+AreBytes xs = (k : ℕ) → get_or xs k 0 < 256
+
+pub eight_low : (xs : List ℕ) → from_le_bytes w64 (take 8 xs) ≡ low (take 8 xs)
+eight_low [] = omega arith
+eight_low (a ∷ []) = omega arith
+eight_low (a ∷ b ∷ []) = omega arith
+eight_low (a ∷ b ∷ c ∷ []) = omega arith
+eight_low (a ∷ b ∷ c ∷ d ∷ []) = omega arith
+eight_low (a ∷ b ∷ c ∷ d ∷ e ∷ []) = omega arith
+eight_low (a ∷ b ∷ c ∷ d ∷ e ∷ f ∷ []) = omega arith
+eight_low (a ∷ b ∷ c ∷ d ∷ e ∷ f ∷ g ∷ []) = omega arith
+eight_low (a ∷ b ∷ c ∷ d ∷ e ∷ f ∷ g ∷ h ∷ rest) = omega arith
+
+step : (b n c : ℕ) → b < 256 → (b + 256 * n) % 2 ^ (8 * suc c) ≡ (n % 2 ^ (8 * c)) * 256 + b
+step b n c small =
+    let down : (b + 256 * n) / 2 ^ 8 ≡ n = omega (arith, small) in
+    let left : (b + 256 * n) % 2 ^ 8 ≡ b = omega (arith, small) in
+    let more : 8 * suc c ≡ 8 * c + 8 = omega arith in
+    ap (λ k. (b + 256 * n) % 2 ^ k) more
+    ∙ mod-pow-add (b + 256 * n) (8 * c) 8 ∙ ap (λ m. (m % 2 ^ (8 * c)) * 2 ^ 8 + (b + 256 * n) % 2 ^ 8) down
+    ∙ ap (λ m. (n % 2 ^ (8 * c)) * 2 ^ 8 + m) left
+
+pub there : (c : ℕ) (xs ys : List ℕ) → AreBytes xs → AreBytes ys → c ≤ length xs → c ≤ length ys
+    → low xs % 2 ^ (8 * c) ≡ low ys % 2 ^ (8 * c) → take c xs ≡ take c ys
+there zero xs ys one other a b e = refl
+there (suc c) [] ys one other a b e = absurd (omega (arith, a))
+there (suc c) (x ∷ xs) [] one other a b e = absurd (omega (arith, b))
+there (suc c) (x ∷ xs) (y ∷ ys) one other a b e =
+    let same : (low xs % 2 ^ (8 * c)) * 256 + x ≡ (low ys % 2 ^ (8 * c)) * 256 + y =
+    sym (step x (low xs) c (one 0)) ∙ e ∙ step y (low ys) c (other 0) in
+    let first : x < 256 = one 0 in
+    let second : y < 256 = other 0 in
+    let head : x ≡ y = omega (arith, same, first, second) in
+    let tail : low xs % 2 ^ (8 * c) ≡ low ys % 2 ^ (8 * c) = omega (arith, same, head) in
+    ap (λ z. z ∷ take c xs) head
+    ∙ ap (λ zs. y ∷ zs)
+    (there c xs ys (λ k. one (suc k)) (λ k. other (suc k)) (omega (arith, a)) (omega (arith, b)) tail)
+
+first_byte_of : List ℕ → ℕ
+first_byte_of [] = 0
+first_byte_of (x ∷ xs) = x
+
+tail_of : List ℕ → List ℕ
+tail_of [] = []
+tail_of (x ∷ xs) = xs
+
+first_bytes : (x y : ℕ) (xs ys : List ℕ) → x ∷ xs ≡ y ∷ ys → x ≡ y
+unfolding first_byte_of
+first_bytes x y xs ys e = ap first_byte_of e
+
+tails : (x y : ℕ) (xs ys : List ℕ) → x ∷ xs ≡ y ∷ ys → xs ≡ ys
+unfolding tail_of
+tails x y xs ys e = ap tail_of e
+
+pub back : (c : ℕ) (xs ys : List ℕ) → AreBytes xs → AreBytes ys → c ≤ length xs → c ≤ length ys
+    → take c xs ≡ take c ys → low xs % 2 ^ (8 * c) ≡ low ys % 2 ^ (8 * c)
+back zero xs ys one other a b e = omega arith
+back (suc c) [] ys one other a b e = absurd (omega (arith, a))
+back (suc c) (x ∷ xs) [] one other a b e = absurd (omega (arith, b))
+back (suc c) (x ∷ xs) (y ∷ ys) one other a b e =
+    step x (low xs) c (one 0)
+    ∙ ap (λ m. m * 256 + x)
+    (back c xs ys (λ k. one (suc k)) (λ k. other (suc k)) (omega (arith, a)) (omega (arith, b))
+    (tails x y (take c xs) (take c ys) e))
+    ∙ ap (λ z. (low ys % 2 ^ (8 * c)) * 256 + z) (first_bytes x y (take c xs) (take c ys) e)
+    ∙ sym (step y (low ys) c (other 0))
+
+pub mask_of : (c : ℕ) → c < 8
+    → get_or (0 ∷ 255 ∷ 65535 ∷ 16777215 ∷ 4294967295 ∷ 1099511627775 ∷ 281474976710655 ∷ 72057594037927935 ∷ []) c 0
+    ≡ 2 ^ (8 * c) - 1
+mask_of zero few = refl
+mask_of (suc zero) few = refl
+mask_of (suc (suc zero)) few = refl
+mask_of (suc (suc (suc zero))) few = refl
+mask_of (suc (suc (suc (suc zero)))) few = refl
+mask_of (suc (suc (suc (suc (suc zero))))) few = refl
+mask_of (suc (suc (suc (suc (suc (suc zero)))))) few = refl
+mask_of (suc (suc (suc (suc (suc (suc (suc zero))))))) few = refl
+mask_of (suc (suc (suc (suc (suc (suc (suc (suc c)))))))) few = absurd (omega (arith, few))
+
+shorter : (c n : ℕ) (xs : List ℕ) → c ≤ n → take c (take n xs) ≡ take c xs
+shorter zero n xs le = refl
+shorter (suc c) zero xs le = absurd (omega (arith, le))
+shorter (suc c) (suc n) [] le = refl
+shorter (suc c) (suc n) (x ∷ xs) le = ap (λ more. x ∷ more) (shorter c n xs (omega (arith, le)))
+
+front_bytes : (n : ℕ) (xs : List ℕ) → AreBytes xs → AreBytes (take n xs)
+front_bytes zero xs one k = omega arith
+front_bytes (suc n) [] one k = omega arith
+front_bytes (suc n) (x ∷ xs) one zero = one 0
+front_bytes (suc n) (x ∷ xs) one (suc k) = front_bytes n xs (λ i. one (suc i)) k
+
+-- masked words are the same exactly where their first bytes are
+pub agree : (c m n mask : ℕ) (xs ys : List ℕ) → c < 8 → AreBytes xs → AreBytes ys → 8 ≤ length xs → 8 ≤ length ys
+    → m ≡ from_le_bytes w64 (take 8 xs) → n ≡ from_le_bytes w64 (take 8 ys) → mask ≡ 2 ^ (8 * c) - 1
+    → IsTrue (eqb (bit_and m mask) (bit_and n mask)) ↔ (take c xs ≡ take c ys)
+agree c m n mask xs ys few one other a b word label is =
+    let first : bit_and m mask ≡ low (take 8 xs) % 2 ^ (8 * c) =
+    ap (λ k. bit_and m k) is ∙ and_mask m (8 * c) ∙ ap (λ k. k % 2 ^ (8 * c)) (word ∙ eight_low xs) in
+    let second : bit_and n mask ≡ low (take 8 ys) % 2 ^ (8 * c) =
+    ap (λ k. bit_and n k) is ∙ and_mask n (8 * c) ∙ ap (λ k. k % 2 ^ (8 * c)) (label ∙ eight_low ys) in
+    let test = Decides-eqb (bit_and m mask) (bit_and n mask) in
+    let long : c ≤ length (take 8 xs) = let k = length-take-le 8 xs a in omega (arith, k, few) in
+    let long' : c ≤ length (take 8 ys) = let k = length-take-le 8 ys b in omega (arith, k, few) in
+    let le : c ≤ 8 = omega (arith, few) in
+    let bytes = front_bytes 8 xs one in
+    let bytes' = front_bytes 8 ys other in (
+      λ yes.
+          sym (shorter c 8 xs le)
+          ∙ there c (take 8 xs) (take 8 ys) bytes bytes' long long' (sym first ∙ test.0 yes ∙ second)
+          ∙ shorter c 8 ys le,
+      λ same.
+          test.1 (
+          first
+          ∙ back c (take 8 xs) (take 8 ys) bytes bytes' long long'
+          (shorter c 8 xs le ∙ same ∙ sym (shorter c 8 ys le))
+          ∙ sym second),
+    )
+
+-- ---- whole words
+
+bytes_behind : (k : ℕ) (xs : List ℕ) → AreBytes xs → AreBytes (drop k xs)
+bytes_behind zero xs all = all
+bytes_behind (suc k) [] all = λ i. omega arith
+bytes_behind (suc k) (x ∷ xs) all = bytes_behind k xs (λ j. all (suc j))
+
+-- eight bytes are the same where their numbers are
+pub same_word : (xs ys : List ℕ) (k : ℕ) → AreBytes xs → AreBytes ys → k + 8 ≤ length xs → k + 8 ≤ length ys
+    → le_u64_at xs k ≡ le_u64_at ys k → take 8 (drop k xs) ≡ take 8 (drop k ys)
+unfolding le_u64_at
+same_word xs ys k one other a b e =
+    let size = length-drop k xs in
+    let size' = length-drop k ys in
+    let long : 8 ≤ length (take 8 (drop k xs)) =
+    let n = length-take-le 8 (drop k xs) (omega (arith, size, a)) in omega (arith, n) in
+    let long' : 8 ≤ length (take 8 (drop k ys)) =
+    let n = length-take-le 8 (drop k ys) (omega (arith, size', b)) in omega (arith, n) in
+    let lows : low (take 8 (drop k xs)) ≡ low (take 8 (drop k ys)) =
+    sym (eight_low (drop k xs)) ∙ e ∙ eight_low (drop k ys) in
+    sym (shorter 8 8 (drop k xs) (omega arith))
+    ∙ there 8 (take 8 (drop k xs)) (take 8 (drop k ys)) (front_bytes 8 (drop k xs) (bytes_behind k xs one))
+    (front_bytes 8 (drop k ys) (bytes_behind k ys other)) long long' (ap (λ n. n % 2 ^ (8 * 8)) lows)
+    ∙ shorter 8 8 (drop k ys) (omega arith)
+
+take-nil : {X : Type 0} (n : ℕ) → take n (let none : List X = [] in none) ≡ []
+take-nil zero = refl
+take-nil (suc n) = refl
+
+-- what two rows have alike up to a place, and then from there on
+pub take_on : {X : Type 0} (k m : ℕ) (xs ys : List X) → take k xs ≡ take k ys
+    → take m (drop k xs) ≡ take m (drop k ys) → take (k + m) xs ≡ take (k + m) ys
+take_on k m xs ys first more = take-add k m xs ∙ ap (λ l. l ++ take m (drop k xs)) first
+    ∙ ap (λ l. take k ys ++ l) more ∙ sym (take-add k m ys) where
+      take-add : {X : Type 0} (k m : ℕ) (xs : List X) → take (k + m) xs ≡ take k xs ++ take m (drop k xs)
+      take-add zero m xs = ap (λ n. take n xs) (omega arith)
+      take-add (suc k) m [] = take-nil (suc k + m) ∙ sym (take-nil m)
+      take-add (suc k) m (x ∷ xs) =
+          ap (λ n. take n (x ∷ xs)) (let e : suc k + m ≡ suc (k + m) = omega arith in e)
+          ∙ ap (λ l. x ∷ l) (take-add k m xs)
+
+-- so 16 bytes are, from their two numbers
+pub same_sixteen : (xs ys : List ℕ) (k : ℕ) → AreBytes xs → AreBytes ys → k + 16 ≤ length xs → k + 16 ≤ length ys
+    → le_u64_at xs k ≡ le_u64_at ys k → le_u64_at xs (k + 8) ≡ le_u64_at ys (k + 8)
+    → take 16 (drop k xs) ≡ take 16 (drop k ys)
+same_sixteen xs ys k one other a b first second =
+    take_on 8 8 (drop k xs) (drop k ys) (same_word xs ys k one other (omega (arith, a)) (omega (arith, b)) first)
+    (ap (take 8) (drop-drop 8 k xs)
+    ∙ same_word xs ys (k + 8) one other (omega (arith, a)) (omega (arith, b)) second
+    ∙ ap (take 8) (sym (drop-drop 8 k ys)))
+
+-- and their numbers are the same where they are
+word_again : (xs : List ℕ) (k : ℕ) → le_u64_at xs k ≡ from_le_bytes w64 (take 8 (take 16 (drop k xs)))
+unfolding le_u64_at
+word_again xs k = ap (from_le_bytes w64) (sym (shorter 8 16 (drop k xs) (omega arith)))
+
+word_after : (xs : List ℕ) (k : ℕ) → le_u64_at xs (k + 8) ≡ from_le_bytes w64 (drop 8 (take 16 (drop k xs)))
+unfolding le_u64_at
+word_after xs k = ap (from_le_bytes w64) (ap (take 8) (sym (drop-drop 8 k xs)) ∙ sym (drop-take 8 8 (drop k xs)))
+
+pub first_of_sixteen : (xs ys : List ℕ) (k : ℕ) → take 16 (drop k xs) ≡ take 16 (drop k ys)
+    → le_u64_at xs k ≡ le_u64_at ys k
+first_of_sixteen xs ys k e =
+    word_again xs k ∙ ap (λ (l : List ℕ). from_le_bytes w64 (take 8 l)) e ∙ sym (word_again ys k)
+
+pub second_of_sixteen : (xs ys : List ℕ) (k : ℕ) → take 16 (drop k xs) ≡ take 16 (drop k ys)
+    → le_u64_at xs (k + 8) ≡ le_u64_at ys (k + 8)
+second_of_sixteen xs ys k e =
+    word_after xs k ∙ ap (λ (l : List ℕ). from_le_bytes w64 (drop 8 l)) e ∙ sym (word_after ys k)
+
+-- ---- ends
+
+whole_end : (xs : List ℕ) (k : ℕ) → length xs ≤ k → take k xs ≡ xs
+whole_end [] k long = take-nil k
+whole_end (x ∷ xs) zero long = absurd (omega (arith, long))
+whole_end (x ∷ xs) (suc k) long = ap (λ l. x ∷ l) (whole_end xs k (omega (arith, long)))
+
+-- the last eight bytes
+pub same_last : (xs ys : List ℕ) → AreBytes xs → AreBytes ys → length xs ≡ length ys → 8 ≤ length xs
+    → le_u64_at xs (length xs - 8) ≡ le_u64_at ys (length xs - 8)
+    → drop (length xs - 8) xs ≡ drop (length ys - 8) ys
+same_last xs ys one other same long e =
+    let place : length xs - 8 ≡ length ys - 8 = omega (arith, same) in
+    let size = length-drop (length xs - 8) xs in
+    let size' = length-drop (length xs - 8) ys in
+    sym (whole_end (drop (length xs - 8) xs) 8 (omega (arith, size, long)))
+    ∙ same_word xs ys (length xs - 8) one other (omega (arith, long)) (omega (arith, long, same)) e
+    ∙ whole_end (drop (length xs - 8) ys) 8 (omega (arith, size', long, same))
+    ∙ ap (λ n. drop n ys) place
+
+-- rows that are the same up to a place, and in their last 16 bytes, which begin before it
+pub same_to_end : (xs ys : List ℕ) (at : ℕ) → length xs ≡ length ys → 16 ≤ length xs → length xs - at ≤ 16
+    → take at xs ≡ take at ys → take 16 (drop (length xs - 16) xs) ≡ take 16 (drop (length xs - 16) ys) → xs ≡ ys
+same_to_end xs ys at same long near first last =
+    let k : ℕ = length xs - 16 in
+    let le : length xs - 16 ≤ at = omega (arith, near) in
+    let all : length xs - 16 + 16 ≡ length xs = omega (arith, long) in
+    let fronts : take (length xs - 16) xs ≡ take (length xs - 16) ys =
+    sym (take-take (length xs - 16) at xs le) ∙ ap (take (length xs - 16)) first ∙ take-take (length xs - 16) at ys le in
+    sym (whole_end xs (length xs - 16 + 16) (omega (arith, all)))
+    ∙ take_on (length xs - 16) 16 xs ys fronts last
+    ∙ whole_end ys (length xs - 16 + 16) (omega (arith, all, same))

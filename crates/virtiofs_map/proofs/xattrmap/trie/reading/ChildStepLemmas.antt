@@ -1,0 +1,216 @@
+-- Where the children of a node stand, and what a step to one of them passes.
+use Rattle.std.proofs.Common.{◌≡◌, ◌≢◌, inl, inr, ℕ, zero, suc, ◌+◌, ◌-◌, ◌*◌, ◌%◌, ◌<◌, ◌≤◌, Bool, true, false, List}
+use Rattle.std.proofs.Common.{[], ◌∷◌, ◌++◌, length, take, drop, slice_get, Some, refl, sym, ap, ◌∙◌, subst, arith}
+use Rattle.std.proofs.Math.Seq.{take-append_seam}
+use Rattle.std.proofs.lemmas.Bool.{cases_Bool}
+use Rattle.std.proofs.lemmas.List.{drop-drop, drop-take, take-take}
+use Rattle.std.proofs.lemmas.Option.{slice_get_within, get_or_from_slice_get}
+use Rattle.virtiofs_map.specs.NodeParts.{HasBytes, HasBytesAt, HasRows, IsChild, IsReadable, IsRootRow, IsRow, IsSmallIn}
+use Rattle.virtiofs_map.specs.NodeParts.{LeadsNowhere, LeadsTo, StaysAt, label_of, placed, row_in}
+use Rattle.virtiofs_map.specs.FirstRule.{shared}
+use Rattle.virtiofs_map.specs.Names.{begins}
+use Rattle.virtiofs_map.specs.Steps.{count_after}
+use Rattle.virtiofs_map.specs.declared.xattrmap.trie.node.Node.{Node}
+use Rattle.virtiofs_map.proofs.BeginsLemmas.{begins_split}
+use Rattle.virtiofs_map.proofs.LeU64Lemmas.{length-row_of, row_at}
+
+-- ---- rows
+
+-- what stands at a place of a part of some bytes
+inside : (xs : List ℕ) (start n i k : ℕ) → i + k ≤ n
+    → take k (drop i (take n (drop start xs))) ≡ take k (drop (start + i) xs)
+inside xs start n i k within =
+    let whole : i + (n - i) ≡ n = omega (arith, within) in
+    let less : k ≤ n - i = omega (arith, within) in
+    ap (λ m. take k (drop i (take m (drop start xs)))) (sym whole)
+    ∙ ap (take k) (drop-take i (n - i) (drop start xs))
+    ∙ take-take k (n - i) (drop i (drop start xs)) less
+    ∙ ap (take k) (drop-drop i start xs)
+
+module _ (image : List ℕ) (first labels : ℕ) (nodes : List Node) (has : HasRows image first labels nodes) where
+  -- the row of the node at a place
+  pub row_there : (at : ℕ) (node : Node) → slice_get nodes at ≡ Some node
+      → (8 * first + at * 24 + 24 ≤ length image)
+      × IsRow first labels node (take 24 (drop (8 * first + at * 24) image))
+  row_there at node here =
+      let below = slice_get_within nodes at node here in
+      let is = get_or_from_slice_get nodes at node node here in
+      let within = has.within in
+      let bytes = subst HasBytes is (has.bytes at node below) in (
+        omega (arith, below, within),
+        record {
+          is = sym (inside image (8 * first) (24 * length nodes) (at * 24) 24 (omega (arith, below)))
+              ∙ ap (λ (l : List ℕ). take 24 (drop (at * 24) l)) has.are
+              ∙ row_at (row_in first labels) (λ one. length-row_of (placed first labels one)) nodes at node below
+              ∙ ap (row_in first labels) is;
+          small = subst (IsSmallIn first labels) is (has.small at node below);
+          bytes = record { low_byte = bytes.low_byte; first_byte = bytes.first_byte };
+        },
+      )
+
+  -- a node below the count of them is there
+  pub there_is_one : (xs : List Node) (at : ℕ) → at < length xs → (x : Node) × (slice_get xs at ≡ Some x)
+  there_is_one [] at below = absurd (omega (arith, below))
+  there_is_one (x ∷ xs) zero below = (x, refl)
+  there_is_one (x ∷ xs) (suc at) below = there_is_one xs at (omega (arith, below))
+
+  -- the row of the root
+  pub root_there : (root : ℕ) → root ≡ 8 * first → 0 < length nodes
+      → IsRootRow first labels nodes (take 24 (drop root image))
+  root_there root is some =
+      let there = there_is_one nodes 0 some in
+      let row = row_there 0 there.0 there.1 in
+      let same : 8 * first + 0 * 24 ≡ root = omega (arith, is) in
+      record {
+        node = there.0;
+        here = there.1;
+        is = subst (λ n. IsRow first labels there.0 (take 24 (drop n image))) same row.1;
+      }
+
+  -- the row that stands so many places behind the first child of a node
+  pub child_there : (parent : Node) (bytes : List ℕ) (start behind place : ℕ) → IsReadable nodes bytes parent
+      → behind < parent.width → start ≡ first + 3 * parent.base → place ≡ 8 * (start + 3 * behind)
+      → (child : Node) × (slice_get nodes (parent.base + behind) ≡ Some child) × (place + 24 ≤ length image)
+      × IsRow first labels child (take 24 (drop place image))
+  child_there parent bytes start behind place readable below is_start is_place =
+      let within = readable.within in
+      let there = there_is_one nodes (parent.base + behind) (omega (arith, within, below)) in
+      let row = row_there (parent.base + behind) there.0 there.1 in
+      let same : 8 * first + (parent.base + behind) * 24 ≡ place = omega (arith, is_start, is_place) in (
+        there.0,
+        there.1,
+        (let long = row.0 in omega (arith, long, same)),
+        subst (λ n. IsRow first labels there.0 (take 24 (drop n image))) same row.1,
+      )
+
+-- the label of a node stands in the image at its place there
+pub label_there : (image bytes : List ℕ) (labels : ℕ) (node : Node) (from count : ℕ)
+    → HasBytesAt image labels bytes → node.label + node.length ≤ length bytes
+    → from ≡ labels + node.label → count ≡ node.length
+    → (from + count ≤ length image) × (take count (drop from image) ≡ label_of bytes node)
+label_there image bytes labels node from count has within is_from is_count =
+    let whole = has.within in (
+      omega (arith, whole, within, is_from, is_count),
+      ap (λ n. take n (drop from image)) is_count
+          ∙ ap (λ n. take node.length (drop n image)) is_from
+          ∙ sym (inside image labels (length bytes) node.label node.length within)
+          ∙ ap (λ (l : List ℕ). take node.length (drop node.label l)) has.are,
+    )
+
+-- a row that begins with a label, and one that does not
+pub unlike_label : (label row : List ℕ) (count : ℕ) → length label ≡ count → (take count row ≡ label → ⊥)
+    → begins label row ≡ false
+unlike_label label row count size differ = elim (cases_Bool (begins label row)) [
+  | inl starts ↦
+      absurd (differ (ap (take count) (begins_split label row starts)
+      ∙ subst (λ n. take n (label ++ drop (length label) row) ≡ label) size
+      (take-append_seam label (drop (length label) row))))
+  | inr other ↦ other
+]
+
+-- ---- places
+
+module _ (nodes : List Node) (bytes : List ℕ) (parent : Node) (byte : ℕ)
+    (readable : IsReadable nodes bytes parent) where
+  -- a child that is not sparse stands as far behind the first place as its byte behind the lowest
+  pub slot_of : (at behind : ℕ) (child : Node) → parent.is_sparse ≡ false → byte < 256
+      → behind ≡ (byte + (256 - parent.low_byte)) % 256 → IsChild nodes parent byte at child → at ≡ parent.base + behind
+  slot_of at behind child flat fits far leads =
+      let from = leads.from in
+      let below = leads.below in
+      let wide : 1 ≤ parent.width = omega (arith, from, below) in
+      let slots = readable.placed flat wide in
+      let there : parent.base + (at - parent.base) ≡ at = omega (arith, from) in
+      let here : slice_get nodes (parent.base + (at - parent.base)) ≡ Some child = ap (slice_get nodes) there
+      ∙ leads.here in
+      let real : child.first_byte ≢ 0 = λ none. leads.real (sym leads.first_byte ∙ none) in
+      let stands : child.first_byte ≡ parent.low_byte + (at - parent.base) =
+      slots.slots (at - parent.base) child (omega (arith, from, below)) here real in
+      let first_byte = leads.first_byte in
+      let low = slots.low_byte in
+      let high = slots.high in
+      omega (arith, stands, first_byte, low, high, from, below, far, fits)
+
+  -- no child stands there
+  module _ (behind : ℕ) (flat : parent.is_sparse ≡ false) (fits : byte < 256)
+      (far : behind ≡ (byte + (256 - parent.low_byte)) % 256) where
+    pub past_slots : parent.width ≤ behind → LeadsNowhere nodes parent byte
+    past_slots past at child leads =
+        let place = slot_of at behind child flat fits far leads in
+        let below = leads.below in
+        omega (arith, place, below, past)
+
+    pub other_slot : (other : Node) → slice_get nodes (parent.base + behind) ≡ Some other → other.first_byte ≢ byte
+        → LeadsNowhere nodes parent byte
+    other_slot other read unlike at child leads =
+        let found = ap (slice_get nodes) (sym (slot_of at behind child flat fits far leads)) ∙ leads.here in
+        let same : Some other ≡ Some child = sym read ∙ found in
+        let first_byte = leads.first_byte in
+        unlike (cc)
+
+    pub in_slot : (child : Node) → behind < parent.width → slice_get nodes (parent.base + behind) ≡ Some child
+        → child.first_byte ≡ byte → LeadsTo nodes parent byte child
+    in_slot child below here first_byte =
+        let slots = readable.placed flat (omega (arith, below)) in
+        let low = slots.low_byte in
+        let high = slots.high in
+        record {
+          place = parent.base + behind;
+          leads = record {
+            from = omega arith;
+            below = omega (arith, below);
+            here = here;
+            first_byte = first_byte;
+            real = λ none. absurd (omega (arith, none, low, high, below, far));
+          };
+        }
+
+  -- none of the places of sparse children has the byte
+  pub nowhere : (count : ℕ) → parent.width ≤ count
+      → ((k : ℕ) (child : Node) → k < count → slice_get nodes (parent.base + k) ≡ Some child → child.first_byte ≡ byte
+      → ⊥)
+      → LeadsNowhere nodes parent byte
+  nowhere count all none at child leads =
+      let from = leads.from in
+      let below = leads.below in
+      let there : parent.base + (at - parent.base) ≡ at = omega (arith, from) in
+      none (at - parent.base) child (omega (arith, from, below, all)) (ap (slice_get nodes) there ∙ leads.here)
+      leads.first_byte
+
+-- ---- no step
+
+module _ (nodes : List Node) (bytes : List ℕ) (parent : Node) (rest : List ℕ) (whole : Bool)
+    (before after : ℕ) where
+  -- nothing is left
+  pub stays_at_end : length rest ≡ 0 → after ≡ before → StaysAt nodes bytes parent rest whole before after
+  stays_at_end none same = inl (record {
+    nowhere = λ byte left split. absurd (let size = ap length split in omega (arith, size, none));
+    counted = same;
+  })
+
+  module _ (byte : ℕ) (left : List ℕ) (split : rest ≡ byte ∷ left) where
+    -- the first byte leads nowhere
+    pub stays_nowhere : LeadsNowhere nodes parent byte → after ≡ before
+        → StaysAt nodes bytes parent rest whole before after
+    stays_nowhere nowhere same = inl (record {
+      nowhere = λ b more other.
+          (let both : byte ∷ left ≡ b ∷ more = sym split ∙ other in
+          let first_bytes : byte ≡ b = cc in
+          subst (LeadsNowhere nodes parent) first_bytes nowhere);
+      counted = same;
+    })
+
+    -- the label of the child does not fit
+    pub stays_unlike : (label : List ℕ) (child : Node) → LeadsTo nodes parent byte child
+        → label ≡ label_of bytes child → begins label left ≡ false
+        → (whole ≡ true → after ≡ count_after before (shared label left + 1))
+        → StaysAt nodes bytes parent rest whole before after
+    stays_unlike label child to label_is unlike counts = inr (record {
+      byte = byte;
+      left = left;
+      split = split;
+      child = child;
+      to = to;
+      unlike = ap (λ row. begins row left) (sym label_is) ∙ unlike;
+      counted = λ is. counts is ∙ ap (λ n. count_after before (n + 1)) (ap (λ row. shared row left) label_is);
+    })

@@ -1,0 +1,59 @@
+use Rattle.std.proofs.Common.{◌≡◌, ◌+◌, ◌<◌, inl, inr, ℕ, List, Some, refl, sym, ap, subst, ◌∙◌, arith}
+use Rattle.std.specs.List.{slice_get}
+use Rattle.std.proofs.lemmas.Bool.{cases_lt}
+use Rattle.virtiofs_map.specs.NodeParts.{IsRow, placed}
+use Rattle.virtiofs_map.specs.declared.xattrmap.trie.node.Node.{Node}
+use Rattle.virtiofs_map.proofs.xattrmap.trie.reading.ChildStepLemmas.{child_there, nowhere}
+use Rattle.virtiofs_map.proofs.xattrmap.trie.reading.Trie.sparse_child.Goals as goal
+
+pub returns-then-first_byte_of-byte : goal.returns-then-first_byte_of-byte
+returns-then-first_byte_of-byte c = λ first labels nodes bytes node has readable row.
+    (let width = c.width_of-width.ensures (placed first labels node) row in
+    let below : c.loop-behind.behind < node.width = omega (arith, width, c.loop-behind-test.true) in
+    let there =
+    child_there c.args.self.image.now first labels nodes has node bytes c.base_of-from.result c.loop-behind.behind _
+    readable below
+    (c.base_of-from.ensures.value (placed first labels node) row) refl in
+    let is : IsRow first labels there.0 c.in_ok-child.child.now =
+    subst (λ (l : List ℕ). IsRow first labels there.0 l) (sym c.in_ok-child.ensures) there.3 in
+    record {
+      child = there.0;
+      is = is;
+      to = record {
+        place = node.base + c.loop-behind.behind;
+        leads = record {
+          from = omega arith;
+          below = omega (arith, below);
+          here = there.1;
+          first_byte = sym (c.first_byte_of.ensures (placed first labels there.0) is) ∙ c.if-first_byte_of-byte.true;
+          real = c.if-byte-eq0.false;
+        };
+      };
+    })
+
+pub loop-behind-preserved : goal.loop-behind-preserved
+loop-behind-preserved c = λ first labels nodes bytes node has readable row k child less here first_byte.
+    (let width = c.width_of-width.ensures (placed first labels node) row in
+    let below : c.loop-behind.behind < node.width = omega (arith, width, c.loop-behind-test.true) in
+    let there =
+    child_there c.args.self.image.now first labels nodes has node bytes c.base_of-from.result c.loop-behind.behind _
+    readable below
+    (c.base_of-from.ensures.value (placed first labels node) row) refl in
+    let is : IsRow first labels there.0 c.in_ok-child.child.now =
+    subst (λ (l : List ℕ). IsRow first labels there.0 l) (sym c.in_ok-child.ensures) there.3 in
+    elim (cases_lt k c.loop-behind.behind) [
+      | inl low ↦ c.loop-behind.invariant first labels nodes bytes node has readable row k child low here first_byte
+      | inr high ↦
+          (let last : node.base + k ≡ node.base + c.loop-behind.behind = omega (arith, less, high) in
+          let same : Some there.0 ≡ Some child = sym there.1 ∙ sym (ap (slice_get nodes) last) ∙ here in
+          let first_bytes : there.0.first_byte ≡ child.first_byte =
+          ap (λ (b : Node). b.first_byte) (let e : there.0 ≡ child = cc in e) in
+          absurd (c.if-first_byte_of-byte.false (c.first_byte_of.ensures (placed first labels there.0) is ∙ first_bytes ∙ first_byte)))
+    ])
+
+pub returns : goal.returns
+returns c = λ first labels nodes bytes node has readable row.
+    (let width = c.width_of-width.ensures (placed first labels node) row in
+    nowhere nodes bytes node c.args.byte readable c.loop-behind.behind
+    (omega (arith, width, c.loop-behind-test.false))
+    (c.loop-behind.invariant first labels nodes bytes node has readable row))

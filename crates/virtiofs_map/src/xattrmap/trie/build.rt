@@ -1,0 +1,392 @@
+//! The making of a trie's nodes, level by level.
+
+ghost use Rattle.std.specs.Prelude.{◌≡◌, ◌≢◌, ◌<◌, ◌≤◌, ◌+◌, ◌-◌, ◌++◌, ℕ, List, map, take, length, slice_get, slice_index, All, Some, IfOk, OnOk};
+ghost use Rattle.virtiofs_map.specs.NodeParts.{AreFew, ArePatterns};
+ghost use Rattle.virtiofs_map.specs.TrieBuildParts.{text, number, start_of, AreReady, IsLeast, IsLeastOf, IsUpto, IsPatternRange};
+ghost use Rattle.virtiofs_map.specs.TrieBuildParts.{AreRangesOrHoles, IsRangeOrHole, AreAdded, AreHoles, IsExpanded, AreBuilt, AreDeep};
+ghost use Rattle.virtiofs_map.specs.TrieBuildParts.{AreExact, childless_of, text_node_of, path_of_range};
+ghost use Rattle.virtiofs_map.specs.PatternTrie.{are_sparse, next_bytes};
+ghost use Rattle.virtiofs_map.specs.TrieParts.{IsTrieOf, node_with, children_of, texts_of};
+ghost use Rattle.virtiofs_map.specs.Rule.{MappingRule};
+ghost use Rattle.virtiofs_map.specs.declared.xattrmap.scopes.Side.{Side};
+ghost use Rattle.virtiofs_map.specs.declared.xattrmap.trie.build.PatternRange.{PatternRange};
+
+use crate::xattrmap::trie::node::{NO_ANSWER, Node};
+use crate::xattrmap::trie::patterns::Pattern;
+use std::alloc::{AllocError, Allocator};
+
+/// The patterns that begin with the path of a node; they stand side by side. A hole between
+/// nodes has none of them.
+#[derive(Clone, Copy)]
+struct PatternRange {
+    /// The place of the first of these patterns.
+    low: usize,
+    /// The place after the last of these patterns.
+    high: usize,
+    /// How many bytes the path has.
+    depth: usize,
+    /// How many of the path's bytes are the label.
+    length: usize,
+    /// The answer of the path without its last byte and label.
+    answer: u64,
+    /// The byte that leads to the node.
+    first_byte: u8,
+}
+
+/// The bytes of a pattern.
+fn bytes_of<'b>(patterns: &[Pattern<'b>], at: usize) -> &'b [u8]
+    requires { at < length patterns.now }
+    ensures { result.now ≡ text patterns.now at }
+{
+    patterns[at].bytes
+}
+
+/// Where a pattern begins among the bytes of all patterns.
+fn start_at(patterns: &[Pattern<'_>], at: usize) -> usize
+    requires { at < length patterns.now }
+    ensures { result ≡ start_of patterns.now at }
+{
+    patterns[at].start
+}
+
+/// The answer of a pattern.
+fn answer_at(patterns: &[Pattern<'_>], at: usize) -> u64
+    requires { at < length patterns.now }
+    ensures { result ≡ number patterns.now at }
+{
+    patterns[at].answer
+}
+
+/// The byte of a pattern at a depth; 0 where the pattern has ended.
+fn byte_of(patterns: &[Pattern<'_>], at: usize, depth: usize) -> u8
+    requires { at < length patterns.now }
+    ensures { result ≡ slice_index (text patterns.now at) depth }
+{
+    match bytes_of(patterns, at).get(depth) {
+        Some(byte) => *byte,
+        None => 0,
+    }
+}
+
+/// How many bytes two patterns share from a depth on, but no more than a label can have.
+fn shared(one: &[u8], other: &[u8], depth: usize) -> usize
+    requires { depth ≤ length one.now }
+    ensures small { result < 256 }
+    ensures within { depth + result ≤ length one.now }
+    ensures same { take depth one.now ≡ take depth other.now
+        → take (depth + result) one.now ≡ take (depth + result) other.now }
+    ensures stops { result < 255 → depth + result < length one.now
+        → depth + result < length other.now
+        → slice_index one.now (depth + result) ≢ slice_index other.now (depth + result) }
+{
+    let most = (one.len().min(other.len()).max(depth) - depth).min(255);
+    let mut count = 0;
+    while count < most && one[depth + count] == other[depth + count] {
+        count += 1;
+    }
+    count
+}
+
+/// Where the patterns end that have the same byte at a depth as the first one. The steps of the
+/// search double, and are then halved.
+fn group_end(patterns: &[Pattern<'_>], low: usize, high: usize, depth: usize) -> usize
+    requires some { low < high }
+    requires within { high ≤ length patterns.now }
+    requires rising { (i j : ℕ) → low ≤ i → i ≤ j → j < high
+        → slice_index (text patterns.now i) depth ≤ slice_index (text patterns.now j) depth }
+    ensures more { low < result }
+    ensures upto { result ≤ high }
+    ensures same { (i : ℕ) → low ≤ i → i < result
+        → slice_index (text patterns.now i) depth ≡ slice_index (text patterns.now low) depth }
+    ensures other { result < high
+        → slice_index (text patterns.now result) depth
+        ≢ slice_index (text patterns.now low) depth }
+{
+    let byte = byte_of(patterns, low, depth);
+    let mut last = low;
+    let mut step = 1;
+    while step < high - last && byte_of(patterns, last + step, depth) == byte {
+        last += step;
+        step = last - low + 1;
+    }
+    let mut end = if step < high - last {
+        last + step
+    } else {
+        high
+    };
+    while end - last > 1 {
+        let middle = last + (end - last) / 2;
+        if byte_of(patterns, middle, depth) == byte {
+            last = middle;
+        } else {
+            end = middle;
+        }
+    }
+    end
+}
+
+/// The place of the first pattern of a range that is longer than the range's path; and the least
+/// answer of the patterns that end within the path.
+fn ended(patterns: &[Pattern<'_>], range: PatternRange) -> (usize, u64)
+    requires within { range.high ≤ length patterns.now }
+    requires rising { range.low ≤ range.high }
+    ensures from { range.low ≤ result.0 }
+    ensures upto { result.0 ≤ range.high }
+    ensures ended { (i : ℕ) → range.low ≤ i → i < result.0
+        → length (text patterns.now i) ≡ range.depth }
+    ensures other { result.0 < range.high
+        → length (text patterns.now result.0) ≢ range.depth }
+    ensures least { IsLeastOf patterns.now range.answer range.low result.0 result.1 }
+{
+    let mut answer = range.answer;
+    for at in range.low..range.high {
+        if bytes_of(patterns, at).len() != range.depth {
+            return (at, answer);
+        }
+        answer = answer.min(answer_at(patterns, at));
+    }
+    (range.high, answer)
+}
+
+/// The range of the patterns between two places. They share their bytes up to a depth, and there.
+fn child(
+    patterns: &[Pattern<'_>],
+    depth: usize,
+    low: usize,
+    high: usize,
+    answer: u64,
+) -> PatternRange
+    requires some { low < high }
+    requires within { high ≤ length patterns.now }
+    requires long { depth < length (text patterns.now low) }
+    ensures low { result.low ≡ low }
+    ensures high { result.high ≡ high }
+    ensures answer { result.answer ≡ answer }
+    ensures first_byte { result.first_byte ≡ slice_index (text patterns.now low) depth }
+    ensures byte { result.first_byte < 256 }
+    ensures depth { result.depth ≡ depth + 1 + result.length }
+    ensures size { result.length < 256 }
+    ensures long { result.depth ≤ length (text patterns.now low) }
+    ensures same { take (depth + 1) (text patterns.now low)
+        ≡ take (depth + 1) (text patterns.now (high - 1))
+        → take result.depth (text patterns.now low)
+        ≡ take result.depth (text patterns.now (high - 1)) }
+    ensures stops { result.length < 255 → result.depth < length (text patterns.now low)
+        → result.depth < length (text patterns.now (high - 1))
+        → slice_index (text patterns.now low) result.depth
+        ≢ slice_index (text patterns.now (high - 1)) result.depth }
+{
+    let first = bytes_of(patterns, low);
+    let length = if high - low == 1 {
+        (first.len() - (depth + 1)).min(255)
+    } else {
+        shared(first, bytes_of(patterns, high - 1), depth + 1)
+    };
+    PatternRange {
+        low,
+        high,
+        depth: depth + 1 + length,
+        length,
+        answer,
+        first_byte: byte_of(patterns, low, depth),
+    }
+}
+
+/// Whether the children of a range are so far apart that they stand side by side without holes: the
+/// bytes from the lowest to the highest are more than 4, and 2 more for each child.
+fn are_children_sparse(patterns: &[Pattern<'_>], range: PatternRange, from: usize) -> bool
+    requires ready { AreReady usize.MAX patterns.now }
+    requires range { IsPatternRange patterns.now range }
+    requires from { range.low ≤ from }
+    requires some { from < range.high }
+    requires ended { (i : ℕ) → range.low ≤ i → i < from
+        → length (text patterns.now i) ≡ range.depth }
+    requires longer { range.depth < length (text patterns.now from) }
+    ensures { result
+        ≡ are_sparse (next_bytes (texts_of patterns.now) (path_of_range patterns.now range)) }
+{
+    let lowest = byte_of(patterns, from, range.depth);
+    let highest = byte_of(patterns, range.high - 1, range.depth);
+    let span = usize::from(highest.max(lowest) - lowest) + 1;
+    let mut low = from;
+    let mut count = 0;
+    while low < range.high {
+        low = group_end(patterns, low, range.high, range.depth);
+        count += 1;
+    }
+    span > 2 * count + 4
+}
+
+/// Appends holes until there are `count` places from `base` on.
+fn add_holes<A: Allocator>(
+    ranges: &mut Vec<PatternRange, A>,
+    base: usize,
+    count: usize,
+    depth: usize,
+) -> Result<(), AllocError>
+    requires base { base ≤ length ranges.old.items }
+    requires room { length ranges.old.items ≤ base + count }
+    ensures holes { OnOk result (AreHoles ranges.old.items ranges.new.items depth) }
+    ensures count { OnOk result (length ranges.new.items ≡ base + count) }
+{
+    while ranges.len() - base < count {
+        ranges.push(PatternRange {
+            low: 0,
+            high: 0,
+            depth,
+            length: 0,
+            answer: NO_ANSWER,
+            first_byte: 0,
+        })?;
+    }
+    Ok(())
+}
+
+/// Appends the children of a range: one for each byte with which its patterns from a place on go
+/// on.
+fn add_children<A: Allocator>(
+    patterns: &[Pattern<'_>],
+    ranges: &mut Vec<PatternRange, A>,
+    range: PatternRange,
+    from: usize,
+    answer: u64,
+    is_sparse: bool,
+) -> Result<(), AllocError>
+    requires ready { AreReady usize.MAX patterns.now }
+    requires range { IsPatternRange patterns.now range }
+    requires from { range.low ≤ from }
+    requires some { from < range.high }
+    requires ended { (i : ℕ) → range.low ≤ i → i < from
+        → length (text patterns.now i) ≡ range.depth }
+    requires longer { range.depth < length (text patterns.now from) }
+    requires least { IsLeast patterns.now (IsUpto patterns.now range) answer }
+    requires sparse { is_sparse
+        ≡ are_sparse (next_bytes (texts_of patterns.now) (path_of_range patterns.now range)) }
+    ensures added { OnOk result
+        (AreAdded patterns.now ranges.old.items ranges.new.items range) }
+    ensures text_nodes { OnOk result (map (text_node_of patterns.now) ranges.new.items
+        ≡ map (text_node_of patterns.now) ranges.old.items
+        ++ children_of patterns.now (text_node_of patterns.now range)) }
+{
+    let base = ranges.len();
+    let lowest = byte_of(patterns, from, range.depth);
+    let mut low = from;
+    while low < range.high {
+        if !is_sparse {
+            let gap = byte_of(patterns, low, range.depth) - lowest;
+            add_holes(ranges, base, usize::from(gap), range.depth + 1)?;
+        }
+        let high = group_end(patterns, low, range.high, range.depth);
+        ranges.push(child(patterns, range.depth, low, high, answer))?;
+        low = high;
+    }
+    Ok(())
+}
+
+/// The node of a range that has no child.
+fn childless(range: PatternRange, base: usize, answer: u64, label: usize) -> Node
+    ensures { result ≡ childless_of range base answer label }
+{
+    Node {
+        answer,
+        label,
+        length: range.length,
+        base,
+        width: 0,
+        low_byte: 1,
+        first_byte: range.first_byte,
+        is_sparse: false,
+    }
+}
+
+/// The node of a range, whose children are appended to the ranges.
+fn node_of<A: Allocator>(
+    patterns: &[Pattern<'_>],
+    ranges: &mut Vec<PatternRange, A>,
+    range: PatternRange,
+) -> Result<Node, AllocError>
+    requires ready { AreReady usize.MAX patterns.now }
+    requires places { AreRangesOrHoles patterns.now ranges.old.items }
+    requires place { IsRangeOrHole patterns.now range }
+    ensures expanded { IfOk result
+        (IsExpanded patterns.now ranges.old.items ranges.new.items range) }
+    ensures text_nodes { OnOk result (map (text_node_of patterns.now) ranges.new.items
+        ≡ map (text_node_of patterns.now) ranges.old.items
+        ++ children_of patterns.now (text_node_of patterns.now range)) }
+    ensures exact { IfOk result (λ node. node ≡ node_with patterns.now node.answer
+        (length ranges.old.items) (text_node_of patterns.now range)) }
+{
+    let base = ranges.len();
+    if range.low == range.high {
+        return Ok(childless(range, base, range.answer, 0));
+    }
+    let (from, answer) = ended(patterns, range);
+    let label = start_at(patterns, range.low) + (range.depth - range.length);
+    let bare = childless(range, base, answer, label);
+    if from == range.high {
+        return Ok(bare);
+    }
+    let low_byte = byte_of(patterns, from, range.depth);
+    let is_sparse = are_children_sparse(patterns, range, from);
+    add_children(patterns, ranges, range, from, answer, is_sparse)?;
+    let width = ranges.len() - base;
+    Ok(Node {
+        width,
+        low_byte,
+        is_sparse,
+        ..bare
+    })
+}
+
+/// Makes the nodes of the ranges that have none yet, and appends their children's ranges.
+fn build_level<A: Allocator>(
+    patterns: &[Pattern<'_>],
+    ranges: &mut Vec<PatternRange, A>,
+    nodes: &mut Vec<Node, A>,
+) -> Result<(), AllocError>
+    requires ready { AreReady usize.MAX patterns.now }
+    requires places { AreRangesOrHoles patterns.now ranges.old.items }
+    requires built { AreBuilt patterns.now ranges.old.items nodes.old.items }
+    requires exact { AreExact patterns.now ranges.old.items nodes.old.items }
+    ensures places { OnOk result (AreRangesOrHoles patterns.now ranges.new.items) }
+    ensures built { OnOk result (AreBuilt patterns.now ranges.new.items nodes.new.items) }
+    ensures exact { OnOk result (AreExact patterns.now ranges.new.items nodes.new.items) }
+    ensures deeper { OnOk result ((depth : ℕ)
+        → AreDeep ranges.old.items (length nodes.old.items) depth
+        → AreDeep ranges.new.items (length nodes.new.items) (depth + 1)) }
+{
+    for at in nodes.len()..ranges.len() {
+        let range = ranges[at];
+        nodes.push(node_of(patterns, ranges, range)?)?;
+    }
+    Ok(())
+}
+
+/// The nodes of a trie of these patterns, which stand among `bytes`.
+pub(crate) fn build_trie<A: Allocator + Copy>(
+    alloc: A,
+    patterns: &[Pattern<'_>],
+    bytes: &[u8],
+) -> Result<Vec<Node, A>, AllocError>
+    requires { AreReady (length bytes.now) patterns.now }
+    ensures { IfOk result (λ nodes. (side : Side) (rules : List MappingRule)
+        → ArePatterns side rules bytes.now patterns.now → AreFew rules
+        → IsTrieOf side rules bytes.now patterns.now nodes.items) }
+{
+    // Most often there are not many more nodes than patterns.
+    let most = patterns.len().saturating_add(patterns.len() / 4);
+    let mut ranges = Vec::with_capacity(alloc, most)?;
+    let mut nodes = Vec::with_capacity(alloc, most)?;
+    ranges.push(PatternRange {
+        low: 0,
+        high: patterns.len(),
+        depth: 0,
+        length: 0,
+        answer: NO_ANSWER,
+        first_byte: 0,
+    })?;
+    while nodes.len() < ranges.len() {
+        build_level(patterns, &mut ranges, &mut nodes)?;
+    }
+    Ok(nodes)
+}

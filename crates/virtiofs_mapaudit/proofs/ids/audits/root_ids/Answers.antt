@@ -1,5 +1,0 @@
-use Rattle.virtiofs_mapaudit.proofs.IdLemmas.{roots_are}
-use Rattle.virtiofs_mapaudit.proofs.ids.audits.root_ids.Goals as goal
-
-pub returns : goal.returns
-returns g c = roots_are c.moved_all.result c.args.ranges.now c.moved_all.ensures

@@ -1,9 +1,0 @@
-use Rattle.virtiofs_mapaudit.proofs.ReportLemmas.{kind_found}
-use Rattle.virtiofs_mapaudit.proofs.report.push_kind.Goals as goal
-
-pub returns : goal.returns
-returns g c =
-    kind_found c.push_fault.result c.args.isolated c.args.kind c.args.set.now _ _ _ _ _ _ _ _
-    (rw c.as_slice-ranges.ensures.value at c.in_ok-ids.ensures) c.in_ok-kept.ensures
-    (rw c.as_slice-ranges.ensures.value at c.has_some-in_namespace.ensures) c.in_ok-push_range.ensures
-    c.in_ok-push_other.ensures c.in_ok-push_ids.ensures c.push_fault.ensures

@@ -1,0 +1,17 @@
+pub mod AlikeGuests
+pub mod Covers
+pub mod Guests
+pub mod KindWords
+pub mod Lists
+pub mod Namespace
+pub mod OptionsText
+pub mod Ordinal
+pub mod Outside
+pub mod OutsideParts
+pub mod RangeParts
+pub mod RangeText
+pub mod Ranges
+pub mod RefusalText
+pub mod Refusals
+pub mod ShellWord
+pub mod WrittenRules

@@ -1,0 +1,5 @@
+pub mod ForCallers
+mod IdTableLemmas
+mod NameTableLemmas
+mod SamePiecesLemmas
+mod SummaryLemmas

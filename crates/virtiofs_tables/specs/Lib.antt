@@ -1,0 +1,4 @@
+pub mod IdTable
+pub mod NameTable
+pub mod NameTableParts
+pub mod SummaryText
