@@ -5,9 +5,9 @@ usage: advice_by_trial.py PROGRAM..
 
 Guests are made at random from a fixed seed. If options are advised, the text, the JSON and `--mend` have the same ones, as a
 shell reads them. An audit of them refuses nothing and finds what was said to be left, of which no kind is new for a guest or
-a pair of guests, and fewer kinds than before; kinds that are accepted do not count. No id is left that does not round-trip,
-that the namespace lacks, or that keeps its number under `--isolated`, but where access control lists are on and nothing is
-translated. The last line is 'N passed, N failed'.
+a pair of guests, and fewer kinds than before. No id is left that does not round-trip, that the namespace lacks, or that keeps
+its number under `--isolated`, but where access control lists are on and nothing is translated. The last line is
+'N passed, N failed'.
 """
 import json
 import os
@@ -23,8 +23,6 @@ from tally import Tally
 SEED, TRIALS, SECONDS, ISOLATED = 58, 3000, 60, "--isolated"
 LOW, HIGH = list(range(0, 12)), [4294967290, 4294967293, 4294967294]
 SCOPES, TYPES = ("client", "server", "all"), ("ok", "bad", "prefix", "unsupported")
-KINDS = ("root", "not_back", "lacking", "kept", "range", "other_ranges", "posix_acl", "no_rule", "not_listed",
-         "listed_elsewhere", "idle_rule", "acl_renamed", "id_of_both", "shown_to_other", "name_of_both")
 PIECES = ("", "", "user.", "user.a.", "trusted.", "security.", "system.", "u", "it's ", "é", "\x01")
 
 
@@ -67,11 +65,6 @@ def guests(random):
     return [*random.choice(([], [ISOLATED])), *command_lines(made)]
 
 
-def accepted(random):
-    """The words that accept some kinds of findings, or none."""
-    return [word for _ in range(random.choice((0, 0, 1, 2))) for word in ("--accept", random.choice(KINDS))]
-
-
 def answer(program, words):
     ended = subprocess.run([program, *words], capture_output=True, timeout=SECONDS)
     return ended.returncode, ended.stdout.decode()
@@ -84,10 +77,8 @@ def as_shell_reads(lines):
 
 
 def kinds(findings):
-    """What kinds are found that count, and of which guests. It makes a difference which guest sets a name, and whose ids
-    they are."""
-    counting = [it for it in findings if not it["accepted"]]
-    return {(it["kind"], it.get("ids"), it.get("guest"), tuple(it.get("guests", ()))) for it in counting}
+    """What kinds are found, and of which guests. It makes a difference which guest sets a name, and whose ids they are."""
+    return {(it["kind"], it.get("ids"), it.get("guest"), tuple(it.get("guests", ()))) for it in findings}
 
 
 def as_mend_says(text):
@@ -95,13 +86,10 @@ def as_mend_says(text):
     return [as_shell_reads(lines.split("\n")[:-1]) for lines in re.split(r"^--\n", text, flags=re.M)]
 
 
-def fault(program, accepts, words):
-    """What is wrong with what a program advises for these words, where some kinds are accepted."""
-    status, told = answer(program, ["--json", *accepts, *words])
-    told, (_, text) = json.loads(told), answer(program, [*accepts, *words])
-    mend_status, mend = answer(program, ["--mend", *accepts, *words])
-    if any(it["accepted"] != (it["kind"] in accepts) for it in told["findings"]):
-        return f"not these kinds are accepted: {accepts}"
+def fault(program, words):
+    """What is wrong with what a program advises for these words."""
+    status, told = answer(program, ["--json", *words])
+    told, (_, text), (mend_status, mend) = json.loads(told), answer(program, words), answer(program, ["--mend", *words])
     advised, lines = told["advised"], text.partition("with these options ")[2].splitlines()[1:]
     if told["refused"]:
         return "advice beside a refusal" if advised or lines or mend or status != 1 else ""
@@ -115,28 +103,22 @@ def fault(program, accepts, words):
     if shown != alike or mended != options:
         return f"text, JSON and --mend differ: {shown}, {options}, {mended}"
     isolated = [ISOLATED] if words[0] == ISOLATED else []
-    after_status, after = answer(program, ["--json", *isolated, *accepts, *command_lines(options)])
+    after_status, after = answer(program, ["--json", *isolated, *command_lines(options)])
     after, before, left = json.loads(after), kinds(told["findings"]), kinds(advised["findings"])
     if after["refused"] or after["findings"] != advised["findings"] or after_status != (5 if left else 0) != mend_status:
         return f"applied, they give {after}"
     if not left < before:
         return f"not less is found: {left} after {before}"
     kept = [number for number, one in enumerate(options, 1) if "--posix-acl" in one]
-    bad = [it for it in advised["findings"]
-           if it["kind"] in ("not_back", "lacking", "kept") and it["guest"] not in kept and not it["accepted"]]
+    bad = [it for it in advised["findings"] if it["kind"] in ("not_back", "lacking", "kept") and it["guest"] not in kept]
     return f"ids are left: {bad}" if bad else ""
 
 
 def main(words):
     tally, made, programs = Tally(quietly=True), random.Random(SEED), [os.path.abspath(it) for it in words]
-    asked = [(accepted(made), guests(made)) for _ in range(TRIALS)]
-
-    def see(one):
-        for program in programs:
-            tally.see(" ".join([*one[0], *one[1]]), fault(program, *one))
-
+    asked = [(program, words) for words in [guests(made) for _ in range(TRIALS)] for program in programs]
     with ThreadPoolExecutor(len(os.sched_getaffinity(0))) as threads:
-        list(threads.map(see, asked))
+        list(threads.map(lambda it: tally.see(" ".join(it[1]), fault(*it)), asked))
     return tally.end()
 
 

@@ -13,25 +13,16 @@ import pwd
 import subprocess
 import sys
 import tempfile
-import time
 from pathlib import Path
 
 sys.dont_write_bytecode = True
 from compiling import compiler
-from tally import Tally, left_out, run
+from tally import Tally, left_out, run, waited
 
 STAND_IN = "#include <unistd.h>\nint main(void) { for (;;) pause(); }\n"
-HOST, SECONDS = "0 0 4294967295", 10
+HOST = "0 0 4294967295"
 MAPPED, MAPPED_GROUPS = "--uid-map=:0:100000:65536:", "--gid-map=:0:100000:65536:"
 FORBIDDEN = [f"--translate-{it}=forbid-guest:65536:4294901759" for it in ("uid", "gid")]
-
-
-def until(is_so, what):
-    end = time.monotonic() + SECONDS
-    while not is_so():
-        if time.monotonic() > end:
-            raise TimeoutError(what)
-        time.sleep(0.01)
 
 
 @contextlib.contextmanager
@@ -45,7 +36,7 @@ def daemon(program, options, ranges=None, user=0):
     started = subprocess.Popen(words, user=user, group=user, extra_groups=[], **how)
     try:
         there = Path(f"/proc/{started.pid}")
-        until(lambda: (there / "cmdline").read_bytes().startswith(program.encode()), "the start of a stand-in")
+        waited(lambda: (there / "cmdline").read_bytes().startswith(program.encode()))
         for name, lines in zip(("uid_map", "gid_map"), ranges or ()):
             (there / name).write_text(lines, encoding="ascii")
         yield str(started.pid)
@@ -61,28 +52,19 @@ def processes(room, stand_in):
     with daemon(stand_in, ranges, kernels) as pid:
         yield "a namespace as its options say", ["--pid", pid], 0, "its 0 to 65535 are 100000 to 165535 on the host"
         yield "the same, isolated", ["--isolated", "--pid", pid], 0, "nothing found"
-        with daemon(stand_in, ranges, kernels) as other:
-            yield "two daemons in one range", ["--pid", pid, "--pid", other], 5, "guests 1 and 2"
         with daemon(stand_in, [it.replace("100000", "200000") for it in ranges], ("0 200000 65536\n",) * 2) as other:
             yield "two daemons apart", ["--pid", pid, "--pid", other], 0, "nothing found"
             yield "a command line beside them", ["--pid", pid, "--pid", other, "--", "virtiofsd", *ranges], 5, "guests 1 and 2"
     with daemon(stand_in, ranges, ("0 100000 1000\n", "0 100000 65536\n")) as pid:
         yield "a namespace of other ranges", ["--pid", pid], 5, "the kernel shows other ranges than"
-        yield "of users alone", ["--json", "--pid", pid], 5, '"other_ranges"'
-    with daemon(stand_in, ranges, ("0 100000 1000\n1000 101000 64536\n", "0 100000 65536\n")) as pid:
-        yield "the same ids in two ranges", ["--pid", pid], 5, "the kernel shows other ranges than"
     with daemon(stand_in, []) as pid:
         yield "root without a namespace", ["--pid", pid], 5, "root of the host"
-        yield "accepted", ["--accept", "root", "--pid", pid], 0, "nothing else found"
     with daemon(stand_in, [], ("1234 1234 1\n",) * 2, user=1234) as pid:
         yield "a user's own namespace", ["--pid", pid], 5, "its 1234 is 1234 on the host"
-        yield "one id of it", ["--explain", "user=1234", "--pid", pid], 0, "1234"
     with daemon(stand_in, [*ranges, *["--xattrmap=:bad:all:a:b:" + ":ok:all:::" * 9000] * 2], kernels) as pid:
         yield "a command line of 180 KB", ["--pid", pid], 5, "names: 9001 rules"
     with daemon(stand_in, ["--translate-uid", b"\xff"]) as pid:
         yield "a word that is not UTF-8", ["--pid", pid], 2, f"a word of process {pid} is not UTF-8"
-    with daemon(stand_in, ["--translate-uid", "map:0:1"]) as pid:
-        yield "a value that is refused", ["--pid", pid], 1, "the first --translate-uid"
     yield "one that is gone", ["--pid", pid], 2, f"there is no process {pid}"
     yield "this process", ["--pid", str(os.getpid())], 2, f"process {os.getpid()} is no virtiofsd"
     yield "a thread of the kernel, or the first process", ["--pid", "2"], 2, "process 2"
@@ -91,28 +73,17 @@ def processes(room, stand_in):
 def files(room, _):
     """The same for users who start daemons, and the files that give them ids."""
     user = next(it for it in pwd.getpwall() if it.pw_uid not in (0, 4321))
-    given, none = Path(room, "given"), Path(room, "none")
+    given = Path(room, "given")
     given.write_text(f"# a comment\n4321:100000:65536\n{user.pw_name}:200000:1000\n", encoding="utf-8")
-    none.write_text("", encoding="utf-8")
     both = lambda it: ["--subuid", str(it), "--subgid", str(it)]
     daemon_of = lambda first, count: ["--", "virtiofsd", f"--uid-map=:0:{first}:{count}:", f"--gid-map=:0:{first}:{count}:",
                                       f"--translate-uid=forbid-guest:{count}:{4294967295 - count}",
                                       f"--translate-gid=forbid-guest:{count}:{4294967295 - count}"]
-    by_name, named = ["--run-as", str(user.pw_uid)], f"{user.pw_uid}:{user.pw_gid}"
     yield "ids given by number", ["--run-as", "4321:4321", *both(given), *daemon_of(100000, 65536)], 0, "nothing found"
     yield "one id more", ["--run-as", "4321:4321", *both(given), *daemon_of(100000, 65537)], 5, "the daemon does not start"
-    yield "ids given by name", [*by_name, *both(given), *daemon_of(200000, 1000)], 0, "nothing found"
-    yield "its group too", ["--run-as", named, *both(given), *daemon_of(200000, 1000)], 0, "nothing found"
-    yield "ids of another", [*by_name, *both(given), *daemon_of(100000, 1000)], 5, "the daemon does not start"
-    yield "none given", ["--run-as", "4321:4321", *both(none), *daemon_of(100000, 1)], 5, "the daemon does not start"
-    yield "its own id alone", ["--run-as", "4321:4321", *both(none), *daemon_of(4321, 1)], 0, "its 0 is 4321 on the host"
-    yield "users given, groups not", ["--run-as", "4321:4321", "--subuid", str(given), "--subgid", str(none),
-                                      *daemon_of(100000, 1)], 5, "the first --gid-map"
-    yield "root, whom no file bounds", ["--run-as", "0:0", *both(none), *daemon_of(100000, 1)], 0, "nothing found"
+    yield "ids given by name", ["--run-as", str(user.pw_uid), *both(given), *daemon_of(200000, 1000)], 0, "nothing found"
     yield "files for no user", [*both(given), *daemon_of(1, 1)], 2, "'--subuid' and '--subgid' are for '--run-as'"
-    yield "no such file", ["--run-as", "4321:4321", *both(f"{room}/gone"), *daemon_of(1, 1)], 2, "there is no file"
     yield "a folder", ["--run-as", "4321:4321", *both(room), *daemon_of(1, 1)], 2, "cannot be read"
-    yield "a user without a group", ["--run-as", "4294967294", *daemon_of(1, 1)], 2, "/etc/passwd has no user 4294967294"
 
 
 def try_on(tally, program, cases):
@@ -123,8 +94,6 @@ def try_on(tally, program, cases):
 
 
 def main(words):
-    if not words:
-        return print(__doc__, end="", file=sys.stderr) or 2
     tally = Tally(quietly=True)
     with tempfile.TemporaryDirectory(prefix="host-") as room:
         os.chmod(room, 0o755)

@@ -86,8 +86,8 @@ def in_rust(tally, room, below, pkg_config):
     for way, environment in (("VIRTIOFS_MAP_LIB", by_variable), ("pkg-config", by_pkg_config))[: 2 if pkg_config else 1]:
         if see_run(tally, f"the front page's program builds by {way}", build, cwd=daemon, env=environment):
             see_run(tally, f"the front page's program by {way}", [f"{room}/target/debug/daemon"])
-    document, is_right = [cargo, "doc", "--offline", "--no-deps", "-p", "virtiofs_map"], lambda status, said: not status
-    see_run(tally, "cargo doc says no warning", document, is_right, cwd=daemon, env=by_variable)
+    document = [cargo, "doc", "--offline", "--no-deps", "-p", "virtiofs_map"]
+    see_run(tally, "cargo doc says no warning", document, cwd=daemon, env=by_variable)
     is_right = lambda status, said: status and "VIRTIOFS_MAP_LIB may name" in said
     see_run(tally, "a build with no archive says why", build, is_right, cwd=daemon, env=by_nothing)
 

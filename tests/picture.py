@@ -107,8 +107,8 @@ def main(programs):
     for program, (name, words, labelled) in ((one, case) for one in programs for case in cases()):
         drawn, shown = (subprocess.run([program, *how, *words], stdout=subprocess.PIPE, stderr=subprocess.DEVNULL)
                     for how in (["--svg"], ["--json", "--show", "ids"]))
-        found = [*wrong(drawn.stdout, words, labelled, json.loads(shown.stdout)["guests"])]
-        found += ["another status"] if drawn.returncode != shown.returncode else []
+        found = ["another status"] if drawn.returncode != shown.returncode else []
+        found += wrong(drawn.stdout, words, labelled, json.loads(shown.stdout)["guests"])
         tally.see(f"{name}, by {program.name}", found[:9])
         if name.endswith(".svg"):
             tally.see(f"{name} as it is", drawn.stdout != (TOP / name).read_bytes() and "it is drawn otherwise now")

@@ -2,6 +2,7 @@
 import re
 import subprocess
 import threading
+import time
 
 SHOWN_AT_MOST, LONGEST = 20, 3000
 
@@ -52,3 +53,11 @@ def run(words, seconds=600, **how):
     except (OSError, subprocess.TimeoutExpired) as error:
         return 1, str(error)
     return ended.returncode, ended.stdout.decode("utf-8", "replace")
+
+
+def waited(holds, seconds=60):
+    """Waits until a condition holds, or time is up. Returns whether it holds."""
+    until = time.monotonic() + seconds
+    while not (it := holds()) and time.monotonic() < until:
+        time.sleep(0.001)
+    return it

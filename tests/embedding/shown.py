@@ -1,6 +1,5 @@
 """Sees that the code which pages show is code that is compiled, and that pages say the same of names."""
 import re
-from pathlib import Path
 from textwrap import dedent
 
 PAGES = {"C.md": ("c", "examples/*.c"), "RUST.md": ("rust", "examples/*.rs", "tests/embedding/calls.rs"),
@@ -28,7 +27,6 @@ def names_of(page):
 
 def shown(top):
     """What to see, and what is wrong with it."""
-    top = Path(top)
     pages = {it: (top / "docs" / it).read_text("utf-8") for it in PAGES}
     for name, (kind, *globs) in PAGES.items():
         files = [it.read_text("utf-8") for one in globs for it in sorted(top.glob(one))]

@@ -5,8 +5,8 @@ import stat
 import struct
 from pathlib import Path
 
-from mounts import OWN_NAMES, SHIFTED, Configuration, outcome, read_into, waited
-from tally import left_out, run
+from mounts import OWN_NAMES, SHIFTED, Configuration, outcome, read_into
+from tally import left_out, run, waited
 
 PREPEND, NAME_MAX, FILES_HELD = "user.virtiofs.", 255, 300
 ACCESS, DEFAULT, CAPABILITY = "system.posix_acl_access", "system.posix_acl_default", "security.capability"

@@ -7,8 +7,8 @@ import re
 from pathlib import Path
 
 from cases import ACCESS, USER, access_list
-from mounts import LIBC, Configuration, Mounted, outcome, waited
-from tally import left_out, run
+from mounts import LIBC, Configuration, Mounted, outcome
+from tally import left_out, run, waited
 
 KEEP_SIZE, PUNCH_HOLE, LIMIT, MEBIBYTE = 1, 2, 256, 1 << 20
 # Starts a daemon that may open few files, and may not raise its limit.

@@ -74,14 +74,6 @@ class Mounted(contextlib.AbstractContextManager):
     folder = lambda self, name, mode=0o777, owners=(0, 0): self.file(name, mode, owners, Path.mkdir)
 
 
-def waited(holds, seconds=60):
-    """Waits until a condition holds, or time is up. Returns whether it holds."""
-    until = time.monotonic() + seconds
-    while not (it := holds()) and time.monotonic() < until:
-        time.sleep(0.001)
-    return it
-
-
 def outcome(call, *arguments, by=(0, 0), **named):
     """What a call answers, or the name of its error, with this thread, and no other one, as that user and group."""
     LIBC.setfsgid(ctypes.c_uint(by[1]))

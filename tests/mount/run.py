@@ -18,9 +18,9 @@ sys.path.insert(0, str(Path(__file__).resolve().parents[1]))
 from cases import CASES, REFUSED
 from compiling import C_FLAGS, INCLUDE, LINKED, SANITIZED, TOP, compiler
 from files import FILE_CASES, over_the_dead
-from mounts import Configuration, Mounted, outcome, waited
+from mounts import Configuration, Mounted, outcome
 from operations import OPERATION_CASES, killed
-from tally import Tally, left_out, run
+from tally import Tally, left_out, run, waited
 
 # A command with mounts and processes of its own, which are gone when it is; and one that tries whether a program can
 # serve a mount. It needs no daemon, so that a fault of the daemon is none of this.

@@ -156,6 +156,28 @@ pub found_none : {A : Type 0} (found : Option (AppliedRule A)) (answer : ClientA
 found_none {A} found answer is same =
     ap (λ (it : Option (AppliedRule A)). option_map_or meaning it IsUnterminated) (sym is) ∙ same
 
+-- that, and the lines back
+pub became : {T E : Type 0} (r : Result T E) (rules : List ℕ) (map : List MappingRule) (count : ℕ)
+    (name : List ℕ) (found becomes : ClientAnswer) (before after : List ℕ) → found ≡ becomes
+    → OnOk r ((back : List ℕ) × AreBackLines rules map count name found back
+    × (after ≡ (before ++ passes_text found) ++ back))
+    → OnOk r ((back : List ℕ) × AreBackLines rules map count name becomes back
+    × (after ≡ (before ++ passes_text becomes) ++ back))
+became r rules map count name found becomes before after is told =
+    subst (λ (it : ClientAnswer). OnOk r ((back : List ℕ) × AreBackLines rules map count name it back
+    × (after ≡ (before ++ passes_text it) ++ back))) is told
+
+-- no rule decides it
+pub undecided : {T E : Type 0} (r : Result T E) (rules : List ℕ) (map : List MappingRule) (count : ℕ)
+    (name : List ℕ) (becomes : ClientAnswer) (before after : List ℕ) → IsUnterminated ≡ becomes
+    → after ≡ (if is_ok r then before ++ codes " -> calls fail\n" else before)
+    → OnOk r ((back : List ℕ) × AreBackLines rules map count name becomes back
+    × (after ≡ (before ++ passes_text becomes) ++ back))
+undecided {T} {E} (Ok x) rules map count name becomes before after is wrote =
+    became {E = E} (Ok x) rules map count name IsUnterminated becomes before after is
+    ([], refl, wrote ∙ sym (append-nil _))
+undecided (Err e) rules map count name becomes before after is wrote = tt
+
 -- the rule that decides, and what it makes of the name
 pub guest_lines : {T E : Type 0} (r : Result T E) (rules : List ℕ) (map : List MappingRule) (count : ℕ)
     (name : List ℕ) (becomes : ClientAnswer) (before between after : List ℕ)
@@ -178,15 +200,3 @@ guest_lines (Ok x) rules map count name becomes before between after (line, rule
       (last ∙ ap (λ (a : ClientAnswer). (between ++ passes_text a) ++ back) is),
 )
 guest_lines (Err e) rules map count name becomes before between after line is back = tt
-
--- no rule decides it
-pub guest_undecided : {T E : Type 0} (r : Result T E) (rules : List ℕ) (map : List MappingRule) (count : ℕ)
-    (name : List ℕ) (before between after : List ℕ)
-    → ((line : List ℕ) × IsRuleLine Client rules map count name line × (between ≡ before ++ line))
-    → IsUnterminated ≡ client_answer map name
-    → after ≡ (if is_ok r then between ++ codes " -> calls fail\n" else between)
-    → OnOk r ((shown : List ℕ) × AreGuestNameLines rules map count name shown × (after ≡ before ++ shown))
-guest_undecided {T} {E} (Ok x) rules map count name before between after line is wrote =
-    guest_lines {E = E} (Ok x) rules map count name IsUnterminated before between after line is
-    ([], refl, wrote ∙ sym (append-nil _))
-guest_undecided (Err e) rules map count name before between after line is wrote = tt

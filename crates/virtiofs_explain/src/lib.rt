@@ -13,10 +13,10 @@ ghost use Rattle.virtiofs_setup.specs.Guests.{ReadsNames, SetsUp};
 
 use crate::asking::Question;
 use crate::id_text::{Translation, push_id};
-use crate::name_text::{push_guest_name, push_host_name};
+use crate::name_text::{Rules, push_name};
 use std::alloc::{AllocError, Allocator, Global};
 use virtiofs_map::soft_idmap::Direction;
-use virtiofs_map::xattrmap::XattrName;
+use virtiofs_map::xattrmap::{Side, XattrName};
 use virtiofs_output::written::Written;
 use virtiofs_setup::guest::Guest;
 use virtiofs_setup::guests::set_up_all;
@@ -113,9 +113,10 @@ fn push_name_lines<A: Allocator + Copy>(
     let Some(names) = names else {
         return text.push_str("    refused\n");
     };
+    let rules = Rules { text: rules, names };
     match direction {
-        Direction::GuestToHost => push_guest_name(alloc, text, rules, names, name),
-        Direction::HostToGuest => push_host_name(alloc, text, rules, names, name),
+        Direction::GuestToHost => push_name(alloc, text, rules, Side::Client, name),
+        Direction::HostToGuest => push_name(alloc, text, rules, Side::Server, name),
     }
 }
 

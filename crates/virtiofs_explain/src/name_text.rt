@@ -6,7 +6,8 @@ ghost use Rattle.virtiofs_map.specs.LookupAnswers.{meaning, passed_bytes};
 ghost use Rattle.virtiofs_map.specs.Names.{ClientAnswer, IsUnterminated, client_answer, host_answer};
 ghost use Rattle.virtiofs_setup.specs.Guests.{ReadsText};
 ghost use Rattle.virtiofs_explain.specs.ExplainNames.{DecidesAt, stood};
-ghost use Rattle.virtiofs_explain.specs.ExplainNameText.{rule_text, passes_text, stands_text, is_back, IsRuleLine, AreBackLines, AreGuestNameLines, IsHostNameLine};
+ghost use Rattle.virtiofs_explain.specs.ExplainNameText.{rule_text, passes_text, stands_text, is_back, IsRuleLine, AreBackLines};
+ghost use Rattle.virtiofs_explain.specs.ExplainNameParts.{AreLinesFrom};
 
 use crate::id_text::round_text;
 use crate::rule_text::rule_at;
@@ -17,6 +18,15 @@ use virtiofs_map::xattrmap::{
 };
 use virtiofs_output::written::Written;
 use virtiofs_setup::setup::NamesSetUp;
+
+/// The rules of a daemon.
+#[derive(Clone, Copy)]
+pub(crate) struct Rules<'g, A: Allocator> {
+    /// Their text.
+    pub(crate) text: &'g str,
+    /// What it sets up.
+    pub(crate) names: &'g NamesSetUp<A>,
+}
 
 /// How a name of the host stands in lists.
 #[derive(Clone, Copy)]
@@ -59,20 +69,20 @@ fn push_rule<A: Allocator>(
 fn push_deciding<A: Allocator + Copy>(
     alloc: A,
     text: &mut String<A>,
-    rules: &str,
-    names: &NamesSetUp<A>,
+    rules: Rules<'_, A>,
     side: Side,
     name: XattrName<'_>,
 ) -> Result<(), AllocError>
-    requires { ReadsText (chars rules.now) names.now }
+    requires { ReadsText (chars rules.text.now) rules.names.now }
     ensures { OnOk result ((line : List ℕ)
-        × IsRuleLine side rules.now names.now.map names.now.written name.entry.bytes.now line
+        × IsRuleLine side rules.entry.text.now rules.entry.names.now.map
+        rules.entry.names.now.written name.entry.bytes.now line
         × (string_bytes text.new ≡ string_bytes text.old ++ line)) }
 {
-    let Some(place) = deciding(names, side, name) else {
+    let Some(place) = deciding(rules.names, side, name) else {
         return text.push_str("    no rule");
     };
-    let rule = rule_at(alloc, rules, place)?;
+    let rule = rule_at(alloc, rules.text, place)?;
     push_rule(text, place, rule.as_str().as_bytes())
 }
 
@@ -103,25 +113,6 @@ fn push_shown<A: Allocator>(text: &mut String<A>, stands: Shown<'_>) -> Result<(
     }
 }
 
-/// Writes how a name of the host stands in lists at the end of a text. The rules are read from their
-/// text.
-pub(super) fn push_host_name<A: Allocator + Copy>(
-    alloc: A,
-    text: &mut String<A>,
-    rules: &str,
-    names: &NamesSetUp<A>,
-    name: XattrName<'_>,
-) -> Result<(), AllocError>
-    requires read { ReadsText (chars rules.now) names.now }
-    requires not_empty { 0 < length name.bytes.now }
-    ensures { OnOk result ((shown : List ℕ)
-        × IsHostNameLine rules.now names.now.map names.now.written name.entry.bytes.now shown
-        × (string_bytes text.new ≡ string_bytes text.old ++ shown)) }
-{
-    push_deciding(alloc, text, rules, names, Side::Server, name)?;
-    push_shown(text, stands(&names.map, name))
-}
-
 /// Whether it is that name under which a name of the host is listed.
 fn is_back(name: &[u8], stands: Shown<'_>) -> bool
     ensures { result ≡ is_back name.now (stood stands.entry) }
@@ -148,20 +139,22 @@ fn name_of<'p, A: Allocator>(passed: &'p PassedName<'_, A>) -> XattrName<'p>
 fn push_back<A: Allocator + Copy>(
     alloc: A,
     text: &mut String<A>,
-    rules: &str,
-    names: &NamesSetUp<A>,
+    rules: Rules<'_, A>,
     name: XattrName<'_>,
     host: XattrName<'_>,
 ) -> Result<(), AllocError>
-    requires read { ReadsText (chars rules.now) names.now }
+    requires read { ReadsText (chars rules.text.now) rules.names.now }
     requires not_empty { 0 < length host.bytes.now }
     ensures { OnOk result ((back : List ℕ)
-        × AreBackLines rules.now names.now.map names.now.written name.entry.bytes.now
+        × AreBackLines rules.entry.text.now rules.entry.names.now.map
+        rules.entry.names.now.written name.entry.bytes.now
         (ClientAnswer.Passes host.entry.bytes.now) back
         × (string_bytes text.new ≡ string_bytes text.old ++ back)) }
 {
-    push_host_name(alloc, text, rules, names, host)?;
-    text.push_str(round_text(is_back(name.bytes, stands(&names.map, host))))
+    push_deciding(alloc, text, rules, Side::Server, host)?;
+    let stands = stands(&rules.names.map, host);
+    push_shown(text, stands)?;
+    text.push_str(round_text(is_back(name.bytes, stands)))
 }
 
 /// Answers `Ok` to the error that no rule decides a name, and any other as out of memory.
@@ -196,17 +189,16 @@ fn applied<'a, A: Allocator + Copy>(
 fn push_applied<A: Allocator + Copy>(
     alloc: A,
     text: &mut String<A>,
-    rules: &str,
-    names: &NamesSetUp<A>,
+    rules: Rules<'_, A>,
     name: XattrName<'_>,
     applied: &AppliedRule<'_, A>,
 ) -> Result<(), AllocError>
-    requires read { ReadsText (chars rules.now) names.now }
+    requires read { ReadsText (chars rules.text.now) rules.names.now }
     requires not_empty { 0 < length name.bytes.now }
-    requires is { meaning applied.now ≡ client_answer names.now.map name.bytes.now }
+    requires is { meaning applied.now ≡ client_answer rules.names.now.map name.bytes.now }
     ensures { OnOk result ((back : List ℕ)
-        × AreBackLines rules.now names.now.map names.now.written name.entry.bytes.now
-        (meaning applied.now) back
+        × AreBackLines rules.entry.text.now rules.entry.names.now.map
+        rules.entry.names.now.written name.entry.bytes.now (meaning applied.now) back
         × (string_bytes text.new
         ≡ string_bytes text.old ++ passes_text (meaning applied.now) ++ back)) }
 {
@@ -215,32 +207,53 @@ fn push_applied<A: Allocator + Copy>(
             let host = name_of(passed);
             let it = Written(host.bytes);
             write!(text, " -> name {it} of the host\n")?;
-            push_back(alloc, text, rules, names, name, host)
+            push_back(alloc, text, rules, name, host)
         }
         AppliedRule::Deny => text.push_str(" -> denied\n"),
         AppliedRule::Unsupported => text.push_str(" -> unsupported\n"),
     }
 }
 
-/// Writes what becomes of a name that the guest uses at the end of a text. The rules are read from
-/// their text.
-pub(super) fn push_guest_name<A: Allocator + Copy>(
+/// Writes what becomes of a name that the guest uses, and the lines back, at the end of a text.
+fn push_becomes<A: Allocator + Copy>(
     alloc: A,
     text: &mut String<A>,
-    rules: &str,
-    names: &NamesSetUp<A>,
+    rules: Rules<'_, A>,
     name: XattrName<'_>,
 ) -> Result<(), AllocError>
-    requires read { ReadsText (chars rules.now) names.now }
+    requires read { ReadsText (chars rules.text.now) rules.names.now }
     requires not_empty { 0 < length name.bytes.now }
-    ensures { OnOk result ((shown : List ℕ)
-        × AreGuestNameLines rules.now names.now.map names.now.written name.entry.bytes.now shown
-        × (string_bytes text.new ≡ string_bytes text.old ++ shown)) }
+    ensures { let becomes = client_answer rules.entry.names.now.map name.entry.bytes.now in
+        OnOk result ((back : List ℕ)
+        × AreBackLines rules.entry.text.now rules.entry.names.now.map
+        rules.entry.names.now.written name.entry.bytes.now becomes back
+        × (string_bytes text.new ≡ string_bytes text.old ++ passes_text becomes ++ back)) }
 {
-    push_deciding(alloc, text, rules, names, Side::Client, name)?;
-    let found = applied(alloc, &names.map, name)?;
+    let found = applied(alloc, &rules.names.map, name)?;
     match &found {
-        Some(applied) => push_applied(alloc, text, rules, names, name, applied),
+        Some(applied) => push_applied(alloc, text, rules, name, applied),
         None => text.push_str(" -> calls fail\n"),
+    }
+}
+
+/// Writes the lines of a name from that side at the end of a text. The rules are read from their text.
+pub(super) fn push_name<A: Allocator + Copy>(
+    alloc: A,
+    text: &mut String<A>,
+    rules: Rules<'_, A>,
+    side: Side,
+    name: XattrName<'_>,
+) -> Result<(), AllocError>
+    requires read { ReadsText (chars rules.text.now) rules.names.now }
+    requires not_empty { 0 < length name.bytes.now }
+    ensures { OnOk result ((lines : List ℕ)
+        × AreLinesFrom side rules.entry.text.now rules.entry.names.now.map
+        rules.entry.names.now.written name.entry.bytes.now lines
+        × (string_bytes text.new ≡ string_bytes text.old ++ lines)) }
+{
+    push_deciding(alloc, text, rules, side, name)?;
+    match side {
+        Side::Client => push_becomes(alloc, text, rules, name),
+        Side::Server => push_shown(text, stands(&rules.names.map, name)),
     }
 }

@@ -11,6 +11,7 @@ pub mod GatheredParts
 pub mod TrieBuildParts
 pub mod Image
 pub mod ImageAnswer
+pub mod KeyedParts
 pub mod Listing
 pub mod Lookup
 pub mod LookupAnswers

@@ -232,6 +232,13 @@ pub record HasRows (image : List ℕ) (first labels : ℕ) (nodes : List Node) :
   pub small : All (IsSmallIn first labels) nodes
   pub bytes : All HasBytes nodes
 
+-- the rows are those of these nodes, if their numbers fit; their trie begins there, counted in eights, and their labels
+-- are counted from the first byte of all patterns
+pub record AreRowsOf (rows : List ℕ) (first : ℕ) (nodes : List Node) : Type 0 where
+  pub long : length rows ≡ 24 * length nodes
+  pub are : All (IsSmallIn first 0) nodes → rows ≡ flat_map (row_in first 0) nodes
+  pub bytes : All HasBytes nodes
+
 -- from there on the image has these bytes
 pub record HasBytesAt (image : List ℕ) (start : ℕ) (bytes : List ℕ) : Type 0 where
   pub within : start + length bytes ≤ length image
@@ -261,6 +268,12 @@ pub record IsTrieWith (side : Side) (rules : List MappingRule) (nodes : List Nod
   pub bounded : All (IsBounded nodes bytes) nodes
   pub counted : length nodes ≡ node_count side rules
   pub few : AreFew rules
+
+-- the rows are those of such a trie, which begins there, counted in eights
+pub record AreTrieRows (side : Side) (rules : List MappingRule) (bytes rows : List ℕ) (first : ℕ) : Type 0 where
+  pub nodes : List Node
+  pub trie : IsTrieWith side rules nodes bytes
+  pub rows_of : AreRowsOf rows first nodes
 
 -- between these places the image has the rows of a trie of the patterns of that side, whose labels stand among the
 -- bytes, which begin there, and of few rules

@@ -2,7 +2,7 @@
 use Rattle.std.specs.Prelude.{◌≡◌, ◌≢◌, ◌⊎◌, ℕ, ◌+◌, ◌-◌, ◌<◌, ◌≤◌, false, List, [], length, take, drop, All}
 use Rattle.std.specs.Prelude.{suc, ◌∷◌, map, Option, Some, None, slice_get, ◌==◌, ◌&&◌, not, if◌then◌else◌}
 use Rattle.std.specs.Option.{option_map_or}
-use Rattle.virtiofs_map.specs.NodeParts.{no_answer, AreInOrder}
+use Rattle.virtiofs_map.specs.NodeParts.{no_answer, AreInOrder, AreRowsOf}
 use Rattle.virtiofs_map.specs.PatternTrie.{TextNode, root}
 use Rattle.virtiofs_map.specs.TrieParts.{node_with, children_of}
 use Rattle.std.specs.List.{flat_map}
@@ -168,6 +168,15 @@ pub record AreExact (patterns : List Pattern) (ranges : List PatternRange) (node
       → node
       ≡ node_with patterns node.answer
       (suc (length (flat_map (children_of patterns) (take at (map (text_node_of patterns) ranges))))) (text_node_of patterns range)
+
+-- the first places have nodes, so many, and the rows are those of these
+pub record AreMade (patterns : List Pattern) (ranges : List PatternRange) (rows : List ℕ) (first count : ℕ) : Type
+    0 where
+  pub nodes : List Node
+  pub counted : count ≡ length nodes
+  pub built : AreBuilt patterns ranges nodes
+  pub exact : AreExact patterns ranges nodes
+  pub rows_of : AreRowsOf rows first nodes
 
 -- the places from there on are at least so deep
 pub record AreDeep (ranges : List PatternRange) (from depth : ℕ) : Type 0 where

@@ -2,7 +2,7 @@
 use Rattle.std.specs.Prelude.{◌≡◌, ℕ, ◌+◌, ◌-◌, false, All, List, [], ◌∷◌, length, map, Option, Some, None}
 use Rattle.std.specs.List.{find}
 use Rattle.std.specs.Option.{option_map_or}
-use Rattle.virtiofs_map.specs.NodeParts.{IsBounded, IsTrie, answer_of, no_answer}
+use Rattle.virtiofs_map.specs.NodeParts.{AreFew, ArePatterns, AreRowsOf, IsBounded, IsTrie, answer_of, no_answer}
 use Rattle.virtiofs_map.specs.Names.{begins}
 use Rattle.virtiofs_map.specs.PatternTrie.{TextNode, are_sparse, children, longest_label, next_bytes, text_nodes}
 use Rattle.virtiofs_map.specs.Rule.{MappingRule}
@@ -79,3 +79,10 @@ pub record IsTrieOf (side : Side) (rules : List MappingRule) (bytes : List ℕ) 
   pub exact : nodes ≡ nodes_of side rules patterns
   pub trie : IsTrie side rules nodes bytes
   pub bounded : All (IsBounded nodes bytes) nodes
+
+-- the rows are those of such nodes, which begin there, counted in eights
+pub record AreRowsOfTrie (bytes : List ℕ) (patterns : List Pattern) (rows : List ℕ) (first : ℕ) : Type 0 where
+  pub nodes : List Node
+  pub trie : (side : Side) (rules : List MappingRule) → ArePatterns side rules bytes patterns → AreFew rules
+      → IsTrieOf side rules bytes patterns nodes
+  pub rows_of : AreRowsOf rows first nodes

@@ -157,7 +157,7 @@ impl<A: Allocator + Copy> XattrMap<A> {
         ensures map_rule { IfOk result (ReadsMapRule (chars text.now)) }
     {
         let (rules, _) = read_rules(alloc, text)?;
-        let bytes = image_of(alloc, &rules)?;
+        let bytes = image_of(alloc, rules)?;
         Ok(XattrMap { bytes })
     }
 

@@ -1,3 +1,1 @@
-mod NoFloatLemmas
-mod ReportJsonLemmas
 mod SaidLemmas

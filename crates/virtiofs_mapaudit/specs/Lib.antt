@@ -1,5 +1,1 @@
-pub mod FindingJson
-pub mod IdJson
-pub mod NameJson
-pub mod ReportJson
 pub mod Said

@@ -11,7 +11,7 @@ use Rattle.virtiofs_findings.specs.FindingText.{found_text}
 use Rattle.virtiofs_tables.specs.IdTable.{ShowsIds}
 use Rattle.virtiofs_tables.specs.NameTable.{ShowsNames}
 use Rattle.virtiofs_findings.specs.Report.{IsFound, HasAccepted}
-use Rattle.virtiofs_mapaudit.specs.ReportJson.{IsJson}
+use Rattle.virtiofs_report_json.specs.ReportJson.{IsJson}
 use Rattle.virtiofs_tables.specs.SummaryText.{SumsUp}
 use Rattle.virtiofs_advice.specs.declared.Advised.{Advised}
 use Rattle.virtiofs_setup.specs.declared.alike.Alike.{Alike}

@@ -34,6 +34,14 @@ impl<T: Drop> From<AllocFailed<T>> for HostFault {
     }
 }
 
+/// A fault that is told by this sentence.
+fn told(sentence: Result<String, AllocError>) -> HostFault {
+    match sentence {
+        Ok(sentence) => HostFault::Told(sentence),
+        Err(_) => HostFault::OutOfMemory,
+    }
+}
+
 /// What the host tells of a process.
 #[derive(Drop)]
 pub(crate) struct HostProcess {
@@ -62,10 +70,10 @@ fn content(rt: &HostRuntime, path: &str) -> Result<Option<Vec<u8>>, HostFault> {
         Err(error) => match error.kind() {
             io::ErrorKind::OutOfMemory => Err(HostFault::OutOfMemory),
             io::ErrorKind::NotFound => Ok(None),
-            io::ErrorKind::PermissionDenied => Err(HostFault::Told(format!(in rt.alloc();
-                "{path} may not be read\n"
-            )?)),
-            _ => Err(HostFault::Told(format!(in rt.alloc(); "{path} cannot be read\n")?)),
+            io::ErrorKind::PermissionDenied => {
+                Err(told(format!(in rt.alloc(); "{path} may not be read\n")))
+            }
+            _ => Err(told(format!(in rt.alloc(); "{path} cannot be read\n"))),
         },
     }
 }
@@ -75,7 +83,7 @@ fn of_process(rt: &HostRuntime, pid: u32, name: &str) -> Result<Vec<u8>, HostFau
     let path = format!(in rt.alloc(); "/proc/{pid}/{name}")?;
     match content(rt, path.as_str())? {
         Some(bytes) => Ok(bytes),
-        None => Err(HostFault::Told(format!(in rt.alloc(); "there is no process {pid}\n")?)),
+        None => Err(told(format!(in rt.alloc(); "there is no process {pid}\n"))),
     }
 }
 
@@ -85,9 +93,9 @@ fn ranges_shown(rt: &HostRuntime, pid: u32, name: &str) -> Result<Vec<UidMap>, H
     match read_id_map(rt.alloc(), text.as_slice()) {
         Ok(ranges) => Ok(ranges),
         Err(ReadError::OutOfMemory) => Err(HostFault::OutOfMemory),
-        Err(ReadError::Wrong(_)) => Err(HostFault::Told(format!(in rt.alloc();
+        Err(ReadError::Wrong(_)) => Err(told(format!(in rt.alloc();
             "/proc/{pid}/{name} is not as Linux writes it\n"
-        )?)),
+        ))),
     }
 }
 
@@ -100,23 +108,27 @@ fn bounds_shown(own: u32, shown: Vec<UidMap>) -> Bounds<Global> {
     }
 }
 
-/// Who runs a process. `place` is that of the runner.
-fn runner_of(rt: &HostRuntime, pid: u32, place: usize) -> Result<Runner<Global>, HostFault> {
-    let users = ranges_shown(rt, pid, "uid_map")?;
-    let groups = ranges_shown(rt, pid, "gid_map")?;
+/// The user and the group of a process.
+fn ids_shown(rt: &HostRuntime, pid: u32) -> Result<(u32, u32), HostFault> {
     let status = of_process(rt, pid, "status")?;
     let ids = (
         effective_uid(status.as_slice()),
         effective_gid(status.as_slice()),
     );
     let (Some(uid), Some(gid)) = ids else {
-        return Err(HostFault::Told(format!(in rt.alloc();
-            "/proc/{pid}/status does not say who runs it\n"
-        )?));
+        return Err(told(format!(in rt.alloc(); "/proc/{pid}/status does not say who runs it\n")));
     };
+    Ok((uid, gid))
+}
+
+/// Who runs a process. `place` is that of the runner.
+fn runner_of(rt: &HostRuntime, pid: u32, place: usize) -> Result<Runner<Global>, HostFault> {
+    let (uid, gid) = ids_shown(rt, pid)?;
+    let users = bounds_shown(uid, ranges_shown(rt, pid, "uid_map")?);
+    let groups = bounds_shown(gid, ranges_shown(rt, pid, "gid_map")?);
     Ok(Runner {
-        users: bounds_shown(uid, users),
-        groups: bounds_shown(gid, groups),
+        users,
+        groups,
         process: Some(pid),
         place,
     })
@@ -135,7 +147,7 @@ fn given(
     match content(rt, path)? {
         Some(text) => Ok(read_subordinate(rt.alloc(), text.as_slice(), name, uid)?),
         None if files.is_empty() => Ok(Vec::new(rt.alloc())),
-        None => Err(HostFault::Told(format!(in rt.alloc(); "there is no file {path}\n")?)),
+        None => Err(told(format!(in rt.alloc(); "there is no file {path}\n"))),
     }
 }
 
@@ -148,28 +160,26 @@ fn bounds_given(own: u32, is_root: bool, given: Vec<SubIds>) -> Bounds<Global> {
     }
 }
 
-/// The user who starts a daemon, as `--run-as` says.
-fn starter(
+/// That a value of `--run-as` names no user.
+fn no_user(alloc: Global, text: &str) -> Result<String, AllocError> {
+    let word = shown(alloc, text)?;
+    format!(in alloc; "{word} is no user: --run-as takes UID or UID:GID\n")
+}
+
+/// A user who starts a daemon, where `/etc/passwd` has this text.
+fn started_by(
     rt: &HostRuntime,
     values: &Values<'_>,
-    text: &str,
+    run_as: RunAs,
+    passwd: &[u8],
     place: usize,
 ) -> Result<Runner<Global>, HostFault> {
-    let Some(RunAs { uid, gid }) = read_run_as(text) else {
-        let word = shown(rt.alloc(), text)?;
-        return Err(HostFault::Told(format!(in rt.alloc();
-            "{word} is no user: --run-as takes UID or UID:GID\n"
-        )?));
-    };
-    let passwd = match content(rt, "/etc/passwd")? {
-        Some(text) => text,
-        None => Vec::new(rt.alloc()),
-    };
-    let user = find_user(passwd.as_slice(), uid);
-    let Some(gid) = gid.or(user.map(|user| user.gid)) else {
-        return Err(HostFault::Told(format!(in rt.alloc();
+    let uid = run_as.uid;
+    let user = find_user(passwd, uid);
+    let Some(gid) = run_as.gid.or(user.map(|user| user.gid)) else {
+        return Err(told(format!(in rt.alloc();
             "/etc/passwd has no user {uid}: say the group too, as --run-as {uid}:GID\n"
-        )?));
+        )));
     };
     let number = format!(in rt.alloc(); "{uid}")?;
     let name = match user {
@@ -186,14 +196,33 @@ fn starter(
     })
 }
 
+/// The user who starts a daemon, as `--run-as` says.
+fn starter(
+    rt: &HostRuntime,
+    values: &Values<'_>,
+    text: &str,
+    place: usize,
+) -> Result<Runner<Global>, HostFault> {
+    let Some(run_as) = read_run_as(text) else {
+        return Err(told(no_user(rt.alloc(), text)));
+    };
+    match content(rt, "/etc/passwd")? {
+        Some(passwd) => started_by(rt, values, run_as, passwd.as_slice(), place),
+        None => started_by(rt, values, run_as, &[], place),
+    }
+}
+
+/// That a value of `--pid` is no number of a process.
+fn no_number(alloc: Global, text: &str) -> Result<String, AllocError> {
+    let word = shown(alloc, text)?;
+    format!(in alloc; "{word} is no number of a process\n")
+}
+
 /// The number of a process.
 fn pid_of(rt: &HostRuntime, text: &str) -> Result<u32, HostFault> {
     match decimal(text.as_bytes()) {
         Some(pid) => Ok(pid),
-        None => {
-            let word = shown(rt.alloc(), text)?;
-            Err(HostFault::Told(format!(in rt.alloc(); "{word} is no number of a process\n")?))
-        }
+        None => Err(told(no_number(rt.alloc(), text))),
     }
 }
 
@@ -215,19 +244,19 @@ fn starters_of(
 ) -> Result<Vec<Runner<Global>>, HostFault> {
     let users = values.run_as.len();
     if users == 0 && !(values.subuid.is_empty() && values.subgid.is_empty()) {
-        return Err(HostFault::Told(format!(in rt.alloc();
+        return Err(told(format!(in rt.alloc();
             "'--subuid' and '--subgid' are for '--run-as', which is not given\n"
-        )?));
+        )));
     }
     if users > 0 && guests == 0 {
-        return Err(HostFault::Told(format!(in rt.alloc();
+        return Err(told(format!(in rt.alloc();
             "'--run-as' is for a command line, and there is none\n"
-        )?));
+        )));
     }
     if users > 1 && users != guests {
-        return Err(HostFault::Told(format!(in rt.alloc();
+        return Err(told(format!(in rt.alloc();
             "give '--run-as' once, or once for each command line\n"
-        )?));
+        )));
     }
     let mut starters = Vec::new(rt.alloc());
     for text in values.run_as.as_slice() {

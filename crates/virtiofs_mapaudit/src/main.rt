@@ -3,7 +3,6 @@
 
 ghost use Rattle.std.specs.Prelude.{◌≡◌, ◌≢◌, ◌↔◌, [], IsTrue, IsFalse};
 
-mod as_json;
 mod host;
 mod mend;
 mod say;
@@ -80,7 +79,12 @@ fn run(rt: &HostRuntime) -> Result<Answered, AnswerFault> {
         .iter()
         .map(|word| word.as_str())
         .collect(rt.alloc())?;
-    match read_words(rt.alloc(), words.as_slice())? {
+    answered(rt, words.as_slice())
+}
+
+/// Does what the words ask for.
+fn answered(rt: &HostRuntime, words: &[&str]) -> Result<Answered, AnswerFault> {
+    match read_words(rt.alloc(), words)? {
         Words::Shown(text) => {
             write_whole(rt, text.as_str())?;
             Ok(Answered::Given)
@@ -91,7 +95,7 @@ fn run(rt: &HostRuntime) -> Result<Answered, AnswerFault> {
             values,
             guests,
             unknown,
-        } => audited(rt, asked, values, guests, unknown),
+        } => audited(rt, asked, &values, guests, unknown),
     }
 }
 
@@ -101,23 +105,16 @@ fn wrong(rt: &HostRuntime, text: &str) -> Answered {
     Answered::WrongWords
 }
 
-/// Adds the guest of a process, or says what is wrong with its words.
-fn add_process<'a>(
+/// Adds the guest of a process that has these words, or says what is wrong with them.
+fn add_guest<'a>(
     rt: &HostRuntime,
     process: &'a HostProcess,
+    words: &[&'a str],
     guests: &mut Vec<Guest<'a, Global>>,
     unknown: &mut Vec<UnknownWord<'a>, Global>,
 ) -> Result<Option<String>, AnswerFault> {
     let pid = process.pid;
-    let words = match read_command_line(rt.alloc(), process.cmdline.as_slice()) {
-        Ok(words) => words,
-        Err(ReadError::OutOfMemory) => return Err(AnswerFault::OutOfMemory),
-        Err(ReadError::Wrong(_)) => {
-            let text = format!(in rt.alloc(); "a word of process {pid} is not UTF-8\n")?;
-            return Ok(Some(text));
-        }
-    };
-    match read_process(rt.alloc(), guests.len() + 1, words.as_slice())? {
+    match read_process(rt.alloc(), guests.len() + 1, words)? {
         ProcessWords::Wrong(text) => Ok(Some(text)),
         ProcessWords::Read(Process::NoDaemon) => Ok(Some(format!(in rt.alloc();
             "process {pid} is no virtiofsd\n"
@@ -140,6 +137,38 @@ fn add_process<'a>(
     }
 }
 
+/// Adds the guest of a process, or says what is wrong with its words.
+fn add_process<'a>(
+    rt: &HostRuntime,
+    process: &'a HostProcess,
+    guests: &mut Vec<Guest<'a, Global>>,
+    unknown: &mut Vec<UnknownWord<'a>, Global>,
+) -> Result<Option<String>, AnswerFault> {
+    let pid = process.pid;
+    match read_command_line(rt.alloc(), process.cmdline.as_slice()) {
+        Ok(words) => add_guest(rt, process, words.as_slice(), guests, unknown),
+        Err(ReadError::OutOfMemory) => Err(AnswerFault::OutOfMemory),
+        Err(ReadError::Wrong(_)) => Ok(Some(format!(in rt.alloc();
+            "a word of process {pid} is not UTF-8\n"
+        )?)),
+    }
+}
+
+/// Adds the guests of processes; at the first whose words are wrong, says what is wrong with them.
+fn add_processes<'a>(
+    rt: &HostRuntime,
+    processes: &'a [HostProcess],
+    guests: &mut Vec<Guest<'a, Global>>,
+    unknown: &mut Vec<UnknownWord<'a>, Global>,
+) -> Result<Option<String>, AnswerFault> {
+    for process in processes {
+        if let Some(text) = add_process(rt, process, guests, unknown)? {
+            return Ok(Some(text));
+        }
+    }
+    Ok(None)
+}
+
 /// The guests that have these options, each with who starts its daemon: the only one of these, or the
 /// one at its place.
 fn with_starters<'a>(
@@ -156,6 +185,25 @@ fn with_starters<'a>(
     Ok(guests)
 }
 
+/// Audits guests, and then tells which words are not known, unless `quiet`.
+fn told_on(
+    rt: &HostRuntime,
+    asked: Asked,
+    accepted: &[&str],
+    questions: &[Question<'_>],
+    guests: &[Guest<'_, Global>],
+    unknown: &[UnknownWord<'_>],
+) -> Result<Answered, AnswerFault> {
+    let lines = unknown_lines(rt.alloc(), unknown)?;
+    let answered = answer(rt, asked, accepted, questions, guests)?;
+    if !asked.quiet {
+        for line in lines.as_slice() {
+            let _ = eprintln!(rt; "{line}");
+        }
+    }
+    Ok(answered)
+}
+
 /// Audits the guests of command lines, and those of the host's processes.
 fn audited_on<'a>(
     rt: &HostRuntime,
@@ -168,40 +216,26 @@ fn audited_on<'a>(
 ) -> Result<Answered, AnswerFault> {
     let mut unknown = unknown;
     let mut guests = with_starters(rt.alloc(), given, host.starters.as_slice())?;
-    for process in host.processes.as_slice() {
-        if let Some(text) = add_process(rt, process, &mut guests, &mut unknown)? {
-            return Ok(wrong(rt, text.as_str()));
-        }
+    let processes = host.processes.as_slice();
+    if let Some(text) = add_processes(rt, processes, &mut guests, &mut unknown)? {
+        return Ok(wrong(rt, text.as_str()));
     }
-    let lines = unknown_lines(rt.alloc(), unknown.as_slice())?;
-    let answered = answer(rt, asked, accepted, questions, guests.as_slice())?;
-    if !asked.quiet {
-        for line in lines.as_slice() {
-            let _ = eprintln!(rt; "{line}");
-        }
-    }
-    Ok(answered)
+    let (guests, unknown) = (guests.as_slice(), unknown.as_slice());
+    told_on(rt, asked, accepted, questions, guests, unknown)
 }
 
-/// Reads the values of the options, asks the host, and audits.
-fn audited<'a>(
+/// Asks the host, and audits.
+fn audited_there<'a>(
     rt: &HostRuntime,
     asked: Asked,
-    values: Values<'a>,
+    values: &Values<'a>,
+    questions: &[Question<'_>],
     guests: Vec<GuestOptions<'a, Global>>,
     unknown: Vec<UnknownWord<'a>, Global>,
 ) -> Result<Answered, AnswerFault> {
-    let accepted = values.accept.as_slice();
-    if let Some(text) = no_kind(rt.alloc(), accepted)? {
-        return Ok(wrong(rt, text.as_str()));
-    }
-    let questions = match read_questions(rt.alloc(), values.explain.as_slice())? {
-        Questions::Read(questions) => questions,
-        Questions::Wrong(text) => return Ok(wrong(rt, text.as_str())),
-    };
-    match ask(rt, &values, guests.len()) {
+    match ask(rt, values, guests.len()) {
         Ok(host) => {
-            let questions = questions.as_slice();
+            let accepted = values.accept.as_slice();
             audited_on(rt, asked, accepted, questions, &host, guests, unknown)
         }
         Err(HostFault::Told(text)) => Ok(wrong(rt, text.as_str())),
@@ -209,8 +243,47 @@ fn audited<'a>(
     }
 }
 
-/// Audits guests, and writes what is to be said of them, a drawing, options that are advised, or the
-/// answers to questions.
+/// Reads the values of the options, asks the host, and audits.
+fn audited<'a>(
+    rt: &HostRuntime,
+    asked: Asked,
+    values: &Values<'a>,
+    guests: Vec<GuestOptions<'a, Global>>,
+    unknown: Vec<UnknownWord<'a>, Global>,
+) -> Result<Answered, AnswerFault> {
+    if let Some(text) = no_kind(rt.alloc(), values.accept.as_slice())? {
+        return Ok(wrong(rt, text.as_str()));
+    }
+    match read_questions(rt.alloc(), values.explain.as_slice())? {
+        Questions::Read(questions) => {
+            audited_there(rt, asked, values, questions.as_slice(), guests, unknown)
+        }
+        Questions::Wrong(text) => Ok(wrong(rt, text.as_str())),
+    }
+}
+
+/// What is to be written of guests: what is said of them, a drawing, options that are advised, or
+/// the answers to questions.
+fn said_of(
+    alloc: Global,
+    asked: Asked,
+    accepted: &[&str],
+    questions: &[Question<'_>],
+    guests: &[Guest<'_, Global>],
+) -> Result<Said, AllocError> {
+    if !questions.is_empty() {
+        return say_explained(alloc, questions, guests);
+    }
+    if asked.mend {
+        return say_mended(alloc, asked.isolated, accepted, guests);
+    }
+    if asked.svg && !asked.quiet {
+        return say_drawn(alloc, asked.isolated, accepted, guests);
+    }
+    say(alloc, asked, accepted, guests)
+}
+
+/// Audits guests, and writes what is to be written of them.
 fn answer(
     rt: &HostRuntime,
     asked: Asked,
@@ -218,15 +291,7 @@ fn answer(
     questions: &[Question<'_>],
     guests: &[Guest<'_, Global>],
 ) -> Result<Answered, AnswerFault> {
-    let said = if !questions.is_empty() {
-        say_explained(rt.alloc(), questions, guests)?
-    } else if asked.mend {
-        say_mended(rt.alloc(), asked.isolated, accepted, guests)?
-    } else if asked.svg && !asked.quiet {
-        say_drawn(rt.alloc(), asked.isolated, accepted, guests)?
-    } else {
-        say(rt.alloc(), asked, accepted, guests)?
-    };
+    let said = said_of(rt.alloc(), asked, accepted, questions, guests)?;
     write_said(rt, &said, asked.quiet)
 }
 

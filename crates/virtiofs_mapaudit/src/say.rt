@@ -2,16 +2,16 @@
 ghost use Rattle.std.specs.Prelude.{◌≡◌, ◌≢◌, ◌<◌, ◌⊎◌, ◌++◌, ℕ, List, [], length, IfOk, IfSome, IsTrue, IsFalse, None, OnOk, string_bytes};
 ghost use Rattle.virtiofs_advice.specs.Advice.{IsAdvice};
 ghost use Rattle.virtiofs_setup.specs.AlikeGuests.{is_first, alike_to, likes_of};
-ghost use Rattle.virtiofs_mapaudit.specs.ReportJson.{IsJson};
+ghost use Rattle.virtiofs_report_json.specs.ReportJson.{IsJson};
 ghost use Rattle.virtiofs_mapaudit.specs.Said.{Says, ShownIf, ShowsSet, ShowsKind, ShowsBothKinds, ShowsSomeNames, AreTables, SaysAlike, SaysAt, SaysGuests, part_text, parts_text, nothing_found, closing, IsPlain};
 
-use crate::as_json::report_as_json;
 use std::alloc::{AllocError, Allocator, Global};
 use virtiofs_advice::text::push_advised;
 use virtiofs_advice::{Advised, guests_of, options_of, tried};
 use virtiofs_findings::audit::{Audited, Part, Report, audit_all, has_accepted};
 use virtiofs_findings::told::push_found;
 use virtiofs_options::front::Asked;
+use virtiofs_report_json::report_as_json;
 use virtiofs_setup::alike::{Alike, alike_to, is_first, is_told, likes_of};
 use virtiofs_setup::guest::Guest;
 use virtiofs_setup::ids::kind::IdKind;

@@ -1,12 +1,12 @@
 //! What the texts of a guest set up, and which of them are refused.
-ghost use Rattle.std.specs.Prelude.{◌≡◌, ◌≢◌, ◌++◌, ◌∷◌, ◌↔◌, [], IfOk, IfErr, IfSome, IsTrue, OnOk, option_map, Some, None, string_bytes};
+ghost use Rattle.std.specs.Prelude.{◌≡◌, ◌≢◌, ◌++◌, ◌∷◌, ◌↔◌, [], IfOk, IfErr, IfSome, IfNone, IsTrue, OnOk, option_map, Some, None, string_bytes};
 ghost use Rattle.std.specs.Str.{chars};
 ghost use Rattle.virtiofs_map.specs.Refusal.{OutOfMemoryOr};
 ghost use Rattle.virtiofs_map.specs.Build.{BuildFault, build_fault_of};
 ghost use Rattle.virtiofs_map.specs.RulesFault.{RulesFault, HasRulesFault, rules_fault_of};
 ghost use Rattle.virtiofs_map.specs.SpecificationText.{SpecificationFault, specification_fault_of};
 ghost use Rattle.std.specs.Option.{option_map};
-ghost use Rattle.virtiofs_setup.specs.Guests.{ReadsSpecs, ReadsRanges, ReadsIds, RunsIn, users_of, groups_of, process_of, sets_up_namespace, ReadsText, ReadsNames, SetsUp, Translates};
+ghost use Rattle.virtiofs_setup.specs.Guests.{ReadsSpecs, ReadsRanges, ReadsIds, RunsIn, users_of, groups_of, process_of, sets_up_namespace, RefusesRules, ReadsText, ReadsNames, SetsUp, Translates};
 ghost use Rattle.virtiofs_map.specs.Printed.{build_error_text, rules_error_text};
 ghost use Rattle.virtiofs_setup.specs.Lists.{Adds};
 ghost use Rattle.virtiofs_setup.specs.Refusals.{IsAt, TellsPlace, TellsBuildFault, TellsSpecsFault, TellsSpecs, TellsRanges, TellsIds, TellsNames, TellsGuest};
@@ -301,7 +301,8 @@ pub fn names_of_text<A: Allocator + Copy>(
     alloc: A,
     text: &str,
 ) -> Result<Option<NamesSetUp<A>>, AllocError>
-    ensures { IfOk result (λ found. IfSome found (ReadsText (chars text.now))) }
+    ensures read { IfOk result (λ found. IfSome found (ReadsText (chars text.now))) }
+    ensures none { IfOk result (λ found. IfNone found (RefusesRules (chars text.now))) }
 {
     match read_text(alloc, text) {
         Ok(set) => Ok(Some(set)),

@@ -3,11 +3,11 @@ ghost use Rattle.std.specs.List.{list_all};
 ghost use Rattle.std.specs.Prelude.{◌≡◌, ◌++◌, true, ℕ, List, OnOk, flat_map, map, string_bytes};
 ghost use Rattle.virtiofs_map.specs.LookupAnswers.{meaning};
 ghost use Rattle.virtiofs_map.specs.Names.{client_answer, IsUnterminated, host_answer};
-ghost use Rattle.virtiofs_tables.specs.NameTable.{becomes, guest_line, stands, host_line, ShowsNames, too_long_line, too_long_lines};
-ghost use Rattle.virtiofs_tables.specs.NameTableParts.{is_shown, names_of};
+ghost use Rattle.virtiofs_tables.specs.NameTable.{becomes, stands, ShowsNames, too_long_line, too_long_lines};
+ghost use Rattle.virtiofs_tables.specs.NameTableParts.{is_shown, names_of, answer_text, front, name_line};
 
 use std::alloc::{AllocError, Allocator};
-use virtiofs_map::xattrmap::{AppliedRule, Error, ErrorKind, XattrMap, XattrName};
+use virtiofs_map::xattrmap::{AppliedRule, Error, ErrorKind, Side, XattrMap, XattrName};
 use virtiofs_output::written::Written;
 
 /// The names that are shown: those that programs use, and one for each beginning.
@@ -74,40 +74,6 @@ fn push_becomes<A: Allocator + Copy>(
     }
 }
 
-/// Writes the line of a name from the guest at the end of a text.
-fn push_guest_line<A: Allocator + Copy>(
-    alloc: A,
-    text: &mut String<A>,
-    map: &XattrMap<A>,
-    name: &[u8],
-) -> Result<(), AllocError>
-    requires { is_shown name.now ≡ true }
-    ensures { OnOk result (string_bytes text.new
-        ≡ string_bytes text.old ++ guest_line map.now name.now) }
-{
-    let it = Written(name);
-    write!(text, "  guest {it} -> ")?;
-    push_becomes(alloc, text, map, name)?;
-    text.push('\n')
-}
-
-/// Writes the lines of names from the guest at the end of a text.
-fn push_guest_lines<A: Allocator + Copy>(
-    alloc: A,
-    text: &mut String<A>,
-    map: &XattrMap<A>,
-    names: &[&str],
-) -> Result<(), AllocError>
-    requires { list_all is_shown (names_of names.now) ≡ true }
-    ensures { OnOk result (string_bytes text.new
-        ≡ string_bytes text.old ++ flat_map (guest_line map.now) (names_of names.now)) }
-{
-    for name in names {
-        push_guest_line(alloc, text, map, name.as_bytes())?;
-    }
-    Ok(())
-}
-
 /// Writes how a name of the host stands in lists at the end of a text.
 fn push_stands<A: Allocator>(
     text: &mut String<A>,
@@ -128,34 +94,66 @@ fn push_stands<A: Allocator>(
     }
 }
 
-/// Writes the line of a name of the host at the end of a text.
-fn push_host_line<A: Allocator>(
+/// Writes what becomes of a name from that side at the end of a text.
+fn push_answer<A: Allocator + Copy>(
+    alloc: A,
     text: &mut String<A>,
     map: &XattrMap<A>,
+    side: Side,
     name: &[u8],
 ) -> Result<(), AllocError>
     requires { is_shown name.now ≡ true }
     ensures { OnOk result (string_bytes text.new
-        ≡ string_bytes text.old ++ host_line map.now name.now) }
+        ≡ string_bytes text.old ++ answer_text side map.now name.now) }
 {
-    let it = Written(name);
-    write!(text, "  host {it} -> ")?;
-    push_stands(text, map, name)?;
+    match side {
+        Side::Client => push_becomes(alloc, text, map, name),
+        Side::Server => push_stands(text, map, name),
+    }
+}
+
+/// What stands before a name from that side.
+const fn front(side: Side) -> &'static str
+    ensures { result.now ≡ front side }
+{
+    match side {
+        Side::Client => "  guest ",
+        Side::Server => "  host ",
+    }
+}
+
+/// Writes the line of a name from that side at the end of a text.
+fn push_line<A: Allocator + Copy>(
+    alloc: A,
+    text: &mut String<A>,
+    map: &XattrMap<A>,
+    side: Side,
+    name: &[u8],
+) -> Result<(), AllocError>
+    requires { is_shown name.now ≡ true }
+    ensures { OnOk result (string_bytes text.new
+        ≡ string_bytes text.old ++ name_line side map.now name.now) }
+{
+    let (front, it) = (front(side), Written(name));
+    write!(text, "{front}{it} -> ")?;
+    push_answer(alloc, text, map, side, name)?;
     text.push('\n')
 }
 
-/// Writes the lines of names of the host at the end of a text.
-fn push_host_lines<A: Allocator>(
+/// Writes the lines of names from that side at the end of a text.
+fn push_lines<A: Allocator + Copy>(
+    alloc: A,
     text: &mut String<A>,
     map: &XattrMap<A>,
+    side: Side,
     names: &[&str],
 ) -> Result<(), AllocError>
     requires { list_all is_shown (names_of names.now) ≡ true }
     ensures { OnOk result (string_bytes text.new
-        ≡ string_bytes text.old ++ flat_map (host_line map.now) (names_of names.now)) }
+        ≡ string_bytes text.old ++ flat_map (name_line side map.now) (names_of names.now)) }
 {
     for name in names {
-        push_host_line(text, map, name.as_bytes())?;
+        push_line(alloc, text, map, side, name.as_bytes())?;
     }
     Ok(())
 }
@@ -198,8 +196,8 @@ pub fn push_table<A: Allocator + Copy>(
         × (string_bytes text.new ≡ string_bytes text.old ++ shown)) }
 {
     text.push_str("names from the guest:\n")?;
-    push_guest_lines(alloc, text, map, &SHOWN)?;
+    push_lines(alloc, text, map, Side::Client, &SHOWN)?;
     push_too_long(text, map.most_added())?;
     text.push_str("names from the host:\n")?;
-    push_host_lines(text, map, &SHOWN)
+    push_lines(alloc, text, map, Side::Server, &SHOWN)
 }

@@ -148,6 +148,23 @@ fn guest_rules_before(host: &SideRule<'_>, guest: &[SideRule<'_>]) -> usize {
         .unwrap_or(NEAR)
 }
 
+/// The sides on which the next rule acts: `one` is the first rule of `guest`, and `other` of `host`.
+fn next_acts(
+    one: &SideRule<'_>,
+    guest: &[SideRule<'_>],
+    other: &SideRule<'_>,
+    host: &[SideRule<'_>],
+) -> Acts {
+    let ahead = host_rules_before(one, host);
+    if ahead == 0 {
+        return Acts::Both;
+    }
+    if ahead < guest_rules_before(other, guest) {
+        return Acts::OnHost;
+    }
+    Acts::OnGuest
+}
+
 /// The rules of both sides in one text. Rules of the two sides that do the same are written as one
 /// where they meet.
 pub(super) fn joined_rules<A: Allocator + Copy>(
@@ -168,27 +185,21 @@ pub(super) fn joined_rules<A: Allocator + Copy>(
                 push_rule(&mut text, Acts::OnHost, other)?;
                 host = rest;
             }
-            ([one, more @ ..], [other, further @ ..]) => {
-                let (ahead, behind) = (
-                    host_rules_before(one, host),
-                    guest_rules_before(other, guest),
-                );
-                if ahead == 0 {
-                    let both = SideRule {
-                        key: one.key,
-                        ..*other
-                    };
-                    push_rule(&mut text, Acts::Both, &both)?;
-                    guest = more;
-                    host = further;
-                } else if ahead < behind {
+            ([one, more @ ..], [other, further @ ..]) => match next_acts(one, guest, other, host) {
+                Acts::Both => {
+                    let key = one.key;
+                    push_rule(&mut text, Acts::Both, &SideRule { key, ..*other })?;
+                    (guest, host) = (more, further);
+                }
+                Acts::OnHost => {
                     push_rule(&mut text, Acts::OnHost, other)?;
                     host = further;
-                } else {
+                }
+                Acts::OnGuest => {
                     push_rule(&mut text, Acts::OnGuest, one)?;
                     guest = more;
                 }
-            }
+            },
         }
     }
     Ok(text)

@@ -1,9 +1,11 @@
+mod AppendedRowLemmas
 mod NodesOfLemmas
 mod NextByteLemmas
 mod LabelLemmas
 mod LevelOrderLemmas
 mod TextNodeLemmas
 mod PatternLemmas
+mod KeyedLemmas
 mod PatternTrieLemmas
 mod SameTextsLemmas
 mod SharedLemmas

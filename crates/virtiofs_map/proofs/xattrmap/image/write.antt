@@ -1,1 +1,2 @@
 mod NamesImageLemmas
+mod TriesLemmas

@@ -2,15 +2,15 @@
 use Rattle.std.proofs.Common.{◌≡◌, ◌≢◌, ◌⊎◌, ℕ, zero, suc, ◌+◌, ◌*◌, ◌<◌, ◌≤◌, Bool, true, false, cond, eqb, ltb, List}
 use Rattle.std.proofs.Common.{[], ◌∷◌, ◌++◌, length, take, get_or, Some, inl, inr, refl, sym, ap, subst, ◌∙◌, eq-eqb}
 use Rattle.std.proofs.Common.{arith}
-use Rattle.std.specs.Cmp.Lexicographic.{slice_cmp, nat_list_cmp_total}
+use Rattle.std.specs.Cmp.Lexicographic.{slice_cmp}
 use Rattle.std.specs.List.{All, Contains, slice_get}
-use Rattle.std.specs.List.Sorted.{IsPermutation, IsSortedBy}
+use Rattle.std.specs.List.Sorted.{IsPermutation}
 use Rattle.std.specs.Ordering.{nat_cmp, ordering_then, is_lt}
 use Rattle.std.specs.declared.cmp.Ordering.{Ordering}
 use Rattle.std.specs.declared.cmp.Ordering.TheVariants.{Less, Equal, Greater}
 use Rattle.std.proofs.lemmas.Bool.{true≢false, cases_lt, lt-ltb}
 use Rattle.std.proofs.lemmas.Bool.Decides.{nat_tests}
-use Rattle.std.proofs.lemmas.List.Sorted.{All-permutation, Contains-permutation, ranks_by, sorted_far}
+use Rattle.std.proofs.lemmas.List.Sorted.{All-permutation, Contains-permutation}
 use Rattle.std.proofs.lemmas.List.Elements.{All-contains, All-push, Contains-append_left, Contains-push}
 use Rattle.std.proofs.lemmas.Option.{same_Some, slice_get_past, slice_get_within, get_or_from_slice_get}
 use Rattle.virtiofs_map.specs.NodeParts.{IsPattern, IsPatternAt, ArePatterns, ArePatternsBelow, AreInOrder}
@@ -83,14 +83,14 @@ patterns-permutation side rules bytes patterns others moved are = record {
 -- ---- the order of bytes
 
 -- a lesser byte decides
-less : (y x : ℕ) (rest : Ordering) → y < x → is_lt (ordering_then (nat_cmp y x) rest) ≡ true
+pub less : (y x : ℕ) (rest : Ordering) → y < x → is_lt (ordering_then (nat_cmp y x) rest) ≡ true
 less y x rest below = by (ltb y x) (lt-ltb y x below) where
   by : (b : Bool) → b ≡ true → is_lt (ordering_then (cond b Less (cond (eqb y x) Equal Greater)) rest) ≡ true
   by true e = refl
   by false e = absurd (true≢false (sym e))
 
 -- the same byte leaves it to the rest
-level : (y : ℕ) (rest : Ordering) → is_lt (ordering_then (nat_cmp y y) rest) ≡ is_lt rest
+pub level : (y : ℕ) (rest : Ordering) → is_lt (ordering_then (nat_cmp y y) rest) ≡ is_lt rest
 level y rest = by (ltb y y) (eqb y y) not_below (eq-eqb y y refl) where
   not_below : ltb y y ≡ false
   not_below = grind (arith, nat_tests)
@@ -102,7 +102,7 @@ level y rest = by (ltb y y) (eqb y y) not_below (eq-eqb y y refl) where
   by false false b e = absurd (true≢false (sym e))
 
 -- the bytes of one pattern do not come after those of another: where they share a front, nor does its next byte
-later_byte : (one other : List ℕ) (depth : ℕ) → take depth one ≡ take depth other
+pub later_byte : (one other : List ℕ) (depth : ℕ) → take depth one ≡ take depth other
     → is_lt (slice_cmp nat_cmp other one) ≡ false
     → get_or one depth 0 ≤ get_or other depth 0
 later_byte [] other depth same order = omega arith
@@ -118,23 +118,6 @@ later_byte (x ∷ one) (y ∷ other) (suc depth) same order =
     let lower : is_lt (ordering_then (nat_cmp y y) (slice_cmp nat_cmp other one)) ≡ false =
     subst (λ (b : ℕ). is_lt (ordering_then (nat_cmp y b) (slice_cmp nat_cmp other one)) ≡ false) head order in
     later_byte one other depth rest (sym (level y (slice_cmp nat_cmp other one)) ∙ lower)
-
-pub AreInOrder-sorted : (patterns : List Pattern)
-    → IsSortedBy (λ (a b : Pattern). is_lt (slice_cmp nat_cmp a.bytes.now b.bytes.now)) patterns → AreInOrder patterns
-AreInOrder-sorted patterns sorted = record {
-  rising = λ i j depth one other before here there same.
-      let inside : j < length patterns = slice_get_within patterns j other there in
-      let far =
-      sorted_far (λ (a b : Pattern). is_lt (slice_cmp nat_cmp a.bytes.now b.bytes.now))
-      (ranks_by nat_list_cmp_total (λ (a : Pattern). a.bytes.now)) patterns sorted i j one (omega (arith, before))
-      inside in
-      let at_i : get_or patterns i one ≡ one = get_or_from_slice_get patterns i one one here in
-      let at_j : get_or patterns j one ≡ other = get_or_from_slice_get patterns j other one there in
-      later_byte one.bytes.now other.bytes.now depth same
-      (subst (λ (a : Pattern). is_lt (slice_cmp nat_cmp other.bytes.now a.bytes.now) ≡ false) at_i
-      (subst (λ (b : Pattern). is_lt (slice_cmp nat_cmp b.bytes.now (get_or patterns i one).bytes.now) ≡ false) at_j
-      far));
-}
 
 -- ---- patterns of which a trie can be made
 

@@ -38,13 +38,13 @@ fn end_of(from: usize, count: usize, size: usize) -> Option<usize>
     if end < LIMIT { Some(end) } else { None }
 }
 
-/// Where the parts of an image stand, of tries with so many nodes and of rules.
+/// Where the parts of an image stand, of tries whose rows have so many bytes and of rules.
 fn places_of<A: Allocator>(client: usize, server: usize, rules: &Rules<A>) -> Option<Places>
-    ensures { IfSome result (ArePlaces (24 * client) (24 * server)
+    ensures { IfSome result (ArePlaces client server
         (length rules.now.list) (length rules.now.bytes)) }
 {
-    let first = end_of(HEADER, client, ROW)?;
-    let second = end_of(first, server, ROW)?;
+    let first = end_of(HEADER, client, 1)?;
+    let second = end_of(first, server, 1)?;
     let third = end_of(second, rules.len(), ROW)?;
     let end = end_of(third, rules.bytes().len(), 1)?;
     Some(Places {
@@ -59,28 +59,25 @@ fn places_of<A: Allocator>(client: usize, server: usize, rules: &Rules<A>) -> Op
 /// no process has memory for as many bytes.
 pub(crate) fn image_of<A: Allocator + Copy>(
     alloc: A,
-    rules: &Rules<A>,
+    rules: Rules<A>,
 ) -> Result<Vec<u8, A>, AllocError>
-    requires { All HasNoZero rules.now.list }
-    ensures { IfOk result (λ image. IsWholeImage rules.now.list image.items) }
+    requires { All HasNoZero rules.list }
+    ensures { IfOk result (λ image. IsWholeImage rules.list image.items) }
 {
-    let client = trie_of(alloc, rules, Side::Client)?;
-    let server = trie_of(alloc, rules, Side::Server)?;
+    let client = trie_of(alloc, &rules, Side::Client, HEADER / 8)?;
+    let server = trie_of(alloc, &rules, Side::Server, (HEADER + client.len()) / 8)?;
     let patterns = rules.bytes();
-    let Some(places) = places_of(client.len(), server.len(), rules) else {
+    let Some(places) = places_of(client.len(), server.len(), &rules) else {
         return Err(AllocError);
     };
     let mut image = Vec::with_capacity(alloc, places.end)?;
     push_header(&mut image, places)?;
-    push_rows(&mut image, client.as_slice(), HEADER / 8, places.bytes)?;
-    push_rows(
-        &mut image,
-        server.as_slice(),
-        places.server / 8,
-        places.bytes,
-    )?;
-    push_rules(&mut image, rules)?;
+    push_rows(&mut image, client.as_slice(), places.bytes)?;
+    push_rows(&mut image, server.as_slice(), places.bytes)?;
+    push_rules(&mut image, &rules)?;
     image.extend_from_slice(patterns)?;
+    // The memory that was taken last is freed last: then allocators give all of it back.
+    drop(rules);
     Ok(image)
 }
 

@@ -1,18 +1,16 @@
 //! The making of a trie's nodes, level by level.
 
 ghost use Rattle.std.specs.Prelude.{◌≡◌, ◌≢◌, ◌<◌, ◌≤◌, ◌+◌, ◌-◌, ◌++◌, ℕ, List, map, take, length, slice_get, slice_index, All, Some, IfOk, OnOk};
-ghost use Rattle.virtiofs_map.specs.NodeParts.{AreFew, ArePatterns};
 ghost use Rattle.virtiofs_map.specs.TrieBuildParts.{text, number, start_of, AreReady, IsLeast, IsLeastOf, IsUpto, IsPatternRange};
-ghost use Rattle.virtiofs_map.specs.TrieBuildParts.{AreRangesOrHoles, IsRangeOrHole, AreAdded, AreHoles, IsExpanded, AreBuilt, AreDeep};
-ghost use Rattle.virtiofs_map.specs.TrieBuildParts.{AreExact, childless_of, text_node_of, path_of_range};
+ghost use Rattle.virtiofs_map.specs.TrieBuildParts.{AreRangesOrHoles, IsRangeOrHole, AreAdded, AreHoles, IsExpanded, AreMade, AreDeep};
+ghost use Rattle.virtiofs_map.specs.TrieBuildParts.{childless_of, text_node_of, path_of_range};
 ghost use Rattle.virtiofs_map.specs.PatternTrie.{are_sparse, next_bytes};
-ghost use Rattle.virtiofs_map.specs.TrieParts.{IsTrieOf, node_with, children_of, texts_of};
-ghost use Rattle.virtiofs_map.specs.Rule.{MappingRule};
-ghost use Rattle.virtiofs_map.specs.declared.xattrmap.scopes.Side.{Side};
+ghost use Rattle.virtiofs_map.specs.TrieParts.{AreRowsOfTrie, node_with, children_of, texts_of};
 ghost use Rattle.virtiofs_map.specs.declared.xattrmap.trie.build.PatternRange.{PatternRange};
 
 use crate::xattrmap::trie::node::{NO_ANSWER, Node};
 use crate::xattrmap::trie::patterns::Pattern;
+use crate::xattrmap::trie::rows::{ROW, placed, push_row};
 use std::alloc::{AllocError, Allocator};
 
 /// The patterns that begin with the path of a node; they stand side by side. A hole between
@@ -25,10 +23,10 @@ struct PatternRange {
     high: usize,
     /// How many bytes the path has.
     depth: usize,
-    /// How many of the path's bytes are the label.
-    length: usize,
     /// The answer of the path without its last byte and label.
     answer: u64,
+    /// How many of the path's bytes are the label.
+    length: u8,
     /// The byte that leads to the node.
     first_byte: u8,
 }
@@ -186,8 +184,8 @@ fn child(
         low,
         high,
         depth: depth + 1 + length,
-        length,
         answer,
+        length: length as u8,
         first_byte: byte_of(patterns, low, depth),
     }
 }
@@ -234,8 +232,8 @@ fn add_holes<A: Allocator>(
             low: 0,
             high: 0,
             depth,
-            length: 0,
             answer: NO_ANSWER,
+            length: 0,
             first_byte: 0,
         })?;
     }
@@ -321,7 +319,7 @@ fn node_of<A: Allocator>(
         return Ok(childless(range, base, range.answer, 0));
     }
     let (from, answer) = ended(patterns, range);
-    let label = start_at(patterns, range.low) + (range.depth - range.length);
+    let label = start_at(patterns, range.low) + (range.depth - range.length as usize);
     let bare = childless(range, base, answer, label);
     if from == range.high {
         return Ok(bare);
@@ -338,55 +336,61 @@ fn node_of<A: Allocator>(
     })
 }
 
-/// Makes the nodes of the ranges that have none yet, and appends their children's ranges.
+/// Appends the rows of the ranges from a place on, and the ranges of their children. The place after
+/// the last range that has a row is the result.
 fn build_level<A: Allocator>(
     patterns: &[Pattern<'_>],
     ranges: &mut Vec<PatternRange, A>,
-    nodes: &mut Vec<Node, A>,
-) -> Result<(), AllocError>
+    from: usize,
+    rows: &mut Vec<u8, A>,
+    first: usize,
+) -> Result<usize, AllocError>
     requires ready { AreReady usize.MAX patterns.now }
     requires places { AreRangesOrHoles patterns.now ranges.old.items }
-    requires built { AreBuilt patterns.now ranges.old.items nodes.old.items }
-    requires exact { AreExact patterns.now ranges.old.items nodes.old.items }
+    requires within { from ≤ length ranges.old.items }
     ensures places { OnOk result (AreRangesOrHoles patterns.now ranges.new.items) }
-    ensures built { OnOk result (AreBuilt patterns.now ranges.new.items nodes.new.items) }
-    ensures exact { OnOk result (AreExact patterns.now ranges.new.items nodes.new.items) }
-    ensures deeper { OnOk result ((depth : ℕ)
-        → AreDeep ranges.old.items (length nodes.old.items) depth
-        → AreDeep ranges.new.items (length nodes.new.items) (depth + 1)) }
+    ensures made { IfOk result (λ end.
+        AreMade patterns.now ranges.old.items rows.old.items first from
+        → AreMade patterns.now ranges.new.items rows.new.items first end) }
+    ensures deeper { IfOk result (λ end. (depth : ℕ) → AreDeep ranges.old.items from depth
+        → AreDeep ranges.new.items end (depth + 1)) }
+    ensures more { IfOk result (λ end. end ≤ length ranges.new.items) }
 {
-    for at in nodes.len()..ranges.len() {
+    let end = ranges.len();
+    for at in from..end {
         let range = ranges[at];
-        nodes.push(node_of(patterns, ranges, range)?)?;
+        let node = node_of(patterns, ranges, range)?;
+        push_row(rows, placed(node, first))?;
     }
-    Ok(())
+    Ok(end)
 }
 
-/// The nodes of a trie of these patterns, which stand among `bytes`.
+/// The rows of a trie of these patterns, which stand among `bytes`. The trie begins at a place that
+/// is counted in eights, and labels are counted from the first of the bytes.
 pub(crate) fn build_trie<A: Allocator + Copy>(
     alloc: A,
     patterns: &[Pattern<'_>],
     bytes: &[u8],
-) -> Result<Vec<Node, A>, AllocError>
+    first: usize,
+) -> Result<Vec<u8, A>, AllocError>
     requires { AreReady (length bytes.now) patterns.now }
-    ensures { IfOk result (λ nodes. (side : Side) (rules : List MappingRule)
-        → ArePatterns side rules bytes.now patterns.now → AreFew rules
-        → IsTrieOf side rules bytes.now patterns.now nodes.items) }
+    ensures { IfOk result (λ rows. AreRowsOfTrie bytes.now patterns.now rows.items first) }
 {
     // Most often there are not many more nodes than patterns.
-    let most = patterns.len().saturating_add(patterns.len() / 4);
+    let most = patterns.len().saturating_add(patterns.len() / 2);
     let mut ranges = Vec::with_capacity(alloc, most)?;
-    let mut nodes = Vec::with_capacity(alloc, most)?;
+    let mut rows = Vec::with_capacity(alloc, most.saturating_mul(ROW))?;
     ranges.push(PatternRange {
         low: 0,
         high: patterns.len(),
         depth: 0,
-        length: 0,
         answer: NO_ANSWER,
+        length: 0,
         first_byte: 0,
     })?;
-    while nodes.len() < ranges.len() {
-        build_level(patterns, &mut ranges, &mut nodes)?;
+    let mut from = 0;
+    while from < ranges.len() {
+        from = build_level(patterns, &mut ranges, from, &mut rows, first)?;
     }
-    Ok(nodes)
+    Ok(rows)
 }

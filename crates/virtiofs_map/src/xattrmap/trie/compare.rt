@@ -116,6 +116,21 @@ pub(crate) fn are_same(one: &[u8], other: &[u8]) -> bool
     are_long_same(one, other)
 }
 
+/// Whether two rows of a few bytes are the same.
+// (byte by byte, with no call)
+#[inline(always)]
+pub(crate) fn are_same_by_one(one: &[u8], other: &[u8]) -> bool
+    requires { length one.now ≡ length other.now }
+    ensures { IsTrue result ↔ (one.now ≡ other.now) }
+{
+    for at in 0..one.len() {
+        if one[at] != other[at] {
+            return false;
+        }
+    }
+    true
+}
+
 /// How many bytes two rows share at their beginning.
 pub(crate) fn common_prefix_length(one: &[u8], other: &[u8]) -> usize
     ensures { result ≡ shared one.now other.now }

@@ -10,7 +10,7 @@ pub(crate) struct Node {
     /// Where the label begins among the bytes of the patterns.
     pub(crate) label: usize,
     /// How many bytes the label has.
-    pub(crate) length: usize,
+    pub(crate) length: u8,
     /// The index of the first child among the nodes.
     pub(crate) base: usize,
     /// How many places the children have, with the holes between them.

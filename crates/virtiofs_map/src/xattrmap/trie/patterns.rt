@@ -1,12 +1,14 @@
 //! The patterns of a side, in the order of their bytes.
 
-ghost use Rattle.std.specs.Prelude.{◌≡◌, false, slice_get, IfOk, IfNone, IfSome, Some};
+ghost use Rattle.std.specs.Prelude.{◌≡◌, false, slice_get, All, IfOk, IfNone, IfSome, Some};
+ghost use Rattle.virtiofs_map.specs.KeyedParts.{IsKeyed, patterns_in};
 ghost use Rattle.virtiofs_map.specs.NodeParts.{AreFew, AreInOrder, ArePatterns, IsPatternAt};
 ghost use Rattle.virtiofs_map.specs.FirstRule.{acts};
 ghost use Rattle.virtiofs_map.specs.Rule.{MappingRule};
 
 use crate::xattrmap::rules::Rules;
 use crate::xattrmap::scopes::Side;
+use crate::xattrmap::trie::keyed::Keyed;
 use std::alloc::{AllocError, Allocator};
 
 /// A pattern of a rule.
@@ -43,22 +45,37 @@ fn pattern_at<A: Allocator>(rules: &Rules<A>, place: usize, side: Side) -> Optio
     })
 }
 
-/// The patterns of the rules that act on a side, in the order of the rules.
-fn patterns_as_written<A: Allocator + Copy>(
+/// The patterns of the rules that act on a side, in the order of the rules, with their numbers.
+fn keyed_as_written<A: Allocator + Copy>(
     alloc: A,
     rules: &Rules<A>,
     side: Side,
-) -> Result<Vec<Pattern<'_>, A>, AllocError>
+) -> Result<Vec<Keyed<'_>, A>, AllocError>
     requires { AreFew rules.now.list }
-    ensures { IfOk result (λ patterns.
-        ArePatterns side rules.now.list rules.now.bytes patterns.items) }
+    ensures patterns { IfOk result (λ keyed.
+        ArePatterns side rules.now.list rules.now.bytes (patterns_in keyed.items)) }
+    ensures keyed { IfOk result (λ keyed. All IsKeyed keyed.items) }
 {
-    let mut patterns = Vec::new(alloc);
+    let mut keyed = Vec::with_capacity(alloc, rules.len())?;
     for place in 0..rules.len() {
         let Some(pattern) = pattern_at(rules, place, side) else {
             continue;
         };
-        patterns.push(pattern)?;
+        keyed.push(Keyed::new(pattern))?;
+    }
+    Ok(keyed)
+}
+
+/// The patterns without their numbers.
+fn patterns_in<'a, A: Allocator>(
+    alloc: A,
+    keyed: &[Keyed<'a>],
+) -> Result<Vec<Pattern<'a>, A>, AllocError>
+    ensures { IfOk result (λ patterns. patterns.items ≡ patterns_in keyed.now) }
+{
+    let mut patterns = Vec::with_capacity(alloc, keyed.len())?;
+    for one in keyed {
+        patterns.push(one.pattern)?;
     }
     Ok(patterns)
 }
@@ -74,7 +91,7 @@ pub(crate) fn patterns_of<A: Allocator + Copy>(
         ArePatterns side rules.now.list rules.now.bytes patterns.items) }
     ensures order { IfOk result (λ patterns. AreInOrder patterns.items) }
 {
-    let mut patterns = patterns_as_written(alloc, rules, side)?;
-    patterns.sort_unstable_by(|one, other| one.bytes.cmp(&other.bytes));
-    Ok(patterns)
+    let mut keyed = keyed_as_written(alloc, rules, side)?;
+    keyed.sort_unstable_by(|one, other| one.order(other));
+    patterns_in(alloc, keyed.as_slice())
 }

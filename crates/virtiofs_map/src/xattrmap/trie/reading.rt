@@ -9,7 +9,9 @@ ghost use Rattle.virtiofs_map.specs.Steps.{count_after};
 ghost use Rattle.virtiofs_map.specs.declared.xattrmap.trie.node.Node.{Node};
 
 use crate::steps::Steps;
-use crate::xattrmap::trie::compare::{are_same, begins_alike, common_prefix_length};
+use crate::xattrmap::trie::compare::{
+    are_same, are_same_by_one, begins_alike, common_prefix_length,
+};
 use crate::xattrmap::trie::rows::{
     base_of, first_byte_of, is_sparse, label_of, length_of, low_byte_of, row_at, width_of,
 };
@@ -131,6 +133,7 @@ impl<'a> Trie<'a> {
 
     /// Whether a row of bytes begins with a few bytes of the map from a place on, where one of them
     /// may end within eight bytes.
+    #[inline(always)]
     fn begins_at_end(self, row: &[u8], from: usize, count: usize) -> bool
         requires from { from < 281474976710656 }
         requires count { count < 8 }
@@ -141,7 +144,7 @@ impl<'a> Trie<'a> {
         if from + count > self.image.len() {
             return false;
         }
-        are_same(&row[..count], &self.image[from..from + count])
+        are_same_by_one(&row[..count], &self.image[from..from + count])
     }
 
     /// Whether a row of bytes begins with `count` bytes of the map from a place on.

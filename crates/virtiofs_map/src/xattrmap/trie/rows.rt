@@ -6,7 +6,7 @@
 //! place has the upper six bytes. The place of the first child is counted in eights, and its highest
 //! bit says that the children are sparse.
 
-ghost use Rattle.std.specs.Prelude.{◌≡◌, ◌++◌, ◌+◌, ◌*◌, ◌≤◌, ◌<◌, length, drop, take, All, OnOk, MatchOption};
+ghost use Rattle.std.specs.Prelude.{◌≡◌, ◌++◌, ◌+◌, ◌*◌, ◌≤◌, ◌<◌, ℕ, List, length, drop, take, All, OnOk, MatchOption};
 ghost use Rattle.std.specs.List.{flat_map};
 ghost use Rattle.virtiofs_map.specs.NodeParts.{HasBytes, IsRowOf, IsSmall, IsSmallIn, placed, row_in, row_of};
 ghost use Rattle.virtiofs_map.specs.declared.xattrmap.trie.node.Node.{Node};
@@ -106,48 +106,70 @@ pub(crate) fn answer_of(row: &[u8; 24]) -> u64
     le_u64_at(row, 16)
 }
 
-/// Appends the row of a node.
-pub(crate) fn push_row<A: Allocator>(rows: &mut Vec<u8, A>, node: Node) -> Result<(), AllocError>
-    requires { IsSmall node }
-    ensures row { OnOk result (rows.new.items ≡ rows.old.items ++ row_of node) }
-    ensures bytes { HasBytes node }
-{
-    let flag = if node.is_sparse { SPARSE } else { 0 };
-    let bytes = 256 * node.first_byte as u64 + node.length as u64;
-    push_le_u64(rows, SHARE * node.label as u64 + bytes)?;
-    let span = 256 * node.width as u64 + node.low_byte as u64;
-    push_le_u64(rows, SHARE * (node.base as u64 + flag) + span)?;
-    push_le_u64(rows, node.answer)
-}
-
-/// A node whose places are those in an image: its trie begins at a place that is counted in
-/// eights, and the bytes among which labels stand at a place that is counted in bytes.
-fn placed(node: Node, first: usize, labels: usize) -> Node
-    requires first { first + 3 * node.base < 18446744073709551616 }
-    requires label { labels + node.label < 18446744073709551616 }
-    ensures { result ≡ placed first labels node }
+/// A node whose first child has the place that it has in an image, where its trie begins at a place
+/// that is counted in eights. A place that is too large becomes another one.
+pub(crate) fn placed(node: Node, first: usize) -> Node
+    ensures placed { first + 3 * node.base < 18446744073709551616
+        → result ≡ placed first 0 node }
+    ensures bytes { HasBytes node × HasBytes result }
 {
     Node {
-        base: first + 3 * node.base,
-        label: labels + node.label,
+        base: first.wrapping_add(node.base.wrapping_mul(3)),
         ..node
     }
 }
 
-/// Appends the rows of the nodes of a trie.
-pub(crate) fn push_rows<A: Allocator>(
-    rows: &mut Vec<u8, A>,
-    nodes: &[Node],
-    first: usize,
+/// Appends the row of a node. Where a number is too large for it, the row is another one.
+pub(crate) fn push_row<A: Allocator>(rows: &mut Vec<u8, A>, node: Node) -> Result<(), AllocError>
+    requires { HasBytes node }
+    ensures row { OnOk result (IsSmall node → rows.new.items ≡ rows.old.items ++ row_of node) }
+    ensures long { OnOk result (length rows.new.items ≡ length rows.old.items + 24) }
+{
+    let bytes = 256 * node.first_byte as u64 + node.length as u64;
+    push_le_u64(
+        rows,
+        SHARE.wrapping_mul(node.label as u64).wrapping_add(bytes),
+    )?;
+    let flag = if node.is_sparse { SPARSE } else { 0 };
+    let base = SHARE.wrapping_mul((node.base as u64).wrapping_add(flag));
+    let width = (node.width as u64).wrapping_mul(256);
+    let span = width.wrapping_add(node.low_byte as u64);
+    push_le_u64(rows, base.wrapping_add(span))?;
+    push_le_u64(rows, node.answer)
+}
+
+/// Appends a row with its label in its place in an image, where all patterns begin there.
+fn push_placed<A: Allocator>(
+    image: &mut Vec<u8, A>,
+    row: &[u8],
     labels: usize,
 ) -> Result<(), AllocError>
-    requires { All (IsSmallIn first labels) nodes.now }
-    ensures rows { OnOk result (rows.new.items
-        ≡ rows.old.items ++ flat_map (row_in first labels) nodes.now) }
-    ensures bytes { OnOk result (All HasBytes nodes.now) }
+    requires row { length row.now ≡ 24 }
+    requires labels { labels < 281474976710656 }
+    ensures { OnOk result ((first : ℕ) (node : Node) → row.now ≡ row_in first 0 node
+        → HasBytes node → IsSmallIn first labels node
+        → image.new.items ≡ image.old.items ++ row_in first labels node) }
 {
-    for node in nodes {
-        push_row(rows, placed(*node, first, labels))?;
+    push_le_u64(image, le_u64_at(row, 0).wrapping_add(SHARE * labels as u64))?;
+    image.extend_from_slice(&row[8..])?;
+    Ok(())
+}
+
+/// Appends rows with their labels in their places in an image, where all patterns begin there.
+pub(crate) fn push_rows<A: Allocator>(
+    image: &mut Vec<u8, A>,
+    rows: &[u8],
+    labels: usize,
+) -> Result<(), AllocError>
+    requires { labels < 281474976710656 }
+    ensures { OnOk result ((first : ℕ) (nodes : List Node)
+        → rows.now ≡ flat_map (row_in first 0) nodes → All HasBytes nodes
+        → All (IsSmallIn first labels) nodes
+        → image.new.items ≡ image.old.items ++ flat_map (row_in first labels) nodes) }
+{
+    for place in 0..rows.len() / ROW {
+        let from = place * ROW;
+        push_placed(image, &rows[from..from + ROW], labels)?;
     }
     Ok(())
 }

@@ -1,11 +1,17 @@
 -- The numbers of a node are read back from its row.
 use Rattle.std.proofs.Common.{◌≡◌, ℕ, ◌+◌, ◌*◌, ◌/◌, ◌%◌, ◌<◌, Bool, true, false, nat_le, if◌then◌else◌, List, ◌++◌}
-use Rattle.std.proofs.Common.{ap, ◌∙◌, arith, append_assoc}
+use Rattle.std.proofs.Common.{All, [], ◌∷◌, ◌-◌, ◌≤◌, take, drop, get_or, length, subst, sym, ap, ◌∙◌, arith}
+use Rattle.std.proofs.Common.{append_assoc, append-nil, length-append}
+use Rattle.std.proofs.Math.Seq.{drop-append_seam}
+use Rattle.std.proofs.lemmas.List.{take_all, take_more}
+use Rattle.std.proofs.lemmas.List.Concat.{flat_map-append}
+use Rattle.std.specs.List.{flat_map}
 use Rattle.std.proofs.lemmas.Bool.Decides.{nat_tests}
-use Rattle.virtiofs_map.specs.NodeParts.{IsRowOf, row_of}
+use Rattle.virtiofs_map.specs.NodeParts.{HasBytes, IsRowOf, IsSmall, IsSmallIn, placed, row_in, row_of}
 use Rattle.virtiofs_map.specs.LeU64Parts.{le_u64_at, le_u64_bytes}
 use Rattle.virtiofs_map.specs.declared.xattrmap.trie.node.Node.{Node}
-use Rattle.virtiofs_map.proofs.LeU64Lemmas.{first_of_three, second_of_three, third_of_three}
+use Rattle.virtiofs_map.proofs.LeU64Lemmas.{first_of_three, second_of_three, third_of_three, length-le_u64_bytes}
+use Rattle.virtiofs_map.proofs.LeU64Lemmas.{length-row_of, length-rows_in, row_at}
 
 -- the numbers of a row
 abbrev pub first_u64 : Node → ℕ
@@ -65,16 +71,133 @@ module _ (node : Node) (row : List ℕ) (of : IsRowOf node row) where
       let low = of.bytes.low_byte in
       omega (arith, word, width, low)
 
+-- numbers that fit are not wrapped
+pub first_wrapped : (node : Node) → IsSmall node → HasBytes node
+    → (65536 * node.label % 18446744073709551616 + (256 * node.first_byte + node.length)) % 18446744073709551616
+    ≡ first_u64 node
+first_wrapped node small bytes =
+    let label = small.label in
+    let size = small.size in
+    let first_byte = bytes.first_byte in
+    omega (arith, label, size, first_byte)
+
+pub second_wrapped : (node : Node) (flag : ℕ) → flag ≡ (if node.is_sparse then 140737488355328 else 0) → IsSmall node
+    → HasBytes node
+    → (65536 * ((node.base + flag) % 18446744073709551616) % 18446744073709551616
+    + (node.width * 256 % 18446744073709551616 + node.low_byte) % 18446744073709551616) % 18446744073709551616
+    ≡ second_u64 node
+second_wrapped node flag is small bytes =
+    let base = flagged_fits node.base node.is_sparse small.base in
+    let width = small.width in
+    let low_byte = bytes.low_byte in
+    omega (arith, is, base, width, low_byte)
+
+drop_eight : (n : ℕ) (rest : List ℕ) → drop 8 (le_u64_bytes n ++ rest) ≡ rest
+drop_eight n rest =
+    subst (λ (k : ℕ). drop k (le_u64_bytes n ++ rest) ≡ rest) (length-le_u64_bytes n)
+    (drop-append_seam (le_u64_bytes n) rest)
+
 -- what is appended, word by word
-pub pushed_row : (node : Node) (rows one two : List ℕ) (flag : ℕ)
-    → flag ≡ (if node.is_sparse then 140737488355328 else 0)
-    → one ≡ rows ++ le_u64_bytes (first_u64 node)
-    → two ≡ one ++ le_u64_bytes (65536 * (node.base + flag) + (256 * node.width + node.low_byte))
+pub pushed_row : (node : Node) (rows one two : List ℕ) (first second : ℕ) → one ≡ rows ++ le_u64_bytes first
+    → two ≡ one ++ le_u64_bytes second → first ≡ first_u64 node → second ≡ second_u64 node
     → two ++ le_u64_bytes node.answer ≡ rows ++ row_of node
 unfolding row_of
-pushed_row node rows one two flag is_flag first second =
+pushed_row node rows one two first second begun more is_first is_second =
     let whole : two ≡ (rows ++ le_u64_bytes (first_u64 node)) ++ le_u64_bytes (second_u64 node) =
-    second
-    ∙ ap (λ (n : ℕ). one ++ le_u64_bytes (65536 * (node.base + n) + (256 * node.width + node.low_byte))) is_flag
-    ∙ ap (λ (l : List ℕ). l ++ le_u64_bytes (second_u64 node)) first in
+    more ∙ ap (λ (l : List ℕ). l ++ le_u64_bytes second) begun
+    ∙ ap (λ (n : ℕ). (rows ++ le_u64_bytes n) ++ le_u64_bytes second) is_first
+    ∙ ap (λ (n : ℕ). (rows ++ le_u64_bytes (first_u64 node)) ++ le_u64_bytes n) is_second in
     rw whole (simp append_assoc)
+
+-- three words of eight bytes are a row
+pub pushed_length : (rows one two three : List ℕ) (first second third : ℕ) → one ≡ rows ++ le_u64_bytes first
+    → two ≡ one ++ le_u64_bytes second → three ≡ two ++ le_u64_bytes third → length three ≡ length rows + 24
+pushed_length rows one two three first second third a b c =
+    let one_long = ap length a ∙ length-append rows (le_u64_bytes first) in
+    let two_long = ap length b ∙ length-append one (le_u64_bytes second) in
+    let three_long = ap length c ∙ length-append two (le_u64_bytes third) in
+    let one_size = length-le_u64_bytes first in
+    let two_size = length-le_u64_bytes second in
+    let three_size = length-le_u64_bytes third in
+    omega (arith, one_long, two_long, three_long, one_size, two_size, three_size)
+
+-- the row of a node whose label has another place
+pub moved_row : (first labels : ℕ) (node : Node) (image one all rest row : List ℕ) (word : ℕ)
+    → row ≡ row_in first 0 node → HasBytes node → IsSmallIn first labels node
+    → one ≡ image ++ le_u64_bytes word → all ≡ one ++ rest → rest ≡ drop 8 row
+    → word ≡ (le_u64_at row 0 + 65536 * labels) % 18446744073709551616
+    → all ≡ image ++ row_in first labels node
+unfolding row_of
+moved_row first labels node image one all rest row word is bytes small begun whole left moved =
+    let here : le_u64_at row 0 ≡ first_u64 (placed first 0 node) =
+    first_u64_of (placed first 0 node) row record {
+      is = is;
+      small = record {
+        answer = small.answer;
+        label = let label = small.label in omega (arith, label);
+        size = small.size;
+        base = small.base;
+        width = small.width;
+      };
+      bytes = record { low_byte = bytes.low_byte; first_byte = bytes.first_byte };
+    } in
+    let label = small.label in
+    let size = small.size in
+    let first_byte = bytes.first_byte in
+    let word_is : word ≡ first_u64 (placed first labels node) =
+    omega (arith, moved, here, label, size, first_byte) in
+    let second = le_u64_bytes (second_u64 (placed first labels node)) in
+    let third = le_u64_bytes node.answer in
+    let behind : drop 8 row ≡ second ++ third =
+    ap (drop 8) (is ∙ append_assoc (le_u64_bytes (first_u64 (placed first 0 node))) second third)
+    ∙ drop_eight (first_u64 (placed first 0 node)) (second ++ third) in
+    whole ∙ ap (λ (l : List ℕ). one ++ l) (left ∙ behind) ∙ ap (λ (l : List ℕ). l ++ (second ++ third)) begun
+    ∙ ap (λ (n : ℕ). (image ++ le_u64_bytes n) ++ (second ++ third)) word_is
+    ∙ simp append_assoc
+
+-- the rows of the nodes so far, and one more
+pub rows_next : (first labels : ℕ) (nodes : List Node) (rows image one all row : List ℕ) (at : ℕ)
+    → rows ≡ flat_map (row_in first 0) nodes → All HasBytes nodes → All (IsSmallIn first labels) nodes
+    → at < length rows / 24 → row ≡ take (at * 24 + 24 - at * 24) (drop (at * 24) rows)
+    → one ≡ image ++ flat_map (row_in first labels) (take at nodes)
+    → ((f : ℕ) (node : Node) → row ≡ row_in f 0 node → HasBytes node → IsSmallIn f labels node
+    → all ≡ one ++ row_in f labels node)
+    → all ≡ image ++ flat_map (row_in first labels) (take (at + 1) nodes)
+rows_next first labels nodes rows image one all row at are bytes small here slice before after =
+    let long = ap length are ∙ length-rows_in first 0 nodes in
+    let below : at < length nodes = omega (arith, long, here) in
+    let node = get_or nodes at nothing in
+    let width : at * 24 + 24 - at * 24 ≡ 24 = omega arith in
+    let is : row ≡ row_in first 0 node = slice ∙ ap (λ (n : ℕ). take n (drop (at * 24) rows)) width
+    ∙ ap (λ (l : List ℕ). take 24 (drop (at * 24) l)) are
+    ∙ row_at (row_in first 0) (λ node. length-row_of (placed first 0 node)) nodes at nothing below in
+    after first node is (bytes at nothing below) (small at nothing below)
+    ∙ ap (λ (l : List ℕ). l ++ row_in first labels node) before
+    ∙ append_assoc image (flat_map (row_in first labels) (take at nodes)) (row_in first labels node)
+    ∙ ap (λ (l : List ℕ). image ++ l)
+    (ap (λ (l : List ℕ). flat_map (row_in first labels) (take at nodes) ++ l)
+    (sym (append-nil (row_in first labels node)))
+    ∙ sym (flat_map-append (row_in first labels) (take at nodes) (node ∷ []))
+    ∙ ap (flat_map (row_in first labels)) (sym (take_more nodes at nothing below)))
+  where
+    nothing : Node
+    nothing = record {
+      answer = 0;
+      label = 0;
+      length = 0;
+      base = 0;
+      width = 0;
+      low_byte = 0;
+      first_byte = 0;
+      is_sparse = false;
+    }
+
+-- and no more rows
+pub rows_all : (first labels : ℕ) (nodes : List Node) (rows image all : List ℕ) (at : ℕ)
+    → rows ≡ flat_map (row_in first 0) nodes → length rows / 24 ≤ at
+    → all ≡ image ++ flat_map (row_in first labels) (take at nodes)
+    → all ≡ image ++ flat_map (row_in first labels) nodes
+rows_all first labels nodes rows image all at are past so_far =
+    let long = ap length are ∙ length-rows_in first 0 nodes in
+    so_far ∙ ap (λ (ns : List Node). image ++ flat_map (row_in first labels) ns)
+    (take_all at nodes (omega (arith, long, past)))

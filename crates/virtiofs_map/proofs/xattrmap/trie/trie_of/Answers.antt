@@ -1,9 +1,7 @@
-use Rattle.std.proofs.Common.{◌∙◌, List, length, ap, arith}
+use Rattle.std.proofs.Common.{◌∙◌, length, ap, arith}
 use Rattle.std.proofs.lemmas.Result.{IfOk-weaker}
-use Rattle.virtiofs_map.specs.NodeParts.{AreFew, ArePatterns, IsTrieWith}
-use Rattle.virtiofs_map.specs.Rule.{MappingRule}
-use Rattle.virtiofs_map.specs.TrieParts.{IsTrieOf}
-use Rattle.virtiofs_map.specs.declared.xattrmap.scopes.Side.{Side}
+use Rattle.virtiofs_map.specs.NodeParts.{AreFew, AreTrieRows}
+use Rattle.virtiofs_map.specs.TrieParts.{AreRowsOfTrie}
 use Rattle.virtiofs_map.proofs.xattrmap.trie.NodesOfLemmas.{nodes_counted}
 use Rattle.virtiofs_map.proofs.xattrmap.trie.PatternLemmas.{AreReady-made}
 use Rattle.virtiofs_map.proofs.xattrmap.trie.SameTextsLemmas.{count_same}
@@ -22,14 +20,16 @@ returns g c =
     let patterns = c.in_ok-patterns.patterns.items in
     let of_rules = c.in_ok-patterns.ensures.patterns in
     let few : AreFew rules = omega (arith, c.len.ensures, c.if-len-ge-TOO_MANY_RULES.false) in
-    IfOk-weaker c.build_trie.result
-    (λ nodes. (s : Side) (r : List MappingRule) → ArePatterns s r bytes patterns → AreFew r
-    → IsTrieOf s r bytes patterns nodes.items)
-    (λ nodes. IsTrieWith side rules nodes.items bytes)
-    (λ nodes of. (let is = of side rules of_rules few in
+    IfOk-weaker c.build_trie.result (λ rows. AreRowsOfTrie bytes patterns rows.items c.args.first)
+    (λ rows. AreTrieRows side rules bytes rows.items c.args.first)
+    (λ rows of. (let is = of.trie side rules of_rules few in
     record {
-      trie = is.trie;
-      bounded = is.bounded;
-      counted = ap length is.exact ∙ nodes_counted side rules patterns ∙ count_same side rules bytes patterns of_rules;
-      few = few;
+      nodes = of.nodes;
+      trie = record {
+        trie = is.trie;
+        bounded = is.bounded;
+        counted = ap length is.exact ∙ nodes_counted side rules patterns ∙ count_same side rules bytes patterns of_rules;
+        few = few;
+      };
+      rows_of = of.rows_of;
     })) (rw (c.as_slice.ensures.value, c.bytes.ensures.bytes) at c.build_trie.ensures)

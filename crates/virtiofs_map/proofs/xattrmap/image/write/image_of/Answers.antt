@@ -1,36 +1,61 @@
-use Rattle.std.proofs.Common.{◌*◌, ◌/◌, length, refl, subst, sym, arith}
+use Rattle.std.proofs.Common.{◌≡◌, ◌*◌, ◌/◌, ◌+◌, ◌≤◌, length, refl, subst, sym, ap, ◌∙◌, arith}
 use Rattle.std.specs.List.{flat_map}
-use Rattle.virtiofs_map.specs.NodeParts.{row_in}
-use Rattle.virtiofs_map.specs.NamesImage.{rule_rows}
+use Rattle.virtiofs_map.specs.NodeParts.{AreTrieRows, row_in}
+use Rattle.virtiofs_map.specs.NamesImage.{longest_image, rule_rows}
 use Rattle.virtiofs_map.specs.NamesImageParts.{ArePlaces, IsWholeImage}
+use Rattle.virtiofs_map.specs.declared.xattrmap.scopes.Side.TheVariants.{Client, Server}
 use Rattle.virtiofs_map.proofs.xattrmap.image.write.NamesImageLemmas.{content_is, content_whole}
+use Rattle.virtiofs_map.proofs.xattrmap.image.write.TriesLemmas.{nodes_fit, rows_are}
 use Rattle.virtiofs_map.proofs.xattrmap.image.write.image_of.Goals as goal
 
 pub returns : goal.returns
 returns g c =
-    let rules = c.args.rules.now in
+    let rules = c.args.rules in
+    let places = c.in-Some.places in
+    let laid = c.in-Some.ensures in
     let client = c.in_ok-client.client.items in
     let server = c.in_ok-server.server.items in
-    let places = c.in-Some.places in
-    let are : ArePlaces (24 * length client) (24 * length server) (length rules.list) (length rules.bytes) places =
-    record {
-      first = omega (arith, c.in-Some.ensures.first, c.len.ensures);
-      second = omega (arith, c.in-Some.ensures.second, c.len-2.ensures);
-      third = c.in-Some.ensures.third;
-      last = c.in-Some.ensures.last;
-      short = c.in-Some.ensures.short;
+    let once = c.len.ensures in
+    let client_long = c.len-2.ensures in
+    let server_long = c.len-3.ensures in
+    let begins : (48 + c.len.result) / 8 ≡ places.server / 8 =
+    ap (λ n. n / 8) (omega (arith, laid.first, once, client_long)) in
+    let clients : AreTrieRows Client rules.list rules.bytes client 6 = c.in_ok-client.ensures in
+    let servers : AreTrieRows Server rules.list rules.bytes server (places.server / 8) =
+    subst (AreTrieRows Server rules.list rules.bytes server) begins c.in_ok-server.ensures in
+    let client_size = clients.rows_of.long in
+    let server_size = servers.rows_of.long in
+    let are : ArePlaces (24 * length clients.nodes) (24 * length servers.nodes) (length rules.list)
+    (length rules.bytes) places = record {
+      first = omega (arith, laid.first, client_long, client_size);
+      second = omega (arith, laid.second, server_long, server_size);
+      third = laid.third;
+      last = laid.last;
+      short = laid.short;
     } in
+    let few : length rules.bytes ≤ longest_image = omega (arith, laid.last, laid.short) in
+    let texts : places.bytes + length rules.bytes ≤ longest_image = omega (arith, laid.last, laid.short) in
+    let client_within : 8 * 6 + length client ≤ longest_image =
+    omega (arith, laid.first, laid.second, laid.third, laid.last, laid.short, client_long) in
+    let server_within : 8 * (places.server / 8) + length server ≤ longest_image =
+    omega (arith, laid.first, laid.second, laid.third, laid.last, laid.short, server_long) in
+    let client_pushed =
+    c.in_ok-push_rows.ensures 6 clients.nodes
+    (c.as_slice.ensures.value ∙ rows_are Client rules.list rules.bytes client 6 clients client_within few)
+    clients.rows_of.bytes
+    (nodes_fit Client rules.list rules.bytes client 6 clients client_within places.bytes texts) in
+    let server_pushed =
+    c.in_ok-push_rows-2.ensures (places.server / 8) servers.nodes
+    (c.as_slice-2.ensures.value
+    ∙ rows_are Server rules.list rules.bytes server (places.server / 8) servers server_within few)
+    servers.rows_of.bytes
+    (nodes_fit Server rules.list rules.bytes server (places.server / 8) servers server_within places.bytes texts) in
     subst (IsWholeImage rules.list)
     (sym
-    (content_is places (flat_map (row_in 6 places.bytes) client)
-    (flat_map (row_in (places.server / 8) places.bytes) server) (rule_rows rules.list rules.spans) rules.bytes _ _ _ _ _ _
-    _ _ _
-    c.in_ok-image.ensures.items c.in_ok-push_header.ensures
-    (rw c.as_slice.ensures.value at c.in_ok-push_rows.ensures.rows)
-    (rw c.as_slice-2.ensures.value at c.in_ok-push_rows-2.ensures.rows)
-    c.in_ok-push_rules.ensures c.in_ok-extend_from_slice.ensures.items
-    refl refl c.bytes-patterns.ensures.bytes))
-    (content_whole rules.list rules.spans client server rules.bytes places are c.bytes-patterns.ensures.spans
-    c.bytes-patterns.ensures.whole c.requires c.in_ok-client.ensures c.in_ok-server.ensures
-    (rw c.as_slice.ensures.value at c.in_ok-push_rows.ensures.bytes)
-    (rw c.as_slice-2.ensures.value at c.in_ok-push_rows-2.ensures.bytes))
+    (content_is places (flat_map (row_in 6 places.bytes) clients.nodes)
+    (flat_map (row_in (places.server / 8) places.bytes) servers.nodes) (rule_rows rules.list rules.spans) rules.bytes
+    _ _ _ _ _ _ _ _ _ c.in_ok-image.ensures.items c.in_ok-push_header.ensures client_pushed server_pushed
+    c.in_ok-push_rules.ensures c.in_ok-extend_from_slice.ensures.items refl refl c.bytes-patterns.ensures.bytes))
+    (content_whole rules.list rules.spans clients.nodes servers.nodes rules.bytes places are
+    c.bytes-patterns.ensures.spans c.bytes-patterns.ensures.whole c.requires clients.trie servers.trie
+    clients.rows_of.bytes servers.rows_of.bytes)

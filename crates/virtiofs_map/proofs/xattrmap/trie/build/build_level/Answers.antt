@@ -1,6 +1,7 @@
-use Rattle.std.proofs.Common.{◌≡◌, ◌+◌, length, sym, ap, ◌∙◌, subst, arith}
+use Rattle.std.proofs.Common.{◌≡◌, ◌+◌, [], ◌∷◌, ◌++◌, length, subst, arith}
 use Rattle.std.proofs.lemmas.List.{length_push}
-use Rattle.virtiofs_map.specs.TrieBuildParts.{AreExact, AreBuilt, AreDeep}
+use Rattle.virtiofs_map.specs.TrieBuildParts.{AreDeep, AreMade}
+use Rattle.virtiofs_map.proofs.xattrmap.trie.AppendedRowLemmas.{rows_more}
 use Rattle.virtiofs_map.proofs.xattrmap.trie.build.TrieBuildLemmas.{place_here}
 use Rattle.virtiofs_map.proofs.xattrmap.trie.build.OrderedLemmas.{exact_more}
 use Rattle.virtiofs_map.proofs.xattrmap.trie.build.LevelLemmas.{built_more, deep_more, deeper_more, deep_none}
@@ -8,16 +9,13 @@ use Rattle.virtiofs_map.proofs.xattrmap.trie.build.build_level.Goals as goal
 
 pub loop-at-init : goal.loop-at-init
 loop-at-init g c =
-    let begun : length c.args.nodes.now.items ≡ c.len-at.result = (let e = c.len-at.ensures in omega (arith, e)) in
-    let ended : length c.args.ranges.now.items ≡ c.len-at-end.result =
-    (let e = c.len-at-end.ensures in omega (arith, e)) in
+    let ended : length c.args.ranges.now.items ≡ c.len-end.result = (let e = c.len-end.ensures in omega (arith, e)) in
     record {
       places = c.requires.places;
-      built = c.requires.built;
-      exact = c.requires.exact;
-      counted = sym begun;
+      made = λ made. made;
+      upto = let w = c.requires.within in omega (arith, ended, w);
       within = omega (arith, ended);
-      deep = λ depth deep. subst (λ n. AreDeep c.args.ranges.now.items n depth) begun deep;
+      deep = λ depth deep. deep;
       deeper =
           λ depth deep. subst (λ n. AreDeep c.args.ranges.now.items n (depth + 1)) ended
           (deep_none c.args.ranges.now.items (depth + 1));
@@ -34,30 +32,44 @@ node_of-requires-clause-place g c =
 pub loop-at-preserved : goal.loop-at-preserved
 loop-at-preserved g c =
     let inv = c.loop-at.invariant in
-    let made = c.in_ok-node_of.ensures.expanded in
-    let counted = inv.counted in
+    let expanded = c.in_ok-node.ensures.expanded in
     let within = inv.within in
+    let test = c.loop-at-test.true in
     let range = c.index-range.result.now in
-    let here = place_here c.loop-at.ranges.items c.loop-at.at range
-    (let t = c.loop-at-test.true in omega (arith, t, within)) c.index-range.ensures in
-    let pushed = c.in_ok-push.ensures.items in
-    let size = ap length pushed ∙ length_push c.loop-at.nodes.items c.in_ok-node_of.field-0 in
-    let more = made.longer.longer in
+    let patterns = c.args.patterns.now in
+    let old = c.loop-at.ranges.items in
+    let new = c.node_of.new.ranges.items in
+    let node = c.in_ok-node.node in
+    let here = place_here old c.loop-at.at range (omega (arith, test, within)) c.index-range.ensures in
+    let more = expanded.longer.longer in
     record {
-      places = made.places;
-      built = subst (AreBuilt c.args.patterns.now c.node_of.new.ranges.items) (sym pushed)
-          (built_more c.args.patterns.now c.loop-at.ranges.items c.node_of.new.ranges.items c.loop-at.nodes.items range
-          c.in_ok-node_of.field-0 c.loop-at.at counted here inv.built made);
-      exact = subst (AreExact c.args.patterns.now c.node_of.new.ranges.items) (sym pushed)
-          (exact_more c.args.patterns.now c.loop-at.ranges.items c.node_of.new.ranges.items c.loop-at.nodes.items
-          c.in_ok-node_of.field-0 c.loop-at.at range counted here made.longer c.in_ok-node_of.ensures.text_nodes
-          c.in_ok-node_of.ensures.exact inv.exact);
-      counted = omega (arith, counted, size);
+      places = expanded.places;
+      made = λ before.
+          (let made = inv.made before in
+          record {
+            nodes = made.nodes ++ node ∷ [];
+            counted = let count = made.counted in let size = length_push made.nodes node in omega (arith, count, size);
+            built = built_more patterns old new made.nodes range node c.loop-at.at made.counted here made.built expanded;
+            exact =
+                exact_more patterns old new made.nodes node c.loop-at.at range made.counted here expanded.longer
+                c.in_ok-node.ensures.text_nodes c.in_ok-node.ensures.exact made.exact;
+            rows_of =
+                rows_more c.loop-at.rows.items c.push_row.new.rows.items c.args.first made.nodes node
+                c.placed.result made.rows_of c.placed.ensures.placed c.placed.ensures.bytes.0 c.in_ok-push_row.ensures.row
+                c.in_ok-push_row.ensures.long;
+          });
+      upto = omega (arith, test);
       within = omega (arith, within, more);
-      deep = λ depth deep. deep_more c.args.patterns.now c.loop-at.ranges.items c.node_of.new.ranges.items range
-          c.in_ok-node_of.field-0 c.loop-at.at depth here made (inv.deep depth deep);
+      deep = λ depth deep. deep_more patterns old new range node c.loop-at.at depth here expanded (inv.deep depth deep);
       deeper =
-          λ depth deep. deeper_more c.args.patterns.now c.loop-at.ranges.items c.node_of.new.ranges.items range
-          c.in_ok-node_of.field-0 c.loop-at.at c.len-at-end.result depth here made (inv.deep depth deep)
-          (inv.deeper depth deep);
+          λ depth deep. deeper_more patterns old new range node c.loop-at.at c.len-end.result depth here expanded
+          (inv.deep depth deep) (inv.deeper depth deep);
     }
+
+pub returns-clause-made : goal.returns-clause-made
+returns-clause-made g c = λ before.
+    (let inv = c.loop-at.invariant in
+    let ended : c.loop-at.at ≡ c.len-end.result =
+    (let upto = inv.upto in let past = c.loop-at-test.false in omega (arith, upto, past)) in
+    subst (AreMade c.args.patterns.now c.loop-at.ranges.items c.loop-at.rows.items c.args.first) ended
+    (inv.made before))

@@ -1,13 +1,13 @@
-use Rattle.std.proofs.Common.{arith, subst}
-use Rattle.std.proofs.lemmas.Grind.{common_steps}
-use Rattle.std.proofs.lemmas.List.Elements.{All-more}
-use Rattle.virtiofs_map.specs.NodeParts.{HasBytes}
+use Rattle.std.proofs.Common.{refl}
+use Rattle.virtiofs_map.proofs.xattrmap.trie.rows.RowLemmas.{rows_all, rows_next}
 use Rattle.virtiofs_map.proofs.xattrmap.trie.rows.push_rows.Goals as goal
 
-pub loop-node-preserved : goal.loop-node-preserved
-loop-node-preserved g c = (
-  grind (arith, common_steps),
-  All-more HasBytes c.args.nodes.now c.loop-node.node-index _ (omega arith) c.loop-node.invariant.1
-      (let bytes = subst HasBytes c.placed.ensures c.push_row.ensures.bytes in
-      record { low_byte = bytes.low_byte; first_byte = bytes.first_byte }),
-)
+pub loop-place-preserved : goal.loop-place-preserved
+loop-place-preserved g c = λ first nodes are bytes small.
+    rows_next first c.args.labels nodes c.args.rows.now c.args.image.now.items _ _ _ c.loop-place.place are bytes small
+    c.loop-place-test.true refl (c.loop-place.invariant first nodes are bytes small) c.in_ok-push_placed.ensures
+
+pub returns : goal.returns
+returns g c = λ first nodes are bytes small.
+    rows_all first c.args.labels nodes c.args.rows.now c.args.image.now.items _ c.loop-place.place are
+    c.loop-place-test.false (c.loop-place.invariant first nodes are bytes small)

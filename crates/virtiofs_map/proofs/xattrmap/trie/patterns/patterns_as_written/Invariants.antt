@@ -1,6 +1,0 @@
-use Rattle.virtiofs_map.specs.NodeParts.{ArePatternsBelow}
-use Rattle.virtiofs_map.proofs.xattrmap.trie.patterns.patterns_as_written.Given as goal
-
--- the patterns so far are those of the rules so far
-abbrev pub invariant-loop-place : goal.invariant-loop-place
-invariant-loop-place g l = ArePatternsBelow l.side l.rules.list l.rules.bytes l.place l.patterns.items

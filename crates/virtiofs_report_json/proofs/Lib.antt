@@ -1,0 +1,2 @@
+mod NoFloatLemmas
+mod ReportJsonLemmas

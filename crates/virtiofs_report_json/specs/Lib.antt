@@ -1,0 +1,4 @@
+pub mod FindingJson
+pub mod IdJson
+pub mod NameJson
+pub mod ReportJson
