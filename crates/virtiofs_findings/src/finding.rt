@@ -3,6 +3,7 @@ ghost use Rattle.std.specs.Prelude.{◌≡◌, [], Some};
 ghost use Rattle.std.specs.Fmt.{DisplaysOnOk};
 ghost use Rattle.virtiofs_findings.specs.ExtentText.{extent_text};
 ghost use Rattle.virtiofs_findings.specs.FindingText.{whereabouts, shared_text, astray_text, becomes_text, back_text, way_text, not_back_text, either_text, is_one_of, acting_text, root_text, failing_text, lack_why, lack_text, lacking_text, keepers_text, is_text, kept_text, ids_text, both_text, one_text, met_text, or_name, also, is_usual, least_text, idle_text, shown_text, reached_text, renamed_text, acl_text, other_ranges_text, finding_text};
+ghost use Rattle.virtiofs_findings.specs.declared.finding.Finding.TheVariants.{ListedElsewhere};
 
 use crate::ids::extent::{Extent, is_one};
 use crate::ids::found::{IdFault, IdsFound};
@@ -498,6 +499,20 @@ const POSIX_ACL: &str =
 
 const NO_RULE: &str = "some names have no rule: calls with them fail\n";
 
+/// Writes that a name of the host is listed under a name that leads elsewhere.
+fn write_elsewhere<W: fmt::Write, A: Allocator>(
+    f: &mut fmt::Formatter<W>,
+    least: &LeastName<A>,
+) -> fmt::Result
+    ensures { DisplaysOnOk W.write_str_gives f.old result
+        (Some (finding_text (ListedElsewhere least.now))) f.new }
+{
+    write!(
+        f,
+        "lists show the host's attribute {least} under a name by which the guest does not reach it\n"
+    )
+}
+
 /// Writes that the rule at a place, counted from 0, decides no name.
 fn write_idle<W: fmt::Write>(f: &mut fmt::Formatter<W>, place: usize) -> fmt::Result
     ensures { DisplaysOnOk W.write_str_gives f.old result (Some (idle_text place)) f.new }
@@ -586,10 +601,7 @@ impl<A: Allocator> fmt::Display for Finding<A> {
                 f,
                 "the guest can set the name {least}, but lists do not show it\n"
             ),
-            Finding::ListedElsewhere(least) => write!(
-                f,
-                "lists show the host's attribute {least} under a name by which the guest does not reach it\n"
-            ),
+            Finding::ListedElsewhere(least) => write_elsewhere(f, least),
             Finding::IdleRule(place) => write_idle(f, *place),
             Finding::AclRenamed { name, host } => write_acl(f, *name, host),
             Finding::IdsOfBoth {

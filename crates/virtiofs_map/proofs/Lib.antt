@@ -7,6 +7,7 @@ mod LeU64Lemmas
 mod CutLemmas
 mod DecisionLemmas
 mod FirstRuleLemmas
+mod InsideLemmas
 mod MapRuleLemmas
 mod MappingLawLemmas
 mod NamespaceLemmas

@@ -160,17 +160,6 @@ rule_from_words bytes rule span first second third kind bits is few has is_kind 
     rw (has.third_is, has.second_is) is.prepend in
     same_rule_fields _ rule kinds clients servers keys prepends
 
--- the prepend of a row
-pub prepend_from_words : (bytes row : List ℕ) (rule : MappingRule) (span : Span) (second third : ℕ)
-    → row ≡ rule_row rule span → IsSpan bytes rule span → length bytes < 281474976710656
-    → second ≡ le_u64_at row 8 → third ≡ le_u64_at row 16
-    → (take (third - second) (drop second bytes) ≡ rule.prepend) × (second ≤ third) × (third ≤ length bytes)
-prepend_from_words bytes row rule span second third are is few is_second is_third =
-    let has = words_of_row bytes rule span is few in
-    let seconds : second ≡ span.prepend = is_second ∙ ap (λ (l : List ℕ). le_u64_at l 8) are ∙ has.second_is in
-    let thirds : third ≡ span.end = is_third ∙ ap (λ (l : List ℕ). le_u64_at l 16) are ∙ has.third_is in
-    (rw (seconds, thirds) is.prepend, omega (arith, seconds, thirds, is.rising_on), omega (arith, thirds, is.within))
-
 -- ---- rows
 
 pub rule_rows-push : (rules : List MappingRule) (spans : List Span) (rule : MappingRule) (span : Span)

@@ -434,14 +434,13 @@ pub(crate) fn set_up<A: Allocator + Copy>(
     ensures says { OnOk result (Adds (TellsGuest number guest.now)
         refusals.old.items refusals.new.items) }
 {
-    let sets_up = sets_up_namespace(guest);
     let users = read_ids(
         alloc,
         refusals,
         number,
         IdKind::Users,
         users_of(guest),
-        sets_up,
+        sets_up_namespace(guest),
         guest.options.translate_uid.as_slice(),
         guest.options.uid_map.as_slice(),
     )?;
@@ -451,7 +450,7 @@ pub(crate) fn set_up<A: Allocator + Copy>(
         number,
         IdKind::Groups,
         groups_of(guest),
-        sets_up,
+        sets_up_namespace(guest),
         guest.options.translate_gid.as_slice(),
         guest.options.gid_map.as_slice(),
     )?;

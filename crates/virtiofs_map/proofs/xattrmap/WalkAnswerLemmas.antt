@@ -8,6 +8,7 @@ use Rattle.virtiofs_map.specs.NodeParts.{AreFew, answer_for, answer_of, no_answe
 use Rattle.virtiofs_map.specs.Names.{fits, first, deciding}
 use Rattle.virtiofs_map.specs.Rule.{MappingRule, RuleType, Prefix, Okay, Bad, Unsupported, type_number}
 use Rattle.virtiofs_map.specs.declared.xattrmap.scopes.Side.{Side}
+use Rattle.virtiofs_map.proofs.RuleRowLemmas.{same_type, there}
 
 -- ---- answers
 
@@ -74,6 +75,13 @@ module _ (side : Side) (rules : List MappingRule) (name : List ℕ) where
 
 -- ---- what a walk finds
 
+-- a rule of type prefix decides, and stands at that place
+pub record PrefixDecides (side : Side) (rules : List MappingRule) (name : List ℕ) (place : ℕ) : Type 0 where
+  pub rule : MappingRule
+  pub decides : deciding side rules name ≡ Some rule
+  pub kind : rule.kind ≡ Prefix
+  pub here : slice_get rules place ≡ Some rule
+
 module _ (side : Side) (rules : List MappingRule) (name : List ℕ) (answer : ℕ) (few : AreFew rules)
     (answers : answer ≡ answer_of side rules name) where
   pub place_none : answer ≡ no_answer → first side rules name ≡ None
@@ -81,3 +89,16 @@ module _ (side : Side) (rules : List MappingRule) (name : List ℕ) (answer : �
 
   pub place_some : answer ≢ no_answer → first side rules name ≡ Some (answer / 4)
   place_some ne = answer_some side rules name (λ e. ne (answers ∙ e)) ∙ ap (λ n. Some (n / 4)) (sym answers)
+
+  pub prefix_decides : answer % 4 ≡ 0 → PrefixDecides side rules name (answer / 4)
+  prefix_decides e =
+      let place = place_some (λ none. absurd (omega (arith, e, none))) in
+      let one = there rules (answer / 4) (first_within side rules name (answer / 4) place) in
+      let decides : deciding side rules name ≡ Some one.0 = ap (option_and_then (slice_get rules)) place ∙ one.1 in
+      let number = answer_type side rules name one.0 decides in
+      record {
+        rule = one.0;
+        decides = decides;
+        kind = same_type one.0.kind Prefix (omega (arith, number, answers, e));
+        here = one.1;
+      }

@@ -47,7 +47,7 @@ impl<'m> XattrMapRef<'m> {
     #[inline(always)]
     fn trie(self, side: Side) -> Trie<'m>
         ensures { (rules : List MappingRule) → IsMapOf rules self.entry
-            → HasTrie side rules self.entry.bytes.now result.image.now result.root }
+            → HasTrie side rules self.entry.bytes.now result.rows.image.now result.root }
     {
         match side {
             Side::Client => Trie::new(self.bytes, HEADER),
@@ -68,16 +68,6 @@ impl<'m> XattrMapRef<'m> {
             → option_map rule_meant result ≡ slice_get rules place }
     {
         read_rule(part(self.bytes, 2), part(self.bytes, 3), place)
-    }
-
-    /// The prepend of the rule at a place.
-    #[inline(always)]
-    fn prepend(self, place: usize) -> Option<&'m [u8]>
-        ensures { (rules : List MappingRule) → IsMapOf rules self.entry
-            → option_map (λ prepend. prepend.now) result
-            ≡ option_map (λ rule. rule.prepend) (slice_get rules place) }
-    {
-        prepend_at(part(self.bytes, 2), part(self.bytes, 3), place)
     }
 
     /// Whether the rules are the same, one by one.
@@ -125,7 +115,7 @@ impl<'m> XattrMapRef<'m> {
             if is_high {
                 return Decision::Bad;
             }
-            return match self.prepend((answer / 4) as usize) {
+            return match prepend_at(self.bytes, (answer / 4) as usize) {
                 Some(prepend) => Decision::Prefix(prepend),
                 None => Decision::NoMap,
             };

@@ -1,24 +1,21 @@
 -- The order of patterns by the numbers of their first bytes is that of their bytes.
-use Rattle.std.proofs.Common.{◌≡◌, ◌⊎◌, ℕ, zero, suc, ◌+◌, ◌-◌, ◌<◌, ◌≤◌, true, false, List, [], ◌∷◌, ◌++◌, length, take}
-use Rattle.std.proofs.Common.{drop, get_or, Some, inl, inr, refl, sym, ap, subst, ◌∙◌, arith}
+use Rattle.std.proofs.Common.{◌≡◌, ◌⊎◌, ℕ, zero, suc, ◌+◌, ◌-◌, ◌<◌, ◌≤◌, false, List, length, take}
+use Rattle.std.proofs.Common.{drop, get_or, inl, inr, sym, ap, subst, ◌∙◌, arith}
 use Rattle.std.specs.Cmp.Lexicographic.{slice_cmp, nat_list_cmp_total}
 use Rattle.std.specs.Int.{w64, from_be_bytes}
-use Rattle.std.specs.List.{All, slice_get}
+use Rattle.std.specs.List.{All}
 use Rattle.std.specs.List.Sorted.{IsSortedBy}
 use Rattle.std.specs.Ordering.{nat_cmp, ordering_then, is_lt}
 use Rattle.std.specs.declared.cmp.Ordering.{Ordering}
 use Rattle.std.proofs.lemmas.Bool.{true≢false, cases_lt}
-use Rattle.std.proofs.lemmas.List.{map-append, get_or-take, get_or-drop, drop-take, take-take}
-use Rattle.std.proofs.lemmas.List.Elements.{All-contains, All-push}
+use Rattle.std.proofs.lemmas.List.{get_or-take, get_or-drop, drop-take, take-take}
+use Rattle.std.proofs.lemmas.List.Elements.{All-contains}
 use Rattle.std.proofs.lemmas.List.Sorted.{ranks_by, sorted_far}
-use Rattle.std.proofs.lemmas.Option.{same_Some, slice_get_within, get_or_from_slice_get}
-use Rattle.virtiofs_map.specs.KeyedParts.{AreBytes, IsKeyed, key_of, patterns_in, word_of}
-use Rattle.virtiofs_map.specs.NodeParts.{AreInOrder, ArePatternsBelow, IsPatternAt}
-use Rattle.virtiofs_map.specs.Rule.{MappingRule}
-use Rattle.virtiofs_map.specs.declared.xattrmap.scopes.Side.{Side}
-use Rattle.virtiofs_map.specs.declared.xattrmap.trie.keyed.Keyed.{Keyed}
+use Rattle.std.proofs.lemmas.Option.{slice_get_within, get_or_from_slice_get}
+use Rattle.virtiofs_map.specs.KeyedParts.{AreBytes, IsKeyed, key_of, word_of}
+use Rattle.virtiofs_map.specs.NodeParts.{AreInOrder}
 use Rattle.virtiofs_map.specs.declared.xattrmap.trie.patterns.Pattern.{Pattern}
-use Rattle.virtiofs_map.proofs.xattrmap.trie.PatternLemmas.{less, level, later_byte, patterns_more}
+use Rattle.virtiofs_map.proofs.xattrmap.trie.PatternLemmas.{less, level, later_byte}
 
 -- ---- one number
 
@@ -43,24 +40,7 @@ same_word xs ys same =
 -- its first eight bytes have the same number
 pub front_word : (front bytes : List ℕ) → front ≡ take 8 bytes → from_be_bytes w64 front ≡ word_of bytes
 unfolding word_of
-front_word front bytes is =
-    let e0 : get_or front 0 0 ≡ get_or bytes 0 0 =
-    ap (λ l. get_or l 0 0) is ∙ get_or-take 8 bytes 0 0 (omega arith) in
-    let e1 : get_or front 1 0 ≡ get_or bytes 1 0 =
-    ap (λ l. get_or l 1 0) is ∙ get_or-take 8 bytes 1 0 (omega arith) in
-    let e2 : get_or front 2 0 ≡ get_or bytes 2 0 =
-    ap (λ l. get_or l 2 0) is ∙ get_or-take 8 bytes 2 0 (omega arith) in
-    let e3 : get_or front 3 0 ≡ get_or bytes 3 0 =
-    ap (λ l. get_or l 3 0) is ∙ get_or-take 8 bytes 3 0 (omega arith) in
-    let e4 : get_or front 4 0 ≡ get_or bytes 4 0 =
-    ap (λ l. get_or l 4 0) is ∙ get_or-take 8 bytes 4 0 (omega arith) in
-    let e5 : get_or front 5 0 ≡ get_or bytes 5 0 =
-    ap (λ l. get_or l 5 0) is ∙ get_or-take 8 bytes 5 0 (omega arith) in
-    let e6 : get_or front 6 0 ≡ get_or bytes 6 0 =
-    ap (λ l. get_or l 6 0) is ∙ get_or-take 8 bytes 6 0 (omega arith) in
-    let e7 : get_or front 7 0 ≡ get_or bytes 7 0 =
-    ap (λ l. get_or l 7 0) is ∙ get_or-take 8 bytes 7 0 (omega arith) in
-    omega (arith, e0, e1, e2, e3, e4, e5, e6, e7)
+front_word front bytes is = same_word front bytes (ap (take 8) is ∙ take-take 8 8 bytes (omega arith))
 
 -- a lesser byte after a front that two rows share makes a lesser number
 lesser_word : (d : ℕ) (xs ys : List ℕ) → d < 8 → AreBytes xs → take d xs ≡ take d ys
@@ -196,61 +176,36 @@ later_key depth xs ys bytes same order =
 
 -- ---- patterns
 
--- a pattern of the list
-kept_at : (keyed : List Keyed) (i : ℕ) (one : Pattern) → slice_get (patterns_in keyed) i ≡ Some one
-    → (kept : Keyed) × (slice_get keyed i ≡ Some kept) × (kept.pattern ≡ one)
-kept_at [] i one here = absurd (cc)
-kept_at (k ∷ ks) zero one here = (k, refl, same_Some _ _ here)
-kept_at (k ∷ ks) (suc i) one here = kept_at ks i one here
-
-later_keyed : (depth : ℕ) (one other : Keyed) → IsKeyed one → IsKeyed other
-    → take depth one.pattern.bytes.now ≡ take depth other.pattern.bytes.now
+later_keyed : (depth : ℕ) (one other : Pattern) → IsKeyed one → IsKeyed other
+    → take depth one.bytes.now ≡ take depth other.bytes.now
     → is_lt (slice_cmp nat_cmp (key_of other) (key_of one)) ≡ false
-    → get_or one.pattern.bytes.now depth 0 ≤ get_or other.pattern.bytes.now depth 0
+    → get_or one.bytes.now depth 0 ≤ get_or other.bytes.now depth 0
 later_keyed depth one other numbers numbers' same order =
-    let xs : List ℕ = one.pattern.bytes.now in
-    let ys : List ℕ = other.pattern.bytes.now in
+    let xs : List ℕ = one.bytes.now in
+    let ys : List ℕ = other.bytes.now in
     let words : is_lt (ordering_then (nat_cmp (word_of ys) (word_of xs))
     (ordering_then (nat_cmp (word_of (drop 8 ys)) (word_of (drop 8 xs))) (slice_cmp nat_cmp ys xs))) ≡ false =
     rw (sym numbers.first, sym numbers'.first, sym numbers.second, sym numbers'.second) order in
     later_key depth xs ys numbers'.bytes same words
 
 -- patterns in the order of their keys are in the order of their bytes
-pub AreInOrder-keyed : (keyed : List Keyed) → All IsKeyed keyed
-    → IsSortedBy (λ (a b : Keyed). is_lt (slice_cmp nat_cmp (key_of a) (key_of b))) keyed
-    → AreInOrder (patterns_in keyed)
-AreInOrder-keyed keyed each sorted = record {
+pub AreInOrder-keyed : (patterns : List Pattern) → All IsKeyed patterns
+    → IsSortedBy (λ (a b : Pattern). is_lt (slice_cmp nat_cmp (key_of a) (key_of b))) patterns
+    → AreInOrder patterns
+AreInOrder-keyed patterns each sorted = record {
   rising = λ i j depth one other before here there same.
-      let (a, at_i, is_one) = kept_at keyed i one here in
-      let (b, at_j, is_other) = kept_at keyed j other there in
-      let inside : j < length keyed = slice_get_within keyed j b at_j in
-      let within : i < length keyed = slice_get_within keyed i a at_i in
+      let inside : j < length patterns = slice_get_within patterns j other there in
+      let within : i < length patterns = slice_get_within patterns i one here in
+      let is_one = get_or_from_slice_get patterns i one one here in
+      let is_other = get_or_from_slice_get patterns j other one there in
       let far =
-      sorted_far (λ (a b : Keyed). is_lt (slice_cmp nat_cmp (key_of a) (key_of b)))
-      (ranks_by nat_list_cmp_total key_of) keyed sorted i j a (omega (arith, before)) inside in
-      let order : is_lt (slice_cmp nat_cmp (key_of b) (key_of a)) ≡ false =
-      subst (λ (k : Keyed). is_lt (slice_cmp nat_cmp (key_of b) (key_of k)) ≡ false)
-      (get_or_from_slice_get keyed i a a at_i)
-      (subst (λ (k : Keyed). is_lt (slice_cmp nat_cmp (key_of k) (key_of (get_or keyed i a))) ≡ false)
-      (get_or_from_slice_get keyed j b a at_j) far) in
-      let keyed_a = All-contains IsKeyed keyed a each (i, within, get_or_from_slice_get keyed i a a at_i) in
-      let keyed_b = All-contains IsKeyed keyed b each (j, inside, get_or_from_slice_get keyed j b b at_j) in
-      subst (λ (p : Pattern). get_or p.bytes.now depth 0 ≤ get_or other.bytes.now depth 0) is_one
-      (subst (λ (q : Pattern). get_or a.pattern.bytes.now depth 0 ≤ get_or q.bytes.now depth 0) is_other
-      (later_keyed depth a b keyed_a keyed_b
-      (ap (λ (p : Pattern). take depth p.bytes.now) is_one ∙ same
-      ∙ sym (ap (λ (p : Pattern). take depth p.bytes.now) is_other)) order));
+      sorted_far (λ (a b : Pattern). is_lt (slice_cmp nat_cmp (key_of a) (key_of b)))
+      (ranks_by nat_list_cmp_total key_of) patterns sorted i j one (omega (arith, before)) inside in
+      let order : is_lt (slice_cmp nat_cmp (key_of other) (key_of one)) ≡ false =
+      subst (λ (k : Pattern). is_lt (slice_cmp nat_cmp (key_of other) (key_of k)) ≡ false) is_one
+      (subst (λ (k : Pattern). is_lt (slice_cmp nat_cmp (key_of k) (key_of (get_or patterns i one))) ≡ false)
+      is_other far) in
+      later_keyed depth one other (All-contains IsKeyed patterns one each (i, within, is_one))
+      (All-contains IsKeyed patterns other each
+      (j, inside, get_or_from_slice_get patterns j other other there)) same order;
 }
-
--- one more pattern, with its numbers
-pub keyed_more : (side : Side) (rules : List MappingRule) (bytes : List ℕ) (place : ℕ) (keyed : List Keyed)
-    (one : Pattern) (more : Keyed)
-    → ArePatternsBelow side rules bytes place (patterns_in keyed) → All IsKeyed keyed
-    → IsPatternAt side rules bytes place one → IsKeyed more → more.pattern ≡ one
-    → ArePatternsBelow side rules bytes (place + 1) (patterns_in (keyed ++ more ∷ [])) × All IsKeyed (keyed ++ more ∷ [])
-keyed_more side rules bytes place keyed one more below each is numbers same = (
-  subst (ArePatternsBelow side rules bytes (place + 1))
-      (ap (λ (p : Pattern). patterns_in keyed ++ p ∷ []) (sym same) ∙ sym (map-append (λ (k : Keyed). k.pattern) keyed (more ∷ [])))
-      (patterns_more side rules bytes place (patterns_in keyed) one below is),
-  All-push IsKeyed keyed more each numbers,
-)

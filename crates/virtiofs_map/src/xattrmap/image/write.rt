@@ -12,7 +12,7 @@ use crate::xattrmap::le_u64::push_le_u64;
 use crate::xattrmap::rules::{RuleRef, Rules};
 use crate::xattrmap::scopes::Side;
 use crate::xattrmap::spans::Span;
-use crate::xattrmap::trie::{ROW, push_rows, trie_of};
+use crate::xattrmap::trie::{ROW, push_rows, tries_of};
 use std::alloc::{AllocError, Allocator};
 
 /// Every place of an image is below this.
@@ -64,8 +64,7 @@ pub(crate) fn image_of<A: Allocator + Copy>(
     requires { All HasNoZero rules.list }
     ensures { IfOk result (λ image. IsWholeImage rules.list image.items) }
 {
-    let client = trie_of(alloc, &rules, Side::Client, HEADER / 8)?;
-    let server = trie_of(alloc, &rules, Side::Server, (HEADER + client.len()) / 8)?;
+    let (client, server) = tries_of(alloc, &rules)?;
     let patterns = rules.bytes();
     let Some(places) = places_of(client.len(), server.len(), &rules) else {
         return Err(AllocError);

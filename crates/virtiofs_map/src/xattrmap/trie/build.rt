@@ -10,13 +10,13 @@ ghost use Rattle.virtiofs_map.specs.declared.xattrmap.trie.build.PatternRange.{P
 
 use crate::xattrmap::trie::node::{NO_ANSWER, Node};
 use crate::xattrmap::trie::patterns::Pattern;
-use crate::xattrmap::trie::rows::{ROW, placed, push_row};
+use crate::xattrmap::trie::rows::{placed, push_row};
 use std::alloc::{AllocError, Allocator};
 
 /// The patterns that begin with the path of a node; they stand side by side. A hole between
 /// nodes has none of them.
 #[derive(Clone, Copy)]
-struct PatternRange {
+pub(crate) struct PatternRange {
     /// The place of the first of these patterns.
     low: usize,
     /// The place after the last of these patterns.
@@ -365,21 +365,21 @@ fn build_level<A: Allocator>(
     Ok(end)
 }
 
-/// The rows of a trie of these patterns, which stand among `bytes`. The trie begins at a place that
-/// is counted in eights, and labels are counted from the first of the bytes.
-pub(crate) fn build_trie<A: Allocator + Copy>(
-    alloc: A,
+/// Makes `rows` those of a trie of these patterns, which stand among `bytes`. The trie begins at a
+/// place that is counted in eights, and labels are counted from the first of the bytes. What `rows`
+/// and `ranges` had makes no difference.
+pub(crate) fn build_trie<A: Allocator>(
+    rows: &mut Vec<u8, A>,
     patterns: &[Pattern<'_>],
     bytes: &[u8],
+    ranges: &mut Vec<PatternRange, A>,
     first: usize,
-) -> Result<Vec<u8, A>, AllocError>
+) -> Result<(), AllocError>
     requires { AreReady (length bytes.now) patterns.now }
-    ensures { IfOk result (λ rows. AreRowsOfTrie bytes.now patterns.now rows.items first) }
+    ensures { OnOk result (AreRowsOfTrie bytes.now patterns.now rows.new.items first) }
 {
-    // Most often there are not many more nodes than patterns.
-    let most = patterns.len().saturating_add(patterns.len() / 2);
-    let mut ranges = Vec::with_capacity(alloc, most)?;
-    let mut rows = Vec::with_capacity(alloc, most.saturating_mul(ROW))?;
+    rows.clear();
+    ranges.clear();
     ranges.push(PatternRange {
         low: 0,
         high: patterns.len(),
@@ -390,7 +390,7 @@ pub(crate) fn build_trie<A: Allocator + Copy>(
     })?;
     let mut from = 0;
     while from < ranges.len() {
-        from = build_level(patterns, &mut ranges, from, &mut rows, first)?;
+        from = build_level(patterns, ranges, from, rows, first)?;
     }
-    Ok(rows)
+    Ok(())
 }

@@ -1,23 +1,13 @@
-//! Patterns that are compared by numbers.
+//! Patterns are compared by the numbers of their first sixteen bytes, which most often tell them apart.
+//! The first byte of a number is the highest. Where a pattern has fewer bytes, zeros stand for them.
 
 ghost use Rattle.std.specs.Cmp.Lexicographic.{slice_cmp};
 ghost use Rattle.std.specs.Ordering.{nat_cmp};
 ghost use Rattle.std.specs.Prelude.{◌≡◌, drop, slice_index};
-ghost use Rattle.virtiofs_map.specs.KeyedParts.{AreBytes, IsKeyed, key_of, word_of};
+ghost use Rattle.virtiofs_map.specs.KeyedParts.{AreBytes, key_of, word_of};
 
 use crate::xattrmap::trie::patterns::Pattern;
 use std::cmp::Ordering;
-
-/// A pattern with the numbers of its first sixteen bytes, which most often tell it from others. The
-/// first byte of a number is the highest. Where a pattern has fewer bytes, zeros stand for them.
-#[derive(Clone, Copy)]
-pub(crate) struct Keyed<'a> {
-    /// The number of the first eight bytes.
-    first: u64,
-    /// The number of the next eight bytes.
-    second: u64,
-    pub(crate) pattern: Pattern<'a>,
-}
 
 /// The byte at a place; 0 where there is none.
 #[inline(always)]
@@ -52,7 +42,7 @@ fn word_of(bytes: &[u8]) -> u64
 
 /// The numbers of the first eight bytes and of the next eight.
 #[inline(always)]
-fn words_of(bytes: &[u8]) -> (u64, u64)
+pub(crate) fn words_of(bytes: &[u8]) -> (u64, u64)
     ensures first { result.0 ≡ word_of bytes.now }
     ensures second { result.1 ≡ word_of (drop 8 bytes.now) }
     ensures bytes { AreBytes bytes.now }
@@ -61,24 +51,10 @@ fn words_of(bytes: &[u8]) -> (u64, u64)
     (word_of(bytes), word_of(rest))
 }
 
-impl<'a> Keyed<'a> {
-    /// The pattern with its numbers.
-    #[inline(always)]
-    pub(crate) fn new(pattern: Pattern<'a>) -> Keyed<'a>
-        ensures keyed { IsKeyed result }
-        ensures pattern { result.pattern ≡ pattern.entry }
-    {
-        let (first, second) = words_of(pattern.bytes);
-        Keyed {
-            first,
-            second,
-            pattern,
-        }
-    }
-
+impl Pattern<'_> {
     /// The order of two patterns: that of their numbers, or else that of their bytes.
     #[inline(always)]
-    pub(crate) fn order(&self, other: &Keyed<'_>) -> Ordering
+    pub(crate) fn order(&self, other: &Pattern<'_>) -> Ordering
         ensures { result ≡ slice_cmp nat_cmp (key_of self.now) (key_of other.now) }
     {
         if self.first != other.first {
@@ -87,6 +63,6 @@ impl<'a> Keyed<'a> {
         if self.second != other.second {
             return self.second.cmp(&other.second);
         }
-        self.pattern.bytes.cmp(&other.pattern.bytes)
+        self.bytes.cmp(&other.bytes)
     }
 }

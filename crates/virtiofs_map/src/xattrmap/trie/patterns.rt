@@ -1,14 +1,14 @@
 //! The patterns of a side, in the order of their bytes.
 
-ghost use Rattle.std.specs.Prelude.{◌≡◌, false, slice_get, All, IfOk, IfNone, IfSome, Some};
-ghost use Rattle.virtiofs_map.specs.KeyedParts.{IsKeyed, patterns_in};
+ghost use Rattle.std.specs.Prelude.{◌≡◌, false, slice_get, All, IfNone, IfSome, OnOk, Some};
+ghost use Rattle.virtiofs_map.specs.KeyedParts.{IsKeyed};
 ghost use Rattle.virtiofs_map.specs.NodeParts.{AreFew, AreInOrder, ArePatterns, IsPatternAt};
 ghost use Rattle.virtiofs_map.specs.FirstRule.{acts};
 ghost use Rattle.virtiofs_map.specs.Rule.{MappingRule};
 
 use crate::xattrmap::rules::Rules;
 use crate::xattrmap::scopes::Side;
-use crate::xattrmap::trie::keyed::Keyed;
+use crate::xattrmap::trie::keyed::words_of;
 use std::alloc::{AllocError, Allocator};
 
 /// A pattern of a rule.
@@ -20,12 +20,17 @@ pub(crate) struct Pattern<'a> {
     pub(crate) start: usize,
     /// Four times the place of the rule, and the number of its type.
     pub(crate) answer: u64,
+    /// The number of the first eight bytes.
+    pub(crate) first: u64,
+    /// The number of the next eight bytes.
+    pub(crate) second: u64,
 }
 
 /// The pattern of the rule at a place; `None` where that rule does not act on the side.
 fn pattern_at<A: Allocator>(rules: &Rules<A>, place: usize, side: Side) -> Option<Pattern<'_>>
     requires { AreFew rules.now.list }
     ensures found { IfSome result (IsPatternAt side rules.now.list rules.now.bytes place) }
+    ensures keyed { IfSome result IsKeyed }
     ensures none { IfNone result ((rule : MappingRule)
         → slice_get rules.now.list place ≡ Some rule → acts side rule ≡ false) }
 {
@@ -38,60 +43,50 @@ fn pattern_at<A: Allocator>(rules: &Rules<A>, place: usize, side: Side) -> Optio
         Side::Client => span.key,
         Side::Server => span.prepend,
     };
+    let bytes = rule.pattern(side);
+    let (first, second) = words_of(bytes);
     Some(Pattern {
-        bytes: rule.pattern(side),
+        bytes,
         start,
         answer: 4 * place as u64 + rule.kind.number(),
+        first,
+        second,
     })
 }
 
-/// The patterns of the rules that act on a side, in the order of the rules, with their numbers.
-fn keyed_as_written<A: Allocator + Copy>(
-    alloc: A,
-    rules: &Rules<A>,
+/// Fills `patterns` with those of the rules that act on a side, in the order of the rules.
+fn fill_as_written<'r, A: Allocator>(
+    patterns: &mut Vec<Pattern<'r>, A>,
+    rules: &'r Rules<A>,
     side: Side,
-) -> Result<Vec<Keyed<'_>, A>, AllocError>
+) -> Result<(), AllocError>
     requires { AreFew rules.now.list }
-    ensures patterns { IfOk result (λ keyed.
-        ArePatterns side rules.now.list rules.now.bytes (patterns_in keyed.items)) }
-    ensures keyed { IfOk result (λ keyed. All IsKeyed keyed.items) }
+    ensures patterns { OnOk result
+        (ArePatterns side rules.now.list rules.now.bytes patterns.new.items) }
+    ensures keyed { OnOk result (All IsKeyed patterns.new.items) }
 {
-    let mut keyed = Vec::with_capacity(alloc, rules.len())?;
+    patterns.clear();
     for place in 0..rules.len() {
         let Some(pattern) = pattern_at(rules, place, side) else {
             continue;
         };
-        keyed.push(Keyed::new(pattern))?;
+        patterns.push(pattern)?;
     }
-    Ok(keyed)
+    Ok(())
 }
 
-/// The patterns without their numbers.
-fn patterns_in<'a, A: Allocator>(
-    alloc: A,
-    keyed: &[Keyed<'a>],
-) -> Result<Vec<Pattern<'a>, A>, AllocError>
-    ensures { IfOk result (λ patterns. patterns.items ≡ patterns_in keyed.now) }
-{
-    let mut patterns = Vec::with_capacity(alloc, keyed.len())?;
-    for one in keyed {
-        patterns.push(one.pattern)?;
-    }
-    Ok(patterns)
-}
-
-/// The patterns of the rules that act on a side, in the order of their bytes.
-pub(crate) fn patterns_of<A: Allocator + Copy>(
-    alloc: A,
-    rules: &Rules<A>,
+/// Fills `patterns` with those of the rules that act on a side, in the order of their bytes.
+pub(crate) fn fill_patterns<'r, A: Allocator>(
+    patterns: &mut Vec<Pattern<'r>, A>,
+    rules: &'r Rules<A>,
     side: Side,
-) -> Result<Vec<Pattern<'_>, A>, AllocError>
+) -> Result<(), AllocError>
     requires { AreFew rules.now.list }
-    ensures patterns { IfOk result (λ patterns.
-        ArePatterns side rules.now.list rules.now.bytes patterns.items) }
-    ensures order { IfOk result (λ patterns. AreInOrder patterns.items) }
+    ensures patterns { OnOk result
+        (ArePatterns side rules.now.list rules.now.bytes patterns.new.items) }
+    ensures order { OnOk result (AreInOrder patterns.new.items) }
 {
-    let mut keyed = keyed_as_written(alloc, rules, side)?;
-    keyed.sort_unstable_by(|one, other| one.order(other));
-    patterns_in(alloc, keyed.as_slice())
+    fill_as_written(patterns, rules, side)?;
+    patterns.sort_unstable_by(|one, other| one.order(other));
+    Ok(())
 }

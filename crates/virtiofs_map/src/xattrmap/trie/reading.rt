@@ -21,11 +21,17 @@ const BARE: [u8; 24] = [
     0, 0, 0, 0, 0, 0, 0, 0, 1, 0, 0, 0, 0, 0, 0, 0, 255, 255, 255, 255, 255, 255, 0, 0,
 ];
 
-/// A trie for reading: the bytes of a map, and where its rows begin in them, the root first.
-/// Whatever the bytes are, nothing is read outside of them.
+/// The rows of a map's tries, for reading: the bytes of the map. Whatever the bytes are, nothing is
+/// read outside of them.
+#[derive(Clone, Copy)]
+pub(crate) struct Rows<'a> {
+    image: &'a [u8],
+}
+
+/// A trie for reading: the rows, and where its root stands among the bytes.
 #[derive(Clone, Copy)]
 pub(crate) struct Trie<'a> {
-    image: &'a [u8],
+    pub(crate) rows: Rows<'a>,
     root: usize,
 }
 
@@ -33,10 +39,13 @@ impl<'a> Trie<'a> {
     /// The trie whose rows begin there.
     #[inline(always)]
     pub(crate) fn new(image: &'a [u8], root: usize) -> Trie<'a>
-        ensures image { result.image.now ≡ image.now }
+        ensures image { result.rows.image.now ≡ image.now }
         ensures root { result.root ≡ root }
     {
-        Trie { image, root }
+        Trie {
+            rows: Rows { image },
+            root,
+        }
     }
 
     /// The row of the root, which counts as one step. Where there is none, the row of a node that
@@ -44,7 +53,7 @@ impl<'a> Trie<'a> {
     #[inline(always)]
     pub(crate) fn root(self, steps: &mut Steps) -> &'a [u8; 24]
         ensures root { (first labels : ℕ) (nodes : List Node) → self.entry.root ≡ 8 * first
-            → HasRows self.entry.image.now first labels nodes → 0 < length nodes
+            → HasRows self.entry.rows.image.now first labels nodes → 0 < length nodes
             → IsRootRow first labels nodes result.now }
         ensures counted { steps.new ≡ count_after steps.old 1 }
     {
@@ -52,12 +61,14 @@ impl<'a> Trie<'a> {
         if self.root > 9223372036854775807 {
             return &BARE;
         }
-        match row_at(self.image, self.root) {
+        match row_at(self.rows.image, self.root) {
             Some(root) => root,
             None => &BARE,
         }
     }
+}
 
+impl<'a> Rows<'a> {
     /// The row that stands so many places behind the first child.
     #[inline(always)]
     fn row(self, first: u64, behind: u8) -> Option<&'a [u8; 24]>

@@ -10,7 +10,7 @@ ghost use Rattle.virtiofs_map.specs.declared.xattrmap.trie.node.Node.{Node};
 
 use crate::steps::Steps;
 use crate::xattrmap::trie::node::NO_ANSWER;
-use crate::xattrmap::trie::reading::Trie;
+use crate::xattrmap::trie::reading::{Rows, Trie};
 use crate::xattrmap::trie::rows::{answer_of, is_sparse, width_of};
 
 /// Goes from the root along the bytes of a name, as far as labels fit. Gives the answer of the last
@@ -21,17 +21,17 @@ use crate::xattrmap::trie::rows::{answer_of, is_sparse, width_of};
 #[inline(always)]
 fn walk(trie: Trie<'_>, name: &[u8], whole_count: bool, steps: &mut Steps) -> (u64, usize)
     ensures passes { (side : Side) (rules : List MappingRule) (end labels : ℕ) (bytes : List ℕ)
-        → IsTrieIn side rules trie.entry.image.now trie.entry.root end labels bytes
+        → IsTrieIn side rules trie.entry.rows.image.now trie.entry.root end labels bytes
         → Passes side rules name.now result.0 result.1 }
     ensures counts { (side : Side) (rules : List MappingRule) (end labels : ℕ) (bytes : List ℕ)
-        → IsTrieIn side rules trie.entry.image.now trie.entry.root end labels bytes
+        → IsTrieIn side rules trie.entry.rows.image.now trie.entry.root end labels bytes
         → whole_count ≡ true
         → CountsWalk side rules name.now result.0 steps.old steps.new }
     ensures within { result.1 ≤ length name.now }
 {
     let mut row = trie.root(steps);
     let mut rest = name;
-    while let Some((child, left)) = trie.enter(row, rest, whole_count, steps) {
+    while let Some((child, left)) = trie.rows.enter(row, rest, whole_count, steps) {
         row = child;
         rest = left;
     }
@@ -52,16 +52,17 @@ fn is_end(row: &[u8; 24], rest: &[u8]) -> bool
 
 /// Goes on from a row along what is left of a name, as far as labels fit. Gives the answer of the
 /// last node, and how many bytes are left there.
+// (a walk that goes on needs no root: a lookup that does not come here has fewer registers to save)
 #[inline(never)]
 fn walk_on<'a>(
-    trie: Trie<'a>,
+    rows: Rows<'a>,
     start: &'a [u8; 24],
     left_there: &[u8],
     counted: Steps,
 ) -> (u64, usize)
-    ensures passes { (side : Side) (rules : List MappingRule) (end labels : ℕ) (bytes name : List ℕ)
-        (node : Node) (before : ℕ)
-        (inside : IsTrieIn side rules trie.entry.image.now trie.entry.root end labels bytes)
+    ensures passes { (side : Side) (rules : List MappingRule) (root end labels : ℕ)
+        (bytes name : List ℕ) (node : Node) (before : ℕ)
+        (inside : IsTrieIn side rules rows.entry.image.now root end labels bytes)
         → IsRow inside.first labels node start.now
         → StandsAt side rules inside.nodes bytes inside.trie name node left_there.now before counted
         → Passes side rules name result.0 (length name - result.1) }
@@ -70,7 +71,7 @@ fn walk_on<'a>(
     let mut steps = counted;
     let mut row = start;
     let mut rest = left_there;
-    while let Some((child, after)) = trie.enter(row, rest, false, &mut steps) {
+    while let Some((child, after)) = rows.enter(row, rest, false, &mut steps) {
         row = child;
         rest = after;
     }
@@ -84,23 +85,23 @@ fn walk_on<'a>(
 #[inline(always)]
 pub(crate) fn look_up(trie: Trie<'_>, name: &[u8]) -> (u64, usize)
     ensures passes { (side : Side) (rules : List MappingRule) (end labels : ℕ) (bytes : List ℕ)
-        → IsTrieIn side rules trie.entry.image.now trie.entry.root end labels bytes
+        → IsTrieIn side rules trie.entry.rows.image.now trie.entry.root end labels bytes
         → Passes side rules name.now result.0 result.1 }
     ensures within { result.1 ≤ length name.now }
 {
     let mut steps = Steps::new();
     let root = trie.root(&mut steps);
     if is_sparse(root) {
-        let (answer, count) = walk_on(trie, root, name, steps);
+        let (answer, count) = walk_on(trie.rows, root, name, steps);
         return (answer, name.len() - count);
     }
-    let Some((child, left)) = trie.enter(root, name, false, &mut steps) else {
+    let Some((child, left)) = trie.rows.enter(root, name, false, &mut steps) else {
         return (answer_of(root), 0);
     };
     if is_end(child, left) {
         return (answer_of(child), name.len() - left.len());
     }
-    let (answer, count) = walk_on(trie, child, left, steps);
+    let (answer, count) = walk_on(trie.rows, child, left, steps);
     (answer, name.len() - count)
 }
 
@@ -110,13 +111,13 @@ pub(crate) fn look_up(trie: Trie<'_>, name: &[u8]) -> (u64, usize)
 // (a counter of its own stays in a register)
 pub(crate) fn first_place(trie: Trie<'_>, name: &[u8], steps: &mut Steps) -> Option<usize>
     ensures first { (side : Side) (rules : List MappingRule) (end labels : ℕ) (bytes : List ℕ)
-        → IsTrieIn side rules trie.entry.image.now trie.entry.root end labels bytes
+        → IsTrieIn side rules trie.entry.rows.image.now trie.entry.root end labels bytes
         → result ≡ first side rules name.now }
     ensures steps { (side : Side) (rules : List MappingRule) (end labels : ℕ) (bytes : List ℕ)
-        → IsTrieIn side rules trie.entry.image.now trie.entry.root end labels bytes
+        → IsTrieIn side rules trie.entry.rows.image.now trie.entry.root end labels bytes
         → CountsLookup side rules name.now steps.old steps.new }
     ensures fronts { (side : Side) (rules : List MappingRule) (end labels : ℕ) (bytes : List ℕ)
-        → IsTrieIn side rules trie.entry.image.now trie.entry.root end labels bytes
+        → IsTrieIn side rules trie.entry.rows.image.now trie.entry.root end labels bytes
         → CountsFronts side rules name.now steps.old steps.new }
 {
     let mut counted = Steps::new();

@@ -3,7 +3,6 @@ use Rattle.std.proofs.Common.{◌≡◌, ◌≢◌, inl, inr, ℕ, zero, suc, �
 use Rattle.std.proofs.Common.{[], ◌∷◌, ◌++◌, length, take, drop, slice_get, Some, refl, sym, ap, ◌∙◌, subst, arith}
 use Rattle.std.proofs.Math.Seq.{take-append_seam}
 use Rattle.std.proofs.lemmas.Bool.{cases_Bool}
-use Rattle.std.proofs.lemmas.List.{drop-drop, drop-take, take-take}
 use Rattle.std.proofs.lemmas.Option.{slice_get_within, get_or_from_slice_get}
 use Rattle.virtiofs_map.specs.NodeParts.{HasBytes, HasBytesAt, HasRows, IsChild, IsReadable, IsRootRow, IsRow, IsSmallIn}
 use Rattle.virtiofs_map.specs.NodeParts.{LeadsNowhere, LeadsTo, StaysAt, label_of, placed, row_in}
@@ -12,20 +11,10 @@ use Rattle.virtiofs_map.specs.Names.{begins}
 use Rattle.virtiofs_map.specs.Steps.{count_after}
 use Rattle.virtiofs_map.specs.declared.xattrmap.trie.node.Node.{Node}
 use Rattle.virtiofs_map.proofs.BeginsLemmas.{begins_split}
+use Rattle.virtiofs_map.proofs.InsideLemmas.{inside}
 use Rattle.virtiofs_map.proofs.LeU64Lemmas.{length-row_of, row_at}
 
 -- ---- rows
-
--- what stands at a place of a part of some bytes
-inside : (xs : List ℕ) (start n i k : ℕ) → i + k ≤ n
-    → take k (drop i (take n (drop start xs))) ≡ take k (drop (start + i) xs)
-inside xs start n i k within =
-    let whole : i + (n - i) ≡ n = omega (arith, within) in
-    let less : k ≤ n - i = omega (arith, within) in
-    ap (λ m. take k (drop i (take m (drop start xs)))) (sym whole)
-    ∙ ap (take k) (drop-take i (n - i) (drop start xs))
-    ∙ take-take k (n - i) (drop i (drop start xs)) less
-    ∙ ap (take k) (drop-drop i start xs)
 
 module _ (image : List ℕ) (first labels : ℕ) (nodes : List Node) (has : HasRows image first labels nodes) where
   -- the row of the node at a place

@@ -14,5 +14,6 @@ loop-byte-preserved g c = λ plain.
 
 pub returns-clause-writes : goal.returns-clause-writes
 returns-clause-writes g c = λ plain ok.
-    has_written_of_eq _ _ _ _ _ (ap written (take_all c.loop-byte.byte-index c.args.self.now.0.now c.loop-byte-test.false))
+    has_written_of_eq _ _ _ _ _
+    (ap written (take_all c.loop-byte.byte-index c.args.self.now.0.now c.loop-byte-test.false))
     (c.loop-byte.invariant plain)

@@ -1,16 +1,39 @@
-use Rattle.std.proofs.Common.{ap, sym, ◌∙◌}
-use Rattle.std.specs.Option.{option_map}
-use Rattle.virtiofs_map.specs.Rule.{MappingRule}
-use Rattle.virtiofs_map.proofs.RuleRowLemmas.{rule_there, rule_gone}
+use Rattle.std.proofs.Common.{◌≤◌, Some, ap, length, refl, arith}
+use Rattle.virtiofs_map.proofs.xattrmap.image.stored.PrependLemmas.{prepend_there, row_there}
 use Rattle.virtiofs_map.proofs.xattrmap.image.stored.prepend_at.Goals as goal
+use Rattle.virtiofs_map.proofs.xattrmap.image.stored.prepend_at.Goals.{else-prepend-end-via-then-prepend-end+else-end-image}
+use Rattle.virtiofs_map.proofs.xattrmap.image.stored.prepend_at.Goals.{else-prepend-end-via-else-prepend-end}
 
-pub returns-then-at-rows : goal.returns-then-at-rows
-returns-then-at-rows c = λ rules has.
-    let there = rule_there rules c.args.rows.now c.args.bytes.now c.args.at has c.if-at-rows.true in
-    c.prepend_of.ensures there.rule there.span there.row there.is has.few
-    ∙ sym (ap (option_map (λ (rule : MappingRule). rule.prepend)) there.here)
+pub returns-then-from-image : goal.returns-then-from-image
+returns-then-from-image c = λ rules rule is here.
+    (let begun = is.begun in
+    let long : 48 ≤ length c.args.image.now = omega (arith, begun) in
+    let row =
+    row_there rules c.args.image.now c.args.place rule is here c.part_start.result _ (c.part_start.ensures long) refl in
+    absurd (omega (arith, row.within, c.if-from-image.true)))
 
-pub returns-else-at-rows : goal.returns-else-at-rows
-returns-else-at-rows c = λ rules has.
-    sym (ap (option_map (λ (rule : MappingRule). rule.prepend))
-    (rule_gone rules c.args.rows.now c.args.bytes.now c.args.at has c.if-at-rows.false))
+pub returns-then-end-image : goal.returns-then-end-image
+returns-then-end-image c = λ rules rule is here.
+    (let begun = is.begun in
+    let long : 48 ≤ length c.args.image.now = omega (arith, begun) in
+    let row =
+    row_there rules c.args.image.now c.args.place rule is here c.part_start.result _ (c.part_start.ensures long) refl in
+    ap Some (prepend_there rules c.args.image.now c.args.place rule is here _ c.part_start-bytes.result
+    c.le_u64_at.result c.le_u64_at-2.result _ _ _ row refl (c.part_start-bytes.ensures long) c.le_u64_at.ensures
+    c.le_u64_at-2.ensures refl refl).is)
+
+pub returns-else-prepend-end : goal.returns-else-prepend-end
+returns-else-prepend-end c = λ rules rule is here.
+    (let begun = is.begun in
+    let long : 48 ≤ length c.args.image.now = omega (arith, begun) in
+    let row =
+    row_there rules c.args.image.now c.args.place rule is here c.part_start.result _ (c.part_start.ensures long) refl in
+    let prepend =
+    prepend_there rules c.args.image.now c.args.place rule is here _ c.part_start-bytes.result c.le_u64_at.result
+    c.le_u64_at-2.result _ _ _ row refl (c.part_start-bytes.ensures long) c.le_u64_at.ensures c.le_u64_at-2.ensures
+    refl refl in
+    elim c.else-prepend-end.branch [
+      | else-prepend-end-via-then-prepend-end+else-end-image w ↦ absurd
+          (omega (arith, prepend.within, w.if-end-image.false))
+      | else-prepend-end-via-else-prepend-end w ↦ absurd (omega (arith, prepend.rising, w.if-prepend-end.false))
+    ])

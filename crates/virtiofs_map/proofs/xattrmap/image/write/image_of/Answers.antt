@@ -13,16 +13,16 @@ returns g c =
     let rules = c.args.rules in
     let places = c.in-Some.places in
     let laid = c.in-Some.ensures in
+    let tries = c.in_ok-client.ensures in
     let client = c.in_ok-client.client.items in
-    let server = c.in_ok-server.server.items in
-    let once = c.len.ensures in
-    let client_long = c.len-2.ensures in
-    let server_long = c.len-3.ensures in
-    let begins : (48 + c.len.result) / 8 ≡ places.server / 8 =
-    ap (λ n. n / 8) (omega (arith, laid.first, once, client_long)) in
-    let clients : AreTrieRows Client rules.list rules.bytes client 6 = c.in_ok-client.ensures in
+    let server = c.in_ok-client.server.items in
+    let client_long = c.len.ensures in
+    let server_long = c.len-2.ensures in
+    let begins : (48 + length client) / 8 ≡ places.server / 8 =
+    ap (λ n. n / 8) (omega (arith, laid.first, client_long)) in
+    let clients : AreTrieRows Client rules.list rules.bytes client 6 = tries.client in
     let servers : AreTrieRows Server rules.list rules.bytes server (places.server / 8) =
-    subst (AreTrieRows Server rules.list rules.bytes server) begins c.in_ok-server.ensures in
+    subst (AreTrieRows Server rules.list rules.bytes server) begins tries.server in
     let client_size = clients.rows_of.long in
     let server_size = servers.rows_of.long in
     let are : ArePlaces (24 * length clients.nodes) (24 * length servers.nodes) (length rules.list)

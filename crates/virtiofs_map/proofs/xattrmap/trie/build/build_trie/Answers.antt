@@ -12,7 +12,7 @@ pub loop-from-init : goal.loop-from-init
 loop-from-init g c =
     let patterns = c.args.patterns.now in
     let items : c.push.new.self.items ≡ root (length patterns) ∷ [] = c.in_ok-push.ensures.items
-    ∙ ap (λ ranges. ranges ++ root (length patterns) ∷ []) c.in_ok-ranges.ensures.items in
+    ∙ ap (λ ranges. ranges ++ root (length patterns) ∷ []) c.clear-2.ensures.items in
     record {
       places = subst (AreRangesOrHoles patterns) (sym items) (root_places patterns);
       within = omega arith;
@@ -21,7 +21,7 @@ loop-from-init g c =
         counted = refl;
         built = root_built patterns c.push.new.self.items;
         exact = subst (λ ranges. AreExact patterns ranges []) (sym items) (exact_root patterns);
-        rows_of = rows_none _ c.args.first c.in_ok-rows.ensures.items;
+        rows_of = rows_none _ c.args.first c.clear.ensures.items;
       };
     }
 

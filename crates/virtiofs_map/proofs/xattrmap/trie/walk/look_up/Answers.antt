@@ -11,7 +11,8 @@ returns-then-is_sparse-clause-passes c = λ side rules end labels bytes inside.
     let stands =
     stands_at_root side rules inside.nodes bytes inside.trie name c.new-steps.result root.node c.root-root.new.steps
     root.here c.root-root.ensures.counted in
-    c.walk_on-answer.ensures.passes side rules end labels bytes name root.node c.new-steps.result inside root.is stands)
+    c.walk_on-answer.ensures.passes side rules c.args.trie.root end labels bytes name root.node c.new-steps.result inside
+    root.is stands)
 
 pub returns-in_default-clause-passes : goal.returns-in_default-clause-passes
 returns-in_default-clause-passes c = λ side rules end labels bytes inside.
@@ -74,4 +75,5 @@ returns-clause-passes c = λ side rules end labels bytes inside.
     let on =
     stands_on side rules inside.nodes bytes inside.trie name c.new-steps.result root.node name c.root-root.new.steps
     stands step.child c.in-Some.left.now c.enter.new.steps step.step in
-    c.walk_on-answer-2.ensures.passes side rules end labels bytes name step.child c.new-steps.result inside step.is on)
+    c.walk_on-answer-2.ensures.passes side rules c.args.trie.root end labels bytes name step.child c.new-steps.result
+    inside step.is on)

@@ -9,7 +9,7 @@ use Rattle.virtiofs_map.proofs.xattrmap.trie.walk.walk.Given as goal
 abbrev pub invariant-loop-child : goal.invariant-loop-child
 invariant-loop-child l = record {
   stands : (side : Side) (rules : List MappingRule) (end labels : ℕ) (bytes : List ℕ)
-      (inside : IsTrieIn side rules l.trie.image.now l.trie.root end labels bytes)
+      (inside : IsTrieIn side rules l.trie.rows.image.now l.trie.root end labels bytes)
       → (node : Node) × IsRow inside.first labels node l.row
       × StandsAt side rules inside.nodes bytes inside.trie l.name node l.rest l.fn.steps l.steps;
   within : length l.rest ≤ length l.name;

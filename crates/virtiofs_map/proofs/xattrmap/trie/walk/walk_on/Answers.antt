@@ -5,14 +5,14 @@ use Rattle.virtiofs_map.proofs.xattrmap.trie.walk.walk_on.Goals as goal
 
 pub loop-child-init : goal.loop-child-init
 loop-child-init c = record {
-  stands = λ side rules end labels bytes name node before inside row stands. (node, row, stands);
+  stands = λ side rules root end labels bytes name node before inside row stands. (node, row, stands);
   within = omega arith;
 }
 
 pub loop-child-preserved : goal.loop-child-preserved
 loop-child-preserved c = record {
-  stands = λ side rules end labels bytes name node before inside row stands.
-      (let there = c.loop-child.invariant.stands side rules end labels bytes name node before inside row stands in
+  stands = λ side rules root end labels bytes name node before inside row stands.
+      (let there = c.loop-child.invariant.stands side rules root end labels bytes name node before inside row stands in
       let readable =
       stands_readable side rules inside.nodes bytes inside.trie name before there.0 c.loop-child.rest.now
       c.loop-child.steps there.2 in
@@ -28,8 +28,8 @@ loop-child-preserved c = record {
 }
 
 pub returns-clause-passes : goal.returns-clause-passes
-returns-clause-passes c = λ side rules end labels bytes name node before inside row stands.
-    (let there = c.loop-child.invariant.stands side rules end labels bytes name node before inside row stands in
+returns-clause-passes c = λ side rules root end labels bytes name node before inside row stands.
+    (let there = c.loop-child.invariant.stands side rules root end labels bytes name node before inside row stands in
     let readable =
     stands_readable side rules inside.nodes bytes inside.trie name before there.0 c.loop-child.rest.now
     c.loop-child.steps there.2 in

@@ -6,4 +6,4 @@ use Rattle.virtiofs_map.proofs.xattrmap.trie.reading.Trie.root.Goals as goal
 pub returns-in-Some-clause-root : goal.returns-in-Some-clause-root
 returns-in-Some-clause-root c = λ first labels nodes at has some.
     subst (λ (row : List ℕ). IsRootRow first labels nodes row) (sym c.in-Some.ensures.row.1)
-    (root_there c.args.self.image.now first labels nodes has c.args.self.root at some)
+    (root_there c.args.self.rows.image.now first labels nodes has c.args.self.root at some)

@@ -4,7 +4,7 @@ use Rattle.std.proofs.lemmas.Bool.{cases_lt}
 use Rattle.virtiofs_map.specs.NodeParts.{IsRow, placed}
 use Rattle.virtiofs_map.specs.declared.xattrmap.trie.node.Node.{Node}
 use Rattle.virtiofs_map.proofs.xattrmap.trie.reading.ChildStepLemmas.{child_there, nowhere}
-use Rattle.virtiofs_map.proofs.xattrmap.trie.reading.Trie.sparse_child.Goals as goal
+use Rattle.virtiofs_map.proofs.xattrmap.trie.reading.Rows.sparse_child.Goals as goal
 
 pub returns-then-first_byte_of-byte : goal.returns-then-first_byte_of-byte
 returns-then-first_byte_of-byte c = λ first labels nodes bytes node has readable row.

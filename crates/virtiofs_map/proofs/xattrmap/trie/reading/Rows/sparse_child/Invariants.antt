@@ -1,7 +1,7 @@
 use Rattle.std.proofs.Common.{◌≡◌, ◌+◌, ◌<◌, ℕ, List, Some, slice_get}
 use Rattle.virtiofs_map.specs.NodeParts.{HasRows, IsReadable, IsRow}
 use Rattle.virtiofs_map.specs.declared.xattrmap.trie.node.Node.{Node}
-use Rattle.virtiofs_map.proofs.xattrmap.trie.reading.Trie.sparse_child.Given as goal
+use Rattle.virtiofs_map.proofs.xattrmap.trie.reading.Rows.sparse_child.Given as goal
 
 -- the byte leads to none of the places so far
 abbrev pub invariant-loop-behind : goal.invariant-loop-behind

@@ -1,7 +1,7 @@
 use Rattle.std.proofs.Common.{◌+◌, ◌-◌, ◌%◌, ◌<◌, ℕ, List, refl, sym, ap, subst, ◌∙◌, arith}
 use Rattle.virtiofs_map.specs.NodeParts.{IsRow, placed}
 use Rattle.virtiofs_map.proofs.xattrmap.trie.reading.ChildStepLemmas.{child_there, in_slot, other_slot, past_slots}
-use Rattle.virtiofs_map.proofs.xattrmap.trie.reading.Trie.dense_child.Goals as goal
+use Rattle.virtiofs_map.proofs.xattrmap.trie.reading.Rows.dense_child.Goals as goal
 
 pub returns-then-behind-width_of : goal.returns-then-behind-width_of
 returns-then-behind-width_of c = λ first labels nodes bytes node has readable row flat.

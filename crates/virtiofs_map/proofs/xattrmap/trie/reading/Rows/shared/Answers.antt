@@ -1,6 +1,6 @@
 use Rattle.std.proofs.Common.{◌+◌, ◌-◌, List, ℕ, take, drop, arith, length-take}
 use Rattle.virtiofs_map.proofs.xattrmap.trie.SharedLemmas.{shared_within}
-use Rattle.virtiofs_map.proofs.xattrmap.trie.reading.Trie.shared.Goals as goal
+use Rattle.virtiofs_map.proofs.xattrmap.trie.reading.Rows.shared.Goals as goal
 
 pub returns-clause-within : goal.returns-clause-within
 returns-clause-within c =

@@ -5,10 +5,10 @@ use Rattle.std.proofs.lemmas.List.{length-drop, length-take-le, take-append-drop
 use Rattle.virtiofs_map.specs.NodeParts.{label_of, placed}
 use Rattle.virtiofs_map.specs.Steps.{count_after}
 use Rattle.virtiofs_map.proofs.xattrmap.trie.reading.ChildStepLemmas.{label_there, stays_nowhere, stays_unlike, unlike_label}
-use Rattle.virtiofs_map.proofs.xattrmap.trie.reading.Trie.enter.Goals as goal
-use Rattle.virtiofs_map.proofs.xattrmap.trie.reading.Trie.enter.Goals.{then-whole_count, else-whole_count}
-use Rattle.virtiofs_map.proofs.xattrmap.trie.reading.Trie.enter.Goals.{then-count-after-via-then-count-after}
-use Rattle.virtiofs_map.proofs.xattrmap.trie.reading.Trie.enter.Goals.{then-count-after-via-else-count-after+then-not-begins}
+use Rattle.virtiofs_map.proofs.xattrmap.trie.reading.Rows.enter.Goals as goal
+use Rattle.virtiofs_map.proofs.xattrmap.trie.reading.Rows.enter.Goals.{then-whole_count, else-whole_count}
+use Rattle.virtiofs_map.proofs.xattrmap.trie.reading.Rows.enter.Goals.{then-count-after-via-then-count-after}
+use Rattle.virtiofs_map.proofs.xattrmap.trie.reading.Rows.enter.Goals.{then-count-after-via-else-count-after+then-not-begins}
 
 pub returns-in_err-child-clause-step : goal.returns-in_err-child-clause-step
 returns-in_err-child-clause-step c = λ first labels nodes bytes node has texts readable row.

@@ -1,6 +1,6 @@
 use Rattle.std.proofs.Common.{sym, ◌∙◌}
 use Rattle.virtiofs_map.specs.NodeParts.{placed}
-use Rattle.virtiofs_map.proofs.xattrmap.trie.reading.Trie.child.Goals as goal
+use Rattle.virtiofs_map.proofs.xattrmap.trie.reading.Rows.child.Goals as goal
 
 pub returns-else-is_sparse : goal.returns-else-is_sparse
 returns-else-is_sparse c = λ first labels nodes bytes node has readable row.
