@@ -791,7 +791,7 @@ pub mod xattrmap {
         }
     }
 
-    /// Names of the kernel have at most 255 bytes; a longer answer costs a second call.
+    /// Names of the kernel have at most 255 bytes, and a zero after them; a longer answer costs a second call.
     const ROOM: usize = 256;
 
     impl XattrMap {
@@ -800,24 +800,25 @@ pub mod xattrmap {
         pub fn map_client_xattr<'a>(&self, xattr_name: &'a CStr) -> Result<AppliedRule<'a>, Error> {
             let (mut out, mut len) = ([MaybeUninit::uninit(); ROOM], MaybeUninit::uninit());
             // (the two answers that are most frequent are told apart here, by a comparison each)
-            match self.client(xattr_name, &mut out, &mut len) {
+            match self.client(xattr_name, &mut out[..ROOM - 1], &mut len) {
                 ffi::AS_IT_IS => Ok(AppliedRule::Pass(Cow::Borrowed(xattr_name))),
                 ffi::DENIED => Ok(AppliedRule::Deny),
                 // Sound: the call wrote the length.
-                code => self.other_client(code, xattr_name, &out, unsafe { len.assume_init() }),
+                code => self.other_client(code, xattr_name, &mut out, unsafe { len.assume_init() }),
             }
         }
 
         #[inline(never)]
         fn other_client<'a>(
-            &self, code: u32, xattr_name: &CStr, out: &[MaybeUninit<u8>; ROOM], len: usize,
+            &self, code: u32, xattr_name: &CStr, out: &mut [MaybeUninit<u8>; ROOM], len: usize,
         ) -> Result<AppliedRule<'a>, Error> {
             match code {
                 ffi::OK => {
-                    let mut name = Vec::with_capacity(len + 1);
-                    // Sound: the call wrote so many bytes.
-                    name.extend_from_slice(unsafe { slice::from_raw_parts(out.as_ptr() as *const u8, len) });
-                    Ok(AppliedRule::Pass(Cow::Owned(c_string(name))))
+                    out[len].write(0);
+                    // Sound: the call wrote the bytes before this zero, and a name holds none.
+                    let name = unsafe { slice::from_raw_parts(out.as_ptr() as *const u8, len + 1) };
+                    let name = unsafe { CString::from_vec_with_nul_unchecked(name.to_vec()) };
+                    Ok(AppliedRule::Pass(Cow::Owned(name)))
                 }
                 ffi::UNSUPPORTED => Ok(AppliedRule::Unsupported),
                 ffi::NO_ROOM => self.long_client(xattr_name, len),

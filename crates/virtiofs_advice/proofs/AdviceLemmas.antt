@@ -1,21 +1,27 @@
 -- What is written of options that are advised, guest by guest.
-use Rattle.std.proofs.Common.{◌≡◌, ◌≢◌, ◌↔◌, refl, inl, inr, ℕ, ◌+◌, ◌<◌, ◌≤◌, List, [], ◌∷◌, ◌++◌, length, take, get_or, sym, ap, ◌∙◌, arith}
+use Rattle.std.proofs.Common.{◌≡◌, ◌≢◌, ◌↔◌, refl, inl, inr, ℕ, Bool, ◌+◌, ◌<◌, ◌≤◌, List, [], ◌∷◌, ◌++◌, length, take, get_or, sym, ap, ◌∙◌, arith}
 use Rattle.std.proofs.Common.{append_assoc, append-nil, subst, Vec, Result, Ok, Err, IfOk, OnOk}
 use Rattle.std.proofs.lemmas.List.{take_all, length-take-le}
+use Rattle.std.specs.Borrow.{Bor}
+use Rattle.std.specs.List.{AllZip}
 use Rattle.virtiofs_id_audit.specs.IdAudit.{Hold}
 use Rattle.virtiofs_id_audit.specs.Mending.{IsBad, Mends}
 use Rattle.virtiofs_map.specs.declared.cmdline.IdMap.{IdMap}
 use Rattle.virtiofs_id_audit.specs.declared.spans.Span.{Span}
 use Rattle.virtiofs_map.specs.declared.idmap.UidMap.{UidMap}
-use Rattle.virtiofs_advice.specs.Advice.{AreMended}
+use Rattle.virtiofs_advice.specs.Advice.{AreMended, AreRefused, IsAudited}
 use Rattle.virtiofs_advice.specs.AdviceText.{guest_line, lines_text, part_line, still_text}
 use Rattle.virtiofs_findings.specs.FindingText.{findings_text}
+use Rattle.virtiofs_findings.specs.Report.{FindsReport}
 use Rattle.virtiofs_findings.specs.declared.audit.Part.{Part}
+use Rattle.virtiofs_findings.specs.declared.audit.Report.{Report}
 use Rattle.virtiofs_findings.specs.declared.finding.Finding.{Finding}
+use Rattle.virtiofs_setup.specs.Guests.{SetsUp}
 use Rattle.virtiofs_setup.specs.Lists.{Adds}
 use Rattle.virtiofs_setup.specs.Namespace.{IsLacking}
 use Rattle.virtiofs_setup.specs.Refusals.{TellsGuests}
 use Rattle.virtiofs_setup.specs.declared.refusal.Refusal.{Refusal}
+use Rattle.virtiofs_setup.specs.declared.setup.SetUp.{SetUp}
 use Rattle.virtiofs_setup.proofs.ForCallers.{more_at}
 use Rattle.virtiofs_setup.specs.declared.guest.Guest.{Guest}
 
@@ -121,10 +127,26 @@ still_pushed (Ok done) part old mid new some first second =
     ∙ ap (λ xs. old ++ xs) (sym (still_some part some))
 still_pushed (Err e) part old mid new some first second = tt
 
--- ---- refusals
+-- ---- what was tried
 
--- nothing was told, and so nothing is refused
-pub none_refused : {A : Type 0} (guests : List (Guest A)) (old new : List (Refusal A))
-    → Adds (TellsGuests 1 guests) old new → old ≡ [] → new ≡ [] → TellsGuests 1 guests []
-none_refused guests [] new says none empty = subst (TellsGuests 1 guests) (sym says.added ∙ empty) says.is
-none_refused guests (refusal ∷ old) new says none empty = absurd (cc)
+-- what was told where nothing had been is what is refused
+all_refused : {A : Type 0} (guests : List (Guest A)) (old new : List (Refusal A))
+    → Adds (TellsGuests 1 guests) old new → old ≡ [] → TellsGuests 1 guests new
+all_refused guests [] new says none = subst (TellsGuests 1 guests) (sym says.added) says.is
+all_refused guests (refusal ∷ old) new says none = absurd (cc)
+
+pub are_refused : {A : Type 0} (guests : List (Guest A)) (old new : List (Refusal A))
+    → Adds (TellsGuests 1 guests) old new → old ≡ [] → new ≢ [] → AreRefused guests
+are_refused guests old new says none some =
+    record { refusals = new; refused = all_refused guests old new says none; some = some }
+
+pub is_audited : {A : Type 0} (isolated : Bool) (accepted : List (Bor (List ℕ))) (guests : List (Guest A))
+    (sets : List (SetUp A)) (old new : List (Refusal A)) (report : Report A) → AllZip SetsUp guests sets
+    → Adds (TellsGuests 1 guests) old new → old ≡ [] → new ≡ [] → FindsReport isolated accepted sets report
+    → IsAudited isolated accepted guests [] report
+is_audited isolated accepted guests sets old new report sets_up says none empty finds = record {
+  sets = sets;
+  sets_up = sets_up;
+  refused = subst (TellsGuests 1 guests) empty (all_refused guests old new says none);
+  finds = finds;
+}

@@ -1,5 +1,5 @@
 -- Options that are advised in place of those of guests. They were tried: less is found with them.
-use Rattle.std.specs.Prelude.{◌≡◌, ◌≢◌, ◌⊎◌, ◌↔◌, ℕ, Bool, IsTrue, List, [], length}
+use Rattle.std.specs.Prelude.{◌≢◌, ◌⊎◌, ◌↔◌, ℕ, Bool, IsTrue, List, [], length}
 use Rattle.std.specs.List.{AllZip}
 use Rattle.virtiofs_id_audit.specs.IdAudit.{IsAstray, GoesInto}
 use Rattle.virtiofs_id_audit.specs.Mending.{Mends}
@@ -66,3 +66,15 @@ pub record IsAdvice {A : Type 0} (isolated : Bool) (accepted : List (Bor (List �
   pub better : IsBetter advised.after before
   pub left : IsTrue advised.is_left ↔ IsFound advised.after
   pub accepting : IsTrue advised.has_accepted ↔ HasAccepted advised.after
+
+-- some text of these guests is refused
+pub record AreRefused {A : Type 0} (guests : List (Guest A)) : Type 0 where
+  pub refusals : List (Refusal A)
+  pub refused : TellsGuests 1 guests refusals
+  pub some : refusals ≢ []
+
+-- some text of these guests is refused, or no less is found than before
+abbrev pub IsNoAdvice : {A : Type 0} → Bool → List (Bor (List ℕ)) → Report A → List (Guest A) → Type 0
+IsNoAdvice {A} isolated accepted before guests =
+    AreRefused guests
+    ⊎ ((after : Report A) × IsAudited isolated accepted guests [] after × (¬ IsBetter after before))

@@ -5,8 +5,8 @@
 //! and some kind is found no more.
 #![tactic(auto)]
 
-ghost use Rattle.std.specs.Prelude.{◌≡◌, IfOk, IfSome, length};
-ghost use Rattle.virtiofs_advice.specs.Advice.{IsAdvice};
+ghost use Rattle.std.specs.Prelude.{◌≡◌, IfNone, IfOk, IfSome, length};
+ghost use Rattle.virtiofs_advice.specs.Advice.{IsAdvice, IsNoAdvice};
 
 mod better;
 mod mended;
@@ -72,7 +72,7 @@ pub struct Advised<'a, A: Allocator> {
 }
 
 /// Tries guests, isolated or not, with other options, in place of those with which that was found
-/// before.
+/// before. `None` if a text of them is refused, or no less is found with them.
 pub fn tried<'a, A: Allocator + Copy>(
     alloc: A,
     isolated: bool,
@@ -80,8 +80,10 @@ pub fn tried<'a, A: Allocator + Copy>(
     guests: Vec<Guest<'a, A>, A>,
     before: &Report<A>,
 ) -> Result<Option<Advised<'a, A>>, AllocError>
-    ensures { IfOk result (λ advised. IfSome advised
+    ensures better { IfOk result (λ advised. IfSome advised
         (IsAdvice isolated accepted.now before.now)) }
+    ensures no_better { IfOk result (λ advised. IfNone advised
+        (IsNoAdvice isolated accepted.now before.now guests.entry.items)) }
 {
     let mut refusals = Vec::new(alloc);
     let sets = set_up_all(alloc, &mut refusals, guests.as_slice())?;

@@ -89,6 +89,8 @@ pub extern "C" fn virtiofs_map_names_client(
     ensures code { IsClientCode result }
     ensures no_map { IsNoImage bytes.entry.lent.now → result ≡ no_map }
 {
+    // (written first, since after that only a prepend needs its place)
+    *len = 0;
     let decision = decide(bytes.lent, Side::Client, name.lent);
     tell_client(decision, name.lent, out.lent, len)
 }

@@ -13,7 +13,7 @@ use crate::xattrmap::trie::compare::{
     are_same, are_same_by_one, begins_alike, common_prefix_length,
 };
 use crate::xattrmap::trie::rows::{
-    base_of, first_byte_of, is_sparse, label_of, length_of, low_byte_of, row_at, width_of,
+    SPARSE, base_of, first_byte_of, is_sparse, label_of, length_of, low_byte_of, row_at, width_of,
 };
 
 /// The row of a node that answers that no rule fits, and has no children.
@@ -72,7 +72,7 @@ impl<'a> Rows<'a> {
     /// The row that stands so many places behind the first child.
     #[inline(always)]
     fn row(self, first: u64, behind: u8) -> Option<&'a [u8; 24]>
-        requires { first < 140737488355328 }
+        requires { first < 281474976710656 }
         ensures { MatchOption result
             (length self.entry.image.now < 8 * (first + 3 * behind) + 24)
             (λ row. row.now ≡ take 24 (drop (8 * (first + 3 * behind)) self.entry.image.now)) }
@@ -115,7 +115,7 @@ impl<'a> Rows<'a> {
         if byte == 0 {
             return None;
         }
-        let (from, width) = (base_of(parent), width_of(parent));
+        let (from, width) = (base_of(parent) % SPARSE, width_of(parent));
         for behind in 0..width {
             let child = self.row(from, behind)?;
             if first_byte_of(child) == byte {

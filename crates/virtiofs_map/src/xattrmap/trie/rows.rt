@@ -1,12 +1,18 @@
 //! Nodes as rows of bytes.
 //!
-//! A row has three numbers of eight bytes. The first has the place of the label, the byte that leads
-//! to the node and the length of the label; the second the place of the first child, how many
-//! places the children have and the lowest byte; and the third the answer. In the first two, the
-//! place has the upper six bytes. The place of the first child is counted in eights, and its highest
-//! bit says that the children are sparse.
+//! | bytes of a row | what they say |
+//! |---|---|
+//! | 0 | how many bytes the label has |
+//! | 1 | the byte that leads to the node |
+//! | 2 to 7 | where the label begins |
+//! | 8 | the lowest byte that leads to a child |
+//! | 9 | how many places the children have |
+//! | 10 to 15 | where the first child stands, counted in eights; the highest bit is set if the children are sparse |
+//! | 16 to 23 | the answer |
+//!
+//! A number of several bytes has its lowest byte first.
 
-ghost use Rattle.std.specs.Prelude.{◌≡◌, ◌++◌, ◌+◌, ◌*◌, ◌≤◌, ◌<◌, ℕ, List, length, drop, take, All, OnOk, MatchOption};
+ghost use Rattle.std.specs.Prelude.{◌≡◌, ◌++◌, ◌+◌, ◌*◌, ◌%◌, ◌≤◌, ◌<◌, false, ℕ, List, length, drop, take, All, OnOk, MatchOption};
 ghost use Rattle.std.specs.List.{flat_map};
 ghost use Rattle.virtiofs_map.specs.NodeParts.{HasBytes, IsRowOf, IsSmall, IsSmallIn, placed, row_in, row_of};
 ghost use Rattle.virtiofs_map.specs.declared.xattrmap.trie.node.Node.{Node};
@@ -22,7 +28,7 @@ pub(crate) const ROW: usize = 24;
 pub(crate) const SHARE: u64 = 65536;
 
 /// The flag of sparse children, in the number of the first child's place.
-const SPARSE: u64 = 140737488355328;
+pub(crate) const SPARSE: u64 = 140737488355328;
 
 /// The row that begins at a place; `None` where the bytes end before its end.
 #[inline(always)]
@@ -45,7 +51,7 @@ pub(crate) fn length_of(row: &[u8; 24]) -> usize
     ensures value { (node : Node) → IsRowOf node row.now → result ≡ node.length }
     ensures few { result < 256 }
 {
-    (le_u64_at(row, 0) % 256) as usize
+    row[0] as usize
 }
 
 /// The byte that leads to the node.
@@ -53,7 +59,7 @@ pub(crate) fn length_of(row: &[u8; 24]) -> usize
 pub(crate) fn first_byte_of(row: &[u8; 24]) -> u8
     ensures { (node : Node) → IsRowOf node row.now → result ≡ node.first_byte }
 {
-    (le_u64_at(row, 0) / 256 % 256) as u8
+    row[1]
 }
 
 /// Where the label begins.
@@ -70,7 +76,7 @@ pub(crate) fn label_of(row: &[u8; 24]) -> usize
 pub(crate) fn low_byte_of(row: &[u8; 24]) -> u8
     ensures { (node : Node) → IsRowOf node row.now → result ≡ node.low_byte }
 {
-    (le_u64_at(row, 8) % 256) as u8
+    row[8]
 }
 
 /// How many places the children have.
@@ -78,16 +84,19 @@ pub(crate) fn low_byte_of(row: &[u8; 24]) -> u8
 pub(crate) fn width_of(row: &[u8; 24]) -> u8
     ensures { (node : Node) → IsRowOf node row.now → result ≡ node.width }
 {
-    (le_u64_at(row, 8) / 256 % 256) as u8
+    row[9]
 }
 
-/// The place of the first child.
+/// The place of the first child, and the flag where the children are sparse.
 #[inline(always)]
 pub(crate) fn base_of(row: &[u8; 24]) -> u64
-    ensures value { (node : Node) → IsRowOf node row.now → result ≡ node.base }
-    ensures few { result < 140737488355328 }
+    ensures dense { (node : Node) → IsRowOf node row.now → node.is_sparse ≡ false
+        → result ≡ node.base }
+    ensures sparse { (node : Node) → IsRowOf node row.now
+        → result % 140737488355328 ≡ node.base }
+    ensures few { result < 281474976710656 }
 {
-    le_u64_at(row, 8) / SHARE % SPARSE
+    le_u64_at(row, 8) / SHARE
 }
 
 /// Whether the children are sparse.
@@ -95,7 +104,7 @@ pub(crate) fn base_of(row: &[u8; 24]) -> u64
 pub(crate) fn is_sparse(row: &[u8; 24]) -> bool
     ensures { (node : Node) → IsRowOf node row.now → result ≡ node.is_sparse }
 {
-    le_u64_at(row, 8) / SHARE >= SPARSE
+    row[15] >= 128
 }
 
 /// The answer.

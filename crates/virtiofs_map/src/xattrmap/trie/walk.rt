@@ -52,7 +52,6 @@ fn is_end(row: &[u8; 24], rest: &[u8]) -> bool
 
 /// Goes on from a row along what is left of a name, as far as labels fit. Gives the answer of the
 /// last node, and how many bytes are left there.
-// (a walk that goes on needs no root: a lookup that does not come here has fewer registers to save)
 #[inline(never)]
 fn walk_on<'a>(
     rows: Rows<'a>,
@@ -80,8 +79,7 @@ fn walk_on<'a>(
 
 /// The answer of a name: four times the place of the first rule that fits it and the number of its
 /// type, or `NO_ANSWER`. Then how many of its bytes were passed.
-// (most walks end at the root or after one step: for these there is no call here, and so few
-// registers have to be saved)
+// (where the children of the root are not sparse, a walk of one step at most makes no call)
 #[inline(always)]
 pub(crate) fn look_up(trie: Trie<'_>, name: &[u8]) -> (u64, usize)
     ensures passes { (side : Side) (rules : List MappingRule) (end labels : ℕ) (bytes : List ℕ)

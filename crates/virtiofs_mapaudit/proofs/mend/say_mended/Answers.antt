@@ -42,7 +42,7 @@ returns-in_default c =
 pub returns : goal.returns
 returns c =
     let empty = is_empty_here _ _ (rw c.as_slice.ensures.value at c.if-not-is_empty.ensures) refl in
-    let advice = rw c.in-Some.is at c.in_ok-advised.ensures in
+    let advice = rw c.in-Some.is at c.in_ok-advised.ensures.better in
     record {
       all = c.in_ok-all.all;
       best = c.in-Some.advised.guests.items;

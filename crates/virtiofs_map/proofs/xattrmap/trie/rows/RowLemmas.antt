@@ -32,10 +32,17 @@ pub base_of_flagged : (base : ℕ) (is_sparse : Bool) → base < 140737488355328
 base_of_flagged base true small = omega arith
 base_of_flagged base false small = omega arith
 
-pub flag_of_flagged : (base : ℕ) (is_sparse : Bool) → base < 140737488355328
-    → nat_le 140737488355328 (flagged base is_sparse) ≡ is_sparse
-flag_of_flagged base true small = grind (arith, nat_tests)
-flag_of_flagged base false small = grind (arith, nat_tests)
+pub dense_flagged : (base : ℕ) (is_sparse : Bool) → is_sparse ≡ false → flagged base is_sparse ≡ base
+dense_flagged base true dense = absurd (cc)
+dense_flagged base false dense = omega arith
+
+-- the flag is the highest bit of the last byte
+flag_of_byte : (base : ℕ) (is_sparse : Bool) (rest byte : ℕ) → base < 140737488355328 → rest < 65536
+    → byte ≡ (65536 * flagged base is_sparse + rest) / 72057594037927936 % 256 → nat_le 128 byte ≡ is_sparse
+flag_of_byte base true rest byte small few is =
+    let high : 128 ≤ byte = omega (arith, small, few, is) in grind (arith, nat_tests)
+flag_of_byte base false rest byte small few is =
+    let low : byte < 128 = omega (arith, small, few, is) in grind (arith, nat_tests)
 
 module _ (node : Node) (row : List ℕ) (of : IsRowOf node row) where
   pub first_u64_of : le_u64_at row 0 ≡ first_u64 node
@@ -70,6 +77,47 @@ module _ (node : Node) (row : List ℕ) (of : IsRowOf node row) where
       let width = of.small.width in
       let low = of.bytes.low_byte in
       omega (arith, word, width, low)
+
+  -- ---- bytes that are read by themselves
+
+  pub byte_of_length : get_or row 0 0 ≡ node.length
+  unfolding row_of le_u64_bytes
+  byte_of_length =
+      let size = of.small.size in
+      let byte : get_or row 0 0 ≡ first_u64 node % 256 = ap (λ (l : List ℕ). get_or l 0 0) of.is in
+      omega (arith, byte, size)
+
+  pub byte_of_first : get_or row 1 0 ≡ node.first_byte
+  unfolding row_of le_u64_bytes
+  byte_of_first =
+      let size = of.small.size in
+      let first_byte = of.bytes.first_byte in
+      let byte : get_or row 1 0 ≡ first_u64 node / 256 % 256 = ap (λ (l : List ℕ). get_or l 1 0) of.is in
+      omega (arith, byte, size, first_byte)
+
+  pub byte_of_low : get_or row 8 0 ≡ node.low_byte
+  unfolding row_of le_u64_bytes
+  byte_of_low =
+      let low = of.bytes.low_byte in
+      let byte : get_or row 8 0 ≡ second_u64 node % 256 = ap (λ (l : List ℕ). get_or l 8 0) of.is in
+      omega (arith, byte, low)
+
+  pub byte_of_width : get_or row 9 0 ≡ node.width
+  unfolding row_of le_u64_bytes
+  byte_of_width =
+      let width = of.small.width in
+      let low = of.bytes.low_byte in
+      let byte : get_or row 9 0 ≡ second_u64 node / 256 % 256 = ap (λ (l : List ℕ). get_or l 9 0) of.is in
+      omega (arith, byte, width, low)
+
+  pub byte_of_flag : nat_le 128 (get_or row 15 0) ≡ node.is_sparse
+  unfolding row_of le_u64_bytes
+  byte_of_flag =
+      let width = of.small.width in
+      let low = of.bytes.low_byte in
+      let byte : get_or row 15 0 ≡ second_u64 node / 72057594037927936 % 256 = ap (λ (l : List ℕ). get_or l 15 0) of.is in
+      flag_of_byte node.base node.is_sparse (256 * node.width + node.low_byte) _ of.small.base
+      (omega (arith, width, low)) byte
 
 -- numbers that fit are not wrapped
 pub first_wrapped : (node : Node) → IsSmall node → HasBytes node

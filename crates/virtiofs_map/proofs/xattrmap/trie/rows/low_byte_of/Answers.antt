@@ -1,7 +1,5 @@
-use Rattle.std.proofs.Common.{◌∙◌, arith}
-use Rattle.virtiofs_map.proofs.xattrmap.trie.rows.RowLemmas.{second_u64_of}
+use Rattle.virtiofs_map.proofs.xattrmap.trie.rows.RowLemmas.{byte_of_low}
 use Rattle.virtiofs_map.proofs.xattrmap.trie.rows.low_byte_of.Goals as goal
 
 pub returns : goal.returns
-returns c = λ node of.
-    (let word = c.le_u64_at.ensures ∙ second_u64_of node c.args.row.now of in omega (arith, word, of.small.width, of.bytes.low_byte))
+returns c = λ node of. byte_of_low node c.args.row.now of

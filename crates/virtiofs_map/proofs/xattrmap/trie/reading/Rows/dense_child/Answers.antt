@@ -17,7 +17,7 @@ returns-then-first_byte_of-byte c = λ first labels nodes bytes node has readabl
     let below : ((c.args.byte + (256 - c.low_byte_of.result)) % 256) < node.width = omega (arith, width, c.if-behind-width_of.false) in
     let there =
     child_there c.args.self.image.now first labels nodes has node bytes c.base_of.result ((c.args.byte + (256 - c.low_byte_of.result)) % 256) _ readable below
-    (c.base_of.ensures.value (placed first labels node) row) refl in
+    (c.base_of.ensures.dense (placed first labels node) row flat) refl in
     let is : IsRow first labels there.0 c.in_ok-child.child.now =
     subst (λ (l : List ℕ). IsRow first labels there.0 l) (sym c.in_ok-child.ensures) there.3 in
     record {
@@ -35,7 +35,7 @@ returns-else-first_byte_of-byte c = λ first labels nodes bytes node has readabl
     let below : ((c.args.byte + (256 - c.low_byte_of.result)) % 256) < node.width = omega (arith, width, c.if-behind-width_of.false) in
     let there =
     child_there c.args.self.image.now first labels nodes has node bytes c.base_of.result ((c.args.byte + (256 - c.low_byte_of.result)) % 256) _ readable below
-    (c.base_of.ensures.value (placed first labels node) row) refl in
+    (c.base_of.ensures.dense (placed first labels node) row flat) refl in
     let is : IsRow first labels there.0 c.in_ok-child.child.now =
     subst (λ (l : List ℕ). IsRow first labels there.0 l) (sym c.in_ok-child.ensures) there.3 in
     other_slot nodes bytes node c.args.byte readable ((c.args.byte + (256 - c.low_byte_of.result)) % 256) flat (omega arith)

@@ -1,4 +1,4 @@
-use Rattle.std.proofs.Common.{◌≡◌, ◌+◌, ◌<◌, inl, inr, ℕ, List, Some, refl, sym, ap, subst, ◌∙◌, arith}
+use Rattle.std.proofs.Common.{◌≡◌, ◌+◌, ◌%◌, ◌<◌, inl, inr, ℕ, List, Some, refl, sym, ap, subst, ◌∙◌, arith}
 use Rattle.std.specs.List.{slice_get}
 use Rattle.std.proofs.lemmas.Bool.{cases_lt}
 use Rattle.virtiofs_map.specs.NodeParts.{IsRow, placed}
@@ -11,9 +11,9 @@ returns-then-first_byte_of-byte c = λ first labels nodes bytes node has readabl
     (let width = c.width_of-width.ensures (placed first labels node) row in
     let below : c.loop-behind.behind < node.width = omega (arith, width, c.loop-behind-test.true) in
     let there =
-    child_there c.args.self.image.now first labels nodes has node bytes c.base_of-from.result c.loop-behind.behind _
+    child_there c.args.self.image.now first labels nodes has node bytes (c.base_of.result % 140737488355328) c.loop-behind.behind _
     readable below
-    (c.base_of-from.ensures.value (placed first labels node) row) refl in
+    (c.base_of.ensures.sparse (placed first labels node) row) refl in
     let is : IsRow first labels there.0 c.in_ok-child.child.now =
     subst (λ (l : List ℕ). IsRow first labels there.0 l) (sym c.in_ok-child.ensures) there.3 in
     record {
@@ -36,9 +36,9 @@ loop-behind-preserved c = λ first labels nodes bytes node has readable row k ch
     (let width = c.width_of-width.ensures (placed first labels node) row in
     let below : c.loop-behind.behind < node.width = omega (arith, width, c.loop-behind-test.true) in
     let there =
-    child_there c.args.self.image.now first labels nodes has node bytes c.base_of-from.result c.loop-behind.behind _
+    child_there c.args.self.image.now first labels nodes has node bytes (c.base_of.result % 140737488355328) c.loop-behind.behind _
     readable below
-    (c.base_of-from.ensures.value (placed first labels node) row) refl in
+    (c.base_of.ensures.sparse (placed first labels node) row) refl in
     let is : IsRow first labels there.0 c.in_ok-child.child.now =
     subst (λ (l : List ℕ). IsRow first labels there.0 l) (sym c.in_ok-child.ensures) there.3 in
     elim (cases_lt k c.loop-behind.behind) [
