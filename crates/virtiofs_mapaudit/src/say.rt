@@ -1,6 +1,6 @@
 //! What is said of all guests: what their options set up, what is found, and what is advised.
-ghost use Rattle.std.specs.Prelude.{◌≡◌, ◌≢◌, ◌<◌, ◌⊎◌, ◌++◌, ℕ, List, [], length, IfOk, IfSome, IsTrue, IsFalse, None, OnOk, string_bytes};
-ghost use Rattle.virtiofs_advice.specs.Advice.{IsAdvice};
+ghost use Rattle.std.specs.Prelude.{◌≡◌, ◌≢◌, ◌<◌, ◌⊎◌, ◌++◌, ℕ, List, [], length, IfNone, IfOk, IfSome, IsTrue, IsFalse, None, OnOk, string_bytes};
+ghost use Rattle.virtiofs_advice.specs.Advice.{IsAdvice, IsNoAdvice};
 ghost use Rattle.virtiofs_setup.specs.AlikeGuests.{is_first, alike_to, likes_of};
 ghost use Rattle.virtiofs_report_json.specs.ReportJson.{IsJson};
 ghost use Rattle.virtiofs_mapaudit.specs.Said.{Says, ShownIf, ShowsSet, ShowsKind, ShowsBothKinds, ShowsSomeNames, AreTables, SaysAlike, SaysAt, SaysGuests, part_text, parts_text, nothing_found, closing, IsPlain};
@@ -291,6 +291,8 @@ fn advice<'a, A: Allocator + Copy>(
 ) -> Result<Option<Advised<'a, A>>, AllocError>
     ensures tried { IfOk result (λ advised. IfSome advised
         (IsAdvice isolated accepted.now report.now)) }
+    ensures no_better { IsTrue tries → IfOk result (λ advised. IfNone advised
+        (IsNoAdvice isolated accepted.now report.now others.entry.items)) }
     ensures untried { IsFalse tries → IfOk result (λ advised. advised ≡ None) }
 {
     if tries {
