@@ -41,7 +41,9 @@
  * of these is ever treated as the map that changes no id. To get that map, make a map
  * from no specifications. A call that is given one of these returns VIRTIOFS_NO_MAP.
  * If the numbers begin as a map does, but the rest was not written by a `make` or was
- * changed since, the result means nothing. Whatever the numbers are, a call returns,
+ * changed since, the result means nothing: a copy of a part of a map, with zeros behind
+ * it, may be the map that changes no id. So copy all `count` words, which are 4 * `count`
+ * bytes, or all `len` bytes. Whatever the numbers are, a call returns,
  * reads nothing outside of them, and writes nothing outside of its results. But an audit
  * of names may then take time that grows with the square of the number of rules times
  * the number of bytes: we measured a minute for 100 KB. So audit only maps that you made.
@@ -350,7 +352,8 @@ static inline size_t virtiofs_gids_bound(size_t count);
 
 /* Makes a map from the array of specifications, in the buffer `words` of `room` words.
    OK: the first *wanted words are the map, and the others are unchanged. NO_ROOM: the
-   map takes *wanted words, and none is written. REFUSED: no map can be made from this array,
+   map takes *wanted words, and none is written. So a map that was in the buffer is there still,
+   and answers as before: do not ask it. REFUSED: no map can be made from this array,
    *wanted is 0, and *fault is its first fault: KIND, OVERFLOW or INTERSECTS, with the
    index in `place`. If any element has a `kind` that is none of the six, the fault is KIND
    with the first such element, even if an earlier element has another fault. NO_MEMORY:
@@ -516,7 +519,8 @@ static inline size_t virtiofs_names_bound(size_t text_len);
 
 /* Makes a map from a text of rules, in the buffer `bytes` of `room` bytes. OK: the first
    *wanted bytes are the map, and the others are unchanged. NO_ROOM: the map takes
-   *wanted bytes, and none is written. REFUSED: no map can be made from this text, *wanted is 0,
+   *wanted bytes, and none is written. So a map that was in the buffer is there still, and answers
+   as before: do not ask it. REFUSED: no map can be made from this text, *wanted is 0,
    and *fault is its first fault: SCOPE, TYPE, INCOMPLETE, MAP_RULE, NUL_KEY or NUL_PREPEND
    with the number of the rule, or UTF8 or NO_RULES without one. For SCOPE and TYPE the field
    that is wrong is quoted in `quoted`. NO_MEMORY: *wanted is 0. If the code is not OK, the

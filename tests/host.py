@@ -32,8 +32,7 @@ def daemon(program, options, ranges=None, user=0):
     words = [program, *options]
     if ranges:
         words = ["unshare", "--user", "--", *words]
-    how = {"stdin": subprocess.DEVNULL, "stdout": subprocess.DEVNULL}
-    started = subprocess.Popen(words, user=user, group=user, extra_groups=[], **how)
+    started = subprocess.Popen(words, user=user, group=user, extra_groups=[], stdin=subprocess.DEVNULL, stdout=subprocess.DEVNULL)
     try:
         there = Path(f"/proc/{started.pid}")
         waited(lambda: (there / "cmdline").read_bytes().startswith(program.encode()))
@@ -52,6 +51,7 @@ def processes(room, stand_in):
     with daemon(stand_in, ranges, kernels) as pid:
         yield "a namespace as its options say", ["--pid", pid], 0, "its 0 to 65535 are 100000 to 165535 on the host"
         yield "the same, isolated", ["--isolated", "--pid", pid], 0, "nothing found"
+        yield "an id of it, explained", ["--explain", "user=5", "--pid", pid], 0, f"guest 1, process {pid}\n  user 5 of the guest\n"
         with daemon(stand_in, [it.replace("100000", "200000") for it in ranges], ("0 200000 65536\n",) * 2) as other:
             yield "two daemons apart", ["--pid", pid, "--pid", other], 0, "nothing found"
             yield "a command line beside them", ["--pid", pid, "--pid", other, "--", "virtiofsd", *ranges], 5, "guests 1 and 2"

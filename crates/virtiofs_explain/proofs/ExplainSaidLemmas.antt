@@ -1,6 +1,6 @@
 -- What is said of guests where questions are asked.
 use Rattle.std.proofs.Common.{◌≡◌, ℕ, ◌+◌, ◌<◌, ◌≤◌, List, [], ◌∷◌, ◌++◌, length, take, get_or, IsFalse, string_bytes}
-use Rattle.std.proofs.Common.{Result, OnOk, zero, suc, refl, sym, ap, ◌∙◌, subst, arith, append_assoc, append-nil}
+use Rattle.std.proofs.Common.{Option, Result, OnOk, zero, suc, refl, sym, ap, ◌∙◌, subst, arith, append_assoc, append-nil}
 use Rattle.std.specs.Global.{Global}
 use Rattle.std.specs.List.{AllZip}
 use Rattle.std.proofs.lemmas.List.{take_all, length-take-le}
@@ -80,33 +80,33 @@ answered_more guest set questions place question before so_far headed text is be
 -- ---- guests
 
 -- what is said of one of them
-abbrev said_of : ℕ → List ℕ → List ℕ
-said_of number answers = guest_line number ++ answers
+abbrev said_of : ℕ → Option ℕ → List ℕ → List ℕ
+said_of number process answers = guest_line number process ++ answers
 
 -- one more guest
 explained_push : {A : Type 0} (number : ℕ) (questions : List Question) (guests : List (Guest A))
     (sets : List (SetUp A)) (guest : Guest A) (set : SetUp A) (text answers : List ℕ)
     → ExplainsGuests number questions guests sets text → AnswersAll guest set questions answers
     → ExplainsGuests number questions (guests ++ guest ∷ []) (sets ++ set ∷ [])
-    (text ++ said_of (number + length guests) answers)
+    (text ++ said_of (number + length guests) set.process answers)
 explained_push number questions [] [] guest set text answers none last = (
   answers,
   [],
   last,
   refl,
-  ap (λ it. it ++ said_of (number + 0) answers) none
-      ∙ ap (λ (n : ℕ). said_of n answers) (omega arith) ∙ sym (append-nil _),
+  ap (λ it. it ++ said_of (number + 0) set.process answers) none
+      ∙ ap (λ (n : ℕ). said_of n set.process answers) (omega arith) ∙ sym (append-nil _),
 )
 explained_push number questions [] (s ∷ sets) guest set text answers none last = absurd none
 explained_push number questions (g ∷ guests) [] guest set text answers none last = absurd none
 explained_push number questions (g ∷ guests) (s ∷ sets) guest set text answers (of_first, rest, first, more, whole) last = (
   of_first,
-  rest ++ said_of (number + 1 + length guests) answers,
+  rest ++ said_of (number + 1 + length guests) set.process answers,
   first,
   explained_push (number + 1) questions guests sets guest set rest answers more last,
-  ap (λ it. it ++ said_of (number + suc (length guests)) answers) whole
-      ∙ append_assoc (said_of number of_first) rest _
-      ∙ ap (λ (n : ℕ). said_of number of_first ++ (rest ++ said_of n answers)) (omega arith),
+  ap (λ it. it ++ said_of (number + suc (length guests)) set.process answers) whole
+      ∙ append_assoc (said_of number s.process of_first) rest _
+      ∙ ap (λ (n : ℕ). said_of number s.process of_first ++ (rest ++ said_of n set.process answers)) (omega arith),
 )
 
 -- what was said of the guests so far was added to a text
@@ -118,21 +118,21 @@ pub explained_more : {A : Type 0} (questions : List Question) (guests : List (Gu
     (place : ℕ) (guest : Guest A) (set : SetUp A) (before so_far headed text : List ℕ)
     → guest ≡ get_or guests place guest → set ≡ get_or sets place set → place < length guests
     → AllZip SetsUp guests sets → AreExplained questions (take place guests) (take place sets) before so_far
-    → headed ≡ so_far ++ (guest_line (place + 1))
+    → headed ≡ so_far ++ guest_line (place + 1) set.process
     → ((answers : List ℕ) × AnswersAll guest set questions answers × (text ≡ headed ++ answers))
     → AreExplained questions (take (place + 1) guests) (take (place + 1) sets) before text
 explained_more questions guests sets place guest set before so_far headed text is_guest is_set below all
     (shown, explains, whole) first (answers, last, second) =
     let same : length sets ≡ length guests = AllZip-long SetsUp guests sets all in
     let count : length (take place guests) ≡ place = length-take-le place guests (omega (arith, below)) in (
-      shown ++ said_of (place + 1) answers,
+      shown ++ said_of (place + 1) set.process answers,
       rw (more_at guests place guest is_guest below, more_at sets place set is_set (omega (arith, below, same)))
           (subst (λ (n : ℕ). ExplainsGuests 1 questions (take place guests ++ guest ∷ []) (take place sets ++ set ∷ [])
-          (shown ++ said_of n answers)) (omega (arith, count))
+          (shown ++ said_of n set.process answers)) (omega (arith, count))
           (explained_push 1 questions (take place guests) (take place sets) guest set shown answers explains last)),
-      in_three before shown (guest_line (place + 1)) answers so_far headed text whole first
+      in_three before shown (guest_line (place + 1) set.process) answers so_far headed text whole first
           second
-          ∙ ap (λ it. before ++ it) (append_assoc shown (guest_line (place + 1)) answers),
+          ∙ ap (λ it. before ++ it) (append_assoc shown (guest_line (place + 1) set.process) answers),
     )
 
 pub explained_all : {A : Type 0} (questions : List Question) (guests : List (Guest A)) (sets : List (SetUp A))

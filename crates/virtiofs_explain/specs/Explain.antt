@@ -12,6 +12,7 @@ use Rattle.virtiofs_explain.specs.ExplainIdText.{id_text, ShowsId}
 use Rattle.virtiofs_explain.specs.ExplainNameText.{AreGuestNameLines, IsHostNameLine}
 use Rattle.virtiofs_setup.specs.Guests.{SetsUp}
 use Rattle.virtiofs_tables.specs.IdTable.{source_word}
+use Rattle.virtiofs_tables.specs.SummaryText.{process_text}
 use Rattle.virtiofs_setup.specs.Refusals.{IsSomeRefused, TellsGuests}
 use Rattle.virtiofs_setup.specs.declared.said.Said.{Said}
 use Rattle.virtiofs_explain.specs.declared.asking.Question.{Question}
@@ -69,16 +70,16 @@ AnswersAll guest set (question ∷ questions) text =
 
 -- ---- the whole
 
--- the number of a guest
-abbrev pub guest_line : ℕ → List ℕ
-guest_line number = codes "guest " ++ decimal number ++ codes "\n"
+-- the number of a guest, and the process of its daemon, if that runs already
+abbrev pub guest_line : ℕ → Option ℕ → List ℕ
+guest_line number process = codes "guest " ++ decimal number ++ process_text process ++ codes "\n"
 
--- what is said of each guest, where the first has that number: its number, and the answers
+-- what is said of each guest, where the first has that number: its line, and the answers
 abbrev pub ExplainsGuests : {A : Type 0} → ℕ → List Question → List (Guest A) → List (SetUp A) → List ℕ → Type 0
 ExplainsGuests number questions (guest ∷ guests) (set ∷ sets) text =
     (answers rest : List ℕ) × AnswersAll guest set questions answers
     × ExplainsGuests (number + 1) questions guests sets rest
-    × (text ≡ (guest_line number ++ answers) ++ rest)
+    × (text ≡ (guest_line number set.process ++ answers) ++ rest)
 ExplainsGuests number questions [] [] text = text ≡ []
 ExplainsGuests number questions guests sets text = ⊥
 

@@ -167,15 +167,23 @@ fn push_answers<A: Allocator + Copy>(
     Ok(())
 }
 
-/// Writes the number of a guest at the end of a text.
-fn push_number<A: Allocator>(text: &mut String<A>, number: usize) -> Result<(), AllocError>
+/// Writes the line of a guest at the end of a text: its number, and the process of its daemon, if that
+/// runs already.
+fn push_guest_line<A: Allocator>(
+    text: &mut String<A>,
+    number: usize,
+    process: Option<u32>,
+) -> Result<(), AllocError>
     ensures { OnOk result
-        (string_bytes text.new ≡ string_bytes text.old ++ guest_line number) }
+        (string_bytes text.new ≡ string_bytes text.old ++ guest_line number process) }
 {
-    write!(text, "guest {number}\n")
+    match process {
+        Some(pid) => write!(text, "guest {number}, process {pid}\n"),
+        None => write!(text, "guest {number}\n"),
+    }
 }
 
-/// Writes the answers for each guest, below its number, at the end of a text.
+/// Writes the answers for each guest, below its line, at the end of a text.
 fn push_guests<A: Allocator + Copy>(
     alloc: A,
     text: &mut String<A>,
@@ -189,8 +197,9 @@ fn push_guests<A: Allocator + Copy>(
         × (string_bytes text.new ≡ string_bytes text.old ++ shown)) }
 {
     for place in 0..guests.len() {
-        push_number(text, place + 1)?;
-        push_answers(alloc, text, questions, &guests[place], &sets[place])?;
+        let set = &sets[place];
+        push_guest_line(text, place + 1, set.process)?;
+        push_answers(alloc, text, questions, &guests[place], set)?;
     }
     Ok(())
 }

@@ -23,10 +23,10 @@ use std::{env, io};
 use virtiofs_output::outcome::{AnswerFault, Answered, status};
 use virtiofs_output::tally::Tally;
 
-const USAGE: &str = "usage: virtiofs_mapcheck ids SPEC.. ask QUERY..
+const USAGE: &str = "usage: virtiofs_mapcheck ids [SPEC..] ask QUERY..
        virtiofs_mapcheck ns TEXT
        virtiofs_mapcheck client RULES NAME
-       virtiofs_mapcheck server RULES NAME..
+       virtiofs_mapcheck server RULES [NAME..]
        virtiofs_mapcheck terminated RULES
        virtiofs_mapcheck audit RULES
        virtiofs_mapcheck apart RULES RULES

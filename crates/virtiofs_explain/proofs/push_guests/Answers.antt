@@ -21,7 +21,7 @@ pub loop-place-preserved : goal.loop-place-preserved
 loop-place-preserved g c =
     explained_more c.args.questions.now c.args.guests.now c.args.sets.now c.loop-place.place c.index-guests-place.result
     c.index-sets-place.result _ _ _ _ c.index-guests-place.is c.index-sets-place.is c.loop-place-test.true c.requires
-    c.loop-place.invariant c.in_ok-push_number.ensures c.in_ok-push_answers.ensures
+    c.loop-place.invariant c.in_ok-push_guest_line.ensures c.in_ok-push_answers.ensures
 
 pub returns : goal.returns
 returns g c =

@@ -38,10 +38,13 @@ fn end_of(from: usize, count: usize, size: usize) -> Option<usize>
     if end < LIMIT { Some(end) } else { None }
 }
 
-/// Where the parts of an image stand, of tries whose rows have so many bytes and of rules.
+/// Where the parts of an image stand, of tries whose rows have so many bytes and of rules; `None`
+/// where no image is so long.
 fn places_of<A: Allocator>(client: usize, server: usize, rules: &Rules<A>) -> Option<Places>
-    ensures { IfSome result (ArePlaces client server
+    ensures laid { IfSome result (ArePlaces client server
         (length rules.now.list) (length rules.now.bytes)) }
+    ensures long { IfNone result (longest_image < 48 + client + server
+        + 24 * length rules.now.list + length rules.now.bytes) }
 {
     let first = end_of(HEADER, client, 1)?;
     let second = end_of(first, server, 1)?;

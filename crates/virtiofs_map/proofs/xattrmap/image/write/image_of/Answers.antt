@@ -12,7 +12,7 @@ pub returns : goal.returns
 returns g c =
     let rules = c.args.rules in
     let places = c.in-Some.places in
-    let laid = c.in-Some.ensures in
+    let laid = c.in-Some.ensures.laid in
     let tries = c.in_ok-client.ensures in
     let client = c.in_ok-client.client.items in
     let server = c.in_ok-client.server.items in
