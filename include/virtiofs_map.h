@@ -42,11 +42,11 @@
  * from no specifications. A call that is given one of these returns VIRTIOFS_NO_MAP.
  * If the numbers begin as a map does, but the rest was not written by a `make` or was
  * changed since, the result means nothing: a copy of a part of a map, with zeros behind
- * it, may be the map that changes no id. So copy all `count` words, which are 4 * `count`
- * bytes, or all `len` bytes. Whatever the numbers are, a call returns,
- * reads nothing outside of them, and writes nothing outside of its results. But an audit
- * of names may then take time that grows with the square of the number of rules times
- * the number of bytes: we measured a minute for 100 KB. So audit only maps that you made.
+ * it, may be a map that changes no id, or no name. So copy all `count` words, which are
+ * 4 * `count` bytes, or all `len` bytes. Whatever the numbers are, a call returns, reads
+ * nothing outside of them, and writes nothing outside of its results. But an audit of
+ * names may then take time that grows with the square of the number of rules times the
+ * number of bytes: we measured a minute for 100 KB. So audit only maps that you made.
  *
  * What the numbers mean is private to a version of the library, and they are in the byte
  * order of the machine. So do not store them in files, and do not send them to another
