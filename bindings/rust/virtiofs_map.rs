@@ -94,12 +94,26 @@ pub(super) mod ffi {
     /// byte that is not printable is `\x` and two digits. So it ends no line of a log, and moves no cursor.
     pub struct Escaped<'a>(pub &'a str);
 
+    /// The same, but what std counts as printable, such as a letter of any script, stands as it is.
+    pub struct Printable<'a>(pub &'a str);
+
     impl Display for Escaped<'_> {
         fn fmt(&self, f: &mut Formatter<'_>) -> fmt::Result {
             self.0.bytes().try_for_each(|byte| match byte {
                 b'\\' => f.write_str("\\\\"),
                 b' '..=b'~' => f.write_char(char::from(byte)),
                 _ => write!(f, "\\x{byte:02x}"),
+            })
+        }
+    }
+
+    impl Display for Printable<'_> {
+        fn fmt(&self, f: &mut Formatter<'_>) -> fmt::Result {
+            self.0.chars().try_for_each(|it| match it.escape_debug().len() {
+                // (one character stands for itself)
+                1 => f.write_char(it),
+                _ if matches!(it, '"' | '\'') => f.write_char(it),
+                _ => Escaped(it.encode_utf8(&mut [0; 4])).fmt(f),
             })
         }
     }
@@ -142,6 +156,16 @@ pub mod idmap {
         fn from(error: ParseIntError) -> Self {
             IdMapError::InvalidValue(error)
         }
+    }
+
+    /// The byte that two processes of virtiofsd send each other while one sets up the namespace of the other.
+    #[derive(Debug, Eq, PartialEq)]
+    #[repr(u8)]
+    pub enum IdMapSetUpPipeMessage {
+        /// Set it up.
+        Request = 1,
+        /// It is set up.
+        Done = 2,
     }
 
     macro_rules! range {
@@ -200,7 +224,7 @@ pub mod idmap {
 pub mod soft_idmap {
     /// Specifications, as `--translate-uid` and `--translate-gid` give them.
     pub mod cmdline {
-        use super::super::ffi::{self, Escaped};
+        use super::super::ffi::{self, Printable};
         use std::error::Error;
         use std::fmt::{self, Display, Formatter};
         use std::num::ParseIntError;
@@ -224,7 +248,7 @@ pub mod soft_idmap {
             ForbidGuest { from_guest: u32, count: u32 },
         }
 
-        /// Why a text is no specification. What is printed of the text has printable ASCII alone.
+        /// Why a text is no specification. What is printed of the text has printable characters alone.
         #[derive(Debug)]
         #[rustfmt::skip]
         pub enum IdMapError {
@@ -243,12 +267,12 @@ pub mod soft_idmap {
         impl Display for IdMapError {
             fn fmt(&self, f: &mut Formatter<'_>) -> fmt::Result {
                 match self {
-                    IdMapError::InvalidPrefix(prefix) => write!(f, "Invalid ID map prefix {}", Escaped(prefix)),
+                    IdMapError::InvalidPrefix(prefix) => write!(f, "Invalid ID map prefix {}", Printable(prefix)),
                     IdMapError::InvalidLength { expected, seen } => {
                         write!(f, "Invalid ID map length (expected {expected} elements, got {seen} elements)")
                     }
                     IdMapError::InvalidValue { value, error } => {
-                        write!(f, "Invalid value {} in ID map: {error}", Escaped(value))
+                        write!(f, "Invalid value {} in ID map: {error}", Printable(value))
                     }
                     IdMapError::OutOfMemory => f.write_str("Out of memory"),
                 }
@@ -425,6 +449,9 @@ pub mod soft_idmap {
 
     type Lookup = unsafe extern "C" fn(*const u32, usize, u32, &mut u32) -> u32;
 
+    /// How many words a map has under which every id keeps its number. Any other has more.
+    const NO_RANGES: usize = 3;
+
     /// Why an id is not mapped.
     #[derive(Clone, Debug)]
     #[rustfmt::skip]
@@ -549,6 +576,9 @@ pub mod soft_idmap {
         /// The code, and what the id becomes.
         #[inline(always)]
         fn asked(&self, call: Lookup, number: u32) -> (u32, u32) {
+            if self.words.len() == NO_RANGES {
+                return (if number == u32::MAX { ffi::NO_ID } else { ffi::OK }, number);
+            }
             // (the call leaves this where the code is NO_ID)
             let mut to = u32::MAX;
             // Sound: the words are lent for the call, a lookup of the library, which writes to `to` alone.
@@ -570,7 +600,23 @@ pub mod soft_idmap {
         }
     }
 
-    /// virtiofsd's kind and text, behind the index of the specification in the list.
+    /// What an `io::Error` of a list holds (`get_ref`), if memory did not run out: it prints virtiofsd's text.
+    #[derive(Clone, Debug, Eq, PartialEq)]
+    pub struct BuildError {
+        /// The place of the specification in the list, from 0.
+        pub place: usize,
+        text: String,
+    }
+
+    impl Display for BuildError {
+        fn fmt(&self, f: &mut Formatter<'_>) -> fmt::Result {
+            f.write_str(&self.text)
+        }
+    }
+
+    impl Error for BuildError {}
+
+    /// virtiofsd's kind and text.
     pub(in super::super) fn error_of(fault: &ffi::Fault) -> io::Error {
         let (spec, place) = (cmdline::IdMap::of(fault.spec), fault.place);
         let (kind, text) = match fault.kind {
@@ -584,7 +630,7 @@ pub mod soft_idmap {
             }
             _ => return io::ErrorKind::OutOfMemory.into(),
         };
-        io::Error::new(kind, format!("specification {place}: {text}"))
+        io::Error::new(kind, BuildError { place, text })
     }
 
     /// What a specification sets up in a direction, as its faults print it.
@@ -613,7 +659,7 @@ pub mod xattrmap {
     use std::slice;
 
     /// What is wrong.
-    #[derive(Debug, Eq, PartialEq)]
+    #[derive(Eq, PartialEq)]
     #[rustfmt::skip]
     pub enum ErrorKind {
         /// There is no such scope: what the rule has in its place, and the three scopes.
@@ -668,6 +714,29 @@ pub mod xattrmap {
     }
 
     impl error::Error for ErrorKind {}
+
+    /// As virtiofsd prints it, which reads the lowest byte of each character of `got`.
+    impl Debug for ErrorKind {
+        fn fmt(&self, f: &mut Formatter<'_>) -> fmt::Result {
+            let unexpected = |f: &mut Formatter<'_>, name: &str, got: &str, expected: &str| {
+                let low: Vec<u8> = got.chars().map(|it| it as u8).collect();
+                f.debug_struct(name).field("got", &String::from_utf8_lossy(&low)).field("expected", &expected).finish()
+            };
+            f.write_str(match self {
+                ErrorKind::InvalidScope { got, expected } => return unexpected(f, "InvalidScope", got, expected),
+                ErrorKind::InvalidType { got, expected } => return unexpected(f, "InvalidType", got, expected),
+                ErrorKind::InvalidDelimiter => "InvalidDelimiter",
+                ErrorKind::IncompleteRule => "IncompleteRule",
+                ErrorKind::MapRuleViolation => "MapRuleViolation",
+                ErrorKind::NoRulesProvided => "NoRulesProvided",
+                ErrorKind::UnterminatedMapping => "UnterminatedMapping",
+                ErrorKind::NulInPattern { pattern } => {
+                    return f.debug_struct("NulInPattern").field("pattern", pattern).finish();
+                }
+                ErrorKind::OutOfMemory => "OutOfMemory",
+            })
+        }
+    }
 
     impl Display for ErrorKind {
         fn fmt(&self, f: &mut Formatter<'_>) -> fmt::Result {

@@ -5,10 +5,10 @@
 mod virtiofs_map;
 
 use std::io::{self, ErrorKind::InvalidInput, ErrorKind::Other, ErrorKind::PermissionDenied};
-use virtiofs_map::idmap::{GidMap, IdMapError as RangeError, UidMap};
+use virtiofs_map::idmap::{GidMap, IdMapError as RangeError, IdMapSetUpPipeMessage, UidMap};
 use virtiofs_map::soft_idmap::cmdline::{self, IdMap::*};
 use virtiofs_map::soft_idmap::id_types::{GidOffset, UidOffset};
-use virtiofs_map::soft_idmap::{CheckedMapError, GuestGid, GuestUid, HostGid, HostUid, IdMap, MapError};
+use virtiofs_map::soft_idmap::{BuildError, CheckedMapError, GuestGid, GuestUid, HostGid, HostUid, IdMap, MapError};
 use virtiofs_map::soft_idmap::{GuestId, HostId, Id};
 
 #[test]
@@ -29,12 +29,12 @@ fn specifications_are_read_and_printed() {
 #[test]
 fn texts_that_are_no_specification() {
     for (text, printed) in [
-        ("FOO-\u{130}r:1", r"Invalid ID map prefix foo-\xc4\xb0r"),
+        ("FOO-\u{130}r:1", "Invalid ID map prefix foo-\u{130}r"),
         ("foo", "Invalid ID map length (expected 1 elements, got 0 elements)"),
         ("forbid-guest:1:2:3", "Invalid ID map length (expected 2 elements, got 3 elements)"),
         ("foo:x", "Invalid value x in ID map: invalid digit found in string"),
-        ("map:\x1b[2J\n\\\0 ~\x7f\u{e9}:1:2",
-            r"Invalid value \x1b[2J\x0a\\\x00 ~\x7f\xc3\xa9 in ID map: invalid digit found in string"),
+        ("map:\x1b[2J\n\\\0 ~\x7f\"\u{e9}\u{200b}:1:2",
+            "Invalid value \\x1b[2J\\x0a\\\\\\x00 ~\\x7f\"\u{e9}\\xe2\\x80\\x8b in ID map: invalid digit found in string"),
         ("map:1:2:3:", "Invalid value  in ID map: cannot parse integer from empty string"),
         ("map:4294967296:0:1", "Invalid value 4294967296 in ID map: number too large to fit in target type"),
     ] {
@@ -68,6 +68,7 @@ fn ranges_of_a_namespace() {
     }
     let error = "x".parse::<u32>().unwrap_err();
     assert_eq!(RangeError::from(error.clone()), RangeError::InvalidValue(error));
+    assert_eq!((IdMapSetUpPipeMessage::Request as u8, IdMapSetUpPipeMessage::Done as u8), (1, 2));
     assert_eq!(":".parse::<UidMap>(), Err(RangeError::InvalidDelimiter));
     assert_eq!("::".parse::<GidMap>(), Err(RangeError::IncompleteMap));
 }
@@ -97,7 +98,9 @@ fn lists_of_which_no_map_is_made() {
         let (list, place) = (specs(list), list.split_whitespace().count() - 1);
         let error = IdMap::<GuestUid, HostUid>::try_from(list).unwrap_err();
         let text = if kind == Other { format!("{text} {met}") } else { text.into() };
-        assert_eq!((error.kind(), error.to_string()), (kind, format!("specification {place}: {text}")));
+        assert_eq!((error.kind(), error.to_string()), (kind, text));
+        let held = error.get_ref().and_then(|it| it.downcast_ref::<BuildError>());
+        assert_eq!(held.map(|it| it.place), Some(place));
     }
 }
 

@@ -7,7 +7,7 @@ mod virtiofs_map;
 mod virtiofs_map_audits;
 
 use std::io::ErrorKind;
-use virtiofs_map::soft_idmap::cmdline::IdMap as Spec;
+use virtiofs_map::soft_idmap::{cmdline::IdMap as Spec, BuildError};
 use virtiofs_map_audits::{comes_back, ids_apart, is_alone, reaches, Astray, IdAudit::*, Reaching, Shared};
 
 const RANGE: &str = "map:0:100000:65536";
@@ -38,8 +38,10 @@ fn lists_that_are_refused() {
         (ids_apart(&bad, &met).unwrap_err(), 0),
         (ids_apart(&specs(RANGE), &bad).unwrap_err(), 1),
     ] {
-        let text = format!("specification {place}: Parameter host:4294967294:0:2: Range overflow");
-        assert_eq!((error.kind(), error.to_string()), (ErrorKind::InvalidInput, text));
+        let text = "Parameter host:4294967294:0:2: Range overflow";
+        assert_eq!((error.kind(), error.to_string().as_str()), (ErrorKind::InvalidInput, text));
+        let held = error.get_ref().and_then(|it| it.downcast_ref::<BuildError>());
+        assert_eq!(held.map(|it| it.place), Some(place));
     }
 }
 
