@@ -18,7 +18,7 @@ use Rattle.virtiofs_findings.specs.declared.audit.Report.{Report}
 use Rattle.virtiofs_findings.specs.declared.finding.Finding.{Finding}
 use Rattle.virtiofs_setup.specs.Guests.{SetsUp}
 use Rattle.virtiofs_setup.specs.Lists.{Adds}
-use Rattle.virtiofs_setup.specs.Namespace.{IsLacking}
+use Rattle.virtiofs_id_audit.specs.Namespace.{IsLacking}
 use Rattle.virtiofs_setup.specs.Refusals.{TellsGuests}
 use Rattle.virtiofs_setup.specs.declared.refusal.Refusal.{Refusal}
 use Rattle.virtiofs_setup.specs.declared.setup.SetUp.{SetUp}

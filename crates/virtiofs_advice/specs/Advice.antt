@@ -9,10 +9,10 @@ use Rattle.std.specs.Borrow.{Bor}
 use Rattle.virtiofs_findings.specs.FindingKinds.{HasNew}
 use Rattle.virtiofs_setup.specs.Guests.{SetsUp}
 use Rattle.virtiofs_setup.specs.Lists.{AnyTwoHave}
-use Rattle.virtiofs_setup.specs.Namespace.{IsLacking}
+use Rattle.virtiofs_id_audit.specs.Namespace.{IsLacking}
 use Rattle.virtiofs_setup.specs.Refusals.{TellsGuests}
 use Rattle.virtiofs_findings.specs.Report.{FindsReport, IsFound, HasAccepted}
-use Rattle.virtiofs_advice.specs.declared.Advised.{Advised}
+use Rattle.virtiofs_findings.specs.declared.advised.Advised.{Advised}
 use Rattle.virtiofs_findings.specs.declared.audit.Part.{Part}
 use Rattle.virtiofs_findings.specs.declared.audit.Report.{Report}
 use Rattle.virtiofs_setup.specs.declared.refusal.Refusal.{Refusal}

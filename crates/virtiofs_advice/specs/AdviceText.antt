@@ -5,7 +5,7 @@ use Rattle.virtiofs_setup.specs.AlikeGuests.{alike_to, likes_of, is_first, is_to
 use Rattle.virtiofs_findings.specs.FindingText.{findings_text}
 use Rattle.virtiofs_setup.specs.Lists.{joined}
 use Rattle.virtiofs_setup.specs.OptionsText.{options_text}
-use Rattle.virtiofs_advice.specs.declared.Advised.{Advised}
+use Rattle.virtiofs_findings.specs.declared.advised.Advised.{Advised}
 use Rattle.virtiofs_setup.specs.declared.alike.Alike.{Alike}
 use Rattle.virtiofs_findings.specs.declared.audit.Part.{Part}
 use Rattle.virtiofs_findings.specs.declared.finding.Finding.{Finding}

@@ -18,6 +18,7 @@ use better::is_better;
 use mended::mended_options;
 use options::{Options, guest_of};
 use std::alloc::{AllocError, Allocator};
+use virtiofs_findings::advised::Advised;
 use virtiofs_findings::audit::{Report, audit, has_accepted, has_found};
 use virtiofs_setup::guest::Guest;
 use virtiofs_setup::guests::set_up_all;
@@ -56,19 +57,6 @@ pub fn guests_of<'a, A: Allocator + Copy>(
         guests.push(guest_of(alloc, one)?)?;
     }
     Ok(guests)
-}
-
-/// Options of guests that are advised, and what is found with them.
-#[derive(Drop)]
-pub struct Advised<'a, A: Allocator> {
-    /// The guests, with these options.
-    pub guests: Vec<Guest<'a, A>, A>,
-    /// What is found.
-    pub after: Report<A>,
-    /// Whether something is that counts.
-    pub is_left: bool,
-    /// Whether something is that is accepted.
-    pub has_accepted: bool,
 }
 
 /// Tries guests, isolated or not, with other options, in place of those with which that was found

@@ -8,6 +8,7 @@ use std::alloc::{AllocError, Allocator};
 use virtiofs_findings::audit::Part;
 use virtiofs_findings::finding::Finding;
 use virtiofs_findings::ids::kept::kept_ids;
+use virtiofs_id_audit::namespace::lacking_ids;
 use virtiofs_id_audit::{Span, mended};
 use virtiofs_map::cmdline;
 use virtiofs_map::idmap::UidMap;
@@ -15,7 +16,6 @@ use virtiofs_map::soft_idmap::IdMap;
 use virtiofs_setup::guest::Guest;
 use virtiofs_setup::ids::Ids;
 use virtiofs_setup::ids::kind::IdKind;
-use virtiofs_setup::ids::namespace::lacking_ids;
 use virtiofs_setup::setup::{IdSetUp, NamesSetUp, SetUp};
 
 /// The specification that forbids these ids.

@@ -2,8 +2,8 @@
 ghost use Rattle.std.specs.Prelude.{◌≡◌, ◌++◌, OnOk, flat_map, string_bytes};
 ghost use Rattle.virtiofs_advice.specs.AdviceText.{alike_line, guest_line, lines_text, part_line, still_text, left_text, left_in_text, heading, advised_text, further_text, mend_text};
 
-use crate::Advised;
 use std::alloc::{AllocError, Allocator};
+use virtiofs_findings::advised::Advised;
 use virtiofs_findings::audit::Part;
 use virtiofs_findings::told::push_findings;
 use virtiofs_setup::alike::{Alike, alike_to, is_first, is_told, likes_of, push_numbers};

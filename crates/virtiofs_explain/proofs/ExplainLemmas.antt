@@ -13,10 +13,10 @@ use Rattle.virtiofs_map.specs.declared.soft_idmap.entry.Direction.{Direction}
 use Rattle.virtiofs_explain.specs.ExplainIds.{CoversAt, MovesNone, MovesAt, Meets, end_of, back_from}
 use Rattle.virtiofs_setup.specs.Covers.{CoversNone}
 use Rattle.virtiofs_explain.specs.ExplainIdText.{way_lines, ShowsWay, is_round, round_text, ShowsBack, ShowsId}
-use Rattle.virtiofs_setup.specs.Outside.{MovesBy}
+use Rattle.virtiofs_id_audit.specs.Outside.{MovesBy}
 use Rattle.virtiofs_explain.specs.declared.ids.Layers.{Layers}
 use Rattle.virtiofs_setup.specs.declared.ids.kind.IdKind.{IdKind}
-use Rattle.virtiofs_setup.specs.declared.ids.outside.Way.{Way}
+use Rattle.virtiofs_id_audit.specs.declared.outside.Way.{Way}
 use Rattle.virtiofs_setup.specs.declared.setup.IdSetUp.{IdSetUp}
 use Rattle.virtiofs_setup.proofs.ForCallers.{in_two}
 

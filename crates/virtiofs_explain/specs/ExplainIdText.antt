@@ -13,8 +13,8 @@ use Rattle.virtiofs_setup.specs.KindWords.{one_of}
 use Rattle.virtiofs_explain.specs.declared.ids.Layer.{Layer}
 use Rattle.virtiofs_explain.specs.declared.ids.Layers.{Layers}
 use Rattle.virtiofs_setup.specs.declared.ids.kind.IdKind.{IdKind}
-use Rattle.virtiofs_setup.specs.declared.ids.outside.Way.{Way}
-use Rattle.virtiofs_setup.specs.declared.ids.outside.Way.TheVariants.{Inwards, Outwards}
+use Rattle.virtiofs_id_audit.specs.declared.outside.Way.{Way}
+use Rattle.virtiofs_id_audit.specs.declared.outside.Way.TheVariants.{Inwards, Outwards}
 use Rattle.virtiofs_setup.specs.declared.setup.IdSetUp.{IdSetUp}
 
 -- ---- the line of a layer

@@ -6,11 +6,11 @@ use Rattle.virtiofs_map.specs.declared.idmap.UidMap.{UidMap}
 use Rattle.virtiofs_map.specs.declared.soft_idmap.entry.Direction.{Direction}
 use Rattle.virtiofs_map.specs.declared.soft_idmap.entry.Direction.TheVariants.{GuestToHost, HostToGuest}
 use Rattle.virtiofs_setup.specs.Covers.{CoversNone}
-use Rattle.virtiofs_setup.specs.Outside.{MovesBy}
+use Rattle.virtiofs_id_audit.specs.Outside.{MovesBy}
 use Rattle.virtiofs_explain.specs.declared.ids.Layer.{Layer}
 use Rattle.virtiofs_explain.specs.declared.ids.Layers.{Layers}
-use Rattle.virtiofs_setup.specs.declared.ids.outside.Way.{Way}
-use Rattle.virtiofs_setup.specs.declared.ids.outside.Way.TheVariants.{Inwards, Outwards}
+use Rattle.virtiofs_id_audit.specs.declared.outside.Way.{Way}
+use Rattle.virtiofs_id_audit.specs.declared.outside.Way.TheVariants.{Inwards, Outwards}
 
 -- ---- specifications
 

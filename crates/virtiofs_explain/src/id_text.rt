@@ -5,11 +5,11 @@ ghost use Rattle.virtiofs_explain.specs.ExplainIdText.{place_line, spec_at, rang
 
 use crate::ids::{Layer, Layers, OVERFLOW_ID};
 use std::alloc::{AllocError, Allocator};
+use virtiofs_id_audit::outside::Way;
 use virtiofs_map::idmap::UidMap;
 use virtiofs_map::soft_idmap::Direction;
 use virtiofs_output::written::Written;
 use virtiofs_setup::ids::kind::{IdKind, one_of};
-use virtiofs_setup::ids::outside::Way;
 use virtiofs_setup::setup::IdSetUp;
 
 /// How a daemon translates ids of one kind.

@@ -5,12 +5,12 @@ ghost use Rattle.virtiofs_map.specs.Mapping.{InRange, Covers, Becomes};
 ghost use Rattle.virtiofs_explain.specs.ExplainIds.{CoversAt, IsBySpecs, MovesAt, IsByRanges, IsByRangesOf, inside_of, last_of, MeetsToHost, MeetsToGuest, Meets, end_of};
 
 use std::alloc::Allocator;
+use virtiofs_id_audit::outside::{Way, id_moved};
 use virtiofs_map::cmdline::IdMap as Spec;
 use virtiofs_map::id_types::{GuestUid, HostUid, Id};
 use virtiofs_map::idmap::UidMap;
 use virtiofs_map::soft_idmap::Direction;
 use virtiofs_setup::ids::Ids;
-use virtiofs_setup::ids::outside::{Way, id_moved};
 use virtiofs_setup::setup::IdSetUp;
 
 /// What Linux shows in place of an id that the namespace does not have.

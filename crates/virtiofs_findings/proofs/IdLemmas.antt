@@ -11,11 +11,11 @@ use Rattle.virtiofs_map.specs.declared.soft_idmap.entry.Direction.TheVariants.{G
 use Rattle.std.specs.Bool.{◌==◌}
 use Rattle.virtiofs_id_audit.specs.declared.spans.Span.{Span}
 use Rattle.virtiofs_map.specs.declared.idmap.UidMap.{UidMap}
-use Rattle.virtiofs_setup.proofs.ForCallers.{hold_one}
+use Rattle.virtiofs_id_audit.proofs.ForCallers.{hold_one}
 use Rattle.virtiofs_findings.specs.IdFindings.{FindsAll, TellsHost, ActAsRoot}
-use Rattle.virtiofs_setup.specs.Namespace.{StandsFor, IsRoot}
-use Rattle.virtiofs_setup.specs.Outside.{AreMoved}
-use Rattle.virtiofs_setup.specs.declared.ids.outside.Way.TheVariants.{Inwards}
+use Rattle.virtiofs_id_audit.specs.Namespace.{StandsFor, IsRoot}
+use Rattle.virtiofs_id_audit.specs.Outside.{AreMoved}
+use Rattle.virtiofs_id_audit.specs.declared.outside.Way.TheVariants.{Inwards}
 use Rattle.virtiofs_findings.specs.declared.ids.found.IdsFound.{IdsFound}
 
 -- ---- ids that become one of the same ids of the host

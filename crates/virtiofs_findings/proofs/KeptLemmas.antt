@@ -15,10 +15,10 @@ use Rattle.virtiofs_map.specs.declared.soft_idmap.entry.Direction.TheVariants.{G
 use Rattle.virtiofs_findings.proofs.IdLemmas.{all_same}
 use Rattle.virtiofs_findings.specs.IdFindings.{FindsAll, TellsHost, IsKept, TellsKept, FindsKept}
 use Rattle.virtiofs_findings.specs.KeptParts.{cover_of, same_of, IsUncovered, IsSame}
-use Rattle.virtiofs_setup.specs.Namespace.{Has, HasNone, StandsBy, StandsAmong, StandsFor}
-use Rattle.virtiofs_setup.specs.Outside.{AreMoved}
+use Rattle.virtiofs_id_audit.specs.Namespace.{Has, HasNone, StandsBy, StandsAmong, StandsFor}
+use Rattle.virtiofs_id_audit.specs.Outside.{AreMoved}
 use Rattle.virtiofs_findings.specs.declared.ids.found.IdsFound.{IdsFound}
-use Rattle.virtiofs_setup.specs.declared.ids.outside.Way.TheVariants.{Outwards}
+use Rattle.virtiofs_id_audit.specs.declared.outside.Way.TheVariants.{Outwards}
 
 -- ---- lists that a function made
 

@@ -8,13 +8,13 @@ use Rattle.virtiofs_map.specs.declared.cmdline.IdMap.{IdMap as Specification}
 use Rattle.virtiofs_id_audit.specs.declared.spans.Span.{Span}
 use Rattle.virtiofs_map.specs.declared.idmap.UidMap.{UidMap}
 use Rattle.virtiofs_findings.specs.IdFindings.{AreAll, ReachedOutside, Meets, TellsMeeting}
-use Rattle.virtiofs_setup.specs.Namespace.{StandsBy, StandsAmong, StandsFor}
-use Rattle.virtiofs_setup.specs.Outside.{AreMoved}
+use Rattle.virtiofs_id_audit.specs.Namespace.{StandsBy, StandsAmong, StandsFor}
+use Rattle.virtiofs_id_audit.specs.Outside.{AreMoved}
 use Rattle.virtiofs_findings.specs.declared.ids.found.IdsFound.{IdsFound}
 use Rattle.virtiofs_findings.specs.declared.ids.meeting.Met.{Met}
-use Rattle.virtiofs_setup.specs.declared.ids.outside.Way.TheVariants.{Inwards, Outwards}
+use Rattle.virtiofs_id_audit.specs.declared.outside.Way.TheVariants.{Inwards, Outwards}
 use Rattle.virtiofs_findings.proofs.IdLemmas.{into_same}
-use Rattle.virtiofs_setup.proofs.ForCallers.{among_moves}
+use Rattle.virtiofs_id_audit.proofs.ForCallers.{among_moves}
 
 -- ---- what one id is
 

@@ -8,7 +8,7 @@ use Rattle.virtiofs_id_audit.specs.declared.spans.Span.{Span}
 use Rattle.virtiofs_map.specs.declared.idmap.UidMap.{UidMap}
 use Rattle.virtiofs_map.specs.declared.soft_idmap.entry.Direction.TheVariants.{GuestToHost}
 use Rattle.virtiofs_setup.specs.Covers.{CoversNone}
-use Rattle.virtiofs_setup.specs.Namespace.{StandsFor}
+use Rattle.virtiofs_id_audit.specs.Namespace.{StandsFor}
 
 -- these ids, as a range that keeps numbers
 abbrev pub range_of : ℕ → ℕ → UidMap

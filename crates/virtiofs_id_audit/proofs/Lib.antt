@@ -1,7 +1,10 @@
+pub mod ForCallers
 mod ApartLemmas
 mod HeldLemmas
 mod IdAuditLemmas
 mod ImageLemmas
+mod NamespaceLemmas
+mod OutsideLemmas
 mod PieceLemmas
 mod RoundTripLemmas
 mod SpanLemmas

@@ -37,6 +37,8 @@ mod cuts;
 mod extents;
 mod images;
 mod mending;
+pub mod namespace;
+pub mod outside;
 mod round_trips;
 mod spans;
 

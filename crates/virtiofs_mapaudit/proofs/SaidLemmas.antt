@@ -12,7 +12,7 @@ use Rattle.virtiofs_tables.specs.SummaryText.{SumsUp}
 use Rattle.virtiofs_setup.specs.declared.alike.Alike.{Alike}
 use Rattle.virtiofs_findings.specs.Report.{HasAccepted}
 use Rattle.virtiofs_mapaudit.specs.Said.{ShownIf, AreTables, SaysAlike, SaysAt, SaysFrom, SaysGuests, IsPlain, parts_text, closing}
-use Rattle.virtiofs_advice.specs.declared.Advised.{Advised}
+use Rattle.virtiofs_findings.specs.declared.advised.Advised.{Advised}
 use Rattle.virtiofs_findings.specs.declared.audit.Part.{Part}
 use Rattle.virtiofs_findings.specs.declared.audit.Report.{Report}
 use Rattle.virtiofs_options.specs.declared.front.Asked.{Asked}

@@ -13,7 +13,7 @@ use Rattle.virtiofs_tables.specs.NameTable.{ShowsNames}
 use Rattle.virtiofs_findings.specs.Report.{IsFound, HasAccepted}
 use Rattle.virtiofs_report_json.specs.ReportJson.{IsJson}
 use Rattle.virtiofs_tables.specs.SummaryText.{SumsUp}
-use Rattle.virtiofs_advice.specs.declared.Advised.{Advised}
+use Rattle.virtiofs_findings.specs.declared.advised.Advised.{Advised}
 use Rattle.virtiofs_setup.specs.declared.alike.Alike.{Alike}
 use Rattle.virtiofs_findings.specs.declared.audit.Audited.{Audited}
 use Rattle.virtiofs_findings.specs.declared.audit.Part.{Part}

@@ -7,7 +7,8 @@ ghost use Rattle.virtiofs_mapaudit.specs.Said.{Says, ShownIf, ShowsSet, ShowsKin
 
 use std::alloc::{AllocError, Allocator, Global};
 use virtiofs_advice::text::push_advised;
-use virtiofs_advice::{Advised, guests_of, options_of, tried};
+use virtiofs_advice::{guests_of, options_of, tried};
+use virtiofs_findings::advised::Advised;
 use virtiofs_findings::audit::{Audited, Part, Report, audit_all, has_accepted};
 use virtiofs_findings::told::push_found;
 use virtiofs_options::front::Asked;

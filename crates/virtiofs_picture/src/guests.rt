@@ -3,9 +3,9 @@
 use crate::bands::{Band, Bands, LAST, Look, Marked, images};
 use std::alloc::{AllocError, Allocator};
 use virtiofs_id_audit::Span;
+use virtiofs_id_audit::outside::{Way, moved_by};
 use virtiofs_map::idmap::UidMap;
 use virtiofs_map::soft_idmap::Piece;
-use virtiofs_setup::ids::outside::{Way, moved_by};
 
 /// Whether one of the spans has the id.
 fn has(ids: &[Span], id: u32) -> bool {

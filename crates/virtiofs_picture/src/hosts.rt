@@ -3,9 +3,9 @@
 use crate::bands::{Band, Bands, LAST, Look, images};
 use std::alloc::{AllocError, Allocator};
 use virtiofs_id_audit::Span;
+use virtiofs_id_audit::outside::{Way, moved_by};
 use virtiofs_map::idmap::UidMap;
 use virtiofs_map::soft_idmap::{Outcome, Piece};
-use virtiofs_setup::ids::outside::{Way, moved_by};
 
 /// What ids of the host are inside the namespace, where they are in the range.
 fn inside_of(range: Option<&UidMap>, host: Span) -> Option<Span> {

@@ -28,7 +28,7 @@ use Rattle.virtiofs_setup.specs.RefusalText.{refusal_text}
 use Rattle.virtiofs_setup.specs.declared.guest.Guest.{Guest}
 use Rattle.virtiofs_setup.specs.declared.refusal.Refusal.{Refusal}
 use Rattle.virtiofs_report_json.specs.ReportJson.{IsTableIf, IsNamesOf, IsGuest, AreGuests, part_data, parts_data, guest_words, option_words, rules_words, acl_words, words_data, advised_data, report_data, IsJson}
-use Rattle.virtiofs_advice.specs.declared.Advised.{Advised}
+use Rattle.virtiofs_findings.specs.declared.advised.Advised.{Advised}
 use Rattle.virtiofs_findings.specs.declared.audit.Part.{Part}
 use Rattle.virtiofs_findings.specs.declared.audit.Report.{Report}
 use Rattle.virtiofs_findings.specs.declared.finding.Finding.{Finding}

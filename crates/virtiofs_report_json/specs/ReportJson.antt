@@ -8,7 +8,7 @@ use Rattle.virtiofs_report_json.specs.FindingJson.{count_if, finding_data}
 use Rattle.virtiofs_report_json.specs.IdJson.{count, IsIdTable}
 use Rattle.virtiofs_report_json.specs.NameJson.{IsNameTable}
 use Rattle.virtiofs_setup.specs.RefusalText.{refusal_text}
-use Rattle.virtiofs_advice.specs.declared.Advised.{Advised}
+use Rattle.virtiofs_findings.specs.declared.advised.Advised.{Advised}
 use Rattle.virtiofs_findings.specs.declared.audit.Part.{Part}
 use Rattle.virtiofs_findings.specs.declared.audit.Report.{Report}
 use Rattle.virtiofs_setup.specs.declared.guest.Guest.{Guest}

@@ -7,7 +7,7 @@ ghost use Rattle.virtiofs_report_json.specs.ReportJson.{option_words, rules_word
 use crate::{Built, BuiltList, findings_value};
 use serde_json::{Value, json};
 use std::alloc::{AllocError, Global};
-use virtiofs_advice::Advised;
+use virtiofs_findings::advised::Advised;
 use virtiofs_options::guest::Guest as GuestOptions;
 use virtiofs_setup::guest::Guest;
 

@@ -22,7 +22,7 @@ use ids::id_table;
 use names::name_table;
 use serde_json::{Value, json};
 use std::alloc::{AllocError, Global};
-use virtiofs_advice::Advised;
+use virtiofs_findings::advised::Advised;
 use virtiofs_findings::audit::{Part, Report};
 use virtiofs_options::front::Asked;
 use virtiofs_setup::refusal::Refusal;

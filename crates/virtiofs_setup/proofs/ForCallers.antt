@@ -4,8 +4,6 @@ pub use Rattle.virtiofs_setup.proofs.ListLemmas.{AnyHas-at, AnyHas-left, AnyHas-
 pub use Rattle.virtiofs_setup.proofs.ListLemmas.{AnyTwoHave-at, AnyTwoHave-none, flat_pushed, in_four}
 pub use Rattle.virtiofs_setup.proofs.ListLemmas.{in_four_ok, in_three, in_two, is_empty_here, is_none}
 pub use Rattle.virtiofs_setup.proofs.ListLemmas.{is_not_empty, is_some, is_some_here, more_at, on_two}
--- ids that are moved into a namespace and out of it
-pub use Rattle.virtiofs_setup.proofs.OutsideLemmas.{among_moves, hold_one, none_here, some_here}
 -- where something is refused
 pub use Rattle.virtiofs_setup.proofs.RefusalLemmas.{told_where_refused}
 -- tests that fail, and denied ones

@@ -3,11 +3,8 @@ pub mod Covers
 pub mod Guests
 pub mod KindWords
 pub mod Lists
-pub mod Namespace
 pub mod OptionsText
 pub mod Ordinal
-pub mod Outside
-pub mod OutsideParts
 pub mod RangeParts
 pub mod RangeText
 pub mod Ranges

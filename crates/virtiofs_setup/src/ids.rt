@@ -1,8 +1,7 @@
 //! Ids of users and of groups, and the namespace of a daemon.
 
 pub mod kind;
-pub mod namespace;
-pub mod outside;
+pub(crate) mod namespace;
 pub mod ranges;
 
 use virtiofs_map::id_types::{GuestUid, HostUid};

@@ -2,16 +2,16 @@
 ghost use Rattle.std.specs.Prelude.{◌≡◌, ◌↔◌, ℕ, IfOk, IsTrue};
 ghost use Rattle.virtiofs_id_audit.specs.IdAudit.{GoesTo, GoesInto, Hold};
 ghost use Rattle.virtiofs_findings.specs.IdFindings.{FindsAll, IsAstrayBut, TellsAstray, TellsHost, FindsIds, ActAsRoot};
-ghost use Rattle.virtiofs_setup.specs.Namespace.{IsRoot};
+ghost use Rattle.virtiofs_id_audit.specs.Namespace.{IsRoot};
 
 use super::found::{IdFindings, IdsFound};
 use std::alloc::{AllocError, Allocator};
+use virtiofs_id_audit::namespace::lacking_ids;
+use virtiofs_id_audit::outside::{Way, moved_all};
 use virtiofs_id_audit::{Span, ids_astray, ids_into};
 use virtiofs_map::id_types::{GuestUid, HostUid, Id};
 use virtiofs_map::idmap::UidMap;
 use virtiofs_setup::ids::Ids;
-use virtiofs_setup::ids::namespace::lacking_ids;
-use virtiofs_setup::ids::outside::{Way, moved_all};
 
 /// Whether the id of the guest, which is not 4294967295, becomes that id of the host.
 fn goes_to<A: Allocator>(map: &Ids<A>, guest: GuestUid, host: HostUid) -> bool

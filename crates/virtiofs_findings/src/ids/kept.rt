@@ -8,11 +8,11 @@ use super::audits::ids_to;
 use super::found::IdsFound;
 use std::alloc::{AllocError, Allocator};
 use virtiofs_id_audit::Span;
+use virtiofs_id_audit::namespace::ids_of_none;
+use virtiofs_id_audit::outside::{Way, moved_all};
 use virtiofs_map::cmdline::IdMap as Spec;
 use virtiofs_map::idmap::UidMap;
 use virtiofs_map::soft_idmap::IdMap;
-use virtiofs_setup::ids::namespace::ids_of_none;
-use virtiofs_setup::ids::outside::{Way, moved_all};
 use virtiofs_setup::setup::IdSetUp;
 
 /// These ids, as a range that keeps numbers.

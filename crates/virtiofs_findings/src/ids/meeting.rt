@@ -2,14 +2,14 @@
 ghost use Rattle.std.specs.Prelude.{◌≡◌, ◌↔◌, ℕ, IfOk, MatchOption};
 ghost use Rattle.virtiofs_id_audit.specs.IdAudit.{IsLeastId, GoesInto, Hold};
 ghost use Rattle.virtiofs_findings.specs.IdFindings.{ReachedOutside, Meets, TellsMeeting, FindsMeeting};
-ghost use Rattle.virtiofs_setup.specs.Namespace.{StandsBy, StandsFor};
+ghost use Rattle.virtiofs_id_audit.specs.Namespace.{StandsBy, StandsFor};
 
 use super::found::IdsFound;
 use std::alloc::{AllocError, Allocator};
+use virtiofs_id_audit::outside::{Way, id_moved, moved_all};
 use virtiofs_id_audit::{Span, ids_into, reached, reaches_any};
 use virtiofs_map::id_types::{GuestUid, Id};
 use virtiofs_map::idmap::UidMap;
-use virtiofs_setup::ids::outside::{Way, id_moved, moved_all};
 use virtiofs_setup::setup::IdSetUp;
 
 /// An id of the host that a guest reaches.

@@ -1,4 +1,4 @@
-use Rattle.virtiofs_setup.proofs.ForCallers.{none_here, some_here}
+use Rattle.virtiofs_id_audit.proofs.ForCallers.{none_here, some_here}
 use Rattle.virtiofs_findings.proofs.MeetingLemmas.{met_alone_if, none_met, none_met_more, none_met_all, met_among}
 use Rattle.virtiofs_findings.proofs.ids.meeting.met_of.Goals as goal
 

@@ -1,0 +1,325 @@
+-- Ids that are moved into a namespace and out of it.
+use Rattle.std.proofs.Common.{◌≡◌, ◌≢◌, ◌⊎◌, ◌↔◌, inl, inr, ℕ, ◌+◌, ◌-◌, ◌<◌, ◌≤◌, min, max, List, [], ◌∷◌, ◌++◌, length}
+use Rattle.std.proofs.Common.{take, get_or, eqb, Contains, Bool, true, false, Option, Some, None, refl, ap, ◌∙◌, subst, sym, arith, rules}
+use Rattle.std.proofs.lemmas.Bool.{cases_eq}
+use Rattle.std.proofs.lemmas.Bool.Decides.{nat_tests}
+use Rattle.std.proofs.lemmas.List.{take_more, take_all}
+use Rattle.std.proofs.lemmas.List.Elements.{Contains-push, Contains-push_cases, Contains-append_left}
+use Rattle.virtiofs_id_audit.specs.IdAudit.{Has, Hold}
+use Rattle.virtiofs_id_audit.specs.declared.spans.Span.{Span}
+use Rattle.virtiofs_map.specs.declared.idmap.UidMap.{UidMap}
+use Rattle.virtiofs_id_audit.specs.Outside.{MovesBy, MovesTo, HasIf, AreMoved}
+use Rattle.virtiofs_id_audit.specs.OutsideParts.{Moves, MovesAmong, AddsMoved, AddsSpan}
+use Rattle.virtiofs_id_audit.specs.declared.outside.Way.{Way}
+use Rattle.virtiofs_id_audit.specs.declared.outside.Way.TheVariants.{Inwards, Outwards}
+
+-- ---- whether there are ranges
+
+pub none_here : (ranges : List UidMap) (r : Bool) → r ≡ eqb (length ranges) 0 → r ≡ true → ranges ≡ []
+none_here [] r e is_true = refl
+none_here (range ∷ ranges) r e is_true =
+    absurd (let f : eqb (length (range ∷ ranges)) 0 ≡ true = sym e ∙ is_true in grind (arith, nat_tests))
+
+pub some_here : (ranges : List UidMap) (r : Bool) → r ≡ eqb (length ranges) 0 → r ≡ false → ranges ≢ []
+some_here ranges r e is_false none =
+    absurd (let f : eqb (length ranges) 0 ≡ false = sym e ∙ is_false in let z : length ranges ≡ 0 = ap length none in
+    grind (arith, nat_tests))
+
+-- ---- spans
+
+-- one span has the ids that it has
+pub hold_one : (span : Span) (id : ℕ) → Hold (span ∷ []) id → Has span id
+hold_one span id (one, (k, inside, here), has) = elim (cases_eq k 0) [
+  | inl zero ↦ (let same : get_or (span ∷ []) 0 one ≡ one = subst (λ (i : ℕ). get_or (span ∷ []) i one ≡ one) zero here in
+      subst (λ (s : Span). Has s id) (sym same) has)
+  | inr later ↦ absurd (omega (arith, inside, later))
+]
+
+-- ---- one span, moved
+
+-- none of its ids is moved
+pub moved_none : (span : Span) (from to count begin past : ℕ) → to ≤ 4294967295 → begin ≡ max span.first from
+    → past ≡ min (min (span.last + 1) (from + count)) (min ((from + 4294967296) - to) 4294967296) → past ≤ begin
+    → (moved : ℕ) → HasIf None moved ↔ ((id : ℕ) × Has span id × Moves from to count id moved)
+moved_none span from to count begin past bound begins ends over moved = (
+  (λ held. absurd held),
+  (λ (id, has, moves).
+      absurd
+      (omega (
+        arith,
+        bound,
+        begins,
+        ends,
+        over,
+        has.0,
+        has.1,
+        moves.has.0,
+        moves.has.1,
+        moves.same,
+        moves.is_id,
+        moves.is_id_moved,
+      ))),
+)
+
+-- those from one to another are
+pub moved_some : (span there : Span) (from to count begin past : ℕ) → to ≤ 4294967295
+    → begin ≡ max span.first from
+    → past ≡ min (min (span.last + 1) (from + count)) (min ((from + 4294967296) - to) 4294967296) → begin < past
+    → there.first ≡ to + (begin - from) → there.last ≡ to + (past - 1 - from)
+    → (moved : ℕ) → HasIf (Some there) moved ↔ ((id : ℕ) × Has span id × Moves from to count id moved)
+moved_some span there from to count begin past bound begins ends some first last moved = (
+  (λ (low, high). (
+    from + (moved - to),
+    (omega (arith, begins, ends, some, first, last, low, high), omega (arith, begins, ends, some, first, last, low, high)),
+    record {
+      has = (omega arith, omega (arith, begins, ends, some, first, last, low, high));
+      same = omega (arith, begins, first, low);
+      is_id = omega (arith, begins, ends, some, first, last, low, high);
+      is_id_moved = omega (arith, begins, ends, some, last, high, bound);
+    },
+  )),
+  (λ (id, has, moves). (
+    omega (arith, begins, first, has.0, moves.has.0, moves.same),
+    omega (arith, ends, last, bound, has.1, moves.has.0, moves.has.1, moves.same, moves.is_id, moves.is_id_moved),
+  )),
+)
+
+-- the same of another way to say how ids are moved
+same_moved : (r : Option Span) (span : Span) (P Q : ℕ → ℕ → Type 0) → ((id moved : ℕ) → P id moved → Q id moved)
+    → ((id moved : ℕ) → Q id moved → P id moved)
+    → ((moved : ℕ) → HasIf r moved ↔ ((id : ℕ) × Has span id × P id moved))
+    → (moved : ℕ) → HasIf r moved ↔ ((id : ℕ) × Has span id × Q id moved)
+same_moved r span P Q from back each moved = (
+  (λ held. let (id, has, moves) = (each moved).0 held in (id, has, from id moved moves)),
+  (λ (id, has, moves). (each moved).1 (id, has, back id moved moves)),
+)
+
+-- out of the namespace
+pub moved_out : (r : Option Span) (range : UidMap) (span : Span)
+    → ((moved : ℕ) → HasIf r moved
+    ↔ ((id : ℕ) × Has span id × Moves range.inside_uid range.outside_uid range.count id moved))
+    → (moved : ℕ) → HasIf r moved ↔ ((id : ℕ) × Has span id × MovesBy Outwards range id moved)
+moved_out r range span =
+    same_moved r span (Moves range.inside_uid range.outside_uid range.count) (MovesBy Outwards range)
+    (λ id moved moves.
+    record { has = moves.has; same = moves.same; is_id = moves.is_id; is_id_outside = moves.is_id_moved })
+    (λ id moved stands.
+    record { has = stands.has; same = stands.same; is_id = stands.is_id; is_id_moved = stands.is_id_outside })
+
+-- into it
+pub moved_in : (r : Option Span) (range : UidMap) (span : Span)
+    → ((moved : ℕ) → HasIf r moved
+    ↔ ((id : ℕ) × Has span id × Moves range.outside_uid range.inside_uid range.count id moved))
+    → (moved : ℕ) → HasIf r moved ↔ ((id : ℕ) × Has span id × MovesBy Inwards range id moved)
+moved_in r range span =
+    same_moved r span (Moves range.outside_uid range.inside_uid range.count) (MovesBy Inwards range)
+    (λ id moved moves.
+    record {
+      has = (omega (arith, moves.same), omega (arith, moves.same, moves.has.0, moves.has.1));
+      same = omega (arith, moves.same, moves.has.0);
+      is_id = moves.is_id_moved;
+      is_id_outside = moves.is_id;
+    })
+    (λ id moved stands.
+    record {
+      has = (omega (arith, stands.same), omega (arith, stands.same, stands.has.0, stands.has.1));
+      same = omega (arith, stands.same, stands.has.0);
+      is_id = stands.is_id_outside;
+      is_id_moved = stands.is_id;
+    })
+
+-- ---- one id, moved
+
+-- it is not moved
+pub id_stays : (way : Way) (range : UidMap) (one : Span) (id : ℕ) → one.first ≡ id → one.last ≡ id
+    → ((moved : ℕ) → HasIf None moved ↔ ((n : ℕ) × Has one n × MovesBy way range n moved))
+    → (moved : ℕ) → ¬ MovesBy way range id moved
+id_stays way range one id first last each moved moves =
+    (each moved).1 (id, (omega (arith, first), omega (arith, last)), moves)
+
+-- it is
+pub id_goes : (way : Way) (range : UidMap) (one there : Span) (id : ℕ) → one.first ≡ id → one.last ≡ id
+    → there.first ≤ there.last
+    → ((moved : ℕ) → HasIf (Some there) moved ↔ ((n : ℕ) × Has one n × MovesBy way range n moved))
+    → MovesBy way range id there.first
+id_goes way range one there id first last order each =
+    let (n, has, moves) = (each there.first).0 (omega arith, order) in
+    let same : n ≡ id = omega (arith, first, last, has.0, has.1) in
+    subst (λ m. MovesBy way range m there.first) same moves
+
+-- ---- spans, one by one
+
+-- one more span
+pub hold_push : (spans : List Span) (span : Span) (id : ℕ) → Hold (spans ++ span ∷ []) id ↔ (Hold spans id ⊎ Has span id)
+hold_push spans span id = (
+  (λ (other, listed, has). elim (Contains-push_cases spans span other listed) [
+    | inl before ↦ inl (other, before, has)
+    | inr same ↦ inr (subst (λ (s : Span). Has s id) (sym same) has)
+  ]),
+  (λ held. elim held [
+    | inl (other, listed, has) ↦ (other, Contains-append_left spans (span ∷ []) other listed, has)
+    | inr has ↦ (span, Contains-push spans span, has)
+  ]),
+)
+
+-- one more range
+among_push : (way : Way) (ranges : List UidMap) (range : UidMap) (id moved : ℕ)
+    → MovesAmong way (ranges ++ range ∷ []) id moved ↔ (MovesAmong way ranges id moved ⊎ MovesBy way range id moved)
+among_push way ranges range id moved = (
+  (λ (other, listed, moves). elim (Contains-push_cases ranges range other listed) [
+    | inl before ↦ inl (other, before, moves)
+    | inr same ↦ inr (subst (λ (r : UidMap). MovesBy way r id moved) (sym same) moves)
+  ]),
+  (λ some. elim some [
+    | inl (other, listed, moves) ↦ (other, Contains-append_left ranges (range ∷ []) other listed, moves)
+    | inr moves ↦ (range, Contains-push ranges range, moves)
+  ]),
+)
+
+-- no range moves any at first
+pub adds_none : (before : List Span) (way : Way) (ranges : List UidMap) (span : Span)
+    → AddsMoved before way (take 0 ranges) span before
+adds_none before way ranges span = record {
+  each = λ moved. (
+    (λ held. inl held),
+    (λ some. elim some [ inl held ↦ held | inr (id, has, moves) ↦ absurd (not_in_none moves.0 moves.1) ]),
+  );
+} where
+  not_in_none : (one : UidMap) → ¬ Contains [] one
+  not_in_none one = search rules
+
+-- a range that moves none of it
+pub adds_no_more : (before after : List Span) (way : Way) (ranges : List UidMap) (span : Span) (i : ℕ) (d : UidMap)
+    → i < length ranges → AddsMoved before way (take i ranges) span after
+    → ((moved : ℕ) → HasIf None moved ↔ ((id : ℕ) × Has span id × MovesBy way (get_or ranges i d) id moved))
+    → AddsMoved before way (take (i + 1) ranges) span after
+adds_no_more before after way ranges span i d below so_far none = rw (take_more ranges i d below) (record {
+  each = λ moved. (
+    (λ held. elim ((so_far.each moved).0 held) [
+      | inl old ↦ inl old
+      | inr (id, has, moves) ↦
+          inr (id, has, (among_push way (take i ranges) (get_or ranges i d) id moved).1 (inl moves))
+    ]),
+    (λ some. elim some [
+      | inl old ↦ (so_far.each moved).1 (inl old)
+      | inr (id, has, moves) ↦ elim ((among_push way (take i ranges) (get_or ranges i d) id moved).0 moves) [
+        | inl before ↦ (so_far.each moved).1 (inr (id, has, before))
+        | inr here ↦ absurd ((none moved).1 (id, has, here))
+      ]
+    ]),
+  );
+})
+
+-- a range that moves some of it
+pub adds_more : (before after : List Span) (way : Way) (ranges : List UidMap) (span one : Span) (i : ℕ) (d : UidMap)
+    → i < length ranges → AddsMoved before way (take i ranges) span after
+    → ((moved : ℕ) → HasIf (Some one) moved ↔ ((id : ℕ) × Has span id × MovesBy way (get_or ranges i d) id moved))
+    → AddsMoved before way (take (i + 1) ranges) span (after ++ one ∷ [])
+adds_more before after way ranges span one i d below so_far some = rw (take_more ranges i d below) (record {
+  each = λ moved. (
+    (λ held. elim ((hold_push after one moved).0 held) [
+      | inl old ↦ elim ((so_far.each moved).0 old) [
+        | inl first ↦ inl first
+        | inr (id, has, moves) ↦
+            inr (id, has, (among_push way (take i ranges) (get_or ranges i d) id moved).1 (inl moves))
+      ]
+      | inr has_one ↦ (let (id, has, moves) = (some moved).0 has_one in
+          inr (id, has, (among_push way (take i ranges) (get_or ranges i d) id moved).1 (inr moves)))
+    ]),
+    (λ any. (hold_push after one moved).1 (elim any [
+      | inl old ↦ inl ((so_far.each moved).1 (inl old))
+      | inr (id, has, moves) ↦ elim ((among_push way (take i ranges) (get_or ranges i d) id moved).0 moves) [
+        | inl before ↦ inl ((so_far.each moved).1 (inr (id, has, before)))
+        | inr here ↦ inr ((some moved).1 (id, has, here))
+      ]
+    ])),
+  );
+})
+
+-- all ranges
+pub adds_all : (before after : List Span) (way : Way) (ranges : List UidMap) (span : Span) (i : ℕ) → length ranges ≤ i
+    → AddsMoved before way (take i ranges) span after → AddsMoved before way ranges span after
+adds_all before after way ranges span i over so_far =
+    subst (λ rs. AddsMoved before way rs span after) (take_all i ranges over) so_far
+
+-- ---- with ranges and without
+
+-- where there are ranges, one of them moves the id
+pub among_moves : (way : Way) (ranges : List UidMap) (id moved : ℕ) → ranges ≢ []
+    → MovesAmong way ranges id moved ↔ MovesTo way ranges id moved
+among_moves Inwards [] id moved some = absurd (some refl)
+among_moves Outwards [] id moved some = absurd (some refl)
+among_moves Inwards (range ∷ ranges) id moved some = ((λ moves. moves), (λ moves. moves))
+among_moves Outwards (range ∷ ranges) id moved some = ((λ moves. moves), (λ moves. moves))
+
+-- where there are none, it stays
+stays_moves : (way : Way) (ranges : List UidMap) (id moved : ℕ) → ranges ≡ [] → (id ≡ moved) ↔ MovesTo way ranges id moved
+stays_moves Inwards [] id moved none = ((λ same. sym same), (λ same. sym same))
+stays_moves Outwards [] id moved none = ((λ same. same), (λ same. same))
+stays_moves Inwards (range ∷ ranges) id moved none = absurd (cc)
+stays_moves Outwards (range ∷ ranges) id moved none = absurd (cc)
+
+pub adds_span : (before after : List Span) (way : Way) (ranges : List UidMap) (span : Span) → ranges ≢ []
+    → AddsMoved before way ranges span after → AddsSpan before way ranges span after
+adds_span before after way ranges span some adds = record {
+  each = λ moved. (
+    (λ held. elim ((adds.each moved).0 held) [
+      | inl old ↦ inl old
+      | inr (id, has, moves) ↦ inr (id, has, (among_moves way ranges id moved some).0 moves)
+    ]),
+    (λ any. (adds.each moved).1 (elim any [
+      | inl old ↦ inl old
+      | inr (id, has, moves) ↦ inr (id, has, (among_moves way ranges id moved some).1 moves)
+    ])),
+  );
+}
+
+pub adds_itself : (before : List Span) (way : Way) (ranges : List UidMap) (span : Span) → ranges ≡ []
+    → AddsSpan before way ranges span (before ++ span ∷ [])
+adds_itself before way ranges span none = record {
+  each = λ moved. (
+    (λ held. elim ((hold_push before span moved).0 held) [
+      | inl old ↦ inl old
+      | inr has ↦ inr (moved, has, (stays_moves way ranges moved moved none).0 refl)
+    ]),
+    (λ any. (hold_push before span moved).1 (elim any [
+      | inl old ↦ inl old
+      | inr (id, has, moves) ↦
+          inr (subst (λ n. Has span n) ((stays_moves way ranges id moved none).1 moves) has)
+    ])),
+  );
+}
+
+-- ---- all spans
+
+pub moved_no_span : (way : Way) (ranges : List UidMap) (spans : List Span) → AreMoved way ranges (take 0 spans) []
+moved_no_span way ranges spans = record {
+  each = λ moved. (
+    (λ (span, listed, has). absurd (not_in_none span listed)),
+    (λ (id, (span, listed, has), moves). absurd (not_in_none span listed)),
+  );
+} where
+  not_in_none : (one : Span) → ¬ Contains [] one
+  not_in_none one = search rules
+
+pub moved_one_more : (way : Way) (ranges : List UidMap) (spans all more : List Span) (i : ℕ) (d : Span)
+    → i < length spans → AreMoved way ranges (take i spans) all
+    → AddsSpan all way ranges (get_or spans i d) more → AreMoved way ranges (take (i + 1) spans) more
+moved_one_more way ranges spans all more i d below so_far adds = rw (take_more spans i d below) (record {
+  each = λ moved. (
+    (λ held. elim ((adds.each moved).0 held) [
+      | inl old ↦ (let (id, has, moves) = (so_far.each moved).0 old in
+          (id, (hold_push (take i spans) (get_or spans i d) id).1 (inl has), moves))
+      | inr (id, has, moves) ↦ (id, (hold_push (take i spans) (get_or spans i d) id).1 (inr has), moves)
+    ]),
+    (λ (id, held, moves). (adds.each moved).1 (elim ((hold_push (take i spans) (get_or spans i d) id).0 held) [
+      | inl old ↦ inl ((so_far.each moved).1 (id, old, moves))
+      | inr has ↦ inr (id, has, moves)
+    ])),
+  );
+})
+
+pub moved_all_spans : (way : Way) (ranges : List UidMap) (spans all : List Span) (i : ℕ) → length spans ≤ i
+    → AreMoved way ranges (take i spans) all → AreMoved way ranges spans all
+moved_all_spans way ranges spans all i over so_far =
+    subst (λ xs. AreMoved way ranges xs all) (take_all i spans over) so_far

@@ -1,0 +1,15 @@
+use Rattle.virtiofs_id_audit.proofs.OutsideLemmas.{moved_no_span, moved_one_more, moved_all_spans}
+use Rattle.virtiofs_id_audit.proofs.outside.moved_all.Goals as goal
+
+pub loop-span-init : goal.loop-span-init
+loop-span-init g c = rw c.new-all.ensures.items (moved_no_span c.args.way c.args.ranges.now c.args.spans.now)
+
+pub loop-span-preserved : goal.loop-span-preserved
+loop-span-preserved g c =
+    moved_one_more c.args.way c.args.ranges.now c.args.spans.now _ _ c.loop-span.span-index _ c.loop-span-test.true
+    c.loop-span.invariant c.in_ok-push_span.ensures
+
+pub returns : goal.returns
+returns g c =
+    moved_all_spans c.args.way c.args.ranges.now c.args.spans.now _ c.loop-span.span-index c.loop-span-test.false
+    c.loop-span.invariant
