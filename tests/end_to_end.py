@@ -7,16 +7,20 @@ Each row of each table is run on each program. docs/maintain/TESTS.md says what 
 printed. The last line is 'N passed, N failed', and the exit status is 0 only if some passed and none failed.
 """
 import contextlib
+import itertools
 import json
 import os
 import resource
 import subprocess
 import sys
+import tempfile
+from pathlib import Path
 
 sys.dont_write_bytecode = True
-from tally import Tally
+from tally import Tally, run
 
 SECONDS = 60
+SCARCE_C = Path(__file__).resolve().parent / "scarce.c"
 OUT_OF_MEMORY = b"virtiofs_mapcheck: out of memory\n", b"virtiofs_mapaudit: out of memory\n"
 # How a shell starts a program whose standard output is not kept.
 STARTS = {"full": 'exec "$@" >/dev/full', "closed": 'exec "$@" >&-'}
@@ -57,25 +61,27 @@ def is_wanted_error(row, errors):
     return bool(errors) == (row["status"] == 2)
 
 
-def start(program, row):
+def scarce(room):
+    """What scarce.c is compiled to, which is preloaded."""
+    made = f"{room}/scarce.so"
+    if not os.path.exists(made):
+        status, said = run([os.environ.get("CC", "cc"), "-shared", "-fPIC", "-O2", SCARCE_C, "-o", made])
+        if status:
+            raise OSError(f"scarce.c does not compile: {said}")
+    return made
+
+
+def start(program, row, **how):
     # (a byte that is no UTF-8 stands in a row as the character that Python gives it)
     words = [program, *(it.encode("utf-8", "surrogateescape") for it in texts_of(row["words"]))]
     if "stdout" in row:
         words = ["sh", "-c", STARTS[row["stdout"]], "sh", *words]
     limit = (row.get("memory", -1),) * 2
-    how = {"stdin": subprocess.DEVNULL, "preexec_fn": lambda: resource.setrlimit(resource.RLIMIT_AS, limit)}
+    how.update(stdin=subprocess.DEVNULL, preexec_fn=lambda: resource.setrlimit(resource.RLIMIT_AS, limit))
     return subprocess.run(words, capture_output=True, timeout=SECONDS, **how)
 
 
-def differences(program, row):
-    before = sum(os.times()[2:4])
-    try:
-        ended = start(program, row)
-    except (OSError, subprocess.TimeoutExpired) as error:
-        return f"{error!s:.400}"
-    took = sum(os.times()[2:4]) - before
-    if "seconds" in row:
-        print(f"{row['note']}: {took:.2f} s of processor time, by {os.path.basename(program)}")
+def compared(row, ended, took=0):
     seen = (
         ("status", ended.returncode, ended.returncode == row["status"]),
         ("output", ended.stdout, is_wanted_output(row, ended.stdout)),
@@ -85,16 +91,53 @@ def differences(program, row):
     return "; ".join(f"{what} {it!r:.400}" for what, it, is_wanted in seen if not is_wanted)
 
 
+def refused_in_turn(program, row, room):
+    """Refuses each request for memory in turn, until a run meets no refusal. Each run says that memory ran out and writes
+    nothing else, or ends as the row says."""
+    without = {"words": row["words"], "status": 3, "output": ""}
+    for request in itertools.count(1):
+        with tempfile.TemporaryFile() as told:
+            to = {"LD_PRELOAD": scarce(room), "REFUSED": str(request), "TOLD": str(told.fileno())}
+            ended = start(program, row, env={**os.environ, **to}, pass_fds=(told.fileno(),))
+            was_refused = os.fstat(told.fileno()).st_size > 0
+        found = compared(row, ended)
+        if not was_refused:
+            return found or request == 1 and "it asks for no memory"
+        if found and compared(without, ended):
+            return f"request {request} is refused: {found}"
+
+
+def run_once(program, row, room):
+    how = {}
+    if "writes" in row:
+        most, failing = map(str, row["writes"])
+        how["env"] = {**os.environ, "LD_PRELOAD": scarce(room), "MOST": most, "FAILING": failing}
+    before = sum(os.times()[2:4])
+    ended = start(program, row, **how)
+    took = sum(os.times()[2:4]) - before
+    if "seconds" in row:
+        print(f"{row['note']}: {took:.2f} s of processor time, by {os.path.basename(program)}")
+    return compared(row, ended, took)
+
+
+def differences(program, row, room):
+    try:
+        return (refused_in_turn if row.get("refused") else run_once)(program, row, room)
+    except (OSError, subprocess.TimeoutExpired) as error:
+        return f"{error!s:.400}"
+
+
 def main(words):
     if "--" not in words:
         return __doc__
     at, tally = words.index("--"), Tally(quietly=True)
-    for table in words[at + 1 :]:
-        with open(table, encoding="utf-8") as lines:
-            for number, line in enumerate(lines, 1):
-                for program in map(os.path.abspath, words[:at]):
-                    where = f"{os.path.basename(table)}:{number} by {os.path.basename(program)}"
-                    tally.see(where, differences(program, json.loads(line)), line)
+    with tempfile.TemporaryDirectory(prefix="tables-") as room:
+        for table in words[at + 1 :]:
+            with open(table, encoding="utf-8") as lines:
+                for number, line in enumerate(lines, 1):
+                    for program in map(os.path.abspath, words[:at]):
+                        where = f"{os.path.basename(table)}:{number} by {os.path.basename(program)}"
+                        tally.see(where, differences(program, json.loads(line), room), line)
     return tally.end()
 
 

@@ -1,11 +1,9 @@
 #!/usr/bin/env python3
 """Runs tests of the static library in C and in Rust, and sees that its header declares what it exports.
 
-usage: run.py [--as-it-is]
-
-Without words it first proves and builds the archive (`rt lib` in crates/virtiofs_map_c). Then it compiles and runs the
-files beside this one and the examples; docs/maintain/TESTS.md says what each shows. CC, CXX and RUSTC may name the compilers.
-The files that have no compiler are left out, and a line says so. The last line is 'N passed, N failed'.
+It takes the archive that is there, and compiles and runs the files beside this one and the examples with it;
+docs/maintain/TESTS.md says what each shows. CC, CXX and RUSTC may name the compilers. The files that have no compiler are
+left out, and a line says so. The last line is 'N passed, N failed'.
 """
 import os
 import re
@@ -28,11 +26,11 @@ def counts(tally, name, words):
 
 
 def answers_tables(tally, name, words):
-    """Asks the rows for which it can stand in for the program: their words are UTF-8, and it ends by itself."""
+    """Asks the rows for which it can stand in for the program: their words are UTF-8, it ends by itself, and has memory."""
     lines = [it for table in ("program", "upstream_sample") for it in open(f"{TESTS}/{table}.jsonl", encoding="utf-8")]
-    is_left_out = re.compile(r'\\udc[89a-f]|"(stdout|memory)":|"status": [34]').search
+    is_left_out = re.compile(r'\\udc[89a-f]|"(stdout|memory|writes)":|"status": [34]').search
     table = Path(f"{words[0]}.jsonl")
-    table.write_text("".join(it for it in lines if not is_left_out(it)), encoding="utf-8")
+    table.write_text("".join(it.replace(', "refused": true', "") for it in lines if not is_left_out(it)), encoding="utf-8")
     tally.add(name, *run([sys.executable, f"{TESTS}/end_to_end.py", *words, "--", table], SECONDS_AT_MOST))
 
 
@@ -44,7 +42,7 @@ IN_C = {**TESTS_C, **dict.fromkeys(("refused.c", "pages.c", "changed.c", "large.
 # (a leak on purpose: if it were not found out, the other runs under the sanitizer would show nothing of leaks)
 SANITIZED_C = {**TESTS_C, "leak.c": lambda *it: see_run(*it, lambda status, said: status and "detected memory leaks" in said)}
 IN_RUST = {**TESTS_RS, "refused.rs": counts, "calls.rs": see_run, "../../examples/owners.rs": see_example,
-           "../../examples/ask.rs": see_run}
+           "../../examples/ask.rs": see_run, "../../examples/build.rs": see_run}
 TOLD = (0, "a text, a list or a value is wrong: rule 1: invalid scope 'all\\x1b', expected one of: all, client, server\n")
 ASKED = (0, "guest user 1000 is host user 101000\n")
 DAEMON = {"daemon.c": lambda *it: see_run(*it, lambda *ended: ended == TOLD),
@@ -84,19 +82,16 @@ def over_archive(tally, room):
                 does(tally, name, [program])
 
 
-def main(words):
-    if words not in ([], ["--as-it-is"]):
-        return __doc__
+def main():
     os.environ["ASAN_OPTIONS"] = "detect_leaks=1"
     tally = Tally()
     with tempfile.TemporaryDirectory(prefix="embedding-") as room:
         for name, found in [*compared(TOP), *shown(TOP)]:
             tally.see(name, "\n".join(found))
-        built = (0, "") if words else run(["rt", "lib"], SECONDS_AT_MOST, cwd=f"{TOP}/crates/virtiofs_map_c")
-        if tally.see("the archive", *(built if os.path.isfile(ARCHIVE) else ("there is none", built[1]))):
+        if tally.see("the archive", not os.path.isfile(ARCHIVE) and "there is none: ./build makes it"):
             over_archive(tally, room)
     return tally.end()
 
 
 if __name__ == "__main__":
-    sys.exit(main(sys.argv[1:]))
+    sys.exit(main())

@@ -66,7 +66,7 @@ def see_names(tally):
 
 def lay_out(room):
     """Makes a repository with the libraries and the crate `caller`."""
-    shutil.copytree(TOP, room, ignore=shutil.ignore_patterns(".git", "out", "must-fail"))
+    shutil.copytree(TOP, room, ignore=shutil.ignore_patterns(".git", "out"))
     (room / PROGRAM).parent.mkdir(parents=True)
     shutil.copy(HERE / "caller.rt.txt", room / PROGRAM)
     with open(room / "crates.txt", "a", encoding="utf-8") as it:

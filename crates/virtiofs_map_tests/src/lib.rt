@@ -1,9 +1,10 @@
-//! Tests of the library `virtiofs_map`, by its public calls alone: they say what no contract says.
+//! Tests of the libraries, by their public calls alone: they say what no contract says.
 //!
 //! Modules that are named as one of the library have known inputs with their answers, and printed
 //! texts. They also run the crate `virtiofs_map_callers`, which calls the library as a daemon does.
 //! `refused` refuses each request for memory of each call in turn. `without_memory` has the calls
 //! that take none. `hostile` has large texts and names, many rules and many specifications.
+//! `process` is about the crate `virtiofs_process`.
 #![tactic(auto)]
 
 #[cfg(test)]
@@ -22,6 +23,8 @@ mod id_audit;
 mod id_types;
 #[cfg(test)]
 mod idmap;
+#[cfg(test)]
+mod process;
 #[cfg(test)]
 mod refused;
 #[cfg(test)]

@@ -64,8 +64,3 @@ pub fn answer<A: Allocator + Copy, W: Write>(
     emit(text.as_bytes(), out)?;
     Ok(answered)
 }
-
-#[cfg(test)]
-mod refused;
-#[cfg(test)]
-mod tests;

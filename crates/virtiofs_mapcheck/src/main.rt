@@ -92,28 +92,3 @@ fn print_answer<A: Allocator + Copy, W: Write>(
     out.flush()?;
     Ok(answered)
 }
-
-#[cfg(test)]
-mod tests {
-    use crate::print_answer;
-    use std::io::BufWriter;
-    use std::test::Fail;
-    use virtiofs_output::outcome::{AnswerFault, Answered};
-    use virtiofs_output::tally::Tally;
-
-    #[test]
-    fn a_failed_flush_is_a_failed_write(rt: HostRuntime) -> Result<(), Fail> {
-        for (room, wanted) in [(16, Ok(Answered::WrongWords)), (0, Err(AnswerFault::Write))] {
-            let mut bytes = [0; 16];
-            let held_back = BufWriter::new(rt.alloc(), &mut bytes[..room])?;
-            let mut out = Tally::new(held_back);
-            assert_eq!(rt;
-                print_answer(rt.alloc(), &[], &mut out),
-                wanted,
-                "{room} bytes"
-            );
-            assert_eq!(rt; out.failed(), wanted.is_err(), "{room} bytes");
-        }
-        Ok(())
-    }
-}

@@ -5,6 +5,4 @@
 pub mod emit;
 pub mod outcome;
 pub mod tally;
-#[cfg(test)]
-mod testing;
 pub mod written;

@@ -114,17 +114,3 @@ impl<W: Write> Tally<W> {
         }
     }
 }
-
-#[cfg(test)]
-mod tests {
-    use crate::tally::Tally;
-    use crate::testing::Grudging;
-
-    #[test]
-    fn an_empty_piece_is_no_failed_write(rt: HostRuntime) {
-        let mut tally = Tally::new(Grudging::new(3, None));
-        assert_eq!(rt; tally.write(b""), Ok(0));
-        assert!(rt; !tally.failed());
-        assert_eq!(rt; tally.into_inner().calls(), 1);
-    }
-}

@@ -17,6 +17,4 @@ pub mod id_map;
 pub mod runner;
 pub mod status;
 pub mod subordinate;
-#[cfg(test)]
-mod tests;
 pub mod users;

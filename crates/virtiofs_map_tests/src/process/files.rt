@@ -1,11 +1,11 @@
 //! Command lines, users, their subordinate ids, and the ids of processes.
 
-use crate::command_line::read_command_line;
-use crate::error::ReadError;
-use crate::status::{effective_gid, effective_uid};
-use crate::subordinate::read_subordinate;
-use crate::users::find_user;
 use std::test::Fail;
+use virtiofs_process::command_line::read_command_line;
+use virtiofs_process::error::ReadError;
+use virtiofs_process::status::{effective_gid, effective_uid};
+use virtiofs_process::subordinate::read_subordinate;
+use virtiofs_process::users::find_user;
 
 static WORDS: [(&str, &[&str]); 9] = [
     (

@@ -1,12 +1,12 @@
 //! The readers with each request for memory refused in turn.
 
-use crate::command_line::read_command_line;
-use crate::error::ReadError;
-use crate::id_map::read_id_map;
-use crate::subordinate::read_subordinate;
 use rationed::{Call, Ended, Rationed, Verdict, refuse_in_turn};
 use std::alloc::Global;
 use std::test::Fail;
+use virtiofs_process::command_line::read_command_line;
+use virtiofs_process::error::ReadError;
+use virtiofs_process::id_map::read_id_map;
+use virtiofs_process::subordinate::read_subordinate;
 
 /// A content, and how it is read.
 struct Read(Reader, &'static str);

@@ -1,12 +1,12 @@
 //! Namespaces: what Linux shows of them, and which of them `newuidmap` sets up.
 
-use crate::allowed::is_allowed;
-use crate::error::ReadError;
-use crate::id_map::read_id_map;
-use crate::subordinate::SubIds;
 use std::alloc::{AllocError, Global};
 use std::test::Fail;
 use virtiofs_map::idmap::UidMap;
+use virtiofs_process::allowed::is_allowed;
+use virtiofs_process::error::ReadError;
+use virtiofs_process::id_map::read_id_map;
+use virtiofs_process::subordinate::SubIds;
 
 /// Numbers that are read: the first id inside, the first one outside, and how many there are.
 type Numbers = (u32, u32, u32);
