@@ -7,6 +7,7 @@ machine has no program for is left out, and a line says so. The last line is 'N 
 """
 import os
 import re
+import runpy
 import shlex
 import shutil
 import sys
@@ -93,6 +94,30 @@ def in_rust(tally, room, below, pkg_config):
     see_run(tally, "a build with no archive says why", build, is_right, cwd=daemon, env=by_nothing)
 
 
+def virtiofsd(tally, room):
+    """The steps by which examples/virtiofsd/make makes of virtiofsd one on this library."""
+    made = runpy.run_path(f"{TOP}/examples/virtiofsd/make")
+    fake, source = Path(room, "fake"), os.environ.get("VIRTIOFSD_SOURCE")
+    for it in (*made["REPLACED"], "Cargo.toml"):
+        (fake / it).parent.mkdir(parents=True, exist_ok=True)
+        (fake / it).write_text("")
+    for path, old, _ in (it for step in made["STEPS"] for it in made["edits"](step)):
+        with open(fake / path, "a", encoding="utf-8") as it:
+            it.write(old)
+    see_run(tally, "make finds what its edits name", [f"{TOP}/examples/virtiofsd/make", fake, f"{room}/edited"])
+    (fake / "src/server.rs").write_text("")
+    is_right = lambda status, said: status == 1 and said.startswith("errno: this does not stand exactly once")
+    see_run(tally, "make says what it does not find", [f"{TOP}/examples/virtiofsd/make", fake, f"{room}/none"], is_right)
+    tally.see("and makes nothing", Path(room, "none").exists() and "it made a folder")
+    for step in made["STEPS"] if source and shutil.which("cargo") else ():
+        tree, steps = f"{room}/{step}", dict.fromkeys(("drop-in", step))
+        if see_run(tally, f"virtiofsd with {step} is made", [f"{TOP}/examples/virtiofsd/make", source, tree, *steps]):
+            how = {**os.environ, "CARGO_TARGET_DIR": f"{room}/virtiofsd"}
+            see_run(tally, f"virtiofsd with {step} compiles", ["cargo", "check", "-q", "--offline"], cwd=tree, env=how)
+    if not source:
+        left_out("virtiofsd with each step compiles", "VIRTIOFSD_SOURCE names no source tree of virtiofsd 1.13.2")
+
+
 def main():
     tally = Tally()
     with tempfile.TemporaryDirectory(prefix="install-") as room:
@@ -111,6 +136,7 @@ def main():
         os.environ.update(PKG_CONFIG_PATH=f"{below}/lib/pkgconfig", PKG_CONFIG_SYSROOT_DIR=at)
         in_c(tally, room, pkg_config)
         in_rust(tally, room, below, pkg_config)
+        virtiofsd(tally, room)
         tally.see("an uninstall", *install(at, "--uninstall"))
         tally.see("what others put there stays", [str(it) for it in below.rglob("*") if it.is_file()] != [f"{below}/lib/theirs.a"])
         shutil.copytree(TOP, f"{room}/bare", ignore=shutil.ignore_patterns(".git", "out"))

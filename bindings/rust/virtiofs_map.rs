@@ -94,7 +94,7 @@ pub(super) mod ffi {
     /// byte that is not printable is `\x` and two digits. So it ends no line of a log, and moves no cursor.
     pub struct Escaped<'a>(pub &'a str);
 
-    /// The same, but what std counts as printable, such as a letter of any script, stands as it is.
+    /// The same, but the backslash and what std counts as printable, such as a letter of any script, stand as they are.
     pub struct Printable<'a>(pub &'a str);
 
     impl Display for Escaped<'_> {
@@ -109,13 +109,19 @@ pub(super) mod ffi {
 
     impl Display for Printable<'_> {
         fn fmt(&self, f: &mut Formatter<'_>) -> fmt::Result {
-            self.0.chars().try_for_each(|it| match it.escape_debug().len() {
-                // (one character stands for itself)
-                1 => f.write_char(it),
-                _ if matches!(it, '"' | '\'') => f.write_char(it),
+            self.0.chars().try_for_each(|it| match it {
+                '"' | '\'' | '\\' => f.write_char(it),
+                _ if is_printable(it) => f.write_char(it),
                 _ => Escaped(it.encode_utf8(&mut [0; 4])).fmt(f),
             })
         }
+    }
+
+    fn is_printable(character: char) -> bool {
+        // (behind another character std leaves a mark as it is)
+        let mut text = [b'a', 0, 0, 0, 0];
+        let len = character.encode_utf8(&mut text[1..]).len();
+        std::str::from_utf8(&text[..=len]).is_ok_and(|it| it.escape_debug().count() == 2)
     }
 }
 
@@ -297,7 +303,11 @@ pub mod soft_idmap {
 
         fn error_of(fault: &ffi::Fault, quoted: &[u8]) -> IdMapError {
             match fault.kind {
-                ffi::FAULT_PREFIX => IdMapError::InvalidPrefix(ffi::quoted(fault, quoted)),
+                ffi::FAULT_PREFIX => {
+                    // (the library has the letters of ASCII in lower case)
+                    let word = ffi::quoted(fault, quoted);
+                    IdMapError::InvalidPrefix(word.chars().flat_map(char::to_lowercase).collect())
+                }
                 ffi::FAULT_LENGTH => IdMapError::InvalidLength { expected: fault.expected, seen: fault.seen },
                 ffi::FAULT_VALUE => {
                     let value = ffi::quoted(fault, quoted);
@@ -715,12 +725,16 @@ pub mod xattrmap {
 
     impl error::Error for ErrorKind {}
 
-    /// As virtiofsd prints it, which reads the lowest byte of each character of `got`.
+    /// As virtiofsd prints it, which reads the lowest byte of each character of `got`. Where it takes that for a word, `got`
+    /// is printed as it is.
     impl Debug for ErrorKind {
         fn fmt(&self, f: &mut Formatter<'_>) -> fmt::Result {
+            let words = ["prefix", "ok", "bad", "unsupported", "map", "all", "client", "server"];
             let unexpected = |f: &mut Formatter<'_>, name: &str, got: &str, expected: &str| {
                 let low: Vec<u8> = got.chars().map(|it| it as u8).collect();
-                f.debug_struct(name).field("got", &String::from_utf8_lossy(&low)).field("expected", &expected).finish()
+                let read = String::from_utf8_lossy(&low);
+                let got = if words.contains(&&*read) { got } else { &read };
+                f.debug_struct(name).field("got", &got).field("expected", &expected).finish()
             };
             f.write_str(match self {
                 ErrorKind::InvalidScope { got, expected } => return unexpected(f, "InvalidScope", got, expected),

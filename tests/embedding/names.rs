@@ -51,9 +51,10 @@ fn texts_of_which_no_map_is_made() {
         let error = io::Error::from(error);
         assert_eq!((error.kind(), error.to_string().as_str()), (InvalidInput, sentence));
     }
-    // (as virtiofsd 1.13.2 prints `:\u{f6}k:all:::` and `:ok:\u{170}ll:::`)
+    // (as virtiofsd 1.13.2 prints them, but the second, which it takes for a `prefix` rule)
     for (text, printed) in [
         (":\u{f6}k:all:::", "{ cause: InvalidType { got: \"\u{fffd}k\", expected: \"prefix, ok, bad, map\" }, rule: Some(1) }"),
+        (":\u{170}refix:all:::", "{ cause: InvalidType { got: \"\u{170}refix\", expected: \"prefix, ok, bad, map\" }, rule: Some(1) }"),
         (":ok:\u{170}ll:::", "{ cause: InvalidScope { got: \"pll\", expected: \"all, client, server\" }, rule: Some(1) }"),
     ] {
         assert_eq!(XattrMap::try_from(text).unwrap_err().to_string(), format!("Error {printed}"));
