@@ -12,7 +12,7 @@ use virtiofs_id_audit::namespace::lacking_ids;
 use virtiofs_id_audit::{Span, mended};
 use virtiofs_map::cmdline;
 use virtiofs_map::idmap::UidMap;
-use virtiofs_map::soft_idmap::IdMap;
+use virtiofs_map::soft_idmap::{IdMap, IdMapBuildError};
 use virtiofs_setup::guest::Guest;
 use virtiofs_setup::ids::Ids;
 use virtiofs_setup::ids::kind::IdKind;
@@ -41,6 +41,7 @@ fn closed<A: Allocator + Copy>(
     }
     match IdMap::try_from(alloc, specs) {
         Ok(map) => Ok(Some(map)),
+        Err(IdMapBuildError::OutOfMemory) => Err(AllocError),
         Err(_) => Ok(None),
     }
 }

@@ -4,7 +4,6 @@ use std::alloc::Global;
 use std::process::Abort;
 use std::test::Fail;
 use virtiofs_map::idmap::{GidMap, UidMap};
-use virtiofs_map::text::number;
 use virtiofs_map_callers::texts::printed;
 
 /// A text, and what the range that it says is printed as.
@@ -84,10 +83,4 @@ fn assert_said(rt: &impl Abort, alloc: Global, text: &str, said: &str) -> Result
     );
     assert_eq!(rt; fault.to_string(alloc)?.as_str(), said, "of {text:?}");
     Ok(())
-}
-
-#[test]
-fn reads_numbers(rt: HostRuntime) {
-    assert!(rt; number("+007") == Ok(7));
-    assert!(rt; number("-0").is_err());
 }

@@ -5,14 +5,14 @@
 mod calls;
 
 use Asked::{FromSpecs, FromStr, Of, Rules, TryFrom};
-use Names::{Client, Cloned, Server};
+use Names::{Cloned, Server};
 use calls::{Asked, Names};
 use rationed::{Verdict, refuse_in_turn};
 use std::alloc::Global;
 use std::process::Abort;
 
 /// Calls that cannot do without memory.
-static TAKE: [Asked; 28] = [
+static TAKE: [Asked; 27] = [
     FromStr("foo:x"),
     FromStr("foo"),
     FromStr(":0:1:2"),
@@ -35,7 +35,6 @@ static TAKE: [Asked; 28] = [
     Of("xokxallxxx", Cloned),
     Of(THREE, Cloned),
     Of(LABELS, Cloned),
-    Of(LABELS, Client("trusted.a")),
     Of(LABELS, Server("trusted.b\0")),
     Of(LABELS, Server("user.virtiofs.foo\0")),
     Of(
@@ -56,14 +55,6 @@ static MAY_TAKE: [Asked; 8] = [
     Rules(":ok:all:a\0:"),
     Rules(":ok:all:a\0"),
     Rules(":map:trusted.:virtiofs.user.::map:trusted.:virtiofs.user.:"),
-];
-
-/// Calls that take no memory, though they are handed an allocator.
-static TAKE_NONE: [Asked; 4] = [
-    Of(LABELS, Client("user.virtiofs.a")),
-    Of(LABELS, Client("c")),
-    Of(":unsupported:client:a:: :ok:all:::", Client("ab")),
-    Of(":ok:server::a:", Client("a1")),
 ];
 
 const MEETING: &str = "guest:0:100:10|guest:5:200:1";
@@ -91,14 +82,6 @@ fn calls_that_take_memory(rt: HostRuntime) {
 fn calls_that_may_take_memory(rt: HostRuntime) {
     for asked in &MAY_TAKE {
         let _requests = requests_of(&rt, rt.alloc(), asked);
-    }
-}
-
-#[test]
-fn calls_that_take_no_memory(rt: HostRuntime) {
-    for asked in &TAKE_NONE {
-        let requests = requests_of(&rt, rt.alloc(), asked);
-        assert!(rt; requests == 0, "{asked:?} makes {requests} requests");
     }
 }
 

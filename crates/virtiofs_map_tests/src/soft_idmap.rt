@@ -1,16 +1,12 @@
-//! Known lists of specifications: what ids become, in how many steps, and in which pieces.
+//! Known lists of specifications: what ids become, and in how many steps.
 
 mod errors;
 
-use crate::common::{specs_of, users_of};
-use std::alloc::Global;
+use crate::common::users_of;
 use std::process::Abort;
 use std::test::Fail;
 use virtiofs_map::id_types::{GuestUid, HostUid};
-use virtiofs_map::soft_idmap::Direction::{self, GuestToHost, HostToGuest};
-use virtiofs_map::soft_idmap::Outcome::{AllToOne, Forbidden, Kept, OneToOne};
-use virtiofs_map::soft_idmap::image::{Answer, look_up, most_words, write_image};
-use virtiofs_map::soft_idmap::{IdMap, IdMapRef, Outcome};
+use virtiofs_map::soft_idmap::IdMap;
 use virtiofs_map::{Steps, cmdline};
 use virtiofs_map_callers::users::{owner, users, users_again};
 
@@ -80,18 +76,6 @@ fn maps_known_ids(rt: HostRuntime) -> Result<(), Fail> {
     Ok(())
 }
 
-#[test]
-fn images_answer_as_maps_do(rt: HostRuntime) -> Result<(), Fail> {
-    for &(texts, guests, hosts) in &KNOWN {
-        let words = image_of(rt.alloc(), texts)?;
-        check_image(&rt, &words, GuestToHost, guests);
-        check_image(&rt, &words, HostToGuest, hosts);
-    }
-    assert!(rt; look_up(&[], GuestToHost, 5) == Answer::NoImage);
-    assert!(rt; IdMapRef::of(&image_of(rt.alloc(), "")?).is_some() && IdMapRef::of(&[]).is_none());
-    Ok(())
-}
-
 /// A number, what it becomes, and the least and the most steps that this may take.
 type Counted = (u32, u32, u64, u64);
 
@@ -143,40 +127,6 @@ fn asks_a_thousand_ranges_in_ten_steps(rt: HostRuntime) -> Result<(), Fail> {
     Ok(())
 }
 
-/// The first and the last number of a piece, and what becomes of them.
-type Row = (u32, u32, Outcome);
-
-/// Texts of specifications, a direction, and the pieces of all numbers.
-static PIECES: [(&str, Direction, &[Row]); 2] = [
-    // One number is moved, and never squashed.
-    (
-        "squash-guest:0:9:1|squash-guest:1:7:2|forbid-guest:3:4294967292",
-        GuestToHost,
-        &[
-            (0, 0, OneToOne { to: 9 }),
-            (1, 2, AllToOne { to: 7 }),
-            (3, 4294967294, Forbidden),
-            (4294967295, 4294967295, Kept),
-        ],
-    ),
-    ("forbid-guest:0:3", HostToGuest, &[(0, 4294967295, Kept)]),
-];
-
-#[test]
-fn pieces_are_the_longest(rt: HostRuntime) -> Result<(), Fail> {
-    for &(texts, direction, wanted) in &PIECES {
-        let map = users_of(rt.alloc(), texts).ok_or("no map")?;
-        assert!(rt; are_pieces(&map, direction, wanted), "of {texts:?}");
-    }
-    Ok(())
-}
-
-fn are_pieces(map: &Users, direction: Direction, wanted: &[Row]) -> bool {
-    let mut pairs = map.pieces(direction).zip(wanted);
-    pairs.all(|(piece, &row)| (piece.first, piece.last, piece.becomes) == row)
-        && map.pieces(direction).count() == wanted.len()
-}
-
 #[test]
 fn a_forbidden_user_owns_nothing(rt: HostRuntime) -> Result<(), Fail> {
     let texts = ["map:0:1000:10", "forbid-guest:10:1"];
@@ -199,25 +149,6 @@ fn check_hosts(rt: &impl Abort, map: &Users, hosts: &[Becomes]) {
         let guest = map.map_host(HostUid::from(n)).ok();
         assert!(rt; guest == wanted.map(GuestUid::from), "host {n}");
     }
-}
-
-fn check_image(rt: &impl Abort, words: &[u32], direction: Direction, asked: &[Becomes]) {
-    for &(n, wanted) in asked {
-        let answer = match wanted {
-            Some(value) => Answer::Becomes(value),
-            None => Answer::Fails,
-        };
-        assert!(rt; look_up(words, direction, n) == answer, "{n}");
-    }
-}
-
-/// The image of the specifications that the texts say.
-pub(crate) fn image_of(alloc: Global, texts: &str) -> Result<Vec<u32>, Fail> {
-    let specs = specs_of(alloc, texts).ok_or("a text is no specification")?;
-    let mut words = Vec::from_elem(alloc, 7, most_words(specs.len()))?;
-    let len = write_image(alloc, &specs, &mut words)?;
-    words.truncate(len);
-    Ok(words)
 }
 
 fn check_counted(rt: &impl Abort, map: &Users, guests: &[Counted]) {

@@ -10,7 +10,7 @@ use virtiofs_id_audit::{Astray, IdAudit, comes_back, reaches};
 use virtiofs_map::Steps;
 use virtiofs_map::id_types::{GuestUid, HostUid};
 use virtiofs_map::soft_idmap::{Direction, IdMap};
-use virtiofs_map::xattrmap::{Side, XattrMap, XattrName};
+use virtiofs_map::xattrmap::{AppliedRule, PassedName, Side, XattrMap, XattrName};
 
 type Users<A> = IdMap<GuestUid, HostUid, A>;
 
@@ -72,10 +72,22 @@ fn names_are_looked_up(rt: HostRuntime) -> Result<(), Fail> {
 fn listed(alloc: Global, heap: &Rationed<Global>) -> Result<String, Fail> {
     let map = XattrMap::try_from(heap, RULES).ok().ok_or("no map")?;
     heap.stop();
-    are_decided(&map)
+    (are_decided(&map) && are_answered(heap, &map))
         .then_some(())
-        .ok_or("a rule is not the first")?;
+        .ok_or("a name is decided otherwise")?;
     names_of(alloc, &map)
+}
+
+/// Whether a name is denied, and another passes as it is.
+fn are_answered<A: Allocator + Copy>(alloc: A, map: &XattrMap<A>) -> bool {
+    let (hidden, other) = (XattrName::new(b"user.virtiofs.a"), XattrName::new(b"c"));
+    let (Some(hidden), Some(other)) = (hidden, other) else {
+        return false;
+    };
+    let denied = map.map_client_xattr(alloc, hidden);
+    let passed = map.map_client_xattr(alloc, other);
+    matches!(&denied, Ok(AppliedRule::Deny))
+        && matches!(&passed, Ok(AppliedRule::Pass(PassedName::Borrowed(_))))
 }
 
 /// The names that a list of the host has for the guest.

@@ -26,14 +26,12 @@ static WORDS: [(&str, &[&str]); 9] = [
 ];
 
 #[test]
-fn words_are_read(rt: HostRuntime) {
+fn words_are_read(rt: HostRuntime) -> Result<(), Fail> {
     for &(text, wanted) in &WORDS {
-        let words = read_command_line(rt.alloc(), text.as_bytes());
-        assert!(rt;
-            words.is_ok_and(|words| words.as_slice() == wanted),
-            "{text:?}"
-        );
+        let words = read_command_line(rt.alloc(), text.as_bytes())?;
+        assert!(rt; words.as_slice() == wanted, "{text:?}");
     }
+    Ok(())
 }
 
 static NOT_WORDS: [(&[u8], usize); 4] = [

@@ -53,8 +53,8 @@ static READ: [(&str, &[Numbers]); 9] = [
 fn ranges_are_read(rt: HostRuntime) -> Result<(), Fail> {
     for &(text, numbers) in &READ {
         let wanted = ranges_of(rt.alloc(), numbers)?;
-        let ranges = read_id_map(rt.alloc(), text.as_bytes());
-        assert!(rt; ranges.is_ok_and(|ranges| ranges == wanted), "{text}");
+        let ranges = read_id_map(rt.alloc(), text.as_bytes())?;
+        assert!(rt; ranges == wanted, "{text}");
     }
     Ok(())
 }

@@ -1,14 +1,14 @@
 //! The calls, each with its words, and what one comes to.
 
 use crate::common::specs_of;
-use Names::{Client, Cloned, Server};
+use Names::{Cloned, Server};
 use rationed::{Call, Ended, Rationed};
 use std::alloc::{Allocator, Global};
 use std::fmt::Debug;
 use virtiofs_map::cmdline;
 use virtiofs_map::id_types::{GuestUid, HostUid};
 use virtiofs_map::soft_idmap::IdMap;
-use virtiofs_map::xattrmap::{XattrMap, XattrName};
+use virtiofs_map::xattrmap::XattrMap;
 
 type Users<A> = IdMap<GuestUid, HostUid, A>;
 
@@ -24,11 +24,10 @@ pub(super) enum Asked {
     Of(&'static str, Names),
 }
 
-/// What is asked of a map of names: about a name or a list.
+/// What is asked of a map of names.
 #[derive(Clone, Copy, Debug)]
 pub(super) enum Names {
     Cloned,
-    Client(&'static str),
     Server(&'static str),
 }
 
@@ -118,20 +117,8 @@ fn about_names<A: Allocator + Copy>(
     let map = XattrMap::try_from(ample, rules).ok()?;
     match asked {
         Cloned => printed(ample, &map.clone(alloc)),
-        Client(name) => client(ample, alloc, &map, name),
         Server(list) => server(ample, alloc, &map, list),
     }
-}
-
-/// What a map makes of a name of the guest.
-fn client<A: Allocator + Copy>(
-    ample: A,
-    alloc: A,
-    map: &XattrMap<A>,
-    name: &str,
-) -> Option<String<A>> {
-    let name = XattrName::new(name.as_bytes())?;
-    printed(ample, &map.map_client_xattr(alloc, name))
 }
 
 /// What a map makes of a list of the host.

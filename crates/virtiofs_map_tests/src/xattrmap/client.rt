@@ -41,12 +41,6 @@ fn answers_by_a_map_rule(rt: HostRuntime) -> Result<(), Fail> {
 }
 
 #[test]
-fn makes_names_of_bytes(rt: HostRuntime) {
-    assert!(rt; XattrName::new(b"").is_some_and(|name| name.as_bytes().is_empty()));
-    assert!(rt; XattrName::new(b"a\0").is_none());
-}
-
-#[test]
 fn passed_names_outlive_the_map(rt: HostRuntime) -> Result<(), Fail> {
     let name = XattrName::new(b"allow.y").ok_or("a name holds a zero")?;
     let rest = XattrName::new(b"y").ok_or("a name holds a zero")?;

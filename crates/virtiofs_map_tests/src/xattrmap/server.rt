@@ -1,11 +1,7 @@
-//! Lists of the host's names, with the lists that the guest gets: of a map and of its image.
+//! Lists of the host's names, with the lists that the guest gets.
 
 use std::alloc::{AllocError, Global};
 use std::test::Fail;
-use virtiofs_map::xattrmap::Side::{self, Client, Server};
-use virtiofs_map::xattrmap::image::{
-    Decision, ImageWritten, ListWritten, decide, is_terminated, write_list,
-};
 use virtiofs_map::xattrmap::{Error, ErrorKind, XattrMap};
 
 const BOTH: &str = ":map:trusted.:user.virtiofs.:";
@@ -30,11 +26,6 @@ fn lists_by_the_first_rule(rt: HostRuntime) -> Result<(), Fail> {
     for &(text, names, wanted) in &LISTED {
         let list = listed(rt.alloc(), text, names)?;
         assert!(rt; list.as_slice() == wanted, "{names:?} under {text:?}");
-        let list = written(rt.alloc(), text, names)?;
-        assert!(rt;
-            list.as_slice() == wanted,
-            "{names:?} under an image of {text:?}"
-        );
     }
     Ok(())
 }
@@ -44,31 +35,12 @@ fn listed(alloc: Global, text: &str, names: &[u8]) -> Result<Vec<u8>, Fail> {
     Ok(map.map_server_xattrlist(alloc, names.to_vec(alloc)?)?)
 }
 
-/// The list that an image writes.
-fn written(alloc: Global, text: &str, names: &[u8]) -> Result<Vec<u8>, Fail> {
-    let image = image_of(alloc, text)?;
-    let mut room = Vec::from_elem(alloc, 7, names.len() + 1)?;
-    let ListWritten::Written(len) = write_list(&image, names, &mut room) else {
-        return Err(Fail::from("no list is written"));
-    };
-    room.truncate(len);
-    Ok(room)
-}
-
 #[test]
 fn one_name_without_a_rule_refuses_the_list(rt: HostRuntime) -> Result<(), Fail> {
     let map = XattrMap::try_from(rt.alloc(), ":ok:server::a:")?;
     let names = b"a1\0b\0a2\0".to_vec(rt.alloc())?;
     let error = map.map_server_xattrlist(rt.alloc(), names).err();
     assert!(rt; error == Some(Error::from(ErrorKind::UnterminatedMapping)));
-    Ok(())
-}
-
-#[test]
-fn an_image_refuses_the_list(rt: HostRuntime) -> Result<(), Fail> {
-    let image = image_of(rt.alloc(), ":ok:server::a:")?;
-    let answer = write_list(&image, b"a1\0b\0a2\0", &mut [0; 9]);
-    assert!(rt; answer == ListWritten::Undecided);
     Ok(())
 }
 
@@ -124,37 +96,4 @@ fn names_outlive_the_iterator_and_the_map(rt: HostRuntime) -> Result<(), Fail> {
         assert!(rt; *item == Some(Ok(name)));
     }
     Ok(())
-}
-
-/// Rules, a name, what an image makes of it, and whether each name has a rule.
-static DECIDED: [(&str, Side, &[u8], Decision<'static>, bool); 5] = [
-    (MANY, Client, b"u1", Decision::Unsupported, false),
-    (MANY, Client, b"p1", Decision::Prefix(b"q."), false),
-    (MANY, Client, b"o1", Decision::Okay, false),
-    (MANY, Server, b"o1", Decision::Undecided, false),
-    (":bad:all:::", Client, b"a", Decision::Bad, true),
-];
-
-const MANY: &str = ":unsupported:client:u:: :prefix:all:p:q.: :ok:client:o::";
-
-#[test]
-fn images_decide_as_maps_do(rt: HostRuntime) -> Result<(), Fail> {
-    for &(text, side, name, wanted, is_whole) in &DECIDED {
-        let image = image_of(rt.alloc(), text)?;
-        assert!(rt; decide(&image, side, name) == wanted, "{name:?}");
-        assert!(rt; is_terminated(&image) == Some(is_whole), "of {text:?}");
-    }
-    assert!(rt; decide(b"", Client, b"a") == Decision::NoMap);
-    Ok(())
-}
-
-/// An image of the map that the text means.
-fn image_of(alloc: Global, text: &str) -> Result<Vec<u8>, Fail> {
-    let map = XattrMap::try_from(alloc, text)?;
-    let len = map.image_len().ok_or("an image is too long")?;
-    let mut image = Vec::from_elem(alloc, 7, len)?;
-    if map.write_image(&mut image) != ImageWritten::Written(len) {
-        return Err(Fail::from("the image is not written"));
-    }
-    Ok(image)
 }
