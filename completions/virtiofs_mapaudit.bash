@@ -10,8 +10,8 @@ _virtiofs_mapaudit()
         --translate-uid | --translate-gid) words="map: guest: host: squash-guest: squash-host: forbid-guest:" ;;
         --uid-map | --gid-map | --xattrmap | --pid | --run-as | --subuid | --subgid) words="" ;;
         --accept)
-            words="root not_back lacking kept range other_ranges posix_acl no_rule not_listed listed_elsewhere idle_rule"
-            words+=" acl_renamed id_of_both shown_to_other name_of_both"
+            words="root not_back lacking kept range other_ranges posix_acl acl_untranslated no_start no_rule not_listed"
+            words+=" listed_elsewhere idle_rule acl_renamed id_of_both shown_to_other name_of_both"
             ;;
         --show) words="ids names" ;;
         --explain) words="user= host-user= group= host-group= name= host-name=" ;;

@@ -319,17 +319,20 @@ struct virtiofs_entry_room {
 
 /* ---- the sentence of a fault ---- */
 
-/* Writes the sentence for a fault, such as `specification 1: Parameter
+/* Writes the sentence for a fault, such as `specification 2: Parameter
    map:0:4294967290:10: Range overflow` or `rule 2: the rule is incomplete`. It begins with
-   the place of the fault, if there is one: the index of the specification or of the entry,
-   from 0, or the number of the rule. Then comes what the library says of such a fault.
+   the place of the fault, if there is one, counted from 1 as people count: for a specification
+   and for an entry that is one more than `place` (and SIZE_MAX stays SIZE_MAX), for a rule it
+   is `place`. Then comes what the library says of such a fault.
    `quoted` is the buffer to which the call that reported the fault copied the wrong text,
    and `quoted_len` its length. No more of its bytes are used than the fault says were
    copied. If the buffer was too short for the wrong text, `...` stands in the sentence in
-   place of that text. A sentence is printable ASCII: in the wrong text a backslash is `\\`, and
-   each byte that is not printable ASCII is `\x` and two hexadecimal digits. OK: the sentence is
-   in `out`. NO_ROOM: `out` has the first `room` bytes of the sentence, and *len is the length of
-   the whole sentence. Any content of the struct has a sentence, even one that no call wrote. For
+   place of that text. A sentence is UTF-8 in one line, with letters of any script as they are. In
+   the wrong text a backslash is `\\`. Each byte of a control or format character (Unicode's general
+   categories Cc and Cf), of U+2028 and of U+2029 is `\x` and two hexadecimal digits, and so is each
+   byte that is of no character. OK: the sentence is in `out`. NO_ROOM: `out` has the first `room`
+   bytes of the sentence, with spaces in the place of a character that would be cut, and *len is
+   the length of the whole sentence. Any content of the struct has a sentence, even one that no call wrote. For
    VIRTIOFS_FAULT_NONE, and for a number that is no kind, the sentence says so: then print
    virtiofs_code_text. */
 VIRTIOFS_CHECKED((1, 6))

@@ -4,9 +4,10 @@
 usage: picture.py PROGRAM..
 
 Each drawing is XML with plain shapes and texts alone. No two texts overlap, if a character is 0.6 times as wide as the text
-is high, and nothing lies outside. It ends with the same status as `--json`. All ids from the guest that `--show ids` lists
-have labels, but in a drawing of many bands not those that keep their number. 100 ranges take less than 64 KB. The drawing
-docs/picture.svg is what the command in README.md writes now. The last line is 'N passed, N failed'.
+is high, and nothing lies outside. It ends with the same status as `--json`, and says that nothing is found if that is 0. All
+ids from the guest that `--show ids` lists have labels. Each guest is named once, with its process. No option is cut in a
+word. 100 ranges take less than 64 KB. docs/picture.svg is what the command in README.md writes now. The last line is
+'N passed, N failed'.
 """
 import json
 import random
@@ -23,6 +24,13 @@ from tally import Tally
 TOP = Path(__file__).resolve().parent.parent
 SVG, SEED, LAST = "{http://www.w3.org/2000/svg}", 59, 4294967294
 TAGS = {SVG + it for it in "svg title desc defs pattern path rect g text".split()}
+CASES = """-- virtiofsd
+--translate-uid squash-host:10:5:100 --translate-gid host:0:4294967295:1
+--translate-uid guest:0:1:4294967295 --translate-gid forbid-guest:0:4294967295
+--uid-map :0:5:9: --uid-map :4:4294967290:99: --gid-map :7:7:0:
+--uid-map :0:9:5: --translate-uid forbid-guest:5:4294967290 --gid-map :0:7:1: --translate-gid forbid-guest:1:4294967294
+--accept root -- virtiofsd
+-- virtiofsd -- virtiofsd --translate-uid map:0:5:9 -- virtiofsd"""
 COMMAND = re.compile(r"^virtiofs_mapaudit --svg ((?:.*\\\n)*.*) > docs/picture.svg$", re.M)
 
 
@@ -35,22 +43,21 @@ def ranges(made, count):
 
 
 def cases():
-    """What each case shows, its words, and whether each end has a label."""
+    """What each case shows, and its words."""
     made, shown = random.Random(SEED), COMMAND.search((TOP / "README.md").read_text("utf-8"))[1]
-    yield "docs/picture.svg", shlex.split(shown.replace("\\\n", "")), True
-    yield "no option", ["--", "virtiofsd"], True
-    yield "from the host", "--translate-uid squash-host:10:5:100 --translate-gid host:0:4294967295:1".split(), True
-    yield "all ids", "--translate-uid guest:0:1:4294967295 --translate-gid forbid-guest:0:4294967295".split(), True
-    yield "single ids", [f"--translate-uid=guest:{3 * at}:{900 - 3 * at}:1" for at in range(9)], True
-    for count in (1, 2, 3, 4, 5, 20, 100):
-        yield f"{count} ranges at random", [*ranges(made, count)], count < 6
-    yield "a namespace at fault", "--uid-map :0:5:9: --uid-map :4:4294967290:99: --gid-map :7:7:0:".split(), False
-    yield "too many ranges", [*ranges(made, 1001)], False
+    yield "docs/picture.svg", shlex.split(shown.replace("\\\n", ""))
+    for line in CASES.splitlines():
+        yield line, shlex.split(line)
+    yield "single ids", [f"--translate-uid=guest:{3 * at}:{900 - 3 * at}:1" for at in range(9)]
+    for count in (1, 2, 3, 4, 5, 20, 100, 1001):
+        yield f"{count} ranges at random", [*ranges(made, count)]
     squashed = [f"--translate-uid=squash-guest:{2 * at}:5:1" for at in range(400)]
-    yield "too many bands", [*squashed, *(f"--uid-map=:5:{at}:1:" for at in range(1000))], False
-    yield "refused", ["--translate-uid", "<b>&\x01", "--gid-map", "]]>"], False
-    yield "hostile rules", ["--xattrmap", ":prefix:all:<script>&\"']]>:<!--\x07\u202e:\n:bad:all:]]>:<b>:\n:ok:all:::"], True
-    yield "long rules", ["--xattrmap", ":ok:all:::" + ":bad:all:<&>:::" * 8000], True
+    yield "too many bands", [*squashed, *(f"--uid-map=:5:{at}:1:" for at in range(1000))]
+    yield "refused", ["--translate-uid", "<b>&\x01", "--gid-map", "]]>"]
+    yield "hostile rules", ["--xattrmap", ":prefix:all:<script>&\"']]>:<!--\x07\u202e:\n:bad:all:]]>:<b>:\n:ok:all:::"]
+    yield "long rules", ["--xattrmap", ":ok:all:::" + ":bad:all:<&>:::" * 8000]
+    with subprocess.Popen(["virtiofsd"], executable="/bin/cat", stdin=subprocess.PIPE) as daemon:
+        yield "a process", ["--pid", str(daemon.pid)]
 
 
 def points(path):
@@ -84,31 +91,37 @@ def ends_of(guest):
     return {str(min(it[end], LAST)) for it in pieces for end in ("first", "last") if it["first"] <= LAST}
 
 
-def wrong(text, words, labelled, guests):
+def wrong(text, words, guests, status):
     """What is wrong with a drawing."""
     root = ElementTree.fromstring(text)
     width, height = map(int, root.get("viewBox").split()[2:])
     drawn = list(boxes(root, 0, 0, 16, "start"))
     texts = sorted((it for it in drawn if it[4]), key=lambda it: it[1])
-    said = [(it.findtext(f"{SVG}title"), it.findtext(f"{SVG}desc")) for it in root.findall(f"{SVG}g")]
-    ends = {end for it in texts for end in it[4].split("–")}
+    shown, titles = [it[4] for it in texts], [it.findtext(f"{SVG}title") for it in root.findall(f"{SVG}g")]
+    ends, given = {end for it in shown for end in it.split("–")}, " ".join(words).replace("=", " ").split()
+    named = [*(f"guest {at + 1}" for at in range(len(guests))), *(f"process {given[1]}" for it in given if it == "--pid")]
     yield from (f"tag {it.tag}" for it in root.iter() if it.tag not in TAGS)
     yield from (f"outside: {it}" for it in drawn if min(it[:2]) < 0 or it[2] > width or it[3] > height)
     for at, one in enumerate(texts):
         yield from (f"{one} and {it}" for it in texts[at + 1:at + 40] if it[1] < one[3] and it[0] < one[2] and one[0] < it[2])
-    yield from (f"no label {end}" for guest in guests if labelled for end in ends_of(guest) - ends)
-    yield from [] if [title for title, _ in said] == [f"guest {at + 1}" for at in range(len(guests))] else ["no titles"]
-    yield from (f"no word {it[:50]}" for it in words if re.match(r"[\w:-]{,80}\Z", it) and it not in str(said) + "--virtiofsd")
+    if not any("too many" in it for it in shown):
+        yield from (f"no label {end}" for guest in guests for end in ends_of(guest) - ends)
+    is_each = sorted(", ".join(titles).split(", ")) == named and titles == sorted(titles)
+    yield from [] if is_each and {*titles} <= {*shown} else [f"{titles} and not {named}"]
+    yield from ["nothing found?"] if (status == 0) != any(re.match("nothing (else )?found$", it) for it in shown) else []
+    yield from (f"cut: {it}" for it in shown if re.match("--translate[^']*$", it) and not {*it.split()} <= {"..", *given})
+    told = str([it.findtext(f"{SVG}desc") for it in root.findall(f"{SVG}g")]) + "--virtiofsd --accept root --pid"
+    yield from (f"no word {it[:50]}" for it in words if re.match(r"[\w:-]{,80}\Z", it) and it not in told)
     yield from [f"{len(text)} bytes"] if len(text) >= 65536 else []
 
 
 def main(programs):
     tally = Tally(quietly=True)
-    for program, (name, words, labelled) in ((one, case) for one in programs for case in cases()):
+    for program, (name, words) in ((one, case) for one in programs for case in cases()):
         drawn, shown = (subprocess.run([program, *how, *words], stdout=subprocess.PIPE, stderr=subprocess.DEVNULL)
                     for how in (["--svg"], ["--json", "--show", "ids"]))
         found = ["another status"] if drawn.returncode != shown.returncode else []
-        found += wrong(drawn.stdout, words, labelled, json.loads(shown.stdout)["guests"])
+        found += wrong(drawn.stdout, words, json.loads(shown.stdout)["guests"], drawn.returncode)
         tally.see(f"{name}, by {program.name}", found[:9])
         if name.endswith(".svg"):
             tally.see(f"{name} as it is", drawn.stdout != (TOP / name).read_bytes() and "it is drawn otherwise now")

@@ -15,7 +15,7 @@
 /// What `include/virtiofs_map.h` declares, as far as this file calls it.
 #[rustfmt::skip]
 pub(super) mod ffi {
-    use std::fmt::{self, Display, Formatter, Write};
+    use std::fmt::{self, Display, Formatter};
 
     /// One specification.
     #[repr(C)]
@@ -55,6 +55,8 @@ pub(super) mod ffi {
         pub fn virtiofs_map_ids_host(words: *const u32, count: usize, host: u32, guest: &mut u32) -> u32;
         pub fn virtiofs_map_spec_read(text: *const u8, text_len: usize, spec: &mut Spec, fault: &mut Fault,
             quoted: *mut u8, quoted_room: usize) -> u32;
+        pub fn virtiofs_map_fault_text(fault: &Fault, quoted: *const u8, quoted_len: usize, out: *mut u8, room: usize,
+            len: &mut usize) -> u32;
         pub fn virtiofs_map_range_read(text: *const u8, text_len: usize, range: &mut Range, fault: &mut Fault) -> u32;
         pub safe fn virtiofs_map_names_bound(text_len: usize) -> usize;
         pub fn virtiofs_map_names_make(text: *const u8, text_len: usize, bytes: *mut u8, room: usize,
@@ -90,38 +92,21 @@ pub(super) mod ffi {
         String::from_utf8_lossy(&bytes[..fault.quoted]).into_owned()
     }
 
-    /// A text that may be hostile, in printable ASCII, as `virtiofs_fault_text` quotes it: a backslash is `\\`, and any
-    /// byte that is not printable is `\x` and two digits. So it ends no line of a log, and moves no cursor.
+    /// A text that may be hostile, as `virtiofs_fault_text` quotes it: a backslash is `\\`, each byte of a control or
+    /// format character is `\x` and two digits, and letters of any script stand as they are. So it ends no line of a
+    /// log, and moves no cursor.
     pub struct Escaped<'a>(pub &'a str);
-
-    /// The same, but the backslash and what std counts as printable, such as a letter of any script, stand as they are.
-    pub struct Printable<'a>(pub &'a str);
 
     impl Display for Escaped<'_> {
         fn fmt(&self, f: &mut Formatter<'_>) -> fmt::Result {
-            self.0.bytes().try_for_each(|byte| match byte {
-                b'\\' => f.write_str("\\\\"),
-                b' '..=b'~' => f.write_char(char::from(byte)),
-                _ => write!(f, "\\x{byte:02x}"),
-            })
+            // (a word that is none of the six stands at the end of its sentence; an escaped byte takes four)
+            let (before, len) = ("Invalid ID map prefix ".len(), self.0.len());
+            let fault = Fault { kind: FAULT_PREFIX, quoted: len, wanted: len, ..Fault::default() };
+            let (mut out, mut told) = (vec![0; before + 4 * len], 0);
+            // Sound: the text is lent for the call, which writes to `out` and `told` alone.
+            unsafe { virtiofs_map_fault_text(&fault, self.0.as_ptr(), len, out.as_mut_ptr(), out.len(), &mut told) };
+            f.write_str(&String::from_utf8_lossy(&out[before..told]))
         }
-    }
-
-    impl Display for Printable<'_> {
-        fn fmt(&self, f: &mut Formatter<'_>) -> fmt::Result {
-            self.0.chars().try_for_each(|it| match it {
-                '"' | '\'' | '\\' => f.write_char(it),
-                _ if is_printable(it) => f.write_char(it),
-                _ => Escaped(it.encode_utf8(&mut [0; 4])).fmt(f),
-            })
-        }
-    }
-
-    fn is_printable(character: char) -> bool {
-        // (behind another character std leaves a mark as it is)
-        let mut text = [b'a', 0, 0, 0, 0];
-        let len = character.encode_utf8(&mut text[1..]).len();
-        std::str::from_utf8(&text[..=len]).is_ok_and(|it| it.escape_debug().count() == 2)
     }
 }
 
@@ -230,7 +215,7 @@ pub mod idmap {
 pub mod soft_idmap {
     /// Specifications, as `--translate-uid` and `--translate-gid` give them.
     pub mod cmdline {
-        use super::super::ffi::{self, Printable};
+        use super::super::ffi::{self, Escaped};
         use std::error::Error;
         use std::fmt::{self, Display, Formatter};
         use std::num::ParseIntError;
@@ -254,7 +239,7 @@ pub mod soft_idmap {
             ForbidGuest { from_guest: u32, count: u32 },
         }
 
-        /// Why a text is no specification. What is printed of the text has printable characters alone.
+        /// Why a text is no specification. What is printed of the text has its control characters escaped.
         #[derive(Debug)]
         #[rustfmt::skip]
         pub enum IdMapError {
@@ -273,12 +258,12 @@ pub mod soft_idmap {
         impl Display for IdMapError {
             fn fmt(&self, f: &mut Formatter<'_>) -> fmt::Result {
                 match self {
-                    IdMapError::InvalidPrefix(prefix) => write!(f, "Invalid ID map prefix {}", Printable(prefix)),
+                    IdMapError::InvalidPrefix(prefix) => write!(f, "Invalid ID map prefix {}", Escaped(prefix)),
                     IdMapError::InvalidLength { expected, seen } => {
                         write!(f, "Invalid ID map length (expected {expected} elements, got {seen} elements)")
                     }
                     IdMapError::InvalidValue { value, error } => {
-                        write!(f, "Invalid value {} in ID map: {error}", Printable(value))
+                        write!(f, "Invalid value {} in ID map: {error}", Escaped(value))
                     }
                     IdMapError::OutOfMemory => f.write_str("Out of memory"),
                 }
@@ -457,6 +442,7 @@ pub mod soft_idmap {
         pair: PhantomData<(Guest, Host)>,
     }
 
+    // (lookups are in line: under a map with no specifications they call nothing)
     type Lookup = unsafe extern "C" fn(*const u32, usize, u32, &mut u32) -> u32;
 
     /// How many words a map has under which every id keeps its number. Any other has more.
@@ -547,6 +533,7 @@ pub mod soft_idmap {
         /// **To `chown` and `setresuid`, 4294967295 is no id: they read it as "leave unchanged". A file that is made so
         /// for the guest belongs to the daemon's own user, which is root.** So a daemon that acts by the answer asks
         /// [`checked_map_guest`](IdMap::checked_map_guest), or tests for 4294967295 itself.
+        #[inline(always)]
         pub fn map_guest(&self, guest_id: Guest) -> Result<Host, MapError<Guest>> {
             match self.asked(ffi::virtiofs_map_ids_guest, guest_id.into_inner().into()) {
                 (ffi::OK | ffi::NO_ID, host) => Ok(Host::from(host.into())),
@@ -558,6 +545,7 @@ pub mod soft_idmap {
         ///
         /// **To `chown` and `setresuid`, 4294967295 is no id: they read it as "leave unchanged".** A guest that is told
         /// of such an owner reads it so too; [`checked_map_host`](IdMap::checked_map_host) never answers it.
+        #[inline(always)]
         pub fn map_host(&self, host_id: Host) -> Result<Guest, MapError<Host>> {
             match self.asked(ffi::virtiofs_map_ids_host, host_id.into_inner().into()) {
                 (ffi::OK | ffi::NO_ID, guest) => Ok(Guest::from(guest.into())),
@@ -566,6 +554,7 @@ pub mod soft_idmap {
         }
 
         /// The host's id for a guest's, with which a daemon may act: never 4294967295.
+        #[inline(always)]
         pub fn checked_map_guest(&self, guest_id: Guest) -> Result<Host, CheckedMapError<Guest>> {
             match self.asked(ffi::virtiofs_map_ids_guest, guest_id.into_inner().into()) {
                 (ffi::OK, host) => Ok(Host::from(host.into())),
@@ -575,6 +564,7 @@ pub mod soft_idmap {
         }
 
         /// The guest's id for a host's: never 4294967295. No id of the host is forbidden.
+        #[inline(always)]
         pub fn checked_map_host(&self, host_id: Host) -> Result<Guest, CheckedMapError<Host>> {
             match self.asked(ffi::virtiofs_map_ids_host, host_id.into_inner().into()) {
                 (ffi::OK, guest) => Ok(Guest::from(guest.into())),
@@ -702,7 +692,7 @@ pub mod xattrmap {
     }
 
     impl ErrorKind {
-        /// What is wrong, for whoever wrote the text. What is quoted of it has printable ASCII alone.
+        /// What is wrong, for whoever wrote the text. What is quoted of it has its control characters escaped.
         pub fn sentence(&self) -> String {
             let unexpected = |what: &str, got: &str, expected: &str| {
                 format!("invalid {what} '{}', expected one of: {expected}", Escaped(got))
@@ -882,42 +872,45 @@ pub mod xattrmap {
         #[inline]
         pub fn map_client_xattr<'a>(&self, xattr_name: &'a CStr) -> Result<AppliedRule<'a>, Error> {
             let (mut out, mut len) = ([MaybeUninit::uninit(); ROOM], MaybeUninit::uninit());
-            // (the two answers that are most frequent are told apart here, by a comparison each)
+            // (the frequent answers are told apart here, and an owned name comes in two registers)
             match self.client(xattr_name, &mut out[..ROOM - 1], &mut len) {
                 ffi::AS_IT_IS => Ok(AppliedRule::Pass(Cow::Borrowed(xattr_name))),
                 ffi::DENIED => Ok(AppliedRule::Deny),
+                ffi::UNSUPPORTED => Ok(AppliedRule::Unsupported),
                 // Sound: the call wrote the length.
-                code => self.other_client(code, xattr_name, &mut out, unsafe { len.assume_init() }),
+                code => match self.owned(code, xattr_name, &mut out, unsafe { len.assume_init() }) {
+                    Some(name) => Ok(AppliedRule::Pass(Cow::Owned(name))),
+                    None => Err(ErrorKind::UnterminatedMapping.into()),
+                },
             }
         }
 
+        /// The name that the call wrote to `out`, or would have written if that were longer.
         #[inline(never)]
-        fn other_client<'a>(
+        fn owned(
             &self, code: u32, xattr_name: &CStr, out: &mut [MaybeUninit<u8>; ROOM], len: usize,
-        ) -> Result<AppliedRule<'a>, Error> {
+        ) -> Option<CString> {
             match code {
                 ffi::OK => {
                     out[len].write(0);
                     // Sound: the call wrote the bytes before this zero, and a name holds none.
                     let name = unsafe { slice::from_raw_parts(out.as_ptr() as *const u8, len + 1) };
-                    let name = unsafe { CString::from_vec_with_nul_unchecked(name.to_vec()) };
-                    Ok(AppliedRule::Pass(Cow::Owned(name)))
+                    Some(unsafe { CString::from_vec_with_nul_unchecked(name.to_vec()) })
                 }
-                ffi::UNSUPPORTED => Ok(AppliedRule::Unsupported),
                 ffi::NO_ROOM => self.long_client(xattr_name, len),
-                _ => Err(ErrorKind::UnterminatedMapping.into()),
+                _ => None,
             }
         }
 
         #[cold]
-        fn long_client<'a>(&self, xattr_name: &CStr, wanted: usize) -> Result<AppliedRule<'a>, Error> {
+        fn long_client(&self, xattr_name: &CStr, wanted: usize) -> Option<CString> {
             let (mut out, mut len) = (Vec::with_capacity(wanted + 1), MaybeUninit::uninit());
             if self.client(xattr_name, out.spare_capacity_mut(), &mut len) != ffi::OK {
-                return Err(ErrorKind::UnterminatedMapping.into());
+                return None;
             }
             // Sound: the call wrote the length, and so many bytes.
             unsafe { out.set_len(len.assume_init()) };
-            Ok(AppliedRule::Pass(Cow::Owned(c_string(out))))
+            Some(c_string(out))
         }
 
         /// The code for a name. The call writes to `len` the length of what is written to `out`, or that is needed.

@@ -131,6 +131,7 @@ impl Display for EntryFault {
     }
 }
 
+/// As `virtiofs_fault_text` writes it, with entries counted from 1.
 impl Display for AclError {
     fn fmt(&self, f: &mut Formatter<'_>) -> fmt::Result {
         match self {
@@ -138,7 +139,7 @@ impl Display for AclError {
             AclError::Version { version } => write!(f, "the version is {version}"),
             AclError::Length => f.write_str("the last entry is cut"),
             AclError::Room { needed } => write!(f, "there are {needed} entries"),
-            AclError::Entry { entry, fault } => write!(f, "entry {entry}: {fault}"),
+            AclError::Entry { entry, fault } => write!(f, "entry {}: {fault}", entry.saturating_add(1)),
         }
     }
 }

@@ -5,7 +5,7 @@
 /bin/busybox --install -s /bin
 export PATH=/bin:/usr/bin
 mount -t proc proc /proc; mount -t devtmpfs dev /dev
-for it in virtio_ring virtio virtio_pci_legacy_dev virtio_pci_modern_dev virtio_pci fuse virtiofs; do insmod /modules/$it.ko; done
+for it in /modules/*; do insmod $it; done
 exec >/dev/ttyS1 2>&1 </dev/null
 stty -F /dev/ttyS1 raw
 for tag in $(sed 's/.* tags=//; s/ .*//; s/,/ /g' /proc/cmdline); do

@@ -34,7 +34,7 @@ fn texts_that_are_no_specification() {
         ("forbid-guest:1:2:3", "Invalid ID map length (expected 2 elements, got 3 elements)"),
         ("foo:x", "Invalid value x in ID map: invalid digit found in string"),
         ("map:\x1b[2J\n\\\0 ~\x7f\"\u{e9}\u{200b}:1:2",
-            "Invalid value \\x1b[2J\\x0a\\\\x00 ~\\x7f\"\u{e9}\\xe2\\x80\\x8b in ID map: invalid digit found in string"),
+            "Invalid value \\x1b[2J\\x0a\\\\\\x00 ~\\x7f\"\u{e9}\\xe2\\x80\\x8b in ID map: invalid digit found in string"),
         ("map:1:2:3:", "Invalid value  in ID map: cannot parse integer from empty string"),
         ("map:4294967296:0:1", "Invalid value 4294967296 in ID map: number too large to fit in target type"),
     ] {

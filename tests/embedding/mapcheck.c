@@ -46,22 +46,23 @@ static int wrong_words(void)
     return WRONG_WORDS;
 }
 
-/* Writes a refusal, whose first words are those of the library if it is about a whole list. */
+/* Writes a refusal, in the words of the library if it is about a whole list. The program counts specifications from 0. */
 static int refuse(const char *which, uint32_t code, struct virtiofs_fault fault)
 {
     size_t len, i = 0;
     if (code != VIRTIOFS_REFUSED)
         return NO_MEMORY;
     printf("refused: %s", which);
+    if (fault.part == VIRTIOFS_SPECIFICATION)
+        printf("specification %zu: ", fault.place);
+    if (fault.part == VIRTIOFS_RULE && fault.place)
+        printf("rule %zu: ", fault.place);
+    fault.part = VIRTIOFS_NO_PART;
     if (fault.kind == VIRTIOFS_FAULT_OVERFLOW || fault.kind == VIRTIOFS_FAULT_INTERSECTS) {
         if (virtiofs_fault_text(&fault, NULL, 0, out, LARGE, &len) == VIRTIOFS_OK)
             printf("%.*s\n", (int)len, out);
         return REFUSED;
     }
-    if (fault.part == VIRTIOFS_SPECIFICATION)
-        printf("specification %zu: ", fault.place);
-    if (fault.part == VIRTIOFS_RULE && fault.place)
-        printf("rule %zu: ", fault.place);
     while (i < COUNT(refusals) && refusals[i].kind != fault.kind)
         i++;
     if (i == COUNT(refusals))

@@ -9,6 +9,8 @@ use std::borrow::Cow;
 use std::error::Error as _;
 use std::ffi::CString;
 use std::io::{self, ErrorKind::InvalidInput, ErrorKind::OutOfMemory, ErrorKind::PermissionDenied};
+use virtiofs_map::ffi::{Fault, virtiofs_map_fault_text};
+use virtiofs_map::soft_idmap::cmdline::IdMapError;
 use virtiofs_map::xattrmap::{AppliedRule, Audit, Error, ErrorKind, PatternField, XattrMap};
 
 const MAP: &str = ":map:trusted.:user.virtiofs.:";
@@ -37,9 +39,9 @@ fn texts_of_which_no_map_is_made() {
     let of_type = |got: &str| InvalidType { got: got.into(), expected: "prefix, ok, bad, map".into() };
     for (text, cause, rule, sentence) in [
         (":ok:all::: :bad:\x1b[2J\n\\\0 ~\x7f\u{e9}:::", scope("\x1b[2J\n\\\0 ~\x7f\u{e9}"), Some(2),
-            r"rule 2: invalid scope '\x1b[2J\x0a\\\x00 ~\x7f\xc3\xa9', expected one of: all, client, server"),
+            r"rule 2: invalid scope '\x1b[2J\x0a\\\x00 ~\x7fé', expected one of: all, client, server"),
         (":\u{170}refix:all:::", of_type("\u{170}refix"), Some(1),
-            r"rule 1: invalid type '\xc5\xb0refix', expected one of: prefix, ok, bad, map"),
+            "rule 1: invalid type 'Űrefix', expected one of: prefix, ok, bad, map"),
         (":prefix:client:hi", IncompleteRule, Some(1), "rule 1: the rule is incomplete"),
         (":bad:all:x:y: :map::P: :ok:all:::", MapRuleViolation, Some(2), "rule 2: a map rule has to stand last"),
         (" ", NoRulesProvided, None, "there are no rules"),
@@ -65,6 +67,47 @@ fn texts_of_which_no_map_is_made() {
         (ErrorKind::OutOfMemory, "Out of memory", OutOfMemory),
     ] {
         assert_eq!((cause.sentence().as_str(), io::Error::from(Error::from(cause)).kind()), (sentence, kind));
+    }
+}
+
+/// The characters of the general categories Cc, Cf, Zl and Zp, by the first and the last.
+const ESCAPED: [(u32, u32); 24] = [
+    (0, 0x1f), (0x7f, 0x9f), (0xad, 0xad), (0x600, 0x605), (0x61c, 0x61c), (0x6dd, 0x6dd), (0x70f, 0x70f),
+    (0x890, 0x891), (0x8e2, 0x8e2), (0x180e, 0x180e), (0x200b, 0x200f), (0x2028, 0x2029), (0x202a, 0x202e),
+    (0x2060, 0x2064), (0x2066, 0x206f), (0xfeff, 0xfeff), (0xfff9, 0xfffb), (0x110bd, 0x110bd), (0x110cd, 0x110cd),
+    (0x13430, 0x1343f), (0x1bca0, 0x1bca3), (0x1d173, 0x1d17a), (0xe0001, 0xe0001), (0xe0020, 0xe007f),
+];
+
+/// The sentence of C for a fault that quotes a text.
+fn sentence_in_c(kind: u32, number: u32, text: &str) -> String {
+    let fault = Fault { kind, number, quoted: text.len(), wanted: text.len(), ..Fault::default() };
+    let (mut out, mut len) = ([0; 128], 0);
+    let code = unsafe {
+        virtiofs_map_fault_text(&fault, text.as_ptr(), text.len(), out.as_mut_ptr(), out.len(), &mut len)
+    };
+    assert_eq!(code, 0);
+    String::from_utf8(out[..len].to_vec()).unwrap()
+}
+
+#[test]
+fn every_character_is_quoted_alike_in_c_and_in_rust() {
+    for it in '\0'..=char::MAX {
+        let (text, place) = (it.to_string(), it as u32);
+        let wanted = match it {
+            '\\' => r"\\".into(),
+            _ if ESCAPED.iter().any(|(first, last)| (*first..=*last).contains(&place)) => {
+                text.bytes().map(|byte| format!("\\x{byte:02x}")).collect()
+            }
+            _ => text.clone(),
+        };
+        let of_type = format!("invalid type '{wanted}', expected one of: prefix, ok, bad, map");
+        assert_eq!(sentence_in_c(13, 0, &text), of_type);
+        let cause = ErrorKind::InvalidType { got: text.clone(), expected: "prefix, ok, bad, map".into() };
+        assert_eq!(cause.sentence(), of_type);
+        let of_value = format!("Invalid value {wanted} in ID map: invalid digit found in string");
+        assert_eq!(sentence_in_c(8, 1, &text), of_value);
+        let error = "x".parse::<u32>().unwrap_err();
+        assert_eq!(IdMapError::InvalidValue { value: text, error }.to_string(), of_value);
     }
 }
 

@@ -16,40 +16,43 @@ static const struct row {
     size_t len;
 } rows[] = {
 #define ROW(call, text, sentence) { call, text, sizeof text - 1, sentence, sizeof sentence - 1 }
-    ROW(TEXT, "FORB\xc4\xb0" "D:1:2", "Invalid ID map prefix forb\\xc4\\xb0d"),
+    ROW(TEXT, "FORB\xc4\xb0" "D:1:2", "Invalid ID map prefix forb\xc4\xb0" "d"),
     ROW(TEXT, "", "Invalid ID map length (expected 1 elements, got 0 elements)"),
     ROW(TEXT, "forbid-guest:1:2:3", "Invalid ID map length (expected 2 elements, got 3 elements)"),
     ROW(TEXT, "map:1:2:3:", "Invalid value  in ID map: cannot parse integer from empty string"),
     ROW(TEXT, "map:1:\xc3\xa9\0 ~\177:2",
-        "Invalid value \\xc3\\xa9\\x00 ~\\x7f in ID map: invalid digit found in string"),
+        "Invalid value \xc3\xa9\\x00 ~\\x7f in ID map: invalid digit found in string"),
     ROW(TEXT, "map:1:\33[2J\n\\x0a:2", "Invalid value \\x1b[2J\\x0a\\\\x0a in ID map: invalid digit found in string"),
+    ROW(TEXT, "map:1:\xc2\x85\xc2\xad\xe2\x80\xa8\xe2\x80\xae\xef\xbb\xbf\xe2\x82\xac\xcc\x81\xee\x80\x80:2",
+        "Invalid value \\xc2\\x85\\xc2\\xad\\xe2\\x80\\xa8\\xe2\\x80\\xae\\xef\\xbb\\xbf"
+        "\xe2\x82\xac\xcc\x81\xee\x80\x80 in ID map: invalid digit found in string"),
     ROW(TEXT, "map:4294967296:0:1", "Invalid value 4294967296 in ID map: number too large to fit in target type"),
     ROW(TEXT, "map:\xff:0:1", "the text is not UTF-8"),
     ROW(TEXT, "a-word-that-is-too-long-:1", "Invalid ID map prefix a-word-that-is-too-long-"),
     ROW(TEXT, "a-word-that-is-too-long-x:1", "Invalid ID map prefix ..."),
-    ROW(TEXTS, "foo:1", "specification 1: Invalid ID map prefix foo"),
-    ROW(TEXTS, "map:1:2", "specification 1: Invalid ID map length (expected 3 elements, got 2 elements)"),
+    ROW(TEXTS, "foo:1", "specification 2: Invalid ID map prefix foo"),
+    ROW(TEXTS, "map:1:2", "specification 2: Invalid ID map length (expected 3 elements, got 2 elements)"),
     ROW(TEXTS, "map:1:0000000000000000000000000:x",
-        "specification 1: Invalid value x in ID map: invalid digit found in string"),
-    ROW(TEXTS, "map:\xff:0:1", "specification 1: the text is not UTF-8"),
-    ROW(TEXTS, "guest:4294967295:0:1", "specification 1: Parameter guest:4294967295:0:1: Range overflow"),
-    ROW(TEXTS, "HOST/1/4294967290/10", "specification 1: Parameter host:1:4294967290:10: Range overflow"),
-    ROW(TEXTS, "squash-guest:4294967295:7:1", "specification 1: Parameter squash-guest:4294967295:7:1: Range overflow"),
-    ROW(TEXTS, "squash-host:1:2:4294967295", "specification 1: Parameter squash-host:1:2:4294967295: Range overflow"),
-    ROW(TEXTS, "map:70:4294967290:10", "specification 1: Parameter map:70:4294967290:10: Range overflow"),
-    ROW(TEXTS, "forbid-guest:4294967295:1", "specification 1: Parameter forbid-guest:4294967295:1: Range overflow"),
+        "specification 2: Invalid value x in ID map: invalid digit found in string"),
+    ROW(TEXTS, "map:\xff:0:1", "specification 2: the text is not UTF-8"),
+    ROW(TEXTS, "guest:4294967295:0:1", "specification 2: Parameter guest:4294967295:0:1: Range overflow"),
+    ROW(TEXTS, "HOST/1/4294967290/10", "specification 2: Parameter host:1:4294967290:10: Range overflow"),
+    ROW(TEXTS, "squash-guest:4294967295:7:1", "specification 2: Parameter squash-guest:4294967295:7:1: Range overflow"),
+    ROW(TEXTS, "squash-host:1:2:4294967295", "specification 2: Parameter squash-host:1:2:4294967295: Range overflow"),
+    ROW(TEXTS, "map:70:4294967290:10", "specification 2: Parameter map:70:4294967290:10: Range overflow"),
+    ROW(TEXTS, "forbid-guest:4294967295:1", "specification 2: Parameter forbid-guest:4294967295:1: Range overflow"),
     /* (the first of the texts is map:0:1000:10) */
-    ROW(TEXTS, "guest:9:4294967295:1", "specification 1: Guest-to-host mapping 'map [9, 10) to [4294967295, "
+    ROW(TEXTS, "guest:9:4294967295:1", "specification 2: Guest-to-host mapping 'map [9, 10) to [4294967295, "
                                        "4294967296)' intersects previously added entry"),
     ROW(TEXTS, "squash-guest:9:65534:2",
-        "specification 1: Guest-to-host mapping 'squash [9, 11) to 65534' intersects previously added entry"),
+        "specification 2: Guest-to-host mapping 'squash [9, 11) to 65534' intersects previously added entry"),
     ROW(TEXTS, "forbid-guest:0:4294967295",
-        "specification 1: Guest-to-host mapping 'fail [0, 4294967295)' intersects previously added entry"),
+        "specification 2: Guest-to-host mapping 'fail [0, 4294967295)' intersects previously added entry"),
     ROW(TEXTS, "host:1005:3:1",
-        "specification 1: Host-to-guest mapping 'map [1005, 1006) to [3, 4)' intersects previously added entry"),
+        "specification 2: Host-to-guest mapping 'map [1005, 1006) to [3, 4)' intersects previously added entry"),
     ROW(TEXTS, "map:70:1009:2",
-        "specification 1: Host-to-guest mapping 'map [1009, 1011) to [70, 72)' intersects previously added entry"),
-    ROW(TEXTS, "squash-host:1007:4294967295:1", "specification 1: Host-to-guest mapping 'squash [1007, 1008) to "
+        "specification 2: Host-to-guest mapping 'map [1009, 1011) to [70, 72)' intersects previously added entry"),
+    ROW(TEXTS, "squash-host:1007:4294967295:1", "specification 2: Host-to-guest mapping 'squash [1007, 1008) to "
                                                 "4294967295' intersects previously added entry"),
     ROW(RANGE, ":0:1:2", "A delimiter has been found that does not match the delimiter the map started with"),
     ROW(RANGE, "", "The map is empty or incorrect number of values are provided"),
@@ -59,7 +62,7 @@ static const struct row {
     ROW(RANGE, ":0:\xff:2:", "the text is not UTF-8"),
     ROW(RULES, ":ok:all::: :bad:nope\0:::", "rule 2: invalid scope 'nope\\x00', expected one of: all, client, server"),
     ROW(RULES, ":\33[1m\\\r\n\37 '~\177\xf0\x9f\x98\x80:::", "rule 1: invalid type '\\x1b[1m\\\\\\x0d\\x0a\\x1f '~"
-        "\\x7f\\xf0\\x9f\\x98\\x80', expected one of: prefix, ok, bad, map"),
+        "\\x7f\xf0\x9f\x98\x80', expected one of: prefix, ok, bad, map"),
     ROW(RULES, "ookoallooo", "rule 1: invalid type '', expected one of: prefix, ok, bad, map"),
     ROW(RULES, "/a-word-that-is-too-long-x/x/", "rule 1: invalid type '...', expected one of: prefix, ok, bad, map"),
     ROW(RULES, ":prefix:client:hi", "rule 1: the rule is incomplete"),
@@ -73,11 +76,11 @@ static const struct row {
     ROW(LIST, "\377\377\377\377", "the version is 4294967295"),
     ROW(LIST, "\2\0\0\0\1", "the last entry is cut"),
     ROW(LIST, "\2\0\0\0\1\0\6\0\0\0\0\0\4\0\6\0\0\0\0\0\40\0\6\0\0\0\0\0", "there are 3 entries"),
-    ROW(LIST, "\2\0\0\0\3\0\6\0\0\0\0\0", "entry 0: there is no such tag"),
-    ROW(LIST, "\2\0\0\0\1\0\6\0\377\377\377\377\4\0\10\0\377\377\377\377", "entry 1: the permissions are above 7"),
-    ROW(LIST, "\2\0\0\0\2\0\6\0\377\377\377\377", "entry 0: 4294967295 is no id"),
-    ROW(LIST, "\2\0\0\0\2\0\6\0\106\0\0\0", "entry 0: use of the id has been configured to fail"),
-    ROW(LIST, "\2\0\0\0\2\0\6\0\24\0\0\0\2\0\6\0\25\0\0\0", "entry 1: the id would become that of an earlier entry"),
+    ROW(LIST, "\2\0\0\0\3\0\6\0\0\0\0\0", "entry 1: there is no such tag"),
+    ROW(LIST, "\2\0\0\0\1\0\6\0\377\377\377\377\4\0\10\0\377\377\377\377", "entry 2: the permissions are above 7"),
+    ROW(LIST, "\2\0\0\0\2\0\6\0\377\377\377\377", "entry 1: 4294967295 is no id"),
+    ROW(LIST, "\2\0\0\0\2\0\6\0\106\0\0\0", "entry 1: use of the id has been configured to fail"),
+    ROW(LIST, "\2\0\0\0\2\0\6\0\24\0\0\0\2\0\6\0\25\0\0\0", "entry 2: the id would become that of an earlier entry"),
     ROW(ROOT, "", "the value has no first word"),
     ROW(ROOT, "\0\0\0\4", "the revision is 4"),
     ROW(ROOT, "\0\0\0\2\0", "the length is not that of the revision"),
@@ -86,15 +89,17 @@ static const struct row {
     ROW(ROOT, "\0\0\0\2\0\0\0\0\0\0\0\0\0\0\0\0\0\0\0\0", "the revision has no id of root"),
 };
 
-/* Faults that none of these calls reports, or that are none, where three bytes were quoted. */
+/* Faults that none of these calls reports, or that are none, where these bytes were quoted: only two are text. */
+static const char any[] = "\xe9\xc3\xa9\xed\xa0\x80\xf0\x9f\x98";
 static const struct { const char *sentence; struct virtiofs_fault fault; } any_rows[] = {
 #define ANY(sentence, name, ...) { sentence, { .kind = VIRTIOFS_FAULT_##name, __VA_ARGS__ } }
     ANY("there is no fault", NONE, .place = 1),
     ANY("Out of memory", MEMORY, .place = 1),
     ANY("Out of memory", MEMORY, .part = VIRTIOFS_RULE),
-    ANY("specification 3: there is no such kind", KIND, .part = VIRTIOFS_SPECIFICATION, .place = 3),
+    ANY("specification 4: there is no such kind", KIND, .part = VIRTIOFS_SPECIFICATION, .place = 3),
     { "there is no such fault", { .kind = UINT32_MAX, .part = 99 } },
-    ANY("Invalid ID map prefix foo", PREFIX, .quoted = SIZE_MAX, .wanted = SIZE_MAX),
+    ANY("Invalid ID map prefix \\xe9\xc3\xa9\\xed\\xa0\\x80\\xf0\\x9f\\x98", PREFIX, .quoted = SIZE_MAX,
+        .wanted = SIZE_MAX),
     ANY("rule 18446744073709551615: Invalid ID map prefix ...", PREFIX, .part = VIRTIOFS_RULE, .place = SIZE_MAX,
         .wanted = 1),
     ANY("Host-to-guest mapping '' intersects previously added entry", INTERSECTS, .direction = 7, .spec.kind = 6),
@@ -146,16 +151,26 @@ static uint32_t refuse(const struct row *row, struct virtiofs_fault *fault, uint
     }
 }
 
-/* Sees a sentence in every room: as much of it is written as there is room for, and nothing else. */
+/* How many bytes of that room have whole characters of the sentence. */
+static size_t whole_in(const char *sentence, size_t room)
+{
+    while (room > 0 && (sentence[room] & 0xc0) == 0x80)
+        room--;
+    return room;
+}
+
+/* Sees a sentence in every room: the characters for which there is room are written, spaces behind them, and nothing
+   else. */
 static void see_sentence(struct virtiofs_fault fault, const void *quoted, size_t quoted_len, const char *sentence,
                          size_t wanted)
 {
     for (size_t room = 0; room <= wanted + 1; room++) {
-        size_t len = 77, written = room < wanted ? room : wanted;
+        size_t len = 77, written = room < wanted ? room : wanted, whole = whole_in(sentence, written);
         uint8_t *out = lent(outs, room);
         uint32_t code = virtiofs_fault_text(&fault, handed(given, quoted, quoted_len), quoted_len, out, room, &len);
         SEE_ROW(code == (room < wanted ? VIRTIOFS_NO_ROOM : VIRTIOFS_OK) && len == wanted, sentence);
-        SEE_ROW(is_kept(outs, room, written) && !memcmp(outs - room, sentence, written), sentence);
+        SEE_ROW(is_kept(outs, room, written) && !memcmp(outs - room, sentence, whole)
+                && !memcmp(outs - room + whole, "   ", written - whole), sentence);
     }
 }
 
@@ -179,7 +194,7 @@ int main(void)
         see_sentence(fault, quoted, sizeof quoted, rows[i].sentence, rows[i].len);
     }
     for (size_t i = 0; i < COUNT(any_rows); i++)
-        see_sentence(any_rows[i].fault, "foo", 3, any_rows[i].sentence, strlen(any_rows[i].sentence));
+        see_sentence(any_rows[i].fault, any, sizeof any - 1, any_rows[i].sentence, strlen(any_rows[i].sentence));
     for (size_t i = 0; i < COUNT(code_rows); i++) {
         const enum virtiofs_code code = (enum virtiofs_code)code_rows[i].code;
         SEE_ROW(virtiofs_code_errno(code) == code_rows[i].number

@@ -31,14 +31,14 @@ fn lists_are_refused() {
         ("ffffffff", AclError::Version { version: u32::MAX }, "the version is 4294967295", InvalidInput),
         ("02000000 010007", AclError::Length, "the last entry is cut", InvalidInput),
         (GUEST_LIST, AclError::Room { needed: 6 }, "there are 6 entries", InvalidInput),
-        ("02000000 0300070000000000", entry(0, EntryFault::UnknownTag), "entry 0: there is no such tag", InvalidInput),
+        ("02000000 0300070000000000", entry(0, EntryFault::UnknownTag), "entry 1: there is no such tag", InvalidInput),
         ("02000000 0100000000000000 0100080000000000", entry(1, EntryFault::Permission),
-            "entry 1: the permissions are above 7", InvalidInput),
-        ("02000000 02000700ffffffff", entry(0, EntryFault::NoId), "entry 0: 4294967295 is no id", InvalidInput),
+            "entry 2: the permissions are above 7", InvalidInput),
+        ("02000000 02000700ffffffff", entry(0, EntryFault::NoId), "entry 1: 4294967295 is no id", InvalidInput),
         ("02000000 0100070000000000 0200070070110100", entry(1, EntryFault::Forbidden),
-            "entry 1: use of the id has been configured to fail", PermissionDenied),
+            "entry 2: use of the id has been configured to fail", PermissionDenied),
         ("02000000 0200070080380100 0200070081380100", entry(1, EntryFault::Merges),
-            "entry 1: the id would become that of an earlier entry", PermissionDenied),
+            "entry 2: the id would become that of an earlier entry", PermissionDenied),
     ] {
         let mut value = bytes(text);
         let error = acl_to_host(&users(), &groups(), &mut value, &mut room()[..5]).unwrap_err();

@@ -179,9 +179,9 @@ CASES = ((Configuration("plain", (), (), ":prefix:all:posix_acl_:system.: :ok:al
          (Configuration("shifted", SHIFTED, SHIFTED), shifted))
 # Users, groups and rules that are refused, and what is said of them.
 REFUSED = ((["map:0:1000:10", "guest:5:2000:1"], [], None,
-            "specification 1: Guest-to-host mapping 'map [5, 6) to [2000, 2001)' intersects previously added entry"),
-           ([], ["maps:0:1000:10"], None, "translate_gid: specification 0: Invalid ID map prefix maps"),
-           ([], ["map:0:1000"], None, "specification 0: Invalid ID map length (expected 3 elements, got 2 elements)"),
+            "specification 2: Guest-to-host mapping 'map [5, 6) to [2000, 2001)' intersects previously added entry"),
+           ([], ["maps:0:1000:10"], None, "translate_gid: specification 1: Invalid ID map prefix maps"),
+           ([], ["map:0:1000"], None, "specification 1: Invalid ID map length (expected 3 elements, got 2 elements)"),
            ([], [], ":ok:all::: :ok:nobody:::", "rule 2: invalid scope 'nobody', expected one of: all, client, server"),
            ([], [], ":ok:all::", "xattrmap: rule 1: the rule is incomplete"),
            ([], [], OWN_NAMES, "posix_acl", f"posix_acl: the rules of xattrmap rename or hide {ACCESS}"),

@@ -1,17 +1,17 @@
 -- Names of access control lists that pass as others.
-use Rattle.std.proofs.Common.{List, ◌++◌, Result, Ok, Err, OnOk, refl}
+use Rattle.std.proofs.Common.{ℕ, List, ◌++◌, Result, Ok, Err, OnOk, refl}
 use Rattle.virtiofs_map.specs.Rule.{MappingRule}
-use Rattle.virtiofs_setup.proofs.ForCallers.{in_two}
+use Rattle.virtiofs_findings.proofs.ListLemmas.{in_two}
 use Rattle.virtiofs_findings.specs.AclNames.{FindsAclName, FindsAclNames}
-use Rattle.virtiofs_setup.specs.Lists.{Adds}
+use Rattle.virtiofs_findings.specs.Lists.{Adds}
 use Rattle.virtiofs_findings.specs.declared.finding.Finding.{Finding}
 use Rattle.virtiofs_findings.specs.declared.names.acl.AclName.TheVariants.{Access, Default}
 
 -- what is found of both names
-pub acl_found : {A V E : Type 0} (r : Result V E) (rules : List MappingRule) (a b c : List (Finding A))
-    → Adds (FindsAclName rules Access) a b → OnOk r (Adds (FindsAclName rules Default) b c)
-    → OnOk r (Adds (FindsAclNames rules) a c)
-acl_found (Ok x) rules a b c access default = record {
+pub acl_found : {A V E : Type 0} (r : Result V E) (number : ℕ) (rules : List MappingRule) (a b c : List (Finding A))
+    → Adds (FindsAclName number rules Access) a b → OnOk r (Adds (FindsAclName number rules Default) b c)
+    → OnOk r (Adds (FindsAclNames number rules) a c)
+acl_found (Ok x) number rules a b c access default = record {
   more = access.more ++ default.more;
   is = record {
     of_access = access.more;
@@ -22,4 +22,4 @@ acl_found (Ok x) rules a b c access default = record {
   };
   added = in_two a access.more default.more b c access.added default.added;
 }
-acl_found (Err e) rules a b c access default = tt
+acl_found (Err e) number rules a b c access default = tt

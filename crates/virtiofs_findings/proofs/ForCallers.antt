@@ -1,3 +1,3 @@
 -- What callers may cite of this crate's proofs. All the rest is private and may change.
--- what is found of guests
-pub use Rattle.virtiofs_findings.proofs.ReportLemmas.{audited_long}
+-- where something is refused
+pub use Rattle.virtiofs_findings.proofs.RefusalLemmas.{told_where_refused}

@@ -3,18 +3,17 @@ use Rattle.std.proofs.Common.{◌≡◌, ◌↔◌, inl, inr, ℕ, Bool, true, f
 use Rattle.std.proofs.Common.{Vec, Result, Ok, Err, IfOk, Option, Some, None, zero, suc, refl, sym, ap, subst, arith}
 use Rattle.std.proofs.lemmas.Bool.Decides.{nat_tests}
 use Rattle.std.specs.Bool.{◌==◌}
-use Rattle.std.specs.Prelude.{if◌then◌else◌}
+use Rattle.std.specs.Prelude.{if◌then◌else◌, IsSomeAnd}
 use Rattle.virtiofs_id_audit.specs.IdAudit.{GoesInto, Hold}
-use Rattle.virtiofs_map.specs.Mapping.{InRange, Covers, Becomes}
+use Rattle.virtiofs_map.specs.Mapping.{InRange, Covers, Becomes, EntryCovers, entry_of}
+use Rattle.virtiofs_map.specs.declared.soft_idmap.entry.Entry.{Entry}
 use Rattle.virtiofs_map.specs.declared.cmdline.IdMap.{IdMap}
-use Rattle.virtiofs_map.specs.declared.cmdline.IdMap.TheVariants.{Guest, Host, SquashGuest, SquashHost, Bidirectional}
-use Rattle.virtiofs_map.specs.declared.cmdline.IdMap.TheVariants.{ForbidGuest}
 use Rattle.virtiofs_id_audit.specs.declared.spans.Span.{Span}
 use Rattle.virtiofs_map.specs.declared.idmap.UidMap.{UidMap}
 use Rattle.virtiofs_map.specs.declared.soft_idmap.entry.Direction.TheVariants.{GuestToHost}
 use Rattle.virtiofs_findings.proofs.IdLemmas.{all_same}
 use Rattle.virtiofs_findings.specs.IdFindings.{FindsAll, TellsHost, IsKept, TellsKept, FindsKept}
-use Rattle.virtiofs_findings.specs.KeptParts.{cover_of, same_of, IsUncovered, IsSame}
+use Rattle.virtiofs_findings.specs.KeptParts.{cover_of, covered, same_of, IsUncovered, IsSame}
 use Rattle.virtiofs_id_audit.specs.Namespace.{Has, HasNone, StandsBy, StandsAmong, StandsFor}
 use Rattle.virtiofs_id_audit.specs.Outside.{AreMoved}
 use Rattle.virtiofs_findings.specs.declared.ids.found.IdsFound.{IdsFound}
@@ -39,12 +38,10 @@ made_of f (one ∷ xs) y (suc k, inside, here) =
 -- ---- ids that no specification covers
 
 covers_as : (spec : IdMap) (id : ℕ) → Covers spec GuestToHost id ↔ Has (cover_of spec) id
-covers_as (Guest from to count) id = ((λ is. is), (λ is. is))
-covers_as (Host from to count) id = ((λ is. absurd is), (λ is. absurd (omega (arith, is.0, is.1))))
-covers_as (SquashGuest from to count) id = ((λ is. is), (λ is. is))
-covers_as (SquashHost from to count) id = ((λ is. absurd is), (λ is. absurd (omega (arith, is.0, is.1))))
-covers_as (Bidirectional guest host count) id = ((λ is. is), (λ is. is))
-covers_as (ForbidGuest from count) id = ((λ is. is), (λ is. is))
+covers_as spec id = by (entry_of spec GuestToHost) where
+  by : (entry : Option Entry) → IsSomeAnd entry (λ it. EntryCovers it id) ↔ Has (covered entry) id
+  by None = ((λ is. absurd is), (λ is. absurd (omega (arith, is.0, is.1))))
+  by (Some entry) = ((λ is. is), (λ is. is))
 
 none_covers : (specs : List IdMap) (covers : List UidMap) (id : ℕ) → covers ≡ map cover_of specs
     → HasNone covers id ↔ IsUncovered specs id

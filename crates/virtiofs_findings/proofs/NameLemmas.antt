@@ -9,14 +9,14 @@ use Rattle.virtiofs_map.specs.Names.{fits, first}
 use Rattle.virtiofs_map.specs.Rule.{MappingRule}
 use Rattle.virtiofs_map.specs.declared.xattrmap.scopes.Side.{Side}
 use Rattle.std.specs.List.{position_or_len}
-use Rattle.virtiofs_setup.specs.Lists.{Adds, AreRising}
-use Rattle.virtiofs_setup.proofs.ForCallers.{in_three, in_four}
-use Rattle.virtiofs_findings.specs.NameFindings.{DecidesWritten, FindsIdle, FindsLeast, FindsNames, FindsUnruled}
-use Rattle.virtiofs_findings.specs.PairFindings.{FindsNamesBetween}
-use Rattle.virtiofs_setup.specs.declared.setup.NamesSetUp.{NamesSetUp}
+use Rattle.virtiofs_findings.specs.Lists.{Adds, AreRising}
+use Rattle.virtiofs_findings.proofs.ListLemmas.{in_three, in_four}
+use Rattle.virtiofs_findings.specs.NameFindings.{DecidesWritten, FindsIdle, FindsLeast, FindsNames, FindsUnruled, idle_rule, name_found}
+use Rattle.virtiofs_findings.specs.PairFindings.{FindsNamesBetween, pair_name_found}
+use Rattle.virtiofs_findings.specs.declared.setup.NamesSetUp.{NamesSetUp}
 use Rattle.virtiofs_findings.specs.NameParts.{DecidesFrom}
 use Rattle.virtiofs_findings.specs.declared.finding.Finding.{Finding}
-use Rattle.virtiofs_findings.specs.declared.finding.Finding.TheVariants.{IdleRule, NotListed, ListedElsewhere, ShownToOther, NameOfBoth}
+use Rattle.virtiofs_findings.specs.declared.finding.Kind.TheVariants.{NotListed, ListedElsewhere, ShownToOther, NameOfBoth}
 
 -- ---- rules that decide no name
 
@@ -63,21 +63,21 @@ rising_push (n ∷ ns) i (above, rising) below = (
 )
 
 -- these are the findings of the places below that one of the written rules that decide no name
-pub record FindsIdleBelow {A : Type 0} (rules : List MappingRule) (written below : ℕ) (found : List (Finding A)) : Type
+pub record FindsIdleBelow {A : Type 0} (number : ℕ) (rules : List MappingRule) (written below : ℕ) (found : List (Finding A)) : Type
     0 where
   pub places : List ℕ
   pub idle : AreIdleBelow rules written below places
   pub order : AreRising places
-  pub are : found ≡ map IdleRule places
+  pub are : found ≡ map (idle_rule number) places
 
-pub idle_none : {A : Type 0} (rules : List MappingRule) (written : ℕ) → FindsIdleBelow {A = A} rules written 0 []
-idle_none rules written = record { places = []; idle = none_idle rules written; order = tt; are = refl }
+pub idle_none : {A : Type 0} (number : ℕ) (rules : List MappingRule) (written : ℕ) → FindsIdleBelow {A = A} number rules written 0 []
+idle_none number rules written = record { places = []; idle = none_idle rules written; order = tt; are = refl }
 
 -- the rule at the next place decides a name
-pub idle_goes_on : {A : Type 0} (rules : List MappingRule) (written i : ℕ) (before after : List (Finding A))
-    → Adds (FindsIdleBelow rules written i) before after → DecidesWritten rules written i
-    → Adds (FindsIdleBelow rules written (i + 1)) before after
-idle_goes_on rules written i before after so_far decides = record {
+pub idle_goes_on : {A : Type 0} (number : ℕ) (rules : List MappingRule) (written i : ℕ) (before after : List (Finding A))
+    → Adds (FindsIdleBelow number rules written i) before after → DecidesWritten rules written i
+    → Adds (FindsIdleBelow number rules written (i + 1)) before after
+idle_goes_on number rules written i before after so_far decides = record {
   more = so_far.more;
   is = record {
     places = so_far.is.places;
@@ -89,26 +89,26 @@ idle_goes_on rules written i before after so_far decides = record {
 }
 
 -- the rule at the next place decides none
-pub idle_grows : {A : Type 0} (rules : List MappingRule) (written i : ℕ) (before after next : List (Finding A))
-    → Adds (FindsIdleBelow rules written i) before after → (¬ DecidesWritten rules written i)
-    → next ≡ after ++ IdleRule i ∷ [] → Adds (FindsIdleBelow rules written (i + 1)) before next
-idle_grows rules written i before after next so_far none pushed = record {
-  more = so_far.more ++ IdleRule i ∷ [];
+pub idle_grows : {A : Type 0} (number : ℕ) (rules : List MappingRule) (written i : ℕ) (before after next : List (Finding A))
+    → Adds (FindsIdleBelow number rules written i) before after → (¬ DecidesWritten rules written i)
+    → next ≡ after ++ idle_rule number i ∷ [] → Adds (FindsIdleBelow number rules written (i + 1)) before next
+idle_grows number rules written i before after next so_far none pushed = record {
+  more = so_far.more ++ idle_rule number i ∷ [];
   is = record {
     places = so_far.is.places ++ i ∷ [];
     idle = idle_pushed rules written i so_far.is.places _ so_far.is.idle none refl;
     order = rising_push so_far.is.places i so_far.is.order (λ n has. ((so_far.is.idle n).0 has).0);
-    are = ap (λ found. found ++ IdleRule i ∷ []) so_far.is.are ∙ sym (map-append IdleRule so_far.is.places (i ∷ []));
+    are = ap (λ found. found ++ idle_rule number i ∷ []) so_far.is.are ∙ sym (map-append (idle_rule number) so_far.is.places (i ∷ []));
   };
   added =
-      pushed ∙ ap (λ found. found ++ IdleRule i ∷ []) so_far.added ∙ append_assoc before so_far.more (IdleRule i ∷ []);
+      pushed ∙ ap (λ found. found ++ idle_rule number i ∷ []) so_far.added ∙ append_assoc before so_far.more (idle_rule number i ∷ []);
 }
 
 -- all rules were asked
-pub idle_all : {A : Type 0} (rules : List MappingRule) (written i : ℕ) (before after : List (Finding A))
-    → ¬ (i < written) → i ≤ written → Adds (FindsIdleBelow rules written i) before after
-    → Adds (FindsIdle rules written) before after
-idle_all rules written i before after over within so_far = record {
+pub idle_all : {A : Type 0} (number : ℕ) (rules : List MappingRule) (written i : ℕ) (before after : List (Finding A))
+    → ¬ (i < written) → i ≤ written → Adds (FindsIdleBelow number rules written i) before after
+    → Adds (FindsIdle number rules written) before after
+idle_all number rules written i before after over within so_far = record {
   more = so_far.more;
   is = record {
     places = so_far.is.places;
@@ -153,12 +153,12 @@ from_one rules written place not_last = (
 -- ---- the parts of what is found
 
 -- what is found of names, part by part
-pub names_found : {A V E : Type 0} (r : Result V E) (rules : List MappingRule) (written : ℕ)
+pub names_found : {A V E : Type 0} (r : Result V E) (number : ℕ) (rules : List MappingRule) (written : ℕ)
     (a b c d e : List (Finding A))
-    → Adds (FindsUnruled rules) a b → Adds (FindsLeast NotListed (IsLost rules)) b c
-    → Adds (FindsLeast ListedElsewhere (IsStray rules)) c d → OnOk r (Adds (FindsIdle rules written) d e)
-    → OnOk r (Adds (FindsNames rules written) a e)
-names_found (Ok x) rules written a b c d e unruled lost stray idle = record {
+    → Adds (FindsUnruled number rules) a b → Adds (FindsLeast (name_found number NotListed) (IsLost rules)) b c
+    → Adds (FindsLeast (name_found number ListedElsewhere) (IsStray rules)) c d → OnOk r (Adds (FindsIdle number rules written) d e)
+    → OnOk r (Adds (FindsNames number rules written) a e)
+names_found (Ok x) number rules written a b c d e unruled lost stray idle = record {
   more = unruled.more ++ lost.more ++ stray.more ++ idle.more;
   is = record {
     of_unruled = unruled.more;
@@ -173,14 +173,14 @@ names_found (Ok x) rules written a b c d e unruled lost stray idle = record {
   };
   added = in_four a unruled.more lost.more stray.more idle.more b c d e unruled.added lost.added stray.added idle.added;
 }
-names_found (Err f) rules written a b c d e unruled lost stray idle = tt
+names_found (Err f) number rules written a b c d e unruled lost stray idle = tt
 
 -- what is found of the names of two guests, part by part
 pub between_found : {A V E : Type 0} (r : Result V E) (number number_2 : ℕ) (one other : NamesSetUp A)
     (a b c d : List (Finding A))
-    → Adds (FindsLeast (ShownToOther number number_2) (IsSeen one.map other.map)) a b
-    → Adds (FindsLeast (ShownToOther number_2 number) (IsSeen other.map one.map)) b c
-    → OnOk r (Adds (FindsLeast (NameOfBoth number number_2) (IsShared one.map other.map)) c d)
+    → Adds (FindsLeast (pair_name_found number number_2 ShownToOther) (IsSeen one.map other.map)) a b
+    → Adds (FindsLeast (pair_name_found number_2 number ShownToOther) (IsSeen other.map one.map)) b c
+    → OnOk r (Adds (FindsLeast (pair_name_found number number_2 NameOfBoth) (IsShared one.map other.map)) c d)
     → OnOk r (Adds (FindsNamesBetween number number_2 one other) a d)
 between_found (Ok x) number number_2 one other a b c d seen back shared = record {
   more = seen.more ++ back.more ++ shared.more;

@@ -3,12 +3,14 @@ use Rattle.std.specs.Prelude.{◌≡◌, ◌≢◌, ℕ, Bool, true, false, List
 use Rattle.std.specs.declared.vec.Vec.{Vec}
 use Rattle.virtiofs_map.specs.Names.{Passes, client_answer}
 use Rattle.virtiofs_map.specs.Rule.{MappingRule}
-use Rattle.virtiofs_setup.specs.Lists.{listed}
+use Rattle.virtiofs_findings.specs.Lists.{listed}
 use Rattle.virtiofs_findings.specs.declared.finding.Finding.{Finding}
-use Rattle.virtiofs_findings.specs.declared.finding.Finding.TheVariants.{AclRenamed}
+use Rattle.virtiofs_findings.specs.Findings.{of_guest}
+use Rattle.virtiofs_findings.specs.declared.finding.Evidence.TheVariants.{Renamed}
+use Rattle.virtiofs_findings.specs.declared.finding.Kind.TheVariants.{AclRenamed}
 use Rattle.virtiofs_findings.specs.declared.names.acl.AclName.{AclName}
 use Rattle.virtiofs_findings.specs.declared.names.acl.AclName.TheVariants.{Access, Default}
-use Rattle.virtiofs_setup.specs.declared.setup.NamesSetUp.{NamesSetUp}
+use Rattle.virtiofs_findings.specs.declared.setup.NamesSetUp.{NamesSetUp}
 
 -- the names that Linux takes for access control lists: of a file, and of what is made in a directory
 abbrev pub acl_bytes : AclName → List ℕ
@@ -26,20 +28,20 @@ FindsRenamed rules name None = (host : List ℕ) → ¬ IsRenamed rules name hos
 FindsRenamed rules name (Some host) = IsRenamed rules name host.items
 
 -- what is found of one of the names
-abbrev pub FindsAclName : {A : Type 0} → List MappingRule → AclName → List (Finding A) → Type 0
-FindsAclName {A} rules name found =
-    (host : Option (Vec ℕ A)) × FindsRenamed rules (acl_bytes name) host × (found ≡ listed (AclRenamed name) host)
+abbrev pub FindsAclName : {A : Type 0} → ℕ → List MappingRule → AclName → List (Finding A) → Type 0
+FindsAclName {A} number rules name found =
+    (host : Option (Vec ℕ A)) × FindsRenamed rules (acl_bytes name) host × (found ≡ listed (λ it. of_guest number AclRenamed (Renamed name it)) host)
 
 -- what is found of both
-pub record FindsAclNames {A : Type 0} (rules : List MappingRule) (found : List (Finding A)) : Type 0 where
+pub record FindsAclNames {A : Type 0} (number : ℕ) (rules : List MappingRule) (found : List (Finding A)) : Type 0 where
   pub of_access : List (Finding A)
   pub of_default : List (Finding A)
-  pub access : FindsAclName rules Access of_access
-  pub default : FindsAclName rules Default of_default
+  pub access : FindsAclName number rules Access of_access
+  pub default : FindsAclName number rules Default of_default
   pub whole : found ≡ of_access ++ of_default
 
 -- what is found of both, if access control lists are on and there are rules
-abbrev pub FindsAcl : {A : Type 0} → Bool → Option (NamesSetUp A) → List (Finding A) → Type 0
-FindsAcl true (Some set) found = FindsAclNames set.map found
-FindsAcl true None found = found ≡ []
-FindsAcl false set found = found ≡ []
+abbrev pub FindsAcl : {A : Type 0} → ℕ → Bool → Option (NamesSetUp A) → List (Finding A) → Type 0
+FindsAcl number true (Some set) found = FindsAclNames number set.map found
+FindsAcl number true None found = found ≡ []
+FindsAcl number false set found = found ≡ []

@@ -4,7 +4,7 @@ use Rattle.virtiofs_id_audit.specs.IdAudit.{IsLeastId, GoesTo, WanderTo, IsAstra
 use Rattle.virtiofs_map.specs.declared.cmdline.IdMap.{IdMap}
 use Rattle.virtiofs_map.specs.declared.soft_idmap.entry.Direction.TheVariants.{GuestToHost}
 use Rattle.virtiofs_map.specs.declared.idmap.UidMap.{UidMap}
-use Rattle.virtiofs_setup.specs.Covers.{CoversNone}
+use Rattle.virtiofs_findings.specs.Covers.{CoversNone}
 use Rattle.virtiofs_id_audit.specs.Namespace.{IsLacking, IsRoot, StandsFor}
 use Rattle.virtiofs_findings.specs.declared.ids.found.IdsFound.{IdsFound}
 use Rattle.virtiofs_findings.specs.declared.ids.found.IdFindings.{IdFindings}

@@ -1,17 +1,21 @@
 -- What is found between two guests of one directory, which have these numbers.
-use Rattle.std.specs.Prelude.{◌≡◌, ℕ, List, [], ◌++◌, Option, Some, None}
+use Rattle.std.specs.Prelude.{◌≡◌, ℕ, false, List, [], ◌++◌, Option, Some, None}
 use Rattle.virtiofs_map.specs.Audit.{IsSeen, IsShared}
 use Rattle.virtiofs_findings.specs.IdFindings.{FindsMeeting}
-use Rattle.virtiofs_setup.specs.Lists.{listed}
+use Rattle.virtiofs_findings.specs.Lists.{listed}
 use Rattle.virtiofs_findings.specs.NameFindings.{FindsLeast}
 use Rattle.virtiofs_findings.specs.declared.finding.Finding.{Finding}
-use Rattle.virtiofs_findings.specs.declared.finding.Finding.TheVariants.{IdsOfBoth, ShownToOther, NameOfBoth}
+use Rattle.virtiofs_findings.specs.Findings.{of_pair}
+use Rattle.virtiofs_findings.specs.declared.finding.Evidence.TheVariants.{Ids, Name}
+use Rattle.virtiofs_findings.specs.declared.finding.Kind.{Kind}
+use Rattle.virtiofs_findings.specs.declared.names.found.LeastName.{LeastName}
+use Rattle.virtiofs_findings.specs.declared.finding.Kind.TheVariants.{IdOfBoth, ShownToOther, NameOfBoth}
 use Rattle.virtiofs_findings.specs.declared.ids.found.IdsFound.{IdsFound}
-use Rattle.virtiofs_setup.specs.declared.ids.kind.IdKind.{IdKind}
-use Rattle.virtiofs_setup.specs.declared.ids.kind.IdKind.TheVariants.{Users, Groups}
-use Rattle.virtiofs_setup.specs.declared.setup.IdSetUp.{IdSetUp}
-use Rattle.virtiofs_setup.specs.declared.setup.NamesSetUp.{NamesSetUp}
-use Rattle.virtiofs_setup.specs.declared.setup.SetUp.{SetUp}
+use Rattle.virtiofs_findings.specs.declared.ids.kind.IdKind.{IdKind}
+use Rattle.virtiofs_findings.specs.declared.ids.kind.IdKind.TheVariants.{Users, Groups}
+use Rattle.virtiofs_findings.specs.declared.setup.IdSetUp.{IdSetUp}
+use Rattle.virtiofs_findings.specs.declared.setup.NamesSetUp.{NamesSetUp}
+use Rattle.virtiofs_findings.specs.declared.setup.SetUp.{SetUp}
 
 -- what is found where both are there; nothing where one of the two is not
 abbrev pub FindsBoth : {R F : Type 0} → (R → R → List F → Type 0) → Option R → Option R → List F → Type 0
@@ -23,7 +27,11 @@ FindsBoth Finds (Some one) (Some other) found = Finds one other found
 abbrev pub FindsIdsOfBoth : {A : Type 0} → ℕ → ℕ → IdKind → IdSetUp A → IdSetUp A → List (Finding A) → Type 0
 FindsIdsOfBoth {A} number number_2 kind one other found =
     (met : Option (IdsFound A)) × FindsMeeting one.map one.ranges.items other.map other.ranges.items met
-    × (found ≡ listed (IdsOfBoth number number_2 kind) met)
+    × (found ≡ listed (λ it. of_pair number number_2 IdOfBoth (Ids kind false it)) met)
+
+-- that names are found, the least of which is told
+abbrev pub pair_name_found : {A : Type 0} → ℕ → ℕ → Kind → LeastName A → Finding A
+pair_name_found first second kind it = of_pair first second kind (Name it)
 
 -- names of each that lists of the other show, and names that lead to one name of the host
 pub record FindsNamesBetween {A : Type 0} (number number_2 : ℕ) (one other : NamesSetUp A)
@@ -31,9 +39,9 @@ pub record FindsNamesBetween {A : Type 0} (number number_2 : ℕ) (one other : N
   pub of_seen : List (Finding A)
   pub of_seen_back : List (Finding A)
   pub of_shared : List (Finding A)
-  pub seen : FindsLeast (ShownToOther number number_2) (IsSeen one.map other.map) of_seen
-  pub seen_back : FindsLeast (ShownToOther number_2 number) (IsSeen other.map one.map) of_seen_back
-  pub shared : FindsLeast (NameOfBoth number number_2) (IsShared one.map other.map) of_shared
+  pub seen : FindsLeast (pair_name_found number number_2 ShownToOther) (IsSeen one.map other.map) of_seen
+  pub seen_back : FindsLeast (pair_name_found number_2 number ShownToOther) (IsSeen other.map one.map) of_seen_back
+  pub shared : FindsLeast (pair_name_found number number_2 NameOfBoth) (IsShared one.map other.map) of_shared
   pub whole : found ≡ of_seen ++ of_seen_back ++ of_shared
 
 -- what is found between two guests, in order

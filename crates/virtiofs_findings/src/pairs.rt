@@ -1,148 +1,163 @@
 //! What is found between two guests of one directory.
-ghost use Rattle.std.specs.Prelude.{IfOk, OnOk};
-ghost use Rattle.virtiofs_map.specs.Audit.{IsSeen, IsShared};
-ghost use Rattle.virtiofs_setup.specs.Lists.{Adds};
+ghost use Rattle.std.specs.Prelude.{◌≡◌, ◌++◌, ◌∷◌, [], OnOk};
+ghost use Rattle.virtiofs_findings.specs.Findings.{of_pair};
+ghost use Rattle.virtiofs_findings.specs.Lists.{Adds};
 ghost use Rattle.virtiofs_findings.specs.NameFindings.{FindsLeast};
-ghost use Rattle.virtiofs_findings.specs.PairFindings.{FindsPair, FindsBoth, FindsIdsOfBoth, FindsNamesBetween};
+ghost use Rattle.virtiofs_findings.specs.NameParts.{HasFault};
+ghost use Rattle.virtiofs_findings.specs.PairFindings.{FindsPair, FindsBoth, FindsIdsOfBoth, FindsNamesBetween, pair_name_found};
 
-use crate::finding::Finding;
+use crate::finding::{About, Evidence, Finding, Kind};
+use crate::ids::kind::IdKind;
 use crate::ids::meeting::meeting_of;
 use crate::names::audits::least_name;
 use crate::names::found::NameFault;
+use crate::setup::{IdSetUp, NamesSetUp, SetUp};
 use std::alloc::{AllocError, Allocator};
 use virtiofs_map::xattrmap::XattrMap;
-use virtiofs_setup::ids::kind::IdKind;
-use virtiofs_setup::setup::{IdSetUp, NamesSetUp, SetUp};
 
-/// The numbers of two guests, counted from 1.
-#[derive(Clone, Copy)]
-pub(crate) struct Numbers {
-    /// The number of the first.
-    pub(crate) first: usize,
-    /// The number of the second.
-    pub(crate) second: usize,
+/// Adds the finding of that kind about the two guests of these numbers.
+fn push_of_pair<A: Allocator>(
+    found: &mut Vec<Finding<A>, A>,
+    first: usize,
+    second: usize,
+    kind: Kind,
+    evidence: Evidence<A>,
+) -> Result<(), AllocError>
+    ensures { OnOk result
+        (found.new.items ≡ found.old.items ++ of_pair first second kind evidence ∷ []) }
+{
+    let about = About::Pair(first, second);
+    found.push(Finding {
+        about,
+        kind,
+        evidence,
+    })?;
+    Ok(())
 }
 
-/// Adds the ids of the first guest that are ids of the host which the second reaches too. Guests of which a text is refused are not compared.
+/// Adds the ids of the first guest that are ids of the host which the second reaches too. Guests of
+/// which a text is refused are not compared.
 fn push_meeting<A: Allocator + Copy>(
     alloc: A,
     found: &mut Vec<Finding<A>, A>,
-    numbers: Numbers,
+    first: usize,
+    second: usize,
     kind: IdKind,
     one: &Option<IdSetUp<A>>,
     other: &Option<IdSetUp<A>>,
 ) -> Result<(), AllocError>
     ensures { OnOk result (Adds
-        (FindsBoth (FindsIdsOfBoth numbers.first numbers.second kind) one.now other.now)
+        (FindsBoth (FindsIdsOfBoth first second kind) one.now other.now)
         found.old.items found.new.items) }
 {
     let (Some(one), Some(other)) = (one, other) else {
         return Ok(());
     };
-    if let Some(ids) = meeting_of(alloc, one, other)? {
-        found.push(Finding::IdsOfBoth {
-            first: numbers.first,
-            second: numbers.second,
-            kind,
-            found: ids,
-        })?;
-    }
-    Ok(())
+    let Some(ids) = meeting_of(alloc, one, other)? else {
+        return Ok(());
+    };
+    let evidence = Evidence::Ids {
+        ids: kind,
+        in_namespace: false,
+        found: ids,
+    };
+    push_of_pair(found, first, second, Kind::IdOfBoth, evidence)
 }
 
-/// Adds the least name that one guest sets and that lists of the other show, if there is one.
-fn push_seen<A: Allocator + Copy>(
+/// Adds the least name of one guest that has this fault beside the rules of the other, if there is
+/// one.
+fn push_name<A: Allocator + Copy>(
     alloc: A,
     found: &mut Vec<Finding<A>, A>,
-    setter: usize,
-    lister: usize,
+    first: usize,
+    second: usize,
+    kind: Kind,
+    fault: NameFault,
     rules: &XattrMap<A>,
     others: &XattrMap<A>,
 ) -> Result<(), AllocError>
     ensures { OnOk result (Adds
-        (FindsLeast (Finding.ShownToOther setter lister) (IsSeen rules.now others.now))
+        (FindsLeast (pair_name_found first second kind) (HasFault fault rules.now others.now))
         found.old.items found.new.items) }
 {
-    if let Some(least) = least_name(alloc, NameFault::Seen, rules, others)? {
-        found.push(Finding::ShownToOther {
-            setter,
-            lister,
-            least,
-        })?;
-    }
-    Ok(())
-}
-
-/// Adds the least name of one guest that leads where some name of the other leads, if there is one.
-fn push_shared<A: Allocator + Copy>(
-    alloc: A,
-    found: &mut Vec<Finding<A>, A>,
-    numbers: Numbers,
-    rules: &XattrMap<A>,
-    others: &XattrMap<A>,
-) -> Result<(), AllocError>
-    ensures { OnOk result (Adds
-        (FindsLeast (Finding.NameOfBoth numbers.first numbers.second) (IsShared rules.now others.now))
-        found.old.items found.new.items) }
-{
-    if let Some(least) = least_name(alloc, NameFault::Shared, rules, others)? {
-        found.push(Finding::NameOfBoth {
-            first: numbers.first,
-            second: numbers.second,
-            least,
-        })?;
-    }
-    Ok(())
+    let Some(least) = least_name(alloc, fault, rules, others)? else {
+        return Ok(());
+    };
+    push_of_pair(found, first, second, kind, Evidence::Name(least))
 }
 
 /// Adds what is found of the names of two guests, where both have rules.
 fn push_names<A: Allocator + Copy>(
     alloc: A,
     found: &mut Vec<Finding<A>, A>,
-    numbers: Numbers,
+    first: usize,
+    second: usize,
     one: &Option<NamesSetUp<A>>,
     other: &Option<NamesSetUp<A>>,
 ) -> Result<(), AllocError>
     ensures { OnOk result (Adds
-        (FindsBoth (FindsNamesBetween numbers.first numbers.second) one.now other.now)
+        (FindsBoth (FindsNamesBetween first second) one.now other.now)
         found.old.items found.new.items) }
 {
     let (Some(one), Some(other)) = (one, other) else {
         return Ok(());
     };
-    let Numbers { first, second } = numbers;
-    push_seen(alloc, found, first, second, &one.map, &other.map)?;
-    push_seen(alloc, found, second, first, &other.map, &one.map)?;
-    push_shared(alloc, found, numbers, &one.map, &other.map)
+    let (one, other) = (&one.map, &other.map);
+    let (shown, shared) = (Kind::ShownToOther, Kind::NameOfBoth);
+    push_name(
+        alloc,
+        found,
+        first,
+        second,
+        shown,
+        NameFault::Seen,
+        one,
+        other,
+    )?;
+    push_name(
+        alloc,
+        found,
+        second,
+        first,
+        shown,
+        NameFault::Seen,
+        other,
+        one,
+    )?;
+    push_name(
+        alloc,
+        found,
+        first,
+        second,
+        shared,
+        NameFault::Shared,
+        one,
+        other,
+    )
 }
 
-/// What is found between two guests, in order.
-pub(crate) fn audit_pair<A: Allocator + Copy>(
+/// Adds what is found between the two guests of these numbers, in order.
+pub(crate) fn push_pair<A: Allocator + Copy>(
     alloc: A,
-    numbers: Numbers,
+    found: &mut Vec<Finding<A>, A>,
+    first: usize,
+    second: usize,
     one: &SetUp<A>,
     other: &SetUp<A>,
-) -> Result<Vec<Finding<A>, A>, AllocError>
-    ensures { IfOk result (λ found.
-        FindsPair numbers.first numbers.second one.now other.now found.items) }
+) -> Result<(), AllocError>
+    ensures { OnOk result
+        (Adds (FindsPair first second one.now other.now) found.old.items found.new.items) }
 {
-    let mut found = Vec::new(alloc);
+    let (users, groups) = (IdKind::Users, IdKind::Groups);
+    push_meeting(alloc, found, first, second, users, &one.users, &other.users)?;
     push_meeting(
         alloc,
-        &mut found,
-        numbers,
-        IdKind::Users,
-        &one.users,
-        &other.users,
-    )?;
-    push_meeting(
-        alloc,
-        &mut found,
-        numbers,
-        IdKind::Groups,
+        found,
+        first,
+        second,
+        groups,
         &one.groups,
         &other.groups,
     )?;
-    push_names(alloc, &mut found, numbers, &one.names, &other.names)?;
-    Ok(found)
+    push_names(alloc, found, first, second, &one.names, &other.names)
 }

@@ -1,85 +1,90 @@
 //! What is found of one guest by itself.
-ghost use Rattle.std.specs.Prelude.{◌≡◌, ◌↔◌, ◌≢◌, ◌++◌, [], IsTrue, OnOk, IfOk};
+ghost use Rattle.std.specs.Prelude.{◌≡◌, ◌↔◌, ◌≢◌, ◌++◌, ◌∷◌, [], IsTrue, OnOk, IfOk};
 ghost use Rattle.virtiofs_findings.specs.AclNames.{FindsAcl};
-ghost use Rattle.virtiofs_setup.specs.Lists.{listed, if_so, Adds};
-ghost use Rattle.virtiofs_findings.specs.Report.{ids_found, root_found, FindsKind, FindsRootOf, FindsRoot, FindsNamesOf, FindsIf, FindsGuest};
+ghost use Rattle.virtiofs_findings.specs.Findings.{of_guest};
+ghost use Rattle.virtiofs_findings.specs.Lists.{if_so, listed, Adds};
+ghost use Rattle.virtiofs_findings.specs.Report.{range_found, other_found, ids_found, root_found, FindsKind, FindsRootOf, FindsRoot, FindsNamesOf, FindsIf, FindsGuest, start_found};
 
-use crate::finding::Finding;
+use crate::finding::{About, Evidence, Finding, Kind};
 use crate::ids::audits::{acting_as_root, audit_ids};
-use crate::ids::found::{IdFault, IdFindings, IdsFound};
+use crate::ids::found::{IdFindings, IdsFound};
 use crate::ids::kept::kept_ids;
+use crate::ids::kind::IdKind;
+use crate::ids::ranges::RangeFound;
 use crate::names::acl::push_acl_names;
 use crate::names::audits::push_names;
+use crate::setup::{IdSetUp, NamesSetUp, NoStart, SetUp};
 use std::alloc::{AllocError, Allocator};
 use virtiofs_map::idmap::UidMap;
-use virtiofs_setup::ids::kind::IdKind;
-use virtiofs_setup::ids::ranges::RangeFound;
-use virtiofs_setup::setup::{IdSetUp, NamesSetUp, SetUp};
 
-/// Adds what is wrong with ids, if something is.
-fn push_fault<A: Allocator>(
+/// Adds the finding of that kind about the guest of that number.
+pub(crate) fn push_of_guest<A: Allocator>(
     found: &mut Vec<Finding<A>, A>,
-    kind: IdKind,
-    in_namespace: bool,
-    fault: IdFault,
-    ids: Option<IdsFound<A>>,
+    number: usize,
+    kind: Kind,
+    evidence: Evidence<A>,
 ) -> Result<(), AllocError>
-    ensures { OnOk result (found.new.items
-        ≡ found.old.items ++ listed (Finding.Ids kind in_namespace fault) ids) }
+    ensures { OnOk result
+        (found.new.items ≡ found.old.items ++ of_guest number kind evidence ∷ []) }
 {
-    let Some(ids) = ids else {
-        return Ok(());
-    };
-    found.push(Finding::Ids {
+    let about = About::Guest(number);
+    found.push(Finding {
+        about,
         kind,
-        in_namespace,
-        fault,
-        found: ids,
+        evidence,
     })?;
     Ok(())
 }
 
-/// Adds what is wrong with ids of one kind.
+/// Adds ids of one kind of which that is wrong, if there are any.
 fn push_ids<A: Allocator>(
     found: &mut Vec<Finding<A>, A>,
+    number: usize,
     kind: IdKind,
     in_namespace: bool,
-    ids: IdFindings<A>,
+    what: Kind,
+    ids: Option<IdsFound<A>>,
 ) -> Result<(), AllocError>
     ensures { OnOk result (found.new.items
-        ≡ found.old.items ++ ids_found kind in_namespace ids) }
+        ≡ found.old.items ++ ids_found number kind in_namespace what ids) }
 {
-    let IdFindings { astray, lacking } = ids;
-    push_fault(found, kind, in_namespace, IdFault::NotBack, astray)?;
-    push_fault(found, kind, in_namespace, IdFault::Lacking, lacking)
+    let Some(ids) = ids else {
+        return Ok(());
+    };
+    let evidence = Evidence::Ids {
+        ids: kind,
+        in_namespace,
+        found: ids,
+    };
+    push_of_guest(found, number, what, evidence)
 }
 
 /// Adds the first range of the namespace that is at fault, if one is.
 fn push_range<A: Allocator>(
     found: &mut Vec<Finding<A>, A>,
+    number: usize,
     kind: IdKind,
     range: Option<RangeFound>,
 ) -> Result<(), AllocError>
-    ensures { OnOk result (found.new.items ≡ found.old.items ++ listed (Finding.Range kind) range) }
+    ensures { OnOk result (found.new.items ≡ found.old.items ++ range_found number kind range) }
 {
     let Some(range) = range else {
         return Ok(());
     };
-    found.push(Finding::Range { kind, range })?;
-    Ok(())
+    push_of_guest(found, number, Kind::Range, Evidence::Range(kind, range))
 }
 
 /// Adds that the kernel shows other ranges than those of the options, if so.
 fn push_other<A: Allocator>(
     found: &mut Vec<Finding<A>, A>,
+    number: usize,
     kind: IdKind,
     differs: bool,
 ) -> Result<(), AllocError>
-    ensures { OnOk result (found.new.items
-        ≡ found.old.items ++ if_so differs (Finding.OtherRanges kind)) }
+    ensures { OnOk result (found.new.items ≡ found.old.items ++ other_found number kind differs) }
 {
     if differs {
-        found.push(Finding::OtherRanges(kind))?;
+        return push_of_guest(found, number, Kind::OtherRanges, Evidence::OfIds(kind));
     }
     Ok(())
 }
@@ -89,19 +94,22 @@ fn push_kind<A: Allocator + Copy>(
     alloc: A,
     isolated: bool,
     found: &mut Vec<Finding<A>, A>,
+    number: usize,
     kind: IdKind,
     set: &IdSetUp<A>,
 ) -> Result<(), AllocError>
-    ensures { OnOk result (Adds (FindsKind isolated kind set.now) found.old.items found.new.items) }
+    ensures { OnOk result
+        (Adds (FindsKind isolated number kind set.now) found.old.items found.new.items) }
 {
     let ranges = set.ranges.as_slice();
-    let ids = audit_ids(alloc, &set.map, ranges)?;
+    let IdFindings { astray, lacking } = audit_ids(alloc, &set.map, ranges)?;
     let kept = kept_ids(alloc, isolated, set)?;
-    let in_namespace = has_some(ranges);
-    push_range(found, kind, set.fault)?;
-    push_other(found, kind, set.differs)?;
-    push_ids(found, kind, in_namespace, ids)?;
-    push_fault(found, kind, in_namespace, IdFault::Kept, kept)
+    let inside = has_some(ranges);
+    push_range(found, number, kind, set.fault)?;
+    push_other(found, number, kind, set.differs)?;
+    push_ids(found, number, kind, inside, Kind::NotBack, astray)?;
+    push_ids(found, number, kind, inside, Kind::Lacking, lacking)?;
+    push_ids(found, number, kind, inside, Kind::Kept, kept)
 }
 
 /// Whether there are ranges.
@@ -116,14 +124,15 @@ fn push_some_kind<A: Allocator + Copy>(
     alloc: A,
     isolated: bool,
     found: &mut Vec<Finding<A>, A>,
+    number: usize,
     kind: IdKind,
     set: &Option<IdSetUp<A>>,
 ) -> Result<(), AllocError>
     ensures { OnOk result
-        (Adds (FindsIf (FindsKind isolated kind) set.now) found.old.items found.new.items) }
+        (Adds (FindsIf (FindsKind isolated number kind) set.now) found.old.items found.new.items) }
 {
     match set {
-        Some(set) => push_kind(alloc, isolated, found, kind, set),
+        Some(set) => push_kind(alloc, isolated, found, number, kind, set),
         None => Ok(()),
     }
 }
@@ -144,42 +153,44 @@ fn root_of<A: Allocator + Copy>(
 /// Adds that users or groups act as root of the host, if some do.
 fn push_acting<A: Allocator>(
     found: &mut Vec<Finding<A>, A>,
+    number: usize,
     users: Option<IdsFound<A>>,
     groups: Option<IdsFound<A>>,
 ) -> Result<(), AllocError>
-    ensures { OnOk result (found.new.items ≡ found.old.items ++ root_found users groups) }
+    ensures { OnOk result (found.new.items ≡ found.old.items ++ root_found number users groups) }
 {
     if users.is_none() && groups.is_none() {
         return Ok(());
     }
-    found.push(Finding::Root { users, groups })?;
-    Ok(())
+    push_of_guest(found, number, Kind::Root, Evidence::BothIds(users, groups))
 }
 
 /// Adds whether users or groups act as root of the host.
 fn push_root<A: Allocator + Copy>(
     alloc: A,
     found: &mut Vec<Finding<A>, A>,
+    number: usize,
     set: &SetUp<A>,
 ) -> Result<(), AllocError>
-    ensures { OnOk result (Adds (FindsRoot set.now) found.old.items found.new.items) }
+    ensures { OnOk result (Adds (FindsRoot number set.now) found.old.items found.new.items) }
 {
     let users = root_of(alloc, &set.users)?;
     let groups = root_of(alloc, &set.groups)?;
-    push_acting(found, users, groups)
+    push_acting(found, number, users, groups)
 }
 
 /// Adds what is found of names, where there are rules and they are not refused.
 fn push_some_names<A: Allocator + Copy>(
     alloc: A,
     found: &mut Vec<Finding<A>, A>,
+    number: usize,
     set: &Option<NamesSetUp<A>>,
 ) -> Result<(), AllocError>
     ensures { OnOk result
-        (Adds (FindsIf FindsNamesOf set.now) found.old.items found.new.items) }
+        (Adds (FindsIf (FindsNamesOf number) set.now) found.old.items found.new.items) }
 {
     match set {
-        Some(set) => push_names(alloc, found, &set.map, set.written),
+        Some(set) => push_names(alloc, found, number, &set.map, set.written),
         None => Ok(()),
     }
 }
@@ -188,44 +199,81 @@ fn push_some_names<A: Allocator + Copy>(
 fn push_acl<A: Allocator + Copy>(
     alloc: A,
     found: &mut Vec<Finding<A>, A>,
+    number: usize,
     are_on: bool,
     set: &Option<NamesSetUp<A>>,
 ) -> Result<(), AllocError>
-    ensures { OnOk result (Adds (FindsAcl are_on set.now) found.old.items found.new.items) }
+    ensures { OnOk result (Adds (FindsAcl number are_on set.now) found.old.items found.new.items) }
 {
     if !are_on {
         return Ok(());
     }
     match set {
-        Some(set) => push_acl_names(alloc, found, &set.map),
+        Some(set) => push_acl_names(alloc, found, number, &set.map),
         None => Ok(()),
     }
 }
 
-/// Adds that access control lists are on while ids are translated, if so.
-fn push_lists<A: Allocator>(found: &mut Vec<Finding<A>, A>, are_on: bool) -> Result<(), AllocError>
-    ensures { OnOk result (found.new.items ≡ found.old.items ++ if_so are_on Finding.PosixAcl) }
+/// Adds that finding, which is told by no more, if it is so.
+fn push_if<A: Allocator>(
+    found: &mut Vec<Finding<A>, A>,
+    number: usize,
+    is_so: bool,
+    kind: Kind,
+) -> Result<(), AllocError>
+    ensures { OnOk result (found.new.items
+        ≡ found.old.items ++ if_so is_so (of_guest number kind Evidence.Plain)) }
 {
-    if are_on {
-        found.push(Finding::PosixAcl)?;
+    if is_so {
+        return push_of_guest(found, number, kind, Evidence::Plain);
     }
     Ok(())
 }
 
-/// What is found of a guest, isolated or not, in order.
-pub(crate) fn audit_guest<A: Allocator + Copy>(
+/// Adds why the daemon does not start, if it does not.
+fn push_no_start<A: Allocator>(
+    found: &mut Vec<Finding<A>, A>,
+    number: usize,
+    why: Option<NoStart>,
+) -> Result<(), AllocError>
+    ensures { OnOk result (found.new.items ≡ found.old.items
+        ++ listed (λ it. of_guest number Kind.NoStart (Evidence.NoStart it)) why) }
+{
+    let Some(why) = why else {
+        return Ok(());
+    };
+    push_of_guest(found, number, Kind::NoStart, Evidence::NoStart(why))
+}
+
+/// Adds that the daemon does not start, and why; or that it leaves the ids in access control lists as
+/// they are.
+fn push_start<A: Allocator>(
+    found: &mut Vec<Finding<A>, A>,
+    number: usize,
+    set: &SetUp<A>,
+) -> Result<(), AllocError>
+    ensures { OnOk result (found.new.items ≡ found.old.items ++ start_found number set.now) }
+{
+    push_no_start(found, number, set.no_start)?;
+    push_if(found, number, set.acl_refused, Kind::PosixAcl)?;
+    push_if(found, number, set.acl_untranslated, Kind::AclUntranslated)
+}
+
+/// Adds what is found of the guest of that number, isolated or not, in order.
+pub(crate) fn push_guest<A: Allocator + Copy>(
     alloc: A,
     isolated: bool,
+    found: &mut Vec<Finding<A>, A>,
+    number: usize,
     set: &SetUp<A>,
-) -> Result<Vec<Finding<A>, A>, AllocError>
-    ensures { IfOk result (FindsGuest isolated set.now) }
+) -> Result<(), AllocError>
+    ensures { OnOk result
+        (Adds (FindsGuest isolated number set.now) found.old.items found.new.items) }
 {
-    let mut found = Vec::new(alloc);
-    push_lists(&mut found, set.translates_lists)?;
-    push_some_kind(alloc, isolated, &mut found, IdKind::Users, &set.users)?;
-    push_some_kind(alloc, isolated, &mut found, IdKind::Groups, &set.groups)?;
-    push_root(alloc, &mut found, set)?;
-    push_some_names(alloc, &mut found, &set.names)?;
-    push_acl(alloc, &mut found, set.posix_acl, &set.names)?;
-    Ok(found)
+    push_start(found, number, set)?;
+    push_some_kind(alloc, isolated, found, number, IdKind::Users, &set.users)?;
+    push_some_kind(alloc, isolated, found, number, IdKind::Groups, &set.groups)?;
+    push_root(alloc, found, number, set)?;
+    push_some_names(alloc, found, number, &set.names)?;
+    push_acl(alloc, found, number, set.posix_acl, &set.names)
 }

@@ -5,7 +5,7 @@ use Rattle.std.proofs.Common.{le_refl, le-ltb, ne_eqb}
 use Rattle.std.proofs.lemmas.Str.{encodes-chars}
 use Rattle.std.specs.Option.{option_map}
 use Rattle.std.specs.Str.{chars}
-use Rattle.virtiofs_acl.specs.AclPrinted.{acl_error_text, capability_error_text}
+use Rattle.virtiofs_acl.specs.AclPrinted.{capability_error_text}
 use Rattle.virtiofs_map.specs.Build.{BuildFault, RangeOverflow, Intersects}
 use Rattle.virtiofs_map.specs.Printed.{blamed_rule_text, unexpected_text}
 use Rattle.virtiofs_map.specs.Printed as printed
@@ -27,9 +27,10 @@ use Rattle.virtiofs_map.specs.declared.xattrmap.errors.ErrorKind.{ErrorKind}
 use Rattle.virtiofs_map.specs.declared.xattrmap.errors.ErrorKind.TheVariants as kinds
 use Rattle.virtiofs_map.specs.declared.xattrmap.errors.PatternField.TheVariants.{Key, Prepend}
 use Rattle.virtiofs_map_c.specs.Arrays.{said, spec_as_c}
+use Rattle.virtiofs_map_c.specs.Escaped.{escaped}
 use Rattle.virtiofs_map_c.specs.FaultText.{place_text, direction_of, said_text, said_entry_text, fault_text}
-use Rattle.virtiofs_map_c.specs.FaultText.{escaped, build_fault_text, escaped_cause_text, escaped_error_text, HoldsText}
-use Rattle.virtiofs_map_c.specs.FaultText.{IsToldWhole}
+use Rattle.virtiofs_map_c.specs.FaultText.{build_fault_text, counted_acl_error_text, escaped_cause_text}
+use Rattle.virtiofs_map_c.specs.FaultText.{escaped_error_text, HoldsText, IsToldWhole}
 use Rattle.virtiofs_map_c.specs.Faults.{build_told, direction_number}
 use Rattle.virtiofs_map_c.specs.Replies.{fitting}
 use Rattle.virtiofs_map_c.specs.Rules.{OfRules}
@@ -72,7 +73,7 @@ text_of_list (Intersects spec index direction) fault quoted told =
 -- ---- values with ids
 
 pub text_of_acl : (room : ℕ) (error : AclError) (fault : Fault) (quoted : List ℕ) → fault ≡ acl_told room error
-    → fault_text fault quoted ≡ acl_error_text error
+    → fault_text fault quoted ≡ counted_acl_error_text error
 text_of_acl room lists.TooShort fault quoted told = ap (λ (it : Fault). fault_text it quoted) told
 text_of_acl room (lists.Version version) fault quoted told = ap (λ (it : Fault). fault_text it quoted) told
 text_of_acl room lists.Length fault quoted told = ap (λ (it : Fault). fault_text it quoted) told

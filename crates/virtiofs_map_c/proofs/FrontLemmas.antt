@@ -5,7 +5,7 @@ use Rattle.std.proofs.Common.{take-add, drop-drop, length-append, length-take, l
 use Rattle.std.proofs.lemmas.List.{take-append-le}
 use Rattle.std.proofs.lemmas.Bool.{cases_lt}
 use Rattle.virtiofs_map_c.specs.Codes.{ok, no_room}
-use Rattle.virtiofs_map_c.specs.FrontParts.{IsFront, Writes}
+use Rattle.virtiofs_map_c.specs.FrontParts.{IsFront, Writes, cut_text}
 use Rattle.virtiofs_map_c.specs.Replies.{TellsFront}
 
 -- ---- piece by piece
@@ -172,13 +172,23 @@ pub IsFront-whole : {text old new : List ℕ} {len : ℕ} → Writes text 0 old 
 IsFront-whole {text} {old} {new} {len} writes = writes [] old (IsFront-start old)
 
 -- a text is told, with the code that says whether there is room for it, in a buffer as long as any may be
-pub front-told : (text old new : List ℕ) (code len : ℕ) → IsFront text old len new → length new < 18446744073709551615
-    → (len ≤ length new → code ≡ ok) → (length new < len → code ≡ no_room) → TellsFront text old code len new
-front-told text old new code len is small done not_done =
+pub front-told : (text old new : List ℕ) (len : ℕ) → IsFront text old len new → length new < 18446744073709551615
+    → len ≤ length new → TellsFront text old ok len new
+front-told text old new len is small room =
     let same : length new ≡ length old = ap length is.are ∙ front-length text old in
     record {
       length_told = is.length_told;
-      fits = λ room. (done (omega (arith, room, is.length_told, same)), is.are ∙ front-fits text old room);
-      does_not_fit = λ less.
-          (not_done (omega (arith, less, small, is.length_told, same)), is.are ∙ front-short text old (omega (arith, less)));
+      fits = λ within. (refl, is.are ∙ front-fits text old within);
+      does_not_fit = λ less. absurd (omega (arith, less, small, room, is.length_told, same));
+    }
+
+-- the same where there is none for all of it, once it is cut
+pub front-cut : (text old new : List ℕ) (len : ℕ) → IsFront text old len new → length new < len
+    → TellsFront text old no_room len (cut_text new)
+front-cut text old new len is short =
+    let same : length new ≡ length old = ap length is.are ∙ front-length text old in
+    record {
+      length_told = is.length_told;
+      fits = λ within. absurd (omega (arith, within, short, is.length_told, same));
+      does_not_fit = λ less. (refl, ap cut_text (is.are ∙ front-short text old (omega (arith, less))));
     }

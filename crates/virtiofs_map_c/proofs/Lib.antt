@@ -1,4 +1,5 @@
 mod ArraysLemmas
+mod EscapedLemmas
 mod FaultTextLemmas
 mod FirstLemmas
 mod FrontLemmas

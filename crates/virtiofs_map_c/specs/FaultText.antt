@@ -1,11 +1,13 @@
 -- The sentence by which a fault is told, as bytes. Of a list of specifications, a text of rules and a value with ids it
--- is what the library prints, with the text at fault escaped.
-use Rattle.std.specs.Prelude.{◌≡◌, ⊤, ℕ, ◌/◌, ◌%◌, ◌==◌, ◌&&◌, nat_lt, nat_le, if◌then◌else◌, List, [], ◌∷◌, ◌++◌}
-use Rattle.std.specs.Prelude.{length, take, flat_map, codes, Option, IsUtf8}
-use Rattle.std.specs.Char.{digit_char}
+-- is what the library prints, with the text at fault escaped and places counted from 1.
+use Rattle.std.specs.Prelude.{◌≡◌, ⊤, ℕ, ◌+◌, ◌==◌, nat_lt, min, if◌then◌else◌, List, [], ◌++◌}
+use Rattle.std.specs.Prelude.{length, take, codes, Option, IsUtf8}
 use Rattle.std.specs.Fmt.{decimal}
 use Rattle.std.specs.Option.{option_map_or}
 use Rattle.std.specs.String.{string_bytes}
+use Rattle.virtiofs_acl.specs.AclPrinted.{acl_error_text, entry_fault_text}
+use Rattle.virtiofs_acl.specs.declared.errors.AclError.{AclError}
+use Rattle.virtiofs_acl.specs.declared.errors.AclError.TheVariants as lists
 use Rattle.virtiofs_map.specs.Build.{BuildFault, RangeOverflow, Intersects}
 use Rattle.virtiofs_map.specs.Mapping.{entry_of}
 use Rattle.virtiofs_map.specs.Printed.{specification_text, set_up_text, direction_text, build_error_text}
@@ -19,19 +21,24 @@ use Rattle.virtiofs_map.specs.declared.xattrmap.errors.Error.{Error}
 use Rattle.virtiofs_map.specs.declared.xattrmap.errors.ErrorKind.{ErrorKind}
 use Rattle.virtiofs_map.specs.declared.xattrmap.errors.ErrorKind.TheVariants as kinds
 use Rattle.virtiofs_map_c.specs.Arrays.{said}
+use Rattle.virtiofs_map_c.specs.Escaped.{escaped}
 use Rattle.virtiofs_map_c.specs.Rules.{BytesFault, bytes_told, bytes_quoted}
 use Rattle.virtiofs_map_c.specs.declared.arrays.spec.Spec.{Spec}
 use Rattle.virtiofs_map_c.specs.declared.fault.Fault.{Fault}
 
 -- ---- where the fault is
 
--- the place, before what is wrong there: that of a specification or of an entry, counted from 0, or the number of a
--- rule, counted from 1; nothing where none of these is to blame
+-- the place of an element, counted from 1, as far as a number of 64 bits can tell it
+abbrev pub place_number : ℕ → ℕ
+place_number place = min (place + 1) 18446744073709551615
+
+-- the place, before what is wrong there: that of a specification, of a rule or of an entry, counted from 1; nothing
+-- where none of these is to blame
 abbrev pub place_text : ℕ → ℕ → List ℕ
 place_text part place =
-    if part == 1 then codes "specification " ++ decimal place ++ codes ": "
+    if part == 1 then codes "specification " ++ decimal (place_number place) ++ codes ": "
     else if part == 2 then (if place == 0 then [] else codes "rule " ++ decimal place ++ codes ": ")
-    else if part == 4 then codes "entry " ++ decimal place ++ codes ": "
+    else if part == 4 then codes "entry " ++ decimal (place_number place) ++ codes ": "
     else []
 
 -- ---- what is wrong
@@ -79,16 +86,6 @@ version_text part version =
 -- a list has so many entries, and room was lent for fewer
 abbrev pub room_text : ℕ → List ℕ
 room_text needed = codes "there are " ++ decimal needed ++ codes " entries"
-
--- a backslash twice, any other printing byte of ASCII as itself, and the rest as `\x` and two hexadecimal digits
-abbrev pub escaped_byte : ℕ → List ℕ
-escaped_byte byte =
-    if byte == 92 then codes "\\\\"
-    else if nat_le 32 byte && nat_le byte 126 then byte ∷ []
-    else codes "\\x" ++ digit_char (byte / 16) ∷ digit_char (byte % 16) ∷ []
-
-abbrev pub escaped : List ℕ → List ℕ
-escaped bytes = flat_map escaped_byte bytes
 
 -- the text at fault: the bytes that were quoted of it, or three dots where there was no room for them
 abbrev pub text_at_fault : Fault → List ℕ → List ℕ
@@ -148,6 +145,11 @@ build_fault_text (RangeOverflow spec index direction range_end) =
     place_text 1 index ++ build_error_text (errors.RangeOverflow spec index direction range_end)
 build_fault_text (Intersects spec index direction) =
     place_text 1 index ++ build_error_text (errors.Intersects spec index direction)
+
+-- what it prints of a list that does not go across, but with the entry counted from 1
+abbrev pub counted_acl_error_text : AclError → List ℕ
+counted_acl_error_text (lists.Entry entry fault) = place_text 4 entry ++ entry_fault_text fault
+counted_acl_error_text other = acl_error_text other
 
 -- what it prints of what is wrong with a rule, but with the text at fault escaped
 abbrev pub escaped_cause_text : {A : Type 0} → ErrorKind A → List ℕ

@@ -1,5 +1,6 @@
 pub mod Arrays
 pub mod Codes
+pub mod Escaped
 pub mod FaultText
 pub mod Faults
 pub mod FrontParts

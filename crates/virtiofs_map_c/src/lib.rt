@@ -9,6 +9,7 @@ mod arrays;
 mod buffer;
 mod bytes;
 mod codes;
+mod escaped;
 mod fault;
 mod front;
 mod ids;

@@ -3,7 +3,7 @@ ghost use Rattle.std.specs.Prelude.{◌≡◌, ◌++◌, ℕ, List, codes};
 ghost use Rattle.std.specs.Fmt.{decimal};
 ghost use Rattle.std.specs.Global.{Global};
 ghost use Rattle.std.specs.Option.{option_map};
-ghost use Rattle.virtiofs_acl.specs.AclPrinted.{acl_error_text, capability_error_text};
+ghost use Rattle.virtiofs_acl.specs.AclPrinted.{capability_error_text};
 ghost use Rattle.virtiofs_map.specs.Build.{BuildFault};
 ghost use Rattle.virtiofs_map.specs.Printed.{unexpected_text};
 ghost use Rattle.virtiofs_map.specs.Refusal.{OutOfMemoryOr};
@@ -11,7 +11,8 @@ ghost use Rattle.virtiofs_map.specs.RulesFault.{HasRulesFault, rules_fault_of};
 ghost use Rattle.virtiofs_acl.specs.declared.errors.AclError.{AclError};
 ghost use Rattle.virtiofs_acl.specs.declared.errors.CapabilityError.{CapabilityError};
 ghost use Rattle.virtiofs_map.specs.declared.xattrmap.errors.Error.{Error as RulesError};
-ghost use Rattle.virtiofs_map_c.specs.FaultText.{escaped, place_text, text_at_fault, cause_text, fault_text, build_fault_text, escaped_error_text, HoldsText, IsToldWhole};
+ghost use Rattle.virtiofs_map_c.specs.Escaped.{escaped};
+ghost use Rattle.virtiofs_map_c.specs.FaultText.{place_text, text_at_fault, cause_text, fault_text, build_fault_text, escaped_error_text, counted_acl_error_text, HoldsText, IsToldWhole};
 ghost use Rattle.virtiofs_map_c.specs.Faults.{build_told};
 ghost use Rattle.virtiofs_map_c.specs.FrontParts.{Writes};
 ghost use Rattle.virtiofs_map_c.specs.Replies.{TellsFront};
@@ -23,8 +24,9 @@ mod ids;
 mod values;
 
 use crate::codes::{ACL_ENTRY, NO_ROOM, OK, RULE, SPECIFICATION};
+use crate::escaped::put_escaped;
 use crate::fault::Fault;
-use crate::front::{put_escaped, say, say_number};
+use crate::front::{cut_whole, say, say_number};
 use fixed::{fixed_words, number_words};
 use ids::{direction_of, say_intersects, say_length, say_overflow, say_prefix, say_value};
 use values::{say_room, say_version};
@@ -45,7 +47,7 @@ pub extern "C" fn virtiofs_map_fault_text(
         → IsToldWhole (option_map OfRules (rules_fault_of error)) fault.now quoted.now
         → fault_text fault.now quoted.now ≡ escaped_error_text error }
     ensures of_acl { (room : ℕ) (error : AclError) → fault.now ≡ acl_told room error
-        → fault_text fault.now quoted.now ≡ acl_error_text error }
+        → fault_text fault.now quoted.now ≡ counted_acl_error_text error }
     ensures of_capability { (error : CapabilityError) → fault.now ≡ capability_told error
         → fault_text fault.now quoted.now ≡ capability_error_text error }
 {
@@ -53,21 +55,22 @@ pub extern "C" fn virtiofs_map_fault_text(
     say_place(fault.part, fault.place, out, len);
     say_cause(fault, at_fault(fault, quoted), out, len);
     if out.len() < *len {
+        cut_whole(out);
         return NO_ROOM;
     }
     OK
 }
 
-/// Writes where the fault is.
+/// Writes where the fault is, counted from 1.
 fn say_place(part: u32, place: usize, out: &mut [u8], len: &mut usize)
     ensures { Writes (place_text part place) len.old out.old len.new out.new }
 {
     if part == SPECIFICATION {
-        say_numbered("specification ", place, out, len);
+        say_numbered("specification ", place.saturating_add(1), out, len);
     } else if part == RULE && place != 0 {
         say_numbered("rule ", place, out, len);
     } else if part == ACL_ENTRY {
-        say_numbered("entry ", place, out, len);
+        say_numbered("entry ", place.saturating_add(1), out, len);
     }
 }
 

@@ -4,7 +4,7 @@
 //! texts. They also run the crate `virtiofs_map_callers`, which calls the library as a daemon does.
 //! `refused` refuses each request for memory of each call in turn. `without_memory` has the calls
 //! that take none. `hostile` has large texts and names, many rules and many specifications.
-//! `process` is about the crate `virtiofs_process`.
+//! `process` is about the crate `virtiofs_host`.
 #![tactic(auto)]
 
 #[cfg(test)]

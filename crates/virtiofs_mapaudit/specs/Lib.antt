@@ -1,1 +1,1 @@
-pub mod Said
+pub mod Answers

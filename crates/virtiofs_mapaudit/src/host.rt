@@ -2,16 +2,16 @@
 
 use std::alloc::{AllocError, AllocFailed, Global};
 use std::{fs, io};
+use virtiofs_host::decimal::decimal;
+use virtiofs_host::error::ReadError;
+use virtiofs_host::id_map::read_id_map;
+use virtiofs_host::runner::{Bounds, RunAs, Runner, read_run_as};
+use virtiofs_host::status::{effective_gid, effective_uid};
+use virtiofs_host::subordinate::{SubIds, read_subordinate};
+use virtiofs_host::users::find_user;
 use virtiofs_map::idmap::UidMap;
 use virtiofs_options::fault::shown;
 use virtiofs_options::values::Values;
-use virtiofs_process::decimal::decimal;
-use virtiofs_process::error::ReadError;
-use virtiofs_process::id_map::read_id_map;
-use virtiofs_process::runner::{Bounds, RunAs, Runner, read_run_as};
-use virtiofs_process::status::{effective_gid, effective_uid};
-use virtiofs_process::subordinate::{SubIds, read_subordinate};
-use virtiofs_process::users::find_user;
 
 /// Why the host is not asked, or does not answer.
 #[derive(Drop)]

@@ -1,21 +1,32 @@
 //! Says what the options of a virtiofsd do to ids and names, and what is wrong with them.
 #![tactic(auto)]
 
-ghost use Rattle.std.specs.Prelude.{◌≡◌, ◌≢◌, ◌↔◌, [], IsTrue, IsFalse};
-
+mod answer;
+mod explained;
+mod fields;
 mod host;
-mod mend;
-mod say;
+mod json;
+mod kinds;
+mod options;
+mod picture;
+mod refusal;
+mod summary;
+mod tables;
+mod text;
+mod words;
 
+use crate::answer::{Request, answer_audit};
+use crate::explained::{answer_questions, question_sentence};
 use crate::host::{Host, HostFault, HostProcess, ask};
-use crate::mend::say_mended;
-use crate::say::say;
+use crate::kinds::read_kinds;
 use std::alloc::{AllocError, Global};
 use std::process::ExitCode;
 use std::{env, io};
-use virtiofs_explain::asking::{Question, Questions, read_questions};
-use virtiofs_explain::say_explained;
-use virtiofs_findings::accept::no_kind;
+use virtiofs_findings::explain::asking::{Question, Questions, read_questions};
+use virtiofs_findings::guest::Guest;
+use virtiofs_host::command_line::read_command_line;
+use virtiofs_host::error::ReadError;
+use virtiofs_host::runner::Runner;
 use virtiofs_options::front::Asked;
 use virtiofs_options::guest::Guest as GuestOptions;
 use virtiofs_options::guests::Process;
@@ -25,12 +36,6 @@ use virtiofs_options::words::{ProcessWords, Words, read_process, read_words};
 use virtiofs_output::emit::emit;
 use virtiofs_output::outcome::{AnswerFault, Answered, status};
 use virtiofs_output::tally::{Tally, WriteFailed};
-use virtiofs_picture::say_drawn;
-use virtiofs_process::command_line::read_command_line;
-use virtiofs_process::error::ReadError;
-use virtiofs_process::runner::Runner;
-use virtiofs_setup::guest::Guest;
-use virtiofs_setup::said::Said;
 
 const USAGE: &str = "usage: virtiofs_mapaudit [OPTIONS] [-- COMMAND LINE OF THE DAEMON]..
 virtiofs_mapaudit(1) says more: man virtiofs_mapaudit
@@ -185,30 +190,66 @@ fn with_starters<'a>(
     Ok(guests)
 }
 
-/// Audits guests, and then tells which words are not known, unless `quiet`.
-fn told_on(
+/// Answers, and then tells which words are not known, unless `quiet`.
+fn answer_on(
     rt: &HostRuntime,
-    asked: Asked,
-    accepted: &[&str],
+    request: Request<'_>,
     questions: &[Question<'_>],
     guests: &[Guest<'_, Global>],
     unknown: &[UnknownWord<'_>],
 ) -> Result<Answered, AnswerFault> {
     let lines = unknown_lines(rt.alloc(), unknown)?;
-    let answered = answer(rt, asked, accepted, questions, guests)?;
-    if !asked.quiet {
+    let answer = match questions.is_empty() {
+        true => answer_audit(rt.alloc(), request, guests)?,
+        false => answer_questions(rt.alloc(), questions, guests)?,
+    };
+    write_whole(rt, answer.text.as_str())?;
+    if !request.front.quiet {
+        for line in answer.refusals.as_slice() {
+            let _ = eprintln!(rt; "{line}");
+        }
         for line in lines.as_slice() {
             let _ = eprintln!(rt; "{line}");
         }
     }
-    Ok(answered)
+    Ok(answer.outcome)
 }
 
-/// Audits the guests of command lines, and those of the host's processes.
-fn audited_on<'a>(
+/// Reads the values of the options, asks the host, and answers.
+fn audited<'a>(
     rt: &HostRuntime,
     asked: Asked,
-    accepted: &[&str],
+    values: &Values<'a>,
+    given: Vec<GuestOptions<'a, Global>>,
+    unknown: Vec<UnknownWord<'a>, Global>,
+) -> Result<Answered, AnswerFault> {
+    let accepted = match read_kinds(rt.alloc(), values.accept.as_slice())? {
+        Ok(kinds) => kinds,
+        Err(text) => return Ok(wrong(rt, text.as_str())),
+    };
+    let questions = match read_questions(rt.alloc(), values.explain.as_slice())? {
+        Questions::Read(questions) => questions,
+        Questions::Wrong(text, fault) => {
+            let text = question_sentence(rt.alloc(), text, fault)?;
+            return Ok(wrong(rt, text.as_str()));
+        }
+    };
+    let host = match ask(rt, values, given.len()) {
+        Ok(host) => host,
+        Err(HostFault::Told(text)) => return Ok(wrong(rt, text.as_str())),
+        Err(HostFault::OutOfMemory) => return Err(AnswerFault::OutOfMemory),
+    };
+    let request = Request {
+        front: asked,
+        accepted: accepted.as_slice(),
+    };
+    audited_on(rt, request, questions.as_slice(), &host, given, unknown)
+}
+
+/// Answers on the guests of command lines, and on those of the host's processes.
+fn audited_on<'a>(
+    rt: &HostRuntime,
+    request: Request<'_>,
     questions: &[Question<'_>],
     host: &'a Host,
     given: Vec<GuestOptions<'a, Global>>,
@@ -221,89 +262,7 @@ fn audited_on<'a>(
         return Ok(wrong(rt, text.as_str()));
     }
     let (guests, unknown) = (guests.as_slice(), unknown.as_slice());
-    told_on(rt, asked, accepted, questions, guests, unknown)
-}
-
-/// Asks the host, and audits.
-fn audited_there<'a>(
-    rt: &HostRuntime,
-    asked: Asked,
-    values: &Values<'a>,
-    questions: &[Question<'_>],
-    guests: Vec<GuestOptions<'a, Global>>,
-    unknown: Vec<UnknownWord<'a>, Global>,
-) -> Result<Answered, AnswerFault> {
-    match ask(rt, values, guests.len()) {
-        Ok(host) => {
-            let accepted = values.accept.as_slice();
-            audited_on(rt, asked, accepted, questions, &host, guests, unknown)
-        }
-        Err(HostFault::Told(text)) => Ok(wrong(rt, text.as_str())),
-        Err(HostFault::OutOfMemory) => Err(AnswerFault::OutOfMemory),
-    }
-}
-
-/// Reads the values of the options, asks the host, and audits.
-fn audited<'a>(
-    rt: &HostRuntime,
-    asked: Asked,
-    values: &Values<'a>,
-    guests: Vec<GuestOptions<'a, Global>>,
-    unknown: Vec<UnknownWord<'a>, Global>,
-) -> Result<Answered, AnswerFault> {
-    if let Some(text) = no_kind(rt.alloc(), values.accept.as_slice())? {
-        return Ok(wrong(rt, text.as_str()));
-    }
-    match read_questions(rt.alloc(), values.explain.as_slice())? {
-        Questions::Read(questions) => {
-            audited_there(rt, asked, values, questions.as_slice(), guests, unknown)
-        }
-        Questions::Wrong(text) => Ok(wrong(rt, text.as_str())),
-    }
-}
-
-/// What is to be written of guests: what is said of them, a drawing, options that are advised, or
-/// the answers to questions.
-fn said_of(
-    alloc: Global,
-    asked: Asked,
-    accepted: &[&str],
-    questions: &[Question<'_>],
-    guests: &[Guest<'_, Global>],
-) -> Result<Said, AllocError> {
-    if !questions.is_empty() {
-        return say_explained(alloc, questions, guests);
-    }
-    if asked.mend {
-        return say_mended(alloc, asked.isolated, accepted, guests);
-    }
-    if asked.svg && !asked.quiet {
-        return say_drawn(alloc, asked.isolated, accepted, guests);
-    }
-    say(alloc, asked, accepted, guests)
-}
-
-/// Audits guests, and writes what is to be written of them.
-fn answer(
-    rt: &HostRuntime,
-    asked: Asked,
-    accepted: &[&str],
-    questions: &[Question<'_>],
-    guests: &[Guest<'_, Global>],
-) -> Result<Answered, AnswerFault> {
-    let said = said_of(rt.alloc(), asked, accepted, questions, guests)?;
-    write_said(rt, &said, asked.quiet)
-}
-
-/// Writes what is to be written; of texts that are refused, nothing if `quiet`.
-fn write_said(rt: &HostRuntime, said: &Said, quiet: bool) -> Result<Answered, AnswerFault> {
-    write_whole(rt, said.text.as_str())?;
-    if !quiet {
-        for refusal in said.refusals.as_slice() {
-            let _ = eprintln!(rt; "{refusal}");
-        }
-    }
-    Ok(ended(said))
+    answer_on(rt, request, questions, guests, unknown)
 }
 
 /// Writes a text to standard output, and flushes.
@@ -311,22 +270,4 @@ fn write_whole(rt: &HostRuntime, text: &str) -> Result<(), WriteFailed> {
     let mut out = Tally::new(rt.stdout());
     emit(text.as_bytes(), &mut out)?;
     out.flush()
-}
-
-/// How the program ends where everything was written.
-fn ended(said: &Said) -> Answered
-    ensures given { (result ≡ Answered.Given)
-        ↔ (said.now.refusals.items ≡ []) × IsFalse said.now.is_found }
-    ensures refused { (result ≡ Answered.Refused) ↔ (said.now.refusals.items ≢ []) }
-    ensures found { (result ≡ Answered.Found)
-        ↔ (said.now.refusals.items ≡ []) × IsTrue said.now.is_found }
-{
-    if !said.refusals.as_slice().is_empty() {
-        return Answered::Refused;
-    }
-    if said.is_found {
-        Answered::Found
-    } else {
-        Answered::Given
-    }
 }

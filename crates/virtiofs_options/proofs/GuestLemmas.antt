@@ -1,5 +1,5 @@
 -- What parts add to the options of a guest, one after another.
-use Rattle.std.proofs.Common.{◌≡◌, ◌<◌, ◌+◌, ℕ, List, [], ◌∷◌, ◌++◌, Bool, ◌||◌, Bor, Option, Some, None, unwrap_or, filter_map, take, get_or, length, codes}
+use Rattle.std.proofs.Common.{◌≡◌, ◌<◌, ◌+◌, ℕ, List, [], ◌∷◌, ◌++◌, Bool, ◌||◌, Bor, Option, Some, None, unwrap_or, filter_map, take, get_or, length}
 use Rattle.std.proofs.Common.{refl, sym, ap, ◌∙◌, subst, append_assoc}
 use Rattle.std.proofs.Math.Bool.{or_assoc}
 use Rattle.std.proofs.lemmas.List.{take_more}
@@ -8,33 +8,37 @@ use Rattle.std.proofs.lemmas.List.Folds.{list_any-append}
 use Rattle.std.specs.List.{last_or}
 use Rattle.std.specs.Option.{option_or}
 use Rattle.virtiofs_options.proofs.OlderLemmas.{last_in}
-use Rattle.virtiofs_options.specs.GuestOptions.{Adds, TakesIn, values_of, value_in, has_flag, is_flag, older_options, rules_in, lists_in, text_in}
+use Rattle.virtiofs_options.specs.GuestOptions.{Adds, TakesIn, settings, setting_in, has_setting, is_setting, is_users, is_groups, is_user_ranges, is_group_ranges, is_rules, is_acl, is_sandbox, older_options, older_setting, lists_in, text_in}
 use Rattle.virtiofs_options.specs.declared.command.Part.{Part}
 use Rattle.virtiofs_options.specs.declared.guest.Guest.{Guest}
 use Rattle.virtiofs_options.specs.declared.older.Older.{Older}
+use Rattle.virtiofs_options.specs.declared.options.Options.{Options}
+use Rattle.virtiofs_options.specs.declared.options.Sets.{Sets}
 
-values-then : (option : List ℕ) (a b c : List (Bor (List ℕ))) (xs ys : List Part) → b ≡ a ++ values_of option xs
-    → c ≡ b ++ values_of option ys → c ≡ a ++ values_of option (xs ++ ys)
-values-then option a b c xs ys first second =
-    second ∙ ap (λ (it : List (Bor (List ℕ))). it ++ values_of option ys) first
-    ∙ append_assoc a (values_of option xs) (values_of option ys)
-    ∙ ap (λ (it : List (Bor (List ℕ))). a ++ it) (sym (filter_map-append (value_in option) xs ys))
+values-then : (sets : Sets → Bool) (a b c : List (Bor (List ℕ))) (xs ys : List Part) → b ≡ a ++ settings sets xs
+    → c ≡ b ++ settings sets ys → c ≡ a ++ settings sets (xs ++ ys)
+values-then sets a b c xs ys first second =
+    second ∙ ap (λ (it : List (Bor (List ℕ))). it ++ settings sets ys) first
+    ∙ append_assoc a (settings sets xs) (settings sets ys)
+    ∙ ap (λ (it : List (Bor (List ℕ))). a ++ it) (sym (filter_map-append (setting_in sets) xs ys))
 
-flags-then : (option : List ℕ) (a b c : Bool) (xs ys : List Part) → b ≡ (a || has_flag option xs)
-    → c ≡ (b || has_flag option ys) → c ≡ (a || has_flag option (xs ++ ys))
-flags-then option a b c xs ys first second =
-    second ∙ ap (λ (it : Bool). it || has_flag option ys) first
-    ∙ or_assoc a (has_flag option xs) (has_flag option ys)
-    ∙ ap (λ (it : Bool). a || it) (sym (list_any-append (is_flag option) xs ys))
+flags-then : (sets : Sets → Bool) (a b c : Bool) (xs ys : List Part) → b ≡ (a || has_setting sets xs)
+    → c ≡ (b || has_setting sets ys) → c ≡ (a || has_setting sets (xs ++ ys))
+flags-then sets a b c xs ys first second =
+    second ∙ ap (λ (it : Bool). it || has_setting sets ys) first
+    ∙ or_assoc a (has_setting sets xs) (has_setting sets ys)
+    ∙ ap (λ (it : Bool). a || it) (sym (list_any-append (is_setting sets) xs ys))
 
 pub Adds-then : {A : Type 0} (a b c : Guest A) (xs ys : List Part) → Adds a b xs → Adds b c ys → Adds a c (xs ++ ys)
 Adds-then a b c xs ys first second = record {
-  users = values-then (codes "--translate-uid") _ _ _ xs ys first.users second.users;
-  groups = values-then (codes "--translate-gid") _ _ _ xs ys first.groups second.groups;
-  user_ranges = values-then (codes "--uid-map") _ _ _ xs ys first.user_ranges second.user_ranges;
-  group_ranges = values-then (codes "--gid-map") _ _ _ xs ys first.group_ranges second.group_ranges;
-  rules = last_in (value_in (codes "--xattrmap")) _ _ _ xs ys first.rules second.rules;
-  lists = flags-then (codes "--posix-acl") _ _ _ xs ys first.lists second.lists;
+  users = values-then is_users _ _ _ xs ys first.users second.users;
+  groups = values-then is_groups _ _ _ xs ys first.groups second.groups;
+  user_ranges = values-then is_user_ranges _ _ _ xs ys first.user_ranges second.user_ranges;
+  group_ranges = values-then is_group_ranges _ _ _ xs ys first.group_ranges second.group_ranges;
+  rules = last_in (setting_in is_rules) _ _ _ xs ys first.rules second.rules;
+  lists = flags-then is_acl _ _ _ xs ys first.lists second.lists;
+  flag = flags-then is_acl _ _ _ xs ys first.flag second.flag;
+  sandbox = last_in (setting_in is_sandbox) _ _ _ xs ys first.sandbox second.sandbox;
 }
 
 pub Adds-more : {A : Type 0} (a b c : Guest A) (parts : List Part) (i : ℕ) (d : Part) → i < length parts
@@ -54,19 +58,30 @@ pub record IsChanged {A : Type 0} (old new : Guest A) (older : Older) : Type 0 w
   pub groups : new.translate_gid ≡ old.translate_gid
   pub user_ranges : new.uid_map ≡ old.uid_map
   pub group_ranges : new.gid_map ≡ old.gid_map
+  pub flag : new.acl_flag ≡ old.acl_flag
+  pub sandbox : new.sandbox ≡ option_or older.sandbox old.sandbox
 
-pub TakesIn-end : {A : Type 0} (a b c : Guest A) (older : Older) (parts : List Part) → Adds a b parts
-    → text_in older.xattrmap ≡ last_or None (filter_map rules_in (older_options parts))
-    → older.posix_acl ≡ last_or None (filter_map lists_in (older_options parts))
-    → IsChanged b c older → TakesIn a c parts
-TakesIn-end a b c older parts added rules lists changed = record {
+-- a text that options of the older form say, or else the others
+text-last : (older text before set : Option (Bor (List ℕ))) (said : Option (List ℕ))
+    → text ≡ option_or older before → text_in older ≡ said → before ≡ set
+    → text_in text ≡ option_or said (text_in set)
+text-last older text before set said changed is added =
+    ap text_in changed ∙ text-or older before ∙ ap (λ o. option_or o (text_in before)) is
+    ∙ ap (λ it. option_or said (text_in it)) added
+
+pub TakesIn-end : {A : Type 0} (options : Options) (a b c : Guest A) (older : Older) (parts : List Part) → Adds a b parts
+    → text_in older.xattrmap ≡ last_or None (filter_map (older_setting is_rules options) (older_options parts))
+    → older.posix_acl ≡ last_or None (filter_map (lists_in options) (older_options parts))
+    → text_in older.sandbox ≡ last_or None (filter_map (older_setting is_sandbox options) (older_options parts))
+    → IsChanged b c older → TakesIn options a c parts
+TakesIn-end options a b c older parts added rules lists sandbox changed = record {
   users = ap (λ it. it.items) changed.users ∙ added.users;
   groups = ap (λ it. it.items) changed.groups ∙ added.groups;
   user_ranges = ap (λ it. it.items) changed.user_ranges ∙ added.user_ranges;
   group_ranges = ap (λ it. it.items) changed.group_ranges ∙ added.group_ranges;
-  rules = ap text_in changed.rules ∙ text-or older.xattrmap b.xattrmap
-      ∙ ap (λ o. option_or o (text_in b.xattrmap)) rules
-      ∙ ap (λ it. option_or (last_or None (filter_map rules_in (older_options parts))) (text_in it)) added.rules;
+  rules = text-last older.xattrmap c.xattrmap b.xattrmap _ _ changed.rules rules added.rules;
   lists = changed.lists ∙ ap (λ o. unwrap_or o b.posix_acl) lists
-      ∙ ap (unwrap_or (last_or None (filter_map lists_in (older_options parts)))) added.lists;
+      ∙ ap (unwrap_or (last_or None (filter_map (lists_in options) (older_options parts)))) added.lists;
+  flag = changed.flag ∙ added.flag;
+  sandbox = text-last older.sandbox c.sandbox b.sandbox _ _ changed.sandbox sandbox added.sandbox;
 }

@@ -1,3 +1,4 @@
+mod ClusterLemmas
 mod GuestLemmas
 mod GuestsLemmas
 mod LineLemmas
@@ -5,6 +6,6 @@ mod OlderLemmas
 mod PartLemmas
 mod ResultLemmas
 mod SearchLemmas
-mod SentenceLemmas
+mod StripLemmas
 mod UnknownLemmas
 mod WordLemmas

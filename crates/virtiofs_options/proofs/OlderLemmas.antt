@@ -1,12 +1,13 @@
 -- Options of the older form, one after another.
-use Rattle.std.proofs.Common.{◌≡◌, ◌<◌, ◌+◌, ℕ, List, [], ◌∷◌, ◌++◌, Option, Bor, filter_map, flat_map, take, get_or, length, codes, refl, sym, ap, ◌∙◌}
+use Rattle.std.proofs.Common.{◌≡◌, ◌<◌, ◌+◌, ℕ, List, [], ◌∷◌, ◌++◌, Option, Bor, filter_map, flat_map, take, get_or, length, refl, sym, ap, ◌∙◌}
 use Rattle.std.proofs.lemmas.Grind.{flat_map-append}
 use Rattle.std.proofs.lemmas.List.{take_more}
 use Rattle.std.proofs.lemmas.List.Elements.{filter_map-append}
 use Rattle.std.specs.List.{last_or}
-use Rattle.virtiofs_options.specs.GuestOptions.{AddsOlder, rules_in, lists_in, older_options, split_at_commas, value_in, values_of}
+use Rattle.virtiofs_options.specs.GuestOptions.{AddsOlder, is_older_form, is_rules, is_sandbox, lists_in, older_options, older_setting, setting_in, settings, split_at_commas}
 use Rattle.virtiofs_options.specs.declared.older.Older.{Older}
 use Rattle.virtiofs_options.specs.declared.command.Part.{Part}
+use Rattle.virtiofs_options.specs.declared.options.Options.{Options}
 
 -- the last of two lists
 pub last_or-append : {A : Type 0} (o : Option A) (xs ys : List A) → last_or o (xs ++ ys) ≡ last_or (last_or o xs) ys
@@ -21,11 +22,12 @@ last_in f a b c xs ys first second =
     ∙ sym (last_or-append a (filter_map f xs) (filter_map f ys))
     ∙ ap (last_or a) (sym (filter_map-append f xs ys))
 
-pub AddsOlder-then : (a b c : Older) (xs ys : List (List ℕ)) → AddsOlder a b xs → AddsOlder b c ys
-    → AddsOlder a c (xs ++ ys)
-AddsOlder-then a b c xs ys first second = record {
-  rules = last_in rules_in _ _ _ xs ys first.rules second.rules;
-  lists = last_in lists_in _ _ _ xs ys first.lists second.lists;
+pub AddsOlder-then : (options : Options) (a b c : Older) (xs ys : List (List ℕ)) → AddsOlder options a b xs
+    → AddsOlder options b c ys → AddsOlder options a c (xs ++ ys)
+AddsOlder-then options a b c xs ys first second = record {
+  rules = last_in (older_setting is_rules options) _ _ _ xs ys first.rules second.rules;
+  lists = last_in (lists_in options) _ _ _ xs ys first.lists second.lists;
+  sandbox = last_in (older_setting is_sandbox options) _ _ _ xs ys first.sandbox second.sandbox;
 }
 
 -- the options in the values of `-o`, of parts one after another
@@ -34,6 +36,6 @@ pub older_options-more : (parts : List Part) (i : ℕ) (d : Part) → i < length
 older_options-more parts i d below =
     ap older_options (take_more parts i d below)
     ∙ ap (flat_map (λ (value : Bor (List ℕ)). split_at_commas value.now))
-    (filter_map-append (value_in (codes "-o")) (take i parts) (get_or parts i d ∷ []))
+    (filter_map-append (setting_in is_older_form) (take i parts) (get_or parts i d ∷ []))
     ∙ flat_map-append (λ (value : Bor (List ℕ)). split_at_commas value.now)
-    (values_of (codes "-o") (take i parts)) (values_of (codes "-o") (get_or parts i d ∷ []))
+    (settings is_older_form (take i parts)) (settings is_older_form (get_or parts i d ∷ []))

@@ -1,25 +1,49 @@
 -- What the program's words come to.
-use Rattle.std.proofs.Common.{◌≡◌, ℕ, List, Result, Ok, Err, IfOk, Bor, inl, subst}
+use Rattle.std.proofs.Common.{◌≡◌, ℕ, List, Result, Ok, Err, IfOk, IfErr, Bor, inr, subst}
 use Rattle.std.specs.Global.{Global}
-use Rattle.virtiofs_options.specs.Lines.{line_of}
-use Rattle.virtiofs_options.specs.Words.{IsFront, IsAudit, AreWords, rest_of}
+use Rattle.virtiofs_options.proofs.GuestsLemmas.{WrongOnly-map}
+use Rattle.virtiofs_options.specs.Parts.{WrongOnly}
+use Rattle.virtiofs_options.specs.Words.{AreFrontWords, IsFront, IsAudit, IsAuditFault, AreWords, AreWrongWords, rest_of}
+use Rattle.virtiofs_options.specs.declared.fault.ReadError.{ReadError}
 use Rattle.virtiofs_options.specs.declared.front.Asked.{Asked}
 use Rattle.virtiofs_options.specs.declared.guest.Guest.{Guest}
 use Rattle.virtiofs_options.specs.declared.options.Options.{Options}
 use Rattle.virtiofs_options.specs.declared.values.Values.{Values}
 use Rattle.virtiofs_options.specs.declared.words.Front.TheVariants.{Audit}
-use Rattle.virtiofs_options.specs.declared.words.Words.{Words}
+use Rattle.virtiofs_options.specs.declared.words.Right.{Right}
+use Rattle.virtiofs_options.specs.declared.words.Right.TheVariants as right
+
+audit-right : (own of_daemon : Options) (words front : List (Bor (List ℕ))) (asked : Asked) (values : Values)
+    (first : Guest Global) (it : Right) → AreFrontWords of_daemon words front → IsFront own front (Audit asked values first)
+    → IsAudit of_daemon asked values first (rest_of words) it → AreWords own of_daemon words it
+audit-right own of_daemon words front asked values first (right.Tell telling) are is audit = absurd audit
+audit-right own of_daemon words front asked values first (right.Audit asked_for all read) are is (same, these, guests) =
+    (front, asked, values, first, are, is, (same, these, guests))
 
 -- an audit of what stands after the first `--`
-pub audit-words : {E : Type 0} (own of_daemon : Options) (words line rest : List (Bor (List ℕ))) (asked : Asked)
-    (values : Values) (first : Guest Global) (r : Result Words E) → IsFront own line (Audit asked values first) → line ≡ line_of words
-    → rest ≡ rest_of words → IfOk r (IsAudit of_daemon asked values first rest) → IfOk r (AreWords own of_daemon words)
-audit-words own of_daemon words line rest asked values first (Ok it) front line_is rest_is audit =
-    inl (
+pub audit-words : (own of_daemon : Options) (words front rest : List (Bor (List ℕ))) (asked : Asked) (values : Values)
+    (first : Guest Global) (r : Result Right ReadError) → AreFrontWords of_daemon words front
+    → IsFront own front (Audit asked values first) → rest ≡ rest_of words
+    → IfOk r (IsAudit of_daemon asked values first rest) → IfOk r (AreWords own of_daemon words)
+audit-words own of_daemon words front rest asked values first (Ok it) are is rest_is audit =
+    audit-right own of_daemon words front asked values first it are is
+    (subst (λ (l : List (Bor (List ℕ))). IsAudit of_daemon asked values first l it) rest_is audit)
+audit-words own of_daemon words front rest asked values first (Err error) are is rest_is audit = tt
+
+-- what is wrong with what stands after the first `--`
+pub audit-wrong : (own of_daemon : Options) (words front rest : List (Bor (List ℕ))) (asked : Asked) (values : Values)
+    (first : Guest Global) (r : Result Right ReadError) → AreFrontWords of_daemon words front
+    → IsFront own front (Audit asked values first) → rest ≡ rest_of words
+    → IfErr r (WrongOnly (IsAuditFault of_daemon values first rest)) → IfErr r (WrongOnly (AreWrongWords own of_daemon words))
+audit-wrong own of_daemon words front rest asked values first (Ok it) are is rest_is wrong = tt
+audit-wrong own of_daemon words front rest asked values first (Err error) are is rest_is wrong =
+    WrongOnly-map (IsAuditFault of_daemon values first rest) (AreWrongWords own of_daemon words) error
+    (λ fault it. inr (
+      front,
       asked,
       values,
       first,
-      subst (λ (l : List (Bor (List ℕ))). IsFront own l (Audit asked values first)) line_is front,
-      subst (λ (l : List (Bor (List ℕ))). IsAudit of_daemon asked values first l it) rest_is audit,
-    )
-audit-words own of_daemon words line rest asked values first (Err error) front line_is rest_is audit = tt
+      are,
+      is,
+      subst (λ (l : List (Bor (List ℕ))). IsAuditFault of_daemon values first l fault) rest_is it,
+    )) wrong

@@ -1,5 +1,5 @@
 -- What is not known in parts, one after another.
-use Rattle.std.proofs.Common.{◌≡◌, ◌<◌, ◌+◌, ◌++◌, ℕ, List, [], ◌∷◌, Bool, true, false, ◌||◌, ◌&&◌, not, Option, Some, None, is_some, bytes_eq, codes, refl, Bor, map, find, take, get_or, length, sym, ap, ◌∙◌, subst, append_assoc}
+use Rattle.std.proofs.Common.{◌≡◌, ◌<◌, ◌+◌, ◌++◌, ℕ, List, [], ◌∷◌, Bool, true, false, ◌||◌, ◌&&◌, not, Option, Some, None, is_some, MatchOption, Result, Ok, Err, IfOk, refl, Bor, map, find, take, get_or, length, sym, ap, ◌∙◌, subst, append_assoc}
 use Rattle.std.proofs.lemmas.Grind.{flat_map-append}
 use Rattle.std.proofs.lemmas.List.{take_more, map-append}
 use Rattle.std.proofs.lemmas.List.Elements.{filter-append}
@@ -7,14 +7,16 @@ use Rattle.std.proofs.lemmas.List.Folds.{find-append}
 use Rattle.std.specs.List.{filter, list_any}
 use Rattle.std.specs.Option.{option_or}
 use Rattle.virtiofs_options.proofs.SearchLemmas.{any-find}
-use Rattle.virtiofs_options.specs.GuestOptions.{split_at_commas, text_in}
+use Rattle.virtiofs_options.specs.Allowed.{allows}
+use Rattle.virtiofs_options.specs.GuestOptions.{split_at_commas, is_older_form}
 use Rattle.virtiofs_options.specs.Guests.{Told}
-use Rattle.virtiofs_options.specs.Unknown.{unknown_in, unknown_of, unknown_words, is_known_older, is_astray, is_faulty, FaultsIn}
+use Rattle.virtiofs_options.specs.Unknown.{unknown_in, unknown_of, unknown_words, is_known_older, is_bad, is_faulty, FaultsIn, IsTextFault}
 use Rattle.virtiofs_options.specs.Whole.{follows}
 use Rattle.virtiofs_options.specs.declared.command.Part.{Part}
 use Rattle.virtiofs_options.specs.declared.command.Part.TheVariants.{Valued}
 use Rattle.virtiofs_options.specs.declared.fault.Fault.{Fault}
-use Rattle.virtiofs_options.specs.declared.fault.Fault.TheVariants.{OlderUnknown}
+use Rattle.virtiofs_options.specs.declared.fault.Fault.TheVariants.{OlderUnknown, OlderRefused}
+use Rattle.virtiofs_options.specs.declared.options.Known.{Known}
 use Rattle.virtiofs_options.specs.declared.options.Options.{Options}
 
 -- two pieces added one after the other
@@ -58,27 +60,44 @@ find-then p a b xs x first second =
     ∙ sym (find-append p (map (λ it. it.now) xs) (x.now ∷ []))
     ∙ ap (find p) (sym (map-append (λ (it : Bor (List ℕ)). it.now) xs (x ∷ [])))
 
--- a part of `-o` that is a near miss
-pub older-found : (options : Options) (name value text : Bor (List ℕ)) → follows options value.now ≡ false
-    → name.now ≡ codes "-o" → text_in (Some text) ≡ find (is_astray options) (split_at_commas value.now)
-    → FaultsIn options (Valued name value) (Some (OlderUnknown text))
-older-found options name value text no_line is found =
-    let any : list_any (is_astray options) (split_at_commas value.now) ≡ true =
-    any-find (is_astray options) (split_at_commas value.now) ∙ ap is_some (sym found) in (
-      ap (λ (b : Bool). b || (bytes_eq name.now (codes "-o") && list_any (is_astray options) (split_at_commas value.now))) no_line
-          ∙ ap (λ (n : List ℕ). bytes_eq n (codes "-o") && list_any (is_astray options) (split_at_commas value.now)) is ∙ any,
-      (name, value, refl, no_line, is, sym found),
-    )
+faulty-is : (options : Options) (row : Known) (value : Bor (List ℕ)) (bad : Bool) → follows options value.now ≡ false
+    → allows row.values value.now ≡ true → is_older_form row.sets ≡ true
+    → list_any (is_bad options) (split_at_commas value.now) ≡ bad → is_faulty options (Valued row value) ≡ bad
+faulty-is options row value bad no_line allowed older any =
+    ap (λ b. b || not (allows row.values value.now)
+    || (is_older_form row.sets && list_any (is_bad options) (split_at_commas value.now))) no_line
+    ∙ ap (λ b. not b || (is_older_form row.sets && list_any (is_bad options) (split_at_commas value.now))) allowed
+    ∙ ap (λ b. b && list_any (is_bad options) (split_at_commas value.now)) older ∙ any
 
--- no part of `-o` is
-pub older-none : (options : Options) (name value : Bor (List ℕ)) → follows options value.now ≡ false
-    → name.now ≡ codes "-o" → None ≡ find (is_astray options) (split_at_commas value.now)
-    → is_faulty options (Valued name value) ≡ false
-older-none options name value no_line is found =
-    let any : list_any (is_astray options) (split_at_commas value.now) ≡ false =
-    any-find (is_astray options) (split_at_commas value.now) ∙ ap is_some (sym found) in
-    ap (λ (b : Bool). b || (bytes_eq name.now (codes "-o") && list_any (is_astray options) (split_at_commas value.now))) no_line
-    ∙ ap (λ (n : List ℕ). bytes_eq n (codes "-o") && list_any (is_astray options) (split_at_commas value.now)) is ∙ any
+-- a `-o` has no wrong part where none is found, and one where one is
+pub any-bad : (options : Options) (value : List ℕ) (found : Option (List ℕ))
+    → find (is_bad options) (split_at_commas value) ≡ found
+    → list_any (is_bad options) (split_at_commas value) ≡ is_some found
+any-bad options value found is = any-find (is_bad options) (split_at_commas value) ∙ ap is_some is
+
+-- what is wrong with an option that has its value, and parts of `-o` in it
+pub older-faulty : (options : Options) (row : Known) (value : Bor (List ℕ)) (o : Option Fault)
+    → follows options value.now ≡ false → allows row.values value.now ≡ true → is_older_form row.sets ≡ true
+    → MatchOption o (find (is_bad options) (split_at_commas value.now) ≡ None) (IsTextFault options value.now)
+    → FaultsIn options (Valued row value) o
+older-faulty options row value None no_line allowed older none =
+    faulty-is options row value false no_line allowed older (any-bad options value.now None none)
+older-faulty options row value (Some (OlderUnknown text)) no_line allowed older found = (
+  faulty-is options row value true no_line allowed older (any-bad options value.now (Some text.now) found.0),
+  (row, value, refl, no_line, allowed, older, found),
+)
+older-faulty options row value (Some (OlderRefused text)) no_line allowed older found = (
+  faulty-is options row value true no_line allowed older (any-bad options value.now (Some text.now) found.0),
+  (row, value, refl, no_line, allowed, older, found),
+)
+older-faulty options row value (Some _) no_line allowed older found = absurd found
+
+pub older-faulty-ok : {E : Type 0} (options : Options) (row : Known) (value : Bor (List ℕ)) (r : Result (Option Fault) E)
+    → follows options value.now ≡ false → allows row.values value.now ≡ true → is_older_form row.sets ≡ true
+    → IfOk r (λ o. MatchOption o (find (is_bad options) (split_at_commas value.now) ≡ None) (IsTextFault options value.now))
+    → IfOk r (FaultsIn options (Valued row value))
+older-faulty-ok options row value (Ok o) no_line allowed older found = older-faulty options row value o no_line allowed older found
+older-faulty-ok options row value (Err e) no_line allowed older found = tt
 
 -- what is wrong with a part, where it is known what is
 pub faults-some : (options : Options) (part : Part) (o : Option Fault) (fault : Fault) → FaultsIn options part o

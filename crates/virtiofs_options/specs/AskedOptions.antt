@@ -6,7 +6,7 @@ use Rattle.std.specs.Option.{option_and_then}
 use Rattle.virtiofs_options.specs.GuestOptions.{values_of, value_in, has_flag, is_flag}
 use Rattle.virtiofs_options.specs.declared.command.Part.{Part}
 use Rattle.virtiofs_options.specs.declared.fault.Fault.{Fault}
-use Rattle.virtiofs_options.specs.declared.fault.Fault.TheVariants.{Unknown, Missing, Unwanted, NotShown, NotAlone, Whole, OlderUnknown, BeforeDashes, AfterDashes, Nothing, Beside}
+use Rattle.virtiofs_options.specs.declared.fault.Fault.TheVariants.{NotShown, NotAlone, Beside}
 use Rattle.virtiofs_options.specs.declared.front.Asked.{Asked}
 use Rattle.virtiofs_options.specs.declared.help.Telling.{Telling}
 use Rattle.virtiofs_options.specs.declared.help.Telling.TheVariants.{Help, Version}
@@ -64,14 +64,7 @@ abbrev pub IsAskedWrongly : List Part → Fault → Type 0
 IsAskedWrongly parts (NotShown value) = not_shown parts ≡ Some value
 IsAskedWrongly parts NotAlone = (not_shown parts ≡ None) × (mixes parts ≡ true)
 IsAskedWrongly parts Beside = (not_shown parts ≡ None) × (mixes parts ≡ false) × (is_beside parts ≡ true)
-IsAskedWrongly parts (Unknown word) = ⊥
-IsAskedWrongly parts (Missing option) = ⊥
-IsAskedWrongly parts (Unwanted option) = ⊥
-IsAskedWrongly parts (Whole word) = ⊥
-IsAskedWrongly parts (OlderUnknown text) = ⊥
-IsAskedWrongly parts (BeforeDashes word) = ⊥
-IsAskedWrongly parts (AfterDashes option) = ⊥
-IsAskedWrongly parts (Nothing guest) = ⊥
+IsAskedWrongly parts _ = ⊥
 
 -- what the program tells of itself, where a part asks for that
 unfoldable pub tells : Part → Option Telling

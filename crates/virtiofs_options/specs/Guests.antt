@@ -3,10 +3,11 @@ use Rattle.std.specs.Prelude.{◌≡◌, ◌⊎◌, ◌==◌, ◌+◌, ◌++◌,
 use Rattle.std.specs.Borrow.{Bor}
 use Rattle.std.specs.Global.{Global}
 use Rattle.std.specs.Option.{option_or}
+use Rattle.virtiofs_options.specs.Clusters.{split_words}
 use Rattle.virtiofs_options.specs.GuestOptions.{HasNoOption, TakesIn, has_any}
 use Rattle.virtiofs_options.specs.Lines.{beginning, first_daemon, line_of, after_line}
 use Rattle.virtiofs_options.specs.Parts.{AreParts, HasFault}
-use Rattle.virtiofs_options.specs.Unknown.{is_faulty, HasPartFault, told, unknown_of}
+use Rattle.virtiofs_options.specs.Unknown.{AreRight, IsPartsFault, told, unknown_of}
 use Rattle.virtiofs_options.specs.Whole.{is_line}
 use Rattle.virtiofs_options.specs.declared.fault.Fault.{Fault}
 use Rattle.virtiofs_options.specs.declared.fault.Fault.TheVariants.{Whole, Nothing}
@@ -31,11 +32,16 @@ abbrev pub lacking_fault : Options → ℕ → List (Bor (List ℕ)) → Fault
 lacking_fault options number words =
     unwrap_or (option_map Whole (find (λ word. is_line options word.now) words)) (Nothing number)
 
+-- the words, once joined short options are words of their own, are these parts
+abbrev pub AreSplitParts : Options → List (Bor (List ℕ)) → List Part → Type 0
+AreSplitParts options line parts =
+    (words : List (Bor (List ℕ))) × (map (λ it. it.now) words ≡ split_words options line) × AreParts options words parts
+
 -- what the words of one command line make of a guest, and what of them is not known
 abbrev pub IsLine : {A : Type 0} → Options → ℕ → Guest A → List (Bor (List ℕ)) → Guest A → Told → Type 0
 IsLine options number first line guest told =
-    (parts : List Part) × AreParts options line parts × (find (is_faulty options) parts ≡ None)
-    × TakesIn first guest parts × (told ≡ unknown_of options number parts)
+    (parts : List Part) × AreSplitParts options line parts × AreRight options parts
+    × TakesIn options first guest parts × (told ≡ unknown_of options number parts)
 
 -- one guest more, whose command line is these words, and what of them is not known
 abbrev pub AddsLine : Options → Guest Global → List (Bor (List ℕ)) → Guests → Guests → Type 0
@@ -48,8 +54,8 @@ AddsLine options first line old new =
 -- what is wrong with the words of one command line: a word, or a part
 abbrev pub IsLineFault : Options → List (Bor (List ℕ)) → Fault → Type 0
 IsLineFault options line fault =
-    HasFault options line fault
-    ⊎ ((parts : List Part) × AreParts options line parts × HasPartFault options parts fault)
+    ((words : List (Bor (List ℕ))) × (map (λ it. it.now) words ≡ split_words options line) × HasFault options words fault)
+    ⊎ ((parts : List Part) × AreSplitParts options line parts × IsPartsFault options parts fault)
 
 -- the guest that words begin with; what follows the `--` that ends its command line is left
 abbrev pub IsGuest : {A : Type 0} → Options → ℕ → Guest A → List (Bor (List ℕ)) → Guest A → Told

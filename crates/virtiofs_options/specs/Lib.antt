@@ -1,9 +1,10 @@
+pub mod Allowed
 pub mod AskedOptions
+pub mod Clusters
 pub mod GuestOptions
 pub mod Guests
 pub mod Lines
 pub mod Parts
-pub mod Sentences
 pub mod Unknown
 pub mod Whole
 pub mod Words

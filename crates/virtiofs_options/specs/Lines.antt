@@ -1,10 +1,12 @@
 -- Where the command line of a daemon begins and ends among words.
-use Rattle.std.specs.Prelude.{ℕ, ◌+◌, List, [], ◌∷◌, Bool, false, not, ◌||◌, ◌&&◌, Option, Some, None, option_map, position, take, drop, nat_eq, bytes_eq, codes, if◌then◌else◌}
+use Rattle.std.specs.Prelude.{ℕ, ◌+◌, List, [], ◌∷◌, Bool, true, false, not, ◌||◌, ◌&&◌, Option, Some, None, option_map, position, take, drop, nat_eq, bytes_eq, codes, if◌then◌else◌}
 use Rattle.std.specs.Borrow.{Bor}
 use Rattle.std.specs.List.{list_any, starts_with, ends_with}
 use Rattle.std.specs.Option.{option_and_then, option_or}
 use Rattle.virtiofs_options.specs.Parts.{is_option, key_of}
 use Rattle.virtiofs_options.specs.declared.options.Options.{Options}
+use Rattle.virtiofs_options.specs.declared.options.Sets.{Sets}
+use Rattle.virtiofs_options.specs.declared.options.Sets.TheVariants as sets
 
 -- where the first `--` stands, if there is one
 abbrev pub first_end : List (Bor (List ℕ)) → Option ℕ
@@ -29,9 +31,21 @@ is_daemon word =
     not (starts_with nat_eq word (codes "-"))
     && (bytes_eq word (codes "virtiofsd") || ends_with nat_eq word (codes "/virtiofsd"))
 
+-- what is set concerns ids or names
+abbrev pub concerns : Sets → Bool
+concerns sets.TranslateUid = true
+concerns sets.TranslateGid = true
+concerns sets.UidMap = true
+concerns sets.GidMap = true
+concerns sets.Xattrmap = true
+concerns sets.Acl = true
+concerns sets.NoAcl = true
+concerns _ = false
+
 -- the word is an option for ids or names, alone or with `=` and a value
 abbrev pub is_counted : Options → List ℕ → Bool
-is_counted options word = list_any (λ option. bytes_eq option.now (key_of word)) options.counted.now
+is_counted options word =
+    list_any (λ it. concerns it.sets && bytes_eq it.name.now (key_of word)) options.known.now
 
 -- the first of the words is an option, or `--`
 abbrev pub opens_with_option : List (Bor (List ℕ)) → Bool

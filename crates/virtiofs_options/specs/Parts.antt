@@ -1,15 +1,15 @@
 -- The words of a command line, and the parts that they are.
-use Rattle.std.specs.Prelude.{◌≡◌, ◌==◌, ◌≢◌, ◌<◌, ◌≤◌, ◌⊎◌, ℕ, length, drop, ◌∷◌, ◌++◌, List, [], IsTrue, IsFalse, Bool, not, ◌&&◌, nat_eq, Option, Some, None, option_map, find, bytes_eq, codes, slice_index, EachIndex}
+use Rattle.std.specs.Prelude.{◌≡◌, ◌==◌, ◌≢◌, ◌<◌, ◌≤◌, ◌⊎◌, ℕ, length, drop, ◌∷◌, ◌++◌, List, [], IsTrue, IsFalse, Bool, not, ◌&&◌, nat_eq, Option, Some, None, find, bytes_eq, codes, slice_index, EachIndex}
 use Rattle.std.specs.Borrow.{Bor}
 use Rattle.std.specs.List.{before_first}
 use Rattle.virtiofs_options.specs.declared.command.Part.{Part}
 use Rattle.virtiofs_options.specs.declared.command.Part.TheVariants.{Plain, Flag, Valued, Stray}
 use Rattle.virtiofs_options.specs.declared.fault.Fault.{Fault}
-use Rattle.virtiofs_options.specs.declared.fault.Fault.TheVariants.{Unknown, Missing, Unwanted, NotShown, NotAlone, Whole, OlderUnknown, BeforeDashes, AfterDashes, Nothing, Beside}
+use Rattle.virtiofs_options.specs.declared.fault.Fault.TheVariants.{Unknown, Missing, Unwanted}
 use Rattle.virtiofs_options.specs.declared.fault.ReadError.{ReadError}
 use Rattle.virtiofs_options.specs.declared.fault.ReadError.TheVariants.{OutOfMemory, Wrong}
+use Rattle.virtiofs_options.specs.declared.options.Known.{Known}
 use Rattle.virtiofs_options.specs.declared.options.Options.{Options}
-use Rattle.virtiofs_options.specs.declared.options.Takes.{Takes}
 use Rattle.virtiofs_options.specs.declared.options.Takes.TheVariants as takes
 
 -- a word that looks like an option: it begins with `-`, and is not `-` alone
@@ -23,9 +23,9 @@ IsOption word = IsTrue (is_option word)
 abbrev pub key_of : List ℕ → List ℕ
 key_of text = before_first (λ byte. byte == 61) text
 
--- whether an option has a value, where it is known
-abbrev pub takes_of : Options → List ℕ → Option Takes
-takes_of options name = option_map (λ it. it.1) (find (λ it. bytes_eq it.0.now name) options.known.now)
+-- the option of that name, where it is known
+abbrev pub known_of : Options → List ℕ → Option Known
+known_of options name = find (λ it. bytes_eq it.name.now name) options.known.now
 
 -- a text without `=`
 abbrev pub LacksEquals : List ℕ → Type 0
@@ -37,20 +37,10 @@ JoinsLong word name value =
     (word ≡ name ++ (codes "=" ++ value)) × LacksEquals name
     × (slice_index word 0 ≡ 45) × (slice_index word 1 ≡ 45)
 
--- `-ovalue` or `-o=value`
-abbrev pub JoinsShort : List ℕ → List ℕ → Type 0
-JoinsShort word value =
-    (word ≡ codes "-o=" ++ value)
-    ⊎ ((word ≡ codes "-o" ++ value) × (value ≢ []) × ((rest : List ℕ) → value ≢ codes "=" ++ rest))
-
--- the name of an option and its value, in one word
-abbrev pub Joins : List ℕ → List ℕ → List ℕ → Type 0
-Joins word name value = JoinsLong word name value ⊎ ((name ≡ codes "-o") × JoinsShort word value)
-
 -- the option that a word names, and the value that it has in the same word, if it has one there
 abbrev pub Names : List ℕ → List ℕ → Option (List ℕ) → Type 0
-Names word name (Some value) = Joins word name value
-Names word name None = (name ≡ word) × ((other value : List ℕ) → ¬ Joins word other value)
+Names word name (Some value) = JoinsLong word name value
+Names word name None = (name ≡ word) × ((other value : List ℕ) → ¬ JoinsLong word other value)
 
 -- the words after an option begin with none that can be its value
 abbrev pub LacksValue : List (Bor (List ℕ)) → Type 0
@@ -63,16 +53,16 @@ Begins options words (Plain word) rest = (words ≡ word ∷ rest) × IsTrue opt
 Begins options words (Stray word) rest =
     (words ≡ word ∷ rest) × IsTrue options.plain × IsOption word.now
     × ((name : Bor (List ℕ)) × (value : Option (List ℕ)) × Names word.now name.now value
-    × (takes_of options name.now ≡ None))
-Begins options words (Flag name) rest =
-    (word : Bor (List ℕ)) × (words ≡ word ∷ rest) × IsOption word.now × Names word.now name.now None
-    × (takes_of options name.now ≡ Some takes.Nothing)
-Begins options words (Valued name value) rest =
+    × (known_of options name.now ≡ None))
+Begins options words (Flag row) rest =
+    (word : Bor (List ℕ)) × (words ≡ word ∷ rest) × IsOption word.now × Names word.now word.now None
+    × (known_of options word.now ≡ Some row) × (row.takes ≡ takes.Nothing)
+Begins options words (Valued row value) rest =
     (word : Bor (List ℕ)) × IsOption word.now
-    × (((words ≡ word ∷ rest) × Names word.now name.now (Some value.now)
-    × ((takes_of options name.now ≡ Some takes.Value) ⊎ (takes_of options name.now ≡ Some takes.AfterEquals)))
-    ⊎ ((words ≡ word ∷ value ∷ rest) × Names word.now name.now None
-    × (takes_of options name.now ≡ Some takes.Value) × ¬ IsOption value.now))
+    × (((words ≡ word ∷ rest) × ((name : Bor (List ℕ)) × Names word.now name.now (Some value.now)
+    × (known_of options name.now ≡ Some row)) × ((row.takes ≡ takes.Value) ⊎ (row.takes ≡ takes.AfterEquals)))
+    ⊎ ((words ≡ word ∷ value ∷ rest) × Names word.now word.now None × (known_of options word.now ≡ Some row)
+    × (row.takes ≡ takes.Value) × ¬ IsOption value.now))
 
 -- the part that these words begin with has so many of them
 abbrev pub StandsFirst : Options → Bor (List ℕ) → List (Bor (List ℕ)) → Part → ℕ → Type 0
@@ -85,23 +75,16 @@ IsWrong options words (Unknown name) =
     (word : Bor (List ℕ)) × (rest : List (Bor (List ℕ))) × (words ≡ word ∷ rest)
     × IsFalse options.plain
     × (((¬ IsOption word.now) × (name.now ≡ word.now))
-    ⊎ (IsOption word.now × ((value : Option (List ℕ)) × Names word.now name.now value) × (takes_of options name.now ≡ None)))
+    ⊎ (IsOption word.now × ((value : Option (List ℕ)) × Names word.now name.now value) × (known_of options name.now ≡ None)))
 IsWrong options words (Missing name) =
     (word : Bor (List ℕ)) × (rest : List (Bor (List ℕ))) × (words ≡ word ∷ rest) × IsOption word.now
-    × Names word.now name.now None
-    × ((takes_of options name.now ≡ Some takes.AfterEquals)
-    ⊎ ((takes_of options name.now ≡ Some takes.Value) × LacksValue rest))
+    × Names word.now name.now None × ((row : Known) × (known_of options name.now ≡ Some row)
+    × ((row.takes ≡ takes.AfterEquals) ⊎ ((row.takes ≡ takes.Value) × LacksValue rest)))
 IsWrong options words (Unwanted name) =
     (word : Bor (List ℕ)) × (rest : List (Bor (List ℕ))) × (words ≡ word ∷ rest) × IsOption word.now
-    × ((value : List ℕ) × Names word.now name.now (Some value)) × (takes_of options name.now ≡ Some takes.Nothing)
-IsWrong options words (NotShown value) = ⊥
-IsWrong options words NotAlone = ⊥
-IsWrong options words (Whole word) = ⊥
-IsWrong options words (OlderUnknown text) = ⊥
-IsWrong options words (BeforeDashes word) = ⊥
-IsWrong options words (AfterDashes option) = ⊥
-IsWrong options words (Nothing guest) = ⊥
-IsWrong options words Beside = ⊥
+    × ((value : List ℕ) × Names word.now name.now (Some value))
+    × ((row : Known) × (known_of options name.now ≡ Some row) × (row.takes ≡ takes.Nothing))
+IsWrong options words _ = ⊥
 
 -- the words are these parts, and then the rest
 abbrev pub PartsThen : Options → List (Bor (List ℕ)) → List Part → List (Bor (List ℕ)) → Type 0

@@ -1,46 +1,53 @@
 -- What the parts of a command line have that is not known, and what of it is wrong.
-use Rattle.std.specs.Prelude.{◌≡◌, ◌⊎◌, ℕ, List, [], ◌∷◌, Bool, true, false, not, ◌||◌, ◌&&◌, Option, Some, MatchOption, map, flat_map, find, length, nat_le, nat_eq, bytes_eq, codes, chars, if◌then◌else◌}
+use Rattle.std.specs.Prelude.{◌≡◌, ◌⊎◌, ℕ, List, [], ◌∷◌, Bool, true, false, not, ◌||◌, ◌&&◌, Option, Some, None, MatchOption, map, flat_map, find, is_some, length, take, nat_le, nat_eq, bytes_eq, chars, encode_utf8_all, if◌then◌else◌}
 use Rattle.std.specs.Borrow.{Bor}
-use Rattle.std.specs.List.{list_any, filter, starts_with}
+use Rattle.std.specs.List.{list_any, filter}
+use Rattle.std.specs.Option.{option_or}
 use Rattle.strsim.specs.Edits.{levenshtein_row}
-use Rattle.virtiofs_options.specs.GuestOptions.{split_at_commas}
+use Rattle.virtiofs_options.specs.Allowed.{allows}
+use Rattle.virtiofs_options.specs.Clusters.{stripped}
+use Rattle.virtiofs_options.specs.GuestOptions.{split_at_commas, is_older_form, sets_by, older_of}
+use Rattle.virtiofs_options.specs.Lines.{concerns, is_daemon}
 use Rattle.virtiofs_options.specs.Parts.{key_of}
-use Rattle.virtiofs_options.specs.Sentences.{front_of}
 use Rattle.virtiofs_options.specs.Whole.{is_line, follows}
 use Rattle.virtiofs_options.specs.declared.command.Part.{Part}
 use Rattle.virtiofs_options.specs.declared.command.Part.TheVariants.{Plain, Flag, Valued, Stray}
 use Rattle.virtiofs_options.specs.declared.fault.Fault.{Fault}
-use Rattle.virtiofs_options.specs.declared.fault.Fault.TheVariants.{Unknown, Missing, Unwanted, NotShown, NotAlone, Whole, OlderUnknown, BeforeDashes, AfterDashes, Nothing, Beside}
+use Rattle.virtiofs_options.specs.declared.fault.Fault.TheVariants.{Miss, Whole, OlderUnknown, OlderRefused, Refused, AfterDashes, StrayWord, AtOdds}
+use Rattle.virtiofs_options.specs.declared.options.Known.{Known}
 use Rattle.virtiofs_options.specs.declared.options.Options.{Options}
-use Rattle.virtiofs_options.specs.declared.options.Takes.{Takes}
-use Rattle.virtiofs_options.specs.declared.options.Takes.TheVariants as takes
+use Rattle.virtiofs_options.specs.declared.options.Sets.{Sets}
+use Rattle.virtiofs_options.specs.declared.options.Sets.TheVariants as sets
+use Rattle.virtiofs_options.specs.declared.strays.Place.{Place}
+use Rattle.virtiofs_options.specs.declared.strays.Place.TheVariants as place
 use Rattle.virtiofs_options.specs.declared.unknown.UnknownWord.{UnknownWord}
+
+-- the first characters of a word, at most 60
+abbrev pub front_of : List ℕ → List ℕ
+front_of word = encode_utf8_all (take 60 (chars word))
 
 -- at most two characters put in, taken out or changed make the name of the text, of which the first 60 characters count
 abbrev pub is_near : List ℕ → List ℕ → Bool
 is_near text name =
     nat_le (levenshtein_row nat_eq (chars (front_of text)) (chars name) (length (chars name))) 2
 
--- a near miss of one of the names
-abbrev pub is_near_one : List ℕ → List (Bor (List ℕ)) → Bool
-is_near_one text known = list_any (λ name. is_near text name.now) known
+-- a near miss of an option for ids or names
+abbrev pub misses : List ℕ → Known → Bool
+misses text row = concerns row.sets && is_near text (key_of row.name.now)
+
+abbrev pub is_near_one : List ℕ → List Known → Bool
+is_near_one text known = list_any (misses text) known
 
 -- an option that is not known is a near miss of one for ids or names
 abbrev pub is_near_option : Options → List ℕ → Bool
-is_near_option options word = is_near_one (key_of word) options.counted.now
-
--- the text is a part of `-o`: a name alone, or what begins one that has a value, and the value
-abbrev pub is_older : List ℕ → Bor (List ℕ) × Takes → Bool
-is_older text (name, takes.Nothing) = bytes_eq text name.now
-is_older text (name, takes.Value) = starts_with nat_eq text name.now
-is_older text (name, takes.AfterEquals) = starts_with nat_eq text name.now
+is_near_option options word = is_near_one (key_of word) options.known.now
 
 abbrev pub is_known_older : Options → List ℕ → Bool
-is_known_older options text = list_any (is_older text) options.older.now
+is_known_older options text = is_some (older_of options text)
 
 -- the name is that of an option of the program's own
 abbrev pub is_own_name : Options → List ℕ → Bool
-is_own_name options name = list_any (λ it. bytes_eq it.0.now name) options.own.now
+is_own_name options name = list_any (λ it. bytes_eq it.name.now name) options.own.now
 
 -- an option that is not known is the program's own
 abbrev pub is_own : Options → List ℕ → Bool
@@ -52,40 +59,66 @@ is_wrong options word = is_own options word || is_near_option options word
 
 -- a part of `-o` that is not known, and a near miss of one for names
 abbrev pub is_astray : Options → List ℕ → Bool
-is_astray options text =
-    not (is_known_older options text) && is_near_one (key_of text) options.older_counted.now
+is_astray options text = not (is_known_older options text) && is_near_one (key_of text) options.older.now
+
+-- a value that the daemon refuses, of what follows a name
+abbrev pub is_refused_value : Known → Option (List ℕ) → Bool
+is_refused_value row None = false
+is_refused_value row (Some value) = not (allows row.values value)
+
+abbrev pub is_refused_after : Option Known → List ℕ → Bool
+is_refused_after None text = false
+is_refused_after (Some row) text = is_refused_value row (stripped row.name.now text)
+
+-- a part of `-o` whose value the daemon refuses
+abbrev pub is_refused : Options → List ℕ → Bool
+is_refused options text = is_refused_after (older_of options text) text
+
+-- a part of `-o` that is wrong
+abbrev pub is_bad : Options → List ℕ → Bool
+is_bad options text = is_astray options text || is_refused options text
 
 -- a part of a command line is wrong
 abbrev pub is_faulty : Options → Part → Bool
 is_faulty options (Plain word) = is_line options word.now
-is_faulty options (Flag name) = false
+is_faulty options (Flag row) = false
 is_faulty options (Stray word) = is_line options word.now || is_wrong options word.now
-is_faulty options (Valued name value) =
-    follows options value.now
-    || (bytes_eq name.now (codes "-o") && list_any (is_astray options) (split_at_commas value.now))
+is_faulty options (Valued row value) =
+    follows options value.now || not (allows row.values value.now)
+    || (is_older_form row.sets && list_any (is_bad options) (split_at_commas value.now))
+
+-- what is wrong with the first part of a `-o` that is wrong
+abbrev pub IsTextFault : Options → List ℕ → Fault → Type 0
+IsTextFault options value (OlderUnknown text) =
+    (find (is_bad options) (split_at_commas value) ≡ Some text.now) × (is_astray options text.now ≡ true)
+IsTextFault options value (OlderRefused text) =
+    (find (is_bad options) (split_at_commas value) ≡ Some text.now) × (is_astray options text.now ≡ false)
+IsTextFault options value _ = ⊥
+
+-- an option that has its value, and parts of `-o` in it
+abbrev pub IsOlderFault : Options → Part → Fault → Type 0
+IsOlderFault options part fault =
+    (row : Known) × (value : Bor (List ℕ)) × (part ≡ Valued row value) × (follows options value.now ≡ false)
+    × (allows row.values value.now ≡ true) × (is_older_form row.sets ≡ true) × IsTextFault options value.now fault
 
 -- what is wrong with a part
 abbrev pub IsPartFault : Options → Part → Fault → Type 0
 IsPartFault options part (Whole text) =
     ((part ≡ Plain text) × (is_line options text.now ≡ true))
     ⊎ ((part ≡ Stray text) × (is_line options text.now ≡ true))
-    ⊎ ((name : Bor (List ℕ)) × (part ≡ Valued name text) × (follows options text.now ≡ true))
-IsPartFault options part (Unknown name) =
+    ⊎ ((row : Known) × (part ≡ Valued row text) × (follows options text.now ≡ true))
+IsPartFault options part (Miss name) =
     (word : Bor (List ℕ)) × (part ≡ Stray word) × (is_line options word.now ≡ false)
     × (is_own options word.now ≡ false) × (is_near_option options word.now ≡ true) × (name.now ≡ key_of word.now)
 IsPartFault options part (AfterDashes name) =
     (word : Bor (List ℕ)) × (part ≡ Stray word) × (is_line options word.now ≡ false)
     × (is_own options word.now ≡ true) × (name.now ≡ key_of word.now)
-IsPartFault options part (OlderUnknown text) =
-    (name value : Bor (List ℕ)) × (part ≡ Valued name value) × (follows options value.now ≡ false)
-    × (name.now ≡ codes "-o") × (find (is_astray options) (split_at_commas value.now) ≡ Some text.now)
-IsPartFault options part (Missing option) = ⊥
-IsPartFault options part (Unwanted option) = ⊥
-IsPartFault options part (NotShown value) = ⊥
-IsPartFault options part NotAlone = ⊥
-IsPartFault options part Beside = ⊥
-IsPartFault options part (BeforeDashes word) = ⊥
-IsPartFault options part (Nothing guest) = ⊥
+IsPartFault options part (Refused name value) =
+    (row : Known) × (part ≡ Valued row value) × (follows options value.now ≡ false) × (name ≡ row.name)
+    × (allows row.values value.now ≡ false)
+IsPartFault options part (OlderUnknown text) = IsOlderFault options part (OlderUnknown text)
+IsPartFault options part (OlderRefused text) = IsOlderFault options part (OlderRefused text)
+IsPartFault options part _ = ⊥
 
 -- what is wrong with the first part that is wrong
 abbrev pub HasPartFault : Options → List Part → Fault → Type 0
@@ -96,6 +129,65 @@ HasPartFault options parts fault =
 abbrev pub FaultsIn : Options → Part → Option Fault → Type 0
 FaultsIn options part fault =
     MatchOption fault (is_faulty options part ≡ false) (λ it. (is_faulty options part ≡ true) × IsPartFault options part it)
+
+-- where the next part stands: after the daemon's word or an option no word is right that is no option, but one right
+-- after an option that is not known, whose value it may be; the daemon's word may be there twice, as in `-u virtiofsd virtiofsd`
+abbrev pub next_place : Place → Part → Place
+next_place place.Front (Plain word) = if is_daemon word.now then place.Named else place.Front
+next_place place.Named (Plain word) = if is_daemon word.now then place.Named else place.Line
+next_place at (Stray word) = place.AfterUnknown
+next_place at _ = place.Line
+
+-- a word that is no option, where none is right
+abbrev pub stray_at : Place → Part → Option (Bor (List ℕ))
+stray_at place.Line (Plain word) = Some word
+stray_at place.Named (Plain word) = if is_daemon word.now then None else Some word
+stray_at at _ = None
+
+-- the first such word
+abbrev pub stray_in : Place → List Part → Option (Bor (List ℕ))
+stray_in at [] = None
+stray_in at (part ∷ parts) = option_or (stray_at at part) (stray_in (next_place at part) parts)
+
+-- an option that sets this is among the parts
+abbrev pub has_any_of : (Sets → Bool) → List Part → Bool
+has_any_of sets parts = list_any (λ part. sets (sets_by part)) parts
+
+abbrev pub is_fd : Sets → Bool
+is_fd sets.Fd = true
+is_fd _ = false
+
+abbrev pub is_socket : Sets → Bool
+is_socket sets.Socket = true
+is_socket _ = false
+
+abbrev pub is_group : Sets → Bool
+is_group sets.Group = true
+is_group _ = false
+
+abbrev pub is_prints : Sets → Bool
+is_prints sets.Prints = true
+is_prints _ = false
+
+-- options of the socket that do not go together
+abbrev pub are_at_odds : List Part → Bool
+are_at_odds parts =
+    (has_any_of is_fd parts && (has_any_of is_socket parts || has_any_of is_group parts))
+    || (has_any_of is_group parts && has_any_of is_prints parts)
+
+-- parts of which none is wrong
+abbrev pub AreRight : Options → List Part → Type 0
+AreRight options parts =
+    (find (is_faulty options) parts ≡ None) × (stray_in place.Front parts ≡ None) × (are_at_odds parts ≡ false)
+
+-- what is wrong with parts: the first that is wrong, or a word where none is right, or options that do not go together
+abbrev pub IsPartsFault : Options → List Part → Fault → Type 0
+IsPartsFault options parts fault =
+    HasPartFault options parts fault
+    ⊎ ((word : Bor (List ℕ)) × (fault ≡ StrayWord word) × (find (is_faulty options) parts ≡ None)
+    × (stray_in place.Front parts ≡ Some word))
+    ⊎ ((fault ≡ AtOdds) × (find (is_faulty options) parts ≡ None) × (stray_in place.Front parts ≡ None)
+    × (are_at_odds parts ≡ true))
 
 -- an unknown word, as plain data: the number of its guest, whether it is a part of `-o`, and the text
 abbrev pub told : UnknownWord → ℕ × Bool × List ℕ
@@ -108,12 +200,10 @@ unknown_words options guest texts =
 
 -- what of a part is not known: an option without its value, or parts of `-o`
 abbrev pub unknown_in : Options → ℕ → Part → List (ℕ × Bool × List ℕ)
-unknown_in options guest (Plain word) = []
-unknown_in options guest (Flag name) = []
 unknown_in options guest (Stray word) = (guest, false, key_of word.now) ∷ []
-unknown_in options guest (Valued name value) =
-    if bytes_eq name.now (codes "-o") then unknown_words options guest (split_at_commas value.now)
-    else []
+unknown_in options guest (Valued row value) =
+    if is_older_form row.sets then unknown_words options guest (split_at_commas value.now) else []
+unknown_in options guest _ = []
 
 -- what is not known in the parts of the command line of a guest, in their order
 abbrev pub unknown_of : Options → ℕ → List Part → List (ℕ × Bool × List ℕ)

@@ -11,11 +11,11 @@ is_blank byte = (byte == 32) || (byte == 9) || (byte == 10) || (byte == 13)
 
 -- an option that is known, alone or with `=` and a value
 abbrev pub is_known : Options → List ℕ → Bool
-is_known options text = list_any (λ it. bytes_eq it.0.now (key_of text)) options.known.now
+is_known options text = list_any (λ it. bytes_eq it.name.now (key_of text)) options.known.now
 
 -- the name of an option that is known
 abbrev pub is_name : Options → List ℕ → Bool
-is_name options text = list_any (λ it. bytes_eq it.0.now text) options.known.now
+is_name options text = list_any (λ it. bytes_eq it.name.now text) options.known.now
 
 -- the daemon's word, or an option without `=`
 abbrev pub begins_line : Options → List ℕ → Bool

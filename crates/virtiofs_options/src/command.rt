@@ -1,10 +1,10 @@
 //! Words, part by part, as the options that are known say which have a value.
 ghost use Rattle.std.specs.Prelude.{◌≡◌, ◌↔◌, ℕ, ◌∷◌, List, IsTrue, IsFalse, IfOk, IfErr, MatchOption, option_map};
-ghost use Rattle.virtiofs_options.specs.GuestOptions.{is_flag, value_in};
-ghost use Rattle.virtiofs_options.specs.Parts.{takes_of, key_of, is_option, IsOption, JoinsShort, JoinsLong, Names, StandsFirst, IsWrong};
+ghost use Rattle.virtiofs_options.specs.GuestOptions.{is_flag, sets_by, value_in};
+ghost use Rattle.virtiofs_options.specs.Parts.{known_of, key_of, is_option, IsOption, JoinsLong, Names, StandsFirst, IsWrong};
 
 use crate::fault::Fault;
-use crate::options::{Options, Takes};
+use crate::options::{Known, Options, Sets, Takes};
 
 /// What one or two words of a command line are.
 #[derive(Clone, Copy)]
@@ -12,9 +12,9 @@ pub(crate) enum Part<'a> {
     /// A word that is no option.
     Plain(&'a str),
     /// An option that has no value.
-    Flag(&'a str),
+    Flag(Known),
     /// An option and its value.
-    Valued(&'a str, &'a str),
+    Valued(Known, &'a str),
     /// A word that looks like an option that is not known.
     Stray(&'a str),
 }
@@ -25,7 +25,7 @@ impl<'a> Part<'a> {
         ensures { result ≡ is_flag option.now self.entry }
     {
         match self {
-            Part::Flag(name) => name == option,
+            Part::Flag(row) => row.name == option,
             _ => false,
         }
     }
@@ -35,8 +35,18 @@ impl<'a> Part<'a> {
         ensures { result ≡ value_in option.now self.entry }
     {
         match self {
-            Part::Valued(name, value) if name == option => Some(value),
+            Part::Valued(row, value) if row.name == option => Some(value),
             _ => None,
+        }
+    }
+
+    /// What the part sets.
+    pub(crate) fn sets(self) -> Sets
+        ensures { result ≡ sets_by self.entry }
+    {
+        match self {
+            Part::Flag(row) | Part::Valued(row, _) => row.sets,
+            _ => Sets::Other,
         }
     }
 }
@@ -51,15 +61,11 @@ pub(crate) fn key_of(text: &str) -> &str
     }
 }
 
-/// Whether an option has a value, where it is known.
-pub(crate) fn takes(options: Options, name: &str) -> Option<Takes>
-    ensures { result ≡ takes_of options name.now }
+/// The option of that name, where it is known.
+pub(crate) fn known_of(options: Options, name: &str) -> Option<Known>
+    ensures { result ≡ known_of options name.now }
 {
-    options
-        .known
-        .iter()
-        .find(|(known, _)| *known == name)
-        .map(|(_, takes)| *takes)
+    options.known.iter().find(|it| it.name == name).copied()
 }
 
 /// Whether a word looks like an option: it begins with `-`, and has more than that. Such a word is no
@@ -68,18 +74,6 @@ pub(crate) fn is_option(word: &str) -> bool
     ensures { result ≡ is_option word.now }
 {
     word.starts_with('-') && word != "-"
-}
-
-/// The value in the word of a short option: `-oVALUE` or `-o=VALUE`.
-fn short_value(word: &str) -> Option<&str>
-    ensures { MatchOption result ((value : List ℕ) → ¬ JoinsShort word.now value)
-        (λ value. JoinsShort word.now value.now) }
-{
-    let value = word.strip_prefix("-o")?;
-    if value.is_empty() {
-        return None;
-    }
-    Some(value.strip_prefix("=").unwrap_or(value))
 }
 
 /// The option and the value in one word: `--NAME=VALUE`.
@@ -98,11 +92,8 @@ fn long_value(word: &str) -> Option<(&str, &str)>
 fn named(word: &str) -> (&str, Option<&str>)
     ensures { Names word.now result.0.now (option_map (λ value. value.now) result.1) }
 {
-    if let Some((name, value)) = long_value(word) {
-        return (name, Some(value));
-    }
-    match short_value(word) {
-        Some(value) => ("-o", Some(value)),
+    match long_value(word) {
+        Some((name, value)) => (name, Some(value)),
         None => (word, None),
     }
 }
@@ -131,12 +122,14 @@ fn apart<'a>(
     ensures read { IfOk result (λ p. StandsFirst options name.entry after.now p.0 p.1) }
     ensures refused { IfErr result (IsWrong options (name.entry ∷ after.now)) }
 {
-    match takes(options, name) {
-        None => stray(options, name, name),
-        Some(Takes::Nothing) => Ok((Part::Flag(name), 1)),
-        Some(Takes::AfterEquals) => Err(Fault::Missing(name)),
-        Some(Takes::Value) => match after.first() {
-            Some(value) if !is_option(value) => Ok((Part::Valued(name, value), 2)),
+    let Some(row) = known_of(options, name) else {
+        return stray(options, name, name);
+    };
+    match row.takes {
+        Takes::Nothing => Ok((Part::Flag(row), 1)),
+        Takes::AfterEquals => Err(Fault::Missing(name)),
+        Takes::Value => match after.first() {
+            Some(value) if !is_option(value) => Ok((Part::Valued(row, value), 2)),
             _ => Err(Fault::Missing(name)),
         },
     }
@@ -161,9 +154,11 @@ pub(crate) fn first_part<'a>(
     let Some(value) = joined else {
         return apart(options, word, after);
     };
-    match takes(options, name) {
-        None => stray(options, word, name),
-        Some(Takes::Nothing) => Err(Fault::Unwanted(name)),
-        Some(Takes::Value | Takes::AfterEquals) => Ok((Part::Valued(name, value), 1)),
+    let Some(row) = known_of(options, name) else {
+        return stray(options, word, name);
+    };
+    match row.takes {
+        Takes::Nothing => Err(Fault::Unwanted(name)),
+        Takes::Value | Takes::AfterEquals => Ok((Part::Valued(row, value), 1)),
     }
 }

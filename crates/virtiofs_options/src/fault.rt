@@ -1,19 +1,21 @@
 //! What is wrong with words, and the sentence on it.
-ghost use Rattle.std.specs.Prelude.{◌≡◌, ℕ, List, IfOk, string_bytes, nat_lt, length, chars};
-ghost use Rattle.virtiofs_options.specs.Sentences.{front_of, shown, IsSentence, unknown_sentence, not_shown_sentence, whole_sentence, before_dashes_sentence, after_dashes_sentence, nothing_sentence};
+ghost use Rattle.std.specs.Prelude.{◌≡◌};
 ghost use Rattle.virtiofs_options.specs.declared.fault.ReadError.TheVariants.{OutOfMemory, Wrong};
 
 use crate::command::key_of;
 use crate::nearest::nearest;
-use crate::options::{Options, Takes};
+use crate::options::{Known, OF_DAEMON, OWN};
+use crate::shown::Shown;
+use crate::unknown::{MOST_SHOWN, front_of};
 use std::alloc::{AllocError, AllocFailed, Global};
-use virtiofs_output::written::push_quoted;
 
 /// What is wrong with words.
 #[derive(Clone, Copy)]
 pub(crate) enum Fault<'a> {
-    /// The word is not known.
+    /// The word is not known before the first `--`.
     Unknown(&'a str),
+    /// The option is not known, and is a near miss of one for ids or names.
+    Miss(&'a str),
     /// The option lacks its value.
     Missing(&'a str),
     /// The option has no value, and here it has one.
@@ -26,6 +28,14 @@ pub(crate) enum Fault<'a> {
     Whole(&'a str),
     /// The part of `-o` is not known, and is a near miss of one for names.
     OlderUnknown(&'a str),
+    /// The daemon refuses the value of the option.
+    Refused(&'static str, &'a str),
+    /// The daemon refuses the value in the part of `-o`.
+    OlderRefused(&'a str),
+    /// The word is no option, where the daemon takes none but options.
+    StrayWord(&'a str),
+    /// There are options for the socket that do not go together.
+    AtOdds,
     /// The word belongs to a command line of the daemon, and stands before the first `--`.
     BeforeDashes(&'a str),
     /// The option is the program's own, and stands after the first `--`.
@@ -68,48 +78,21 @@ impl<'a> From<Fault<'a>> for ReadError<'a> {
     }
 }
 
-/// The most characters of a word that a sentence quotes.
-const MOST_SHOWN: usize = 60;
-
-/// The first characters of a word, as many as a sentence quotes.
-pub(crate) fn front_of(alloc: Global, word: &str) -> Result<String, AllocError>
-    ensures { IfOk result (λ front. string_bytes front ≡ front_of word.now) }
-{
-    word.chars().take(MOST_SHOWN).collect(alloc)
-}
-
-/// Whether a word has more characters than a sentence quotes.
-fn is_cut(word: &str) -> bool
-    ensures { result ≡ nat_lt 60 (length (chars word.now)) }
-{
-    MOST_SHOWN < word.chars().count()
-}
-
 /// A word as a sentence has it: the first characters, escaped, between quotes, and two dots where it
 /// has more.
 ///
 /// # Errors
 ///
 /// `AllocError`: a request for memory was refused.
-pub fn shown(alloc: Global, word: &str) -> Result<String, AllocError>
-    ensures { IfOk result (λ text. string_bytes text ≡ shown word.now) }
-{
+pub fn shown(alloc: Global, word: &str) -> Result<String, AllocError> {
     let front = front_of(alloc, word)?;
     let mut text = String::new(alloc);
-    push_quoted(&mut text, front.as_bytes())?;
-    if is_cut(word) {
+    let front = Shown(front.as_bytes());
+    write!(text, "'{front}'")?;
+    if MOST_SHOWN < word.chars().count() {
         text.push_str("..")?;
     }
     Ok(text)
-}
-
-/// The sentence on what is not known, a word or a part of `-o`, with one that is.
-fn told_with(alloc: Global, what: &str, text: &str, known: &str) -> Result<String, AllocError>
-    ensures { IfOk result (λ told. string_bytes told
-        ≡ unknown_sentence what.now text.now known.now) }
-{
-    let text = shown(alloc, text)?;
-    format!(in alloc; "unknown {what} {text}: the nearest that is known is '{known}'\n")
 }
 
 /// The sentence on what is not known. The first characters of `name`, as many as a sentence quotes,
@@ -119,87 +102,91 @@ fn unknown_text(
     what: &str,
     text: &str,
     name: &str,
-    known: &[(&'static str, Takes)],
-) -> Result<String, AllocError>
-    ensures { IfOk result (λ told. (known : List ℕ)
-        × (string_bytes told ≡ unknown_sentence what.now text.now known)) }
-{
+    known: &[Known],
+) -> Result<String, AllocError> {
     let front = front_of(alloc, name)?;
     let nearest = nearest(alloc, front.as_str(), known)?;
-    told_with(alloc, what, text, nearest)
+    let text = shown(alloc, text)?;
+    format!(in alloc; "unknown {what} {text}: the nearest that is known is '{nearest}'\n")
 }
 
-/// The sentence on a word that holds more than one.
-fn whole_text(alloc: Global, word: &str) -> Result<String, AllocError>
-    ensures { IfOk result (λ text. string_bytes text ≡ whole_sentence word.now) }
-{
+/// The sentence on a word, which ends so.
+fn word_text(alloc: Global, begin: &str, word: &str, end: &str) -> Result<String, AllocError> {
     let word = shown(alloc, word)?;
-    format!(in alloc;
-        "{word} is more than one word of a command line: remove the quotes around it\n"
-    )
+    format!(in alloc; "{begin}{word}{end}\n")
 }
 
-/// The sentence on a word of the daemon's that stands before the first `--`.
-fn before_dashes_text(alloc: Global, word: &str) -> Result<String, AllocError>
-    ensures { IfOk result (λ text. string_bytes text ≡ before_dashes_sentence word.now) }
-{
-    let word = shown(alloc, word)?;
-    format!(in alloc; "unknown word {word}: put '--' before the command line of virtiofsd\n")
+/// The sentence on an option, which ends so.
+fn option_text(alloc: Global, option: &str, end: &str) -> Result<String, AllocError> {
+    format!(in alloc; "'{option}' {end}\n")
 }
 
-/// The sentence on an option of the program's own that stands after the first `--`.
-fn after_dashes_text(alloc: Global, option: &str) -> Result<String, AllocError>
-    ensures { IfOk result (λ text. string_bytes text ≡ after_dashes_sentence option.now) }
-{
-    format!(in alloc;
-        "'{option}' is an option of virtiofs_mapaudit: put it before the first '--'\n"
-    )
+/// The sentence on a value that the daemon refuses.
+fn refused_text(alloc: Global, option: &str, value: &str) -> Result<String, AllocError> {
+    let value = shown(alloc, value)?;
+    format!(in alloc; "virtiofsd refuses the value {value} of '{option}'\n")
 }
 
 /// The sentence on a guest for which there is nothing to audit.
-fn nothing_text(alloc: Global, guest: usize) -> Result<String, AllocError>
-    ensures { IfOk result (λ text. string_bytes text ≡ nothing_sentence guest) }
-{
+fn nothing_text(alloc: Global, guest: usize) -> Result<String, AllocError> {
     format!(in alloc;
         "guest {guest}: nothing to audit: no word is 'virtiofsd', and none is an option for ids or names\n"
     )
 }
 
-/// The sentence on a value of `--show` that names nothing to show.
-fn not_shown_text(alloc: Global, value: &str) -> Result<String, AllocError>
-    ensures { IfOk result (λ text. string_bytes text ≡ not_shown_sentence value.now) }
-{
-    let value = shown(alloc, value)?;
-    format!(in alloc; "'--show' has no value {value}: it has 'ids' and 'names'\n")
-}
-
-/// The sentence on what is wrong with words where these options are known.
-pub(crate) fn fault_text(
-    alloc: Global,
-    fault: Fault<'_>,
-    options: Options,
-) -> Result<String, AllocError>
-    ensures { IfOk result (λ text. IsSentence fault.entry (string_bytes text)) }
-{
+/// The sentence on what is wrong with words.
+pub(crate) fn fault_text(alloc: Global, fault: Fault<'_>) -> Result<String, AllocError> {
     match fault {
-        Fault::Unknown(word) => unknown_text(alloc, "word", word, word, options.known),
-        Fault::Missing(option) => format!(in alloc; "'{option}' lacks its value\n"),
-        Fault::Unwanted(option) => format!(in alloc; "'{option}' has no value\n"),
-        Fault::NotShown(value) => not_shown_text(alloc, value),
+        Fault::Unknown(word) => unknown_text(alloc, "word", word, word, OWN.known),
+        Fault::Miss(word) => unknown_text(alloc, "word", word, word, OF_DAEMON.known),
+        Fault::OlderUnknown(text) => {
+            unknown_text(alloc, "part of '-o'", text, key_of(text), OF_DAEMON.older)
+        }
+        Fault::Missing(option) => option_text(alloc, option, "lacks its value"),
+        Fault::Unwanted(option) => option_text(alloc, option, "has no value"),
+        Fault::AfterDashes(option) => option_text(
+            alloc,
+            option,
+            "is an option of virtiofs_mapaudit: put it before the first '--'",
+        ),
+        Fault::NotShown(value) => word_text(
+            alloc,
+            "'--show' has no value ",
+            value,
+            ": it has 'ids' and 'names'",
+        ),
+        Fault::Whole(word) => word_text(
+            alloc,
+            "",
+            word,
+            " is more than one word of a command line: remove the quotes around it",
+        ),
+        Fault::BeforeDashes(word) => word_text(
+            alloc,
+            "unknown word ",
+            word,
+            ": put '--' before the command line of virtiofsd",
+        ),
+        Fault::StrayWord(word) => word_text(
+            alloc,
+            "unknown word ",
+            word,
+            ": virtiofsd takes no words but options and their values",
+        ),
+        Fault::Refused(option, value) => refused_text(alloc, option, value),
+        Fault::OlderRefused(text) => refused_text(alloc, "-o", text),
+        Fault::AtOdds => String::from_str(
+            alloc,
+            "'--fd' goes with neither '--socket', '--socket-path' nor '--socket-group', nor does '--socket-group' with '--print-capabilities'\n",
+        ),
         Fault::NotAlone => String::from_str(
             alloc,
             "'--mend' goes with neither '--json', '--quiet', '--svg' nor '--show'\n",
         ),
-        Fault::Whole(word) => whole_text(alloc, word),
-        Fault::OlderUnknown(text) => {
-            unknown_text(alloc, "part of '-o'", text, key_of(text), options.older)
-        }
-        Fault::BeforeDashes(word) => before_dashes_text(alloc, word),
-        Fault::AfterDashes(option) => after_dashes_text(alloc, option),
-        Fault::Nothing(guest) => nothing_text(alloc, guest),
         Fault::Beside => String::from_str(
             alloc,
             "'--explain' goes with neither '--json', '--quiet', '--svg', '--mend' nor '--show'\n",
         ),
+        Fault::Nothing(guest) => nothing_text(alloc, guest),
     }
 }

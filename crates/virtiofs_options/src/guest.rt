@@ -1,11 +1,36 @@
 //! The options of the daemon of one guest, as texts.
 ghost use Rattle.std.specs.Prelude.{◌≡◌, ◌∷◌, [], OnOk, unwrap_or};
 ghost use Rattle.std.specs.Option.{option_or};
-ghost use Rattle.virtiofs_options.specs.GuestOptions.{Adds, HasNoOption, TakesIn, has_any};
+ghost use Rattle.virtiofs_options.specs.GuestOptions.{Adds, HasNoOption, TakesIn, has_any, sandbox_by, sandbox_of, text_in};
 
 use crate::command::Part;
 use crate::older::{Older, read_older};
+use crate::options::{Known, Options, Sets};
 use std::alloc::{AllocError, Allocator};
+
+/// How a daemon is kept apart from the host.
+#[derive(Clone, Copy)]
+pub enum Sandbox {
+    /// By namespaces, of users too where it is not root.
+    Namespace,
+    /// By another root folder, which takes root.
+    Chroot,
+    /// In no way.
+    Nothing,
+}
+
+/// How the daemon is kept apart, by the text that says so; what the daemon refuses counts as namespaces.
+fn sandbox_by(text: &str) -> Sandbox
+    ensures { result ≡ sandbox_by text.now }
+{
+    if text.eq_ignore_ascii_case("none") {
+        return Sandbox::Nothing;
+    }
+    if text.eq_ignore_ascii_case("chroot") {
+        return Sandbox::Chroot;
+    }
+    Sandbox::Namespace
+}
 
 /// The texts of the options that say how the daemon of a guest maps ids and names, each in the order
 /// of the words.
@@ -23,6 +48,11 @@ pub struct Guest<'a, A: Allocator> {
     pub xattrmap: Option<&'a str>,
     /// Whether access control lists are on.
     pub posix_acl: bool,
+    /// Whether `--posix-acl` stands among the options: beside it the daemon refuses each translation, also
+    /// where a later `-o no_posix_acl` has the lists off. Beside `-o posix_acl` alone it refuses none.
+    pub acl_flag: bool,
+    /// How the daemon is kept apart from the host, if that is said; `kept_apart` reads it.
+    pub sandbox: Option<&'a str>,
 }
 
 impl<'a, A: Allocator + Copy> Guest<'a, A> {
@@ -37,6 +67,18 @@ impl<'a, A: Allocator + Copy> Guest<'a, A> {
             gid_map: Vec::new(alloc),
             xattrmap: None,
             posix_acl: false,
+            acl_flag: false,
+            sandbox: None,
+        }
+    }
+
+    /// How the daemon is kept apart from the host: by namespaces, where nothing else is said.
+    pub fn kept_apart(&self) -> Sandbox
+        ensures { result ≡ sandbox_of (text_in self.now.sandbox) }
+    {
+        match self.sandbox {
+            Some(text) => sandbox_by(text),
+            None => Sandbox::Namespace,
         }
     }
 
@@ -53,26 +95,28 @@ impl<'a, A: Allocator + Copy> Guest<'a, A> {
     }
 
     /// Takes in an option of the daemon that has a value. Options that map nothing are passed over.
-    fn take_value(&mut self, option: &'a str, value: &'a str) -> Result<(), AllocError>
-        ensures { OnOk result (Adds self.old self.new (Part.Valued option.entry value.entry ∷ [])) }
+    fn take_value(&mut self, row: Known, value: &'a str) -> Result<(), AllocError>
+        ensures { OnOk result (Adds self.old self.new (Part.Valued row value.entry ∷ [])) }
     {
-        match option {
-            "--translate-uid" => self.translate_uid.push(value)?,
-            "--translate-gid" => self.translate_gid.push(value)?,
-            "--uid-map" => self.uid_map.push(value)?,
-            "--gid-map" => self.gid_map.push(value)?,
-            "--xattrmap" => self.xattrmap = Some(value),
+        match row.sets {
+            Sets::TranslateUid => self.translate_uid.push(value)?,
+            Sets::TranslateGid => self.translate_gid.push(value)?,
+            Sets::UidMap => self.uid_map.push(value)?,
+            Sets::GidMap => self.gid_map.push(value)?,
+            Sets::Xattrmap => self.xattrmap = Some(value),
+            Sets::Sandbox => self.sandbox = Some(value),
             _ => {}
         }
         Ok(())
     }
 
     /// Takes in an option of the daemon that has no value.
-    fn take_flag(&mut self, option: &'a str)
-        ensures { Adds self.old self.new (Part.Flag option.entry ∷ []) }
+    fn take_flag(&mut self, row: Known)
+        ensures { Adds self.old self.new (Part.Flag row ∷ []) }
     {
-        if option == "--posix-acl" {
+        if matches!(row.sets, Sets::Acl) {
             self.posix_acl = true;
+            self.acl_flag = true;
         }
     }
 
@@ -82,11 +126,11 @@ impl<'a, A: Allocator + Copy> Guest<'a, A> {
     {
         match part {
             Part::Plain(_) | Part::Stray(_) => Ok(()),
-            Part::Flag(option) => {
-                self.take_flag(option);
+            Part::Flag(row) => {
+                self.take_flag(row);
                 Ok(())
             }
-            Part::Valued(option, value) => self.take_value(option, value),
+            Part::Valued(row, value) => self.take_value(row, value),
         }
     }
 
@@ -98,21 +142,28 @@ impl<'a, A: Allocator + Copy> Guest<'a, A> {
         ensures groups { self.new.translate_gid ≡ self.old.translate_gid }
         ensures user_ranges { self.new.uid_map ≡ self.old.uid_map }
         ensures group_ranges { self.new.gid_map ≡ self.old.gid_map }
+        ensures flag { self.new.acl_flag ≡ self.old.acl_flag }
+        ensures sandbox { self.new.sandbox ≡ option_or older.entry.sandbox self.old.sandbox }
     {
         self.xattrmap = older.xattrmap.or(self.xattrmap);
         self.posix_acl = older.posix_acl.unwrap_or(self.posix_acl);
+        self.sandbox = older.sandbox.or(self.sandbox);
     }
 
     /// Takes in the parts of a command line of the daemon. Of options that a daemon has once, the
     /// last counts, as `virtiofsd` takes them. Options of the older form count more than the others,
     /// wherever they stand. Words that are no options, as the path of the program, are passed over.
-    pub(crate) fn take_parts(&mut self, parts: &[Part<'a>]) -> Result<(), AllocError>
-        ensures { OnOk result (TakesIn self.old self.new parts.now) }
+    pub(crate) fn take_parts(
+        &mut self,
+        options: Options,
+        parts: &[Part<'a>],
+    ) -> Result<(), AllocError>
+        ensures { OnOk result (TakesIn options self.old self.new parts.now) }
     {
         for part in parts {
             self.take_part(*part)?;
         }
-        self.take_older(read_older(parts));
+        self.take_older(read_older(options, parts));
         Ok(())
     }
 }

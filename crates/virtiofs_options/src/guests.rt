@@ -4,12 +4,14 @@ ghost use Rattle.virtiofs_options.specs.Guests.{start_of, lacking_fault, Told, I
 ghost use Rattle.virtiofs_options.specs.Parts.{WrongOnly};
 ghost use Rattle.virtiofs_options.specs.Unknown.{told};
 
+use crate::cluster::split_words;
 use crate::fault::{Fault, ReadError};
 use crate::guest::Guest;
 use crate::line::{after_line, beginning, first_daemon, line_of, tail_of};
 use crate::options::Options;
 use crate::parts::read_parts;
-use crate::unknown::{UnknownWord, check_parts, push_unknown};
+use crate::strays::check_line;
+use crate::unknown::{UnknownWord, push_unknown};
 use crate::whole::is_line;
 use std::alloc::Global;
 
@@ -61,11 +63,12 @@ fn line_guest<'a>(
         × (map told unknown.new.items ≡ map told unknown.old.items ++ here)) }
     ensures refused { IfErr result (WrongOnly (IsLineFault options line.now)) }
 {
-    let parts = read_parts(alloc, options, line)?;
-    check_parts(alloc, options, parts.as_slice())?;
+    let words = split_words(alloc, options, line)?;
+    let parts = read_parts(alloc, options, words.as_slice())?;
+    check_line(alloc, options, parts.as_slice())?;
     push_unknown(unknown, options, number, parts.as_slice())?;
     let mut guest = first;
-    guest.take_parts(parts.as_slice())?;
+    guest.take_parts(options, parts.as_slice())?;
     Ok(guest)
 }
 

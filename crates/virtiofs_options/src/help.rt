@@ -1,5 +1,6 @@
 //! The help and the version, written by `clap`.
 
+use crate::options::{Known, OWN, Takes};
 use clap::{Arg, ArgAction, Command};
 use std::alloc::{AllocError, Global};
 
@@ -20,41 +21,6 @@ fn flag<'a>(alloc: Global, name: &'a str, help: &'a str) -> Arg<'a> {
         .help(help)
 }
 
-/// The options of the daemon that have a value: the name, what stands for the value, and what the
-/// option does.
-const VALUED: [(&str, &str, &str); 5] = [
-    (
-        "translate-uid",
-        "SPEC",
-        "Translate users, as the daemon does",
-    ),
-    (
-        "translate-gid",
-        "SPEC",
-        "Translate groups, as the daemon does",
-    ),
-    (
-        "uid-map",
-        "RANGE",
-        "A range of users of the daemon's namespace",
-    ),
-    (
-        "gid-map",
-        "RANGE",
-        "A range of groups of the daemon's namespace",
-    ),
-    ("xattrmap", "RULES", "Map names of attributes"),
-];
-
-/// The options of the daemon, which may stand before the first `--`.
-fn of_daemon<'a>(alloc: Global, command: Command<'a>) -> Result<Command<'a>, AllocError> {
-    let mut command = command;
-    for &(name, value, help) in &VALUED {
-        command = command.arg(valued(alloc, name, value, help))?;
-    }
-    command.arg(flag(alloc, "posix-acl", "Access control lists are on"))
-}
-
 /// The program, with no options yet.
 fn program<'a>(alloc: Global) -> Command<'a> {
     Command::new(alloc, "virtiofs_mapaudit")
@@ -68,65 +34,46 @@ fn program<'a>(alloc: Global) -> Command<'a> {
         .override_usage("virtiofs_mapaudit [OPTIONS] [-- COMMAND LINE OF THE DAEMON]..")
 }
 
-/// The option that shows more.
-fn show<'a>(alloc: Global) -> Arg<'a> {
-    Arg::new(alloc, "show")
-        .long("show")
-        .action(ArgAction::Append)
-        .value_name("WHAT")
-        .value_parser(["ids", "names"].as_slice())
-        .help("Show also what becomes of all ids, or of some names")
+/// An option of the table.
+fn argument<'a>(
+    alloc: Global,
+    takes: Takes,
+    name: &'a str,
+    value: &'a str,
+    help: &'a str,
+) -> Arg<'a> {
+    match takes {
+        Takes::Nothing => flag(alloc, name, help),
+        _ if name == "show" => {
+            valued(alloc, name, value, help).value_parser(["ids", "names"].as_slice())
+        }
+        _ => valued(alloc, name, value, help),
+    }
 }
 
-/// The program's own options that have any value: the name, what stands for the value, and what the
-/// option does.
-const OWN_VALUED: [(&str, &str, &str); 6] = [
-    (
-        "accept",
-        "KIND",
-        "Findings of this kind, named as in JSON, do not count for the status",
-    ),
-    (
-        "explain",
-        "WHAT",
-        "Say what becomes of one id or one name: user=1000, host-user=, group=, host-group=, name= or host-name=",
-    ),
-    (
-        "pid",
-        "PID",
-        "Audit this process of a daemon, as a further guest",
-    ),
-    (
-        "run-as",
-        "UID[:GID]",
-        "The user who starts the daemon; more than once: of each command line in turn",
-    ),
-    ("subuid", "FILE", "Read FILE in place of /etc/subuid"),
-    ("subgid", "FILE", "Read FILE in place of /etc/subgid"),
-];
+/// The same with the option of a row, if the table says something of it.
+fn with_row<'a>(
+    alloc: Global,
+    command: Command<'a>,
+    row: Known,
+) -> Result<Command<'a>, AllocError> {
+    let (value, help) = (row.shown, row.help);
+    match row.name.strip_prefix("--") {
+        Some(name) if !help.is_empty() => {
+            let argument: Arg<'a> = argument(alloc, row.takes, name, value, help);
+            command.arg(argument)
+        }
+        _ => Ok(command),
+    }
+}
 
-/// The options that are the program's own and have any value.
-fn of_program<'a>(alloc: Global, command: Command<'a>) -> Result<Command<'a>, AllocError> {
-    let mut command = command;
-    for &(name, value, help) in &OWN_VALUED {
-        command = command.arg(valued(alloc, name, value, help))?;
+/// The program with the options of the table.
+fn command<'a>(alloc: Global) -> Result<Command<'a>, AllocError> {
+    let mut command = program(alloc);
+    for row in OWN.known {
+        command = with_row(alloc, command, *row)?;
     }
     Ok(command)
-}
-
-/// The program with its options.
-fn command<'a>(alloc: Global) -> Result<Command<'a>, AllocError> {
-    of_program(alloc, of_daemon(alloc, program(alloc))?)?
-        .arg(show(alloc))?
-        .arg(flag(
-            alloc,
-            "isolated",
-            "Report ids that keep their number: no specification maps them",
-        ))?
-        .arg(flag(alloc, "json", "Write JSON"))?
-        .arg(flag(alloc, "quiet", "Write nothing: the status tells"))?
-        .arg(flag(alloc, "mend", "Write mended options alone, each on a line"))?
-        .arg(flag(alloc, "svg", "Draw what becomes of all ids, as SVG"))
 }
 
 /// What the program says of itself, on demand.

@@ -6,6 +6,8 @@
 //! together, has no contract: what it does is shown by the rows of `tests/audit_program.jsonl`.
 #![tactic(auto)]
 
+mod allowed;
+mod cluster;
 mod command;
 pub mod fault;
 pub mod front;
@@ -17,6 +19,8 @@ mod nearest;
 mod older;
 mod options;
 mod parts;
+pub mod shown;
+mod strays;
 pub mod unknown;
 pub mod values;
 mod whole;

@@ -1,9 +1,9 @@
 //! Where the command line of a daemon begins and ends among words.
 ghost use Rattle.std.specs.Prelude.{◌≡◌, ◌<◌, ◌≤◌, length, drop, option_map, IfSome};
-ghost use Rattle.virtiofs_options.specs.Lines.{first_end, line_of, after_line, is_daemon, is_counted, opens_with_option, has_counted, has_options, first_daemon, daemon_place, beginning};
+ghost use Rattle.virtiofs_options.specs.Lines.{first_end, line_of, after_line, is_daemon, concerns, is_counted, opens_with_option, has_counted, has_options, first_daemon, daemon_place, beginning};
 
 use crate::command::{is_option, key_of};
-use crate::options::Options;
+use crate::options::{Options, Sets};
 
 /// Where the first `--` stands, if there is one.
 pub(crate) fn first_end(words: &[&str]) -> Option<usize>
@@ -48,12 +48,26 @@ pub(crate) fn is_daemon(word: &[u8]) -> bool
     !word.starts_with(b"-") && (word == name || word.ends_with(b"/virtiofsd"))
 }
 
+/// Whether what is set concerns ids or names.
+pub(crate) fn concerns(sets: Sets) -> bool
+    ensures { result ≡ concerns sets }
+{
+    match sets {
+        Sets::TranslateUid | Sets::TranslateGid | Sets::UidMap | Sets::GidMap => true,
+        Sets::Xattrmap | Sets::Acl | Sets::NoAcl => true,
+        _ => false,
+    }
+}
+
 /// Whether a word is an option for ids or names, alone or with `=` and a value.
 fn is_counted(options: Options, word: &str) -> bool
     ensures { result ≡ is_counted options word.now }
 {
     let key = key_of(word);
-    options.counted.iter().any(|option| *option == key)
+    options
+        .known
+        .iter()
+        .any(|it| concerns(it.sets) && it.name == key)
 }
 
 /// Whether the first of the words is an option, or `--`.

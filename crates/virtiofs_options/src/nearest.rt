@@ -1,6 +1,6 @@
 //! The known word that is nearest to one that is not known.
 
-use crate::options::Takes;
+use crate::options::Known;
 use std::alloc::{AllocError, Allocator};
 use strsim::levenshtein;
 
@@ -9,14 +9,14 @@ use strsim::levenshtein;
 pub(crate) fn nearest<A: Allocator + Copy>(
     alloc: A,
     word: &str,
-    known: &[(&'static str, Takes)],
+    known: &[Known],
 ) -> Result<&'static str, AllocError> {
     let mut best = "--help";
     let mut fewest = usize::MAX;
-    for (name, _) in known {
-        let edits = levenshtein(alloc, word, name)?;
+    for it in known {
+        let edits = levenshtein(alloc, word, it.name)?;
         if edits < fewest {
-            best = name;
+            best = it.name;
             fewest = edits;
         }
     }

@@ -1,4 +1,4 @@
-//! The options that the program and the daemon know.
+//! The options that the program and the daemon know: a table of each, which all else reads.
 
 /// Whether an option has a value.
 #[derive(Clone, Copy)]
@@ -11,155 +11,248 @@ pub(crate) enum Takes {
     AfterEquals,
 }
 
-use Takes::{AfterEquals, Nothing, Value};
+/// Which values the daemon takes.
+#[derive(Clone, Copy)]
+pub(crate) enum Values {
+    /// Any text, or one that is judged where it is used.
+    Any,
+    /// Any text without `=`.
+    NoEquals,
+    /// These texts.
+    Of(&'static [&'static str]),
+    /// These texts, in small letters or large.
+    AnyCase(&'static [&'static str]),
+    /// Digits, after a `+` or none.
+    Digits,
+    /// 1 to 36 bytes.
+    Tag,
+}
+
+/// What an option of the daemon sets, as far as this counts here.
+#[derive(Clone, Copy)]
+pub(crate) enum Sets {
+    /// What is of no concern here.
+    Other,
+    /// How users are translated.
+    TranslateUid,
+    /// How groups are translated.
+    TranslateGid,
+    /// Which users the daemon's namespace has.
+    UidMap,
+    /// Which groups the daemon's namespace has.
+    GidMap,
+    /// The rules for names of attributes.
+    Xattrmap,
+    /// That access control lists are on.
+    Acl,
+    /// That they are off.
+    NoAcl,
+    /// How the daemon is kept apart from the host.
+    Sandbox,
+    /// What the options of the older form in its value say.
+    Older,
+    /// That the daemon says something of itself, and reads no further.
+    Tells,
+    /// That the daemon says what it is able to do, and ends.
+    Prints,
+    /// That the socket is open already.
+    Fd,
+    /// Where the socket is made.
+    Socket,
+    /// Whose the socket is that is made.
+    Group,
+}
+
+/// An option, or a part of `-o`.
+#[derive(Clone, Copy)]
+pub(crate) struct Known {
+    /// The option; a part of `-o` that has a value with its `=`.
+    pub(crate) name: &'static str,
+    /// Whether it has a value.
+    pub(crate) takes: Takes,
+    /// What it sets, if it is the daemon's.
+    pub(crate) sets: Sets,
+    /// Which values it takes.
+    pub(crate) values: Values,
+    /// What stands for its value in the help.
+    pub(crate) shown: &'static str,
+    /// What the help says of it.
+    pub(crate) help: &'static str,
+}
+
+use Values::{Any, AnyCase, Digits, NoEquals, Of, Tag};
 
 /// What may stand in a part of the words.
 #[derive(Clone, Copy)]
 pub(crate) struct Options {
     /// The options.
-    pub(crate) known: &'static [(&'static str, Takes)],
+    pub(crate) known: &'static [Known],
     /// Where the daemon's options may stand: the options that are the program's own.
-    pub(crate) own: &'static [(&'static str, Takes)],
-    /// Those of the options that concern ids or names.
-    pub(crate) counted: &'static [&'static str],
-    /// The parts of `-o`: a name, or the beginning of one that has a value.
-    pub(crate) older: &'static [(&'static str, Takes)],
-    /// Those of the parts of `-o` that concern names.
-    pub(crate) older_counted: &'static [&'static str],
+    pub(crate) own: &'static [Known],
+    /// The parts of `-o`.
+    pub(crate) older: &'static [Known],
     /// Whether also words that are no options, and options that are not known.
     pub(crate) plain: bool,
 }
 
 /// What may stand before the first `--`.
 pub(crate) const OWN: Options = Options {
-    known: &KNOWN,
+    known: &OPTIONS,
     own: &[],
-    counted: &COUNTED,
     older: &[],
-    older_counted: &[],
     plain: false,
 };
 
 /// What may stand on a command line of the daemon.
 pub(crate) const OF_DAEMON: Options = Options {
-    known: &KNOWN_BY_DAEMON,
-    own: &KNOWN,
-    counted: &COUNTED,
-    older: &KNOWN_OLDER,
-    older_counted: &COUNTED_OLDER,
+    known: &OPTIONS_OF_DAEMON,
+    own: &OPTIONS,
+    older: &OLDER_OPTIONS,
     plain: true,
 };
 
-/// The options of the daemon that concern ids or names.
-const COUNTED: [&str; 6] = [
-    "--translate-uid",
-    "--translate-gid",
-    "--uid-map",
-    "--gid-map",
-    "--xattrmap",
-    "--posix-acl",
-];
+/// A table, with a row for each option: whether it has a value, what it sets, which values it takes, what
+/// stands for its value in the help, and what the help says of it.
+macro_rules! table {
+    ($($name:literal: $takes:ident, $sets:ident, $values:expr, $shown:literal, $help:literal;)*) => {
+        [$(Known {
+            name: $name,
+            takes: Takes::$takes,
+            sets: Sets::$sets,
+            values: $values,
+            shown: $shown,
+            help: $help,
+        }),*]
+    };
+    ($($name:literal: $takes:ident, $sets:ident, $values:expr;)*) => {
+        table! { $($name: $takes, $sets, $values, "", "";)* }
+    };
+}
 
-/// The parts of `-o` that concern names.
-const COUNTED_OLDER: [&str; 3] = ["xattrmap", "posix_acl", "no_posix_acl"];
+/// The options of the program, and those of the daemon that may stand beside them; in the order in
+/// which the help has those of which it says something.
+const OPTIONS: [Known; 22] = table! {
+    "--translate-uid": Value, TranslateUid, Any, "SPEC", "Translate users, as the daemon does";
+    "--translate-gid": Value, TranslateGid, Any, "SPEC", "Translate groups, as the daemon does";
+    "--uid-map": Value, UidMap, Any, "RANGE", "A range of users of the daemon's namespace";
+    "--gid-map": Value, GidMap, Any, "RANGE", "A range of groups of the daemon's namespace";
+    "--xattrmap": Value, Xattrmap, Any, "RULES", "Map names of attributes";
+    "--posix-acl": Nothing, Acl, Any, "", "Access control lists are on";
+    "--accept": Value, Other, Any, "KIND",
+        "Findings of this kind, named as in JSON, do not count for the status";
+    "--explain": Value, Other, Any, "WHAT",
+        "Say what becomes of one id or one name: user=1000, host-user=, group=, host-group=, name= or host-name=";
+    "--pid": Value, Other, Any, "PID", "Audit this process of a daemon, as a further guest";
+    "--run-as": Value, Other, Any, "UID[:GID]",
+        "The user who starts the daemon; more than once: of each command line in turn";
+    "--subuid": Value, Other, Any, "FILE", "Read FILE in place of /etc/subuid";
+    "--subgid": Value, Other, Any, "FILE", "Read FILE in place of /etc/subgid";
+    "--show": Value, Other, Any, "WHAT", "Show also what becomes of all ids, or of some names";
+    "--isolated": Nothing, Other, Any, "",
+        "Report ids that keep their number: no specification maps them";
+    "--json": Nothing, Other, Any, "", "Write JSON";
+    "--quiet": Nothing, Other, Any, "", "Write nothing: the status tells";
+    "--mend": Nothing, Other, Any, "", "Write mended options alone, each on a line";
+    "--svg": Nothing, Other, Any, "", "Draw what becomes of all ids, as SVG";
+    "--help": Nothing, Other, Any, "", "";
+    "-h": Nothing, Other, Any, "", "";
+    "--version": Nothing, Other, Any, "", "";
+    "-V": Nothing, Other, Any, "", "";
+};
 
-/// The options of the program, and those of the daemon that may stand beside them.
-const KNOWN: [(&str, Takes); 22] = [
-    ("--translate-uid", Value),
-    ("--translate-gid", Value),
-    ("--uid-map", Value),
-    ("--gid-map", Value),
-    ("--xattrmap", Value),
-    ("--posix-acl", Nothing),
-    ("--json", Nothing),
-    ("--quiet", Nothing),
-    ("--mend", Nothing),
-    ("--svg", Nothing),
-    ("--show", Value),
-    ("--isolated", Nothing),
-    ("--accept", Value),
-    ("--explain", Value),
-    ("--pid", Value),
-    ("--run-as", Value),
-    ("--subuid", Value),
-    ("--subgid", Value),
-    ("--help", Nothing),
-    ("-h", Nothing),
-    ("--version", Nothing),
-    ("-V", Nothing),
-];
+/// The values of some options.
+const SANDBOXES: [&str; 3] = ["namespace", "chroot", "none"];
+
+const SECCOMPS: [&str; 4] = ["none", "kill", "log", "trap"];
+
+const HANDLES: [&str; 4] = ["never", "fallback", "prefer", "mandatory"];
+
+const CACHES: [&str; 4] = ["never", "metadata", "auto", "always"];
+
+const LOG_LEVELS: [&str; 6] = ["error", "warn", "info", "debug", "trace", "off"];
+
+const MIGRATIONS: [&str; 2] = ["find-paths", "file-handles"];
+
+const ON_ERRORS: [&str; 2] = ["abort", "guest-error"];
+
+const OLDER_CACHES: [&str; 4] = ["none", "metadata", "auto", "always"];
+
+const OLDER_LOG_LEVELS: [&str; 4] = ["err", "warn", "info", "debug"];
+
+const OLDER_SANDBOXES: [&str; 2] = ["namespace", "chroot"];
 
 /// The options of virtiofsd 1.13.2.
-const KNOWN_BY_DAEMON: [(&str, Takes); 44] = [
-    ("--translate-uid", Value),
-    ("--translate-gid", Value),
-    ("--uid-map", Value),
-    ("--gid-map", Value),
-    ("--xattrmap", Value),
-    ("--posix-acl", Nothing),
-    ("--shared-dir", Value),
-    ("--tag", Value),
-    ("--socket", Value),
-    ("--socket-path", Value),
-    ("--socket-group", Value),
-    ("--fd", Value),
-    ("--thread-pool-size", Value),
-    ("--xattr", Nothing),
-    ("--sandbox", Value),
-    ("--seccomp", Value),
-    ("--announce-submounts", Nothing),
-    ("--inode-file-handles", AfterEquals),
-    ("--cache", Value),
-    ("--allow-mmap", Nothing),
-    ("--no-readdirplus", Nothing),
-    ("--writeback", Nothing),
-    ("--allow-direct-io", Nothing),
-    ("--print-capabilities", Nothing),
-    ("--modcaps", Value),
-    ("--log-level", Value),
-    ("--syslog", Nothing),
-    ("--rlimit-nofile", Value),
-    ("--no-killpriv-v2", Nothing),
-    ("--killpriv-v2", Nothing),
-    ("--security-label", Nothing),
-    ("--preserve-noatime", Nothing),
-    ("--readonly", Nothing),
-    ("--migration-mode", Value),
-    ("--migration-on-error", Value),
-    ("--migration-verify-handles", Nothing),
-    ("--migration-confirm-paths", Nothing),
-    ("--help", Nothing),
-    ("--version", Nothing),
-    ("-o", Value),
-    ("-d", Nothing),
-    ("-f", Nothing),
-    ("-h", Nothing),
-    ("-V", Nothing),
-];
+const OPTIONS_OF_DAEMON: [Known; 45] = table! {
+    "--translate-uid": Value, TranslateUid, Any;
+    "--translate-gid": Value, TranslateGid, Any;
+    "--uid-map": Value, UidMap, Any;
+    "--gid-map": Value, GidMap, Any;
+    "--xattrmap": Value, Xattrmap, Any;
+    "--posix-acl": Nothing, Acl, Any;
+    "--sandbox": Value, Sandbox, AnyCase(&SANDBOXES);
+    "-o": Value, Older, Any;
+    "--fd": Value, Fd, Any;
+    "--socket": Value, Socket, Any;
+    "--socket-path": Value, Socket, Any;
+    "--socket-group": Value, Group, Any;
+    "--help": Nothing, Tells, Any;
+    "--version": Nothing, Tells, Any;
+    "-h": Nothing, Tells, Any;
+    "-V": Nothing, Tells, Any;
+    "--print-capabilities": Nothing, Prints, Any;
+    "--tag": Value, Other, Tag;
+    "--thread-pool-size": Value, Other, Digits;
+    "--rlimit-nofile": Value, Other, Digits;
+    "--seccomp": Value, Other, Of(&SECCOMPS);
+    "--inode-file-handles": AfterEquals, Other, Of(&HANDLES);
+    "--cache": Value, Other, AnyCase(&CACHES);
+    "--log-level": Value, Other, AnyCase(&LOG_LEVELS);
+    "--migration-mode": Value, Other, Of(&MIGRATIONS);
+    "--migration-on-error": Value, Other, Of(&ON_ERRORS);
+    "--shared-dir": Value, Other, Any;
+    "--modcaps": Value, Other, Any;
+    "--xattr": Nothing, Other, Any;
+    "--announce-submounts": Nothing, Other, Any;
+    "--no-announce-submounts": Nothing, Other, Any;
+    "--allow-mmap": Nothing, Other, Any;
+    "--no-readdirplus": Nothing, Other, Any;
+    "--writeback": Nothing, Other, Any;
+    "--allow-direct-io": Nothing, Other, Any;
+    "--syslog": Nothing, Other, Any;
+    "--no-killpriv-v2": Nothing, Other, Any;
+    "--killpriv-v2": Nothing, Other, Any;
+    "--security-label": Nothing, Other, Any;
+    "--preserve-noatime": Nothing, Other, Any;
+    "--readonly": Nothing, Other, Any;
+    "--migration-verify-handles": Nothing, Other, Any;
+    "--migration-confirm-paths": Nothing, Other, Any;
+    "-d": Nothing, Other, Any;
+    "-f": Nothing, Other, Any;
+};
 
 /// The parts of `-o` of virtiofsd 1.13.2.
-const KNOWN_OLDER: [(&str, Takes); 23] = [
-    ("xattrmap=", Value),
-    ("posix_acl", Nothing),
-    ("no_posix_acl", Nothing),
-    ("source=", Value),
-    ("cache=", Value),
-    ("loglevel=", Value),
-    ("sandbox=", Value),
-    ("modcaps=", Value),
-    ("xattr", Nothing),
-    ("no_xattr", Nothing),
-    ("readdirplus", Nothing),
-    ("no_readdirplus", Nothing),
-    ("writeback", Nothing),
-    ("no_writeback", Nothing),
-    ("allow_direct_io", Nothing),
-    ("no_allow_direct_io", Nothing),
-    ("announce_submounts", Nothing),
-    ("killpriv_v2", Nothing),
-    ("no_killpriv_v2", Nothing),
-    ("security_label", Nothing),
-    ("no_security_label", Nothing),
-    ("no_posix_lock", Nothing),
-    ("no_flock", Nothing),
-];
+const OLDER_OPTIONS: [Known; 23] = table! {
+    "xattrmap=": Value, Xattrmap, NoEquals;
+    "posix_acl": Nothing, Acl, Any;
+    "no_posix_acl": Nothing, NoAcl, Any;
+    "sandbox=": Value, Sandbox, Of(&OLDER_SANDBOXES);
+    "source=": Value, Other, NoEquals;
+    "modcaps=": Value, Other, NoEquals;
+    "cache=": Value, Other, Of(&OLDER_CACHES);
+    "loglevel=": Value, Other, Of(&OLDER_LOG_LEVELS);
+    "xattr": Nothing, Other, Any;
+    "no_xattr": Nothing, Other, Any;
+    "readdirplus": Nothing, Other, Any;
+    "no_readdirplus": Nothing, Other, Any;
+    "writeback": Nothing, Other, Any;
+    "no_writeback": Nothing, Other, Any;
+    "allow_direct_io": Nothing, Other, Any;
+    "no_allow_direct_io": Nothing, Other, Any;
+    "announce_submounts": Nothing, Other, Any;
+    "killpriv_v2": Nothing, Other, Any;
+    "no_killpriv_v2": Nothing, Other, Any;
+    "security_label": Nothing, Other, Any;
+    "no_security_label": Nothing, Other, Any;
+    "no_posix_lock": Nothing, Other, Any;
+    "no_flock": Nothing, Other, Any;
+};

@@ -1,17 +1,20 @@
-//! What the parts of a command line have that the daemon does not know.
+//! What the parts of a command line have that the daemon does not know, or refuses.
 //!
 //! A near miss of an option for ids or names is wrong, since an audit without that option would say
-//! too little. What else is not known is told.
-ghost use Rattle.std.specs.Prelude.{◌≡◌, ◌++◌, ◌∷◌, [], None, map, find, string_bytes, IsOk, IfOk, IfErr, OnOk};
+//! too little, and so is what each daemon refuses. What else is not known is told.
+ghost use Rattle.std.specs.Prelude.{◌≡◌, ◌++◌, ◌∷◌, [], None, map, find, IsOk, IfOk, IfErr, OnOk, MatchOption, string_bytes};
 ghost use Rattle.std.specs.Option.{option_or};
 ghost use Rattle.virtiofs_options.specs.GuestOptions.{split_at_commas, text_in};
 ghost use Rattle.virtiofs_options.specs.Parts.{WrongOnly};
-ghost use Rattle.virtiofs_options.specs.Sentences.{line_with, unknown_line};
-ghost use Rattle.virtiofs_options.specs.Unknown.{is_near, is_near_one, is_older, is_known_older, is_astray, is_own_name, is_faulty, FaultsIn, HasPartFault, unknown_words, told, unknown_of};
+ghost use Rattle.virtiofs_options.specs.Unknown.{front_of, is_near, is_near_one, is_known_older, is_astray, is_refused, is_bad, is_own_name, is_faulty, FaultsIn, IsTextFault, HasPartFault, misses, unknown_words, told, unknown_of};
 
+use crate::allowed::allows;
+use crate::cluster::stripped;
 use crate::command::{Part, key_of};
-use crate::fault::{Fault, ReadError, front_of, shown};
-use crate::options::{Options, Takes};
+use crate::fault::{Fault, ReadError, shown};
+use crate::line::concerns;
+use crate::older::older_of;
+use crate::options::{Known, Options, Sets};
 use crate::whole::{follows, is_line};
 use std::alloc::{AllocError, Global};
 use strsim::levenshtein;
@@ -30,32 +33,29 @@ pub struct UnknownWord<'a> {
     pub word: &'a str,
 }
 
-/// The line on a word of a guest that the daemon does not know.
-fn line_with(alloc: Global, guest: usize, what: &str, word: &str) -> Result<String, AllocError>
-    ensures { IfOk result (λ text. string_bytes text ≡ line_with guest what.now word.now) }
-{
-    let word = shown(alloc, word)?;
-    format!(in alloc; "guest {guest}: unknown {what}: {word}")
-}
-
 /// The line on a word that the daemon does not know, without a line feed.
 ///
 /// # Errors
 ///
 /// `AllocError`: a request for memory was refused.
-pub fn unknown_line(alloc: Global, unknown: UnknownWord<'_>) -> Result<String, AllocError>
-    ensures { IfOk result (λ text. string_bytes text
-        ≡ unknown_line unknown.entry.guest unknown.entry.is_older unknown.entry.word.now) }
+pub fn unknown_line(alloc: Global, unknown: UnknownWord<'_>) -> Result<String, AllocError> {
+    let (guest, word) = (unknown.guest, shown(alloc, unknown.word)?);
+    let what = if unknown.is_older {
+        "part of '-o'"
+    } else {
+        "option of virtiofsd"
+    };
+    format!(in alloc; "guest {guest}: unknown {what}: {word}")
+}
+
+/// The most characters of a word that count, and that a sentence quotes.
+pub(crate) const MOST_SHOWN: usize = 60;
+
+/// The first characters of a word.
+pub(crate) fn front_of(alloc: Global, word: &str) -> Result<String, AllocError>
+    ensures { IfOk result (λ front. string_bytes front ≡ front_of word.now) }
 {
-    let UnknownWord {
-        guest,
-        is_older,
-        word,
-    } = unknown;
-    if is_older {
-        return line_with(alloc, guest, "part of '-o'", word);
-    }
-    line_with(alloc, guest, "option of virtiofsd", word)
+    word.chars().take(MOST_SHOWN).collect(alloc)
 }
 
 /// Whether a text is a near miss of a name.
@@ -67,36 +67,33 @@ fn is_near(alloc: Global, text: &str, name: &str) -> Result<bool, AllocError>
     Ok(edits <= MOST_EDITS)
 }
 
-/// Whether a text is a near miss of one of these names.
-fn is_near_one(alloc: Global, text: &str, known: &[&str]) -> Result<bool, AllocError>
+/// Whether a text is a near miss of an option for ids or names.
+fn misses(alloc: Global, text: &str, row: Known) -> Result<bool, AllocError>
+    ensures { IfOk result (λ near. near ≡ misses text.now row) }
+{
+    if !concerns(row.sets) {
+        return Ok(false);
+    }
+    is_near(alloc, text, key_of(row.name))
+}
+
+/// Whether a text is a near miss of one of these that are for ids or names.
+fn is_near_one(alloc: Global, text: &str, known: &[Known]) -> Result<bool, AllocError>
     ensures { IfOk result (λ near. near ≡ is_near_one text.now known.now) }
 {
-    for name in known {
-        if is_near(alloc, text, name)? {
+    for row in known {
+        if misses(alloc, text, *row)? {
             return Ok(true);
         }
     }
     Ok(false)
 }
 
-/// Whether a text is a part of `-o`.
-fn is_older(text: &str, name: &str, takes: Takes) -> bool
-    ensures { result ≡ is_older text.now (name.entry, takes) }
-{
-    match takes {
-        Takes::Nothing => text == name,
-        Takes::Value | Takes::AfterEquals => text.as_bytes().starts_with(name.as_bytes()),
-    }
-}
-
 /// Whether a text is a part of `-o` that is known.
 fn is_known_older(options: Options, text: &str) -> bool
     ensures { result ≡ is_known_older options text.now }
 {
-    options
-        .older
-        .iter()
-        .any(|(name, takes)| is_older(text, name, *takes))
+    older_of(options, text).is_some()
 }
 
 /// Whether a part of `-o` is not known, and is a near miss of one for names.
@@ -106,40 +103,63 @@ fn is_astray(alloc: Global, options: Options, text: &str) -> Result<bool, AllocE
     if is_known_older(options, text) {
         return Ok(false);
     }
-    is_near_one(alloc, key_of(text), options.older_counted)
+    is_near_one(alloc, key_of(text), options.older)
 }
 
-/// The first near miss of a part of `-o`: the one so far, or else this text, if it is one.
-fn astray_or<'a>(
+/// Whether the daemon refuses the value in a part of `-o`.
+fn is_refused(options: Options, text: &str) -> bool
+    ensures { result ≡ is_refused options text.now }
+{
+    let Some(row) = older_of(options, text) else {
+        return false;
+    };
+    match stripped(row.name, text) {
+        Some(value) => !allows(row.values, value),
+        None => false,
+    }
+}
+
+/// Whether a part of `-o` is wrong.
+fn is_bad(alloc: Global, options: Options, text: &str) -> Result<bool, AllocError>
+    ensures { IfOk result (λ bad. bad ≡ is_bad options text.now) }
+{
+    if is_astray(alloc, options, text)? {
+        return Ok(true);
+    }
+    Ok(is_refused(options, text))
+}
+
+/// The first wrong part of `-o`: the one so far, or else this text, if it is one.
+fn bad_or<'a>(
     alloc: Global,
     options: Options,
     first: Option<&'a str>,
     text: &'a str,
 ) -> Result<Option<&'a str>, AllocError>
     ensures { IfOk result (λ it. text_in it
-        ≡ option_or (text_in first.entry) (find (is_astray options) (text.now ∷ []))) }
+        ≡ option_or (text_in first.entry) (find (is_bad options) (text.now ∷ []))) }
 {
     if first.is_some() {
         return Ok(first);
     }
-    if is_astray(alloc, options, text)? {
+    if is_bad(alloc, options, text)? {
         return Ok(Some(text));
     }
     Ok(None)
 }
 
-/// The first part of a `-o` that is a near miss.
-fn first_astray<'a>(
+/// The first part of a `-o` that is wrong.
+fn first_bad<'a>(
     alloc: Global,
     options: Options,
     value: &'a str,
 ) -> Result<Option<&'a str>, AllocError>
     ensures { IfOk result (λ text. text_in text
-        ≡ find (is_astray options) (split_at_commas value.now)) }
+        ≡ find (is_bad options) (split_at_commas value.now)) }
 {
     let mut first = None;
     for text in value.split(',') {
-        first = astray_or(alloc, options, first, text)?;
+        first = bad_or(alloc, options, first, text)?;
     }
     Ok(first)
 }
@@ -148,7 +168,7 @@ fn first_astray<'a>(
 fn is_own(options: Options, name: &str) -> bool
     ensures { result ≡ is_own_name options name.now }
 {
-    options.own.iter().any(|(own, _)| *own == name)
+    options.own.iter().any(|own| own.name == name)
 }
 
 /// What is wrong with an option that is not known.
@@ -166,31 +186,49 @@ fn stray_fault<'a>(
     if is_own(options, name) {
         return Ok(Some(Fault::AfterDashes(name)));
     }
-    if is_near_one(alloc, name, options.counted)? {
-        return Ok(Some(Fault::Unknown(name)));
+    if is_near_one(alloc, name, options.known)? {
+        return Ok(Some(Fault::Miss(name)));
     }
     Ok(None)
+}
+
+/// What is wrong with the parts of a `-o`.
+fn older_fault<'a>(
+    alloc: Global,
+    options: Options,
+    value: &'a str,
+) -> Result<Option<Fault<'a>>, AllocError>
+    ensures { IfOk result (λ fault. MatchOption fault
+        (find (is_bad options) (split_at_commas value.now) ≡ None) (IsTextFault options value.now)) }
+{
+    let Some(text) = first_bad(alloc, options, value)? else {
+        return Ok(None);
+    };
+    if is_astray(alloc, options, text)? {
+        return Ok(Some(Fault::OlderUnknown(text)));
+    }
+    Ok(Some(Fault::OlderRefused(text)))
 }
 
 /// What is wrong with an option that has a value.
 fn valued_fault<'a>(
     alloc: Global,
     options: Options,
-    name: &'a str,
+    row: Known,
     value: &'a str,
 ) -> Result<Option<Fault<'a>>, AllocError>
-    ensures { IfOk result (FaultsIn options (Part.Valued name.entry value.entry)) }
+    ensures { IfOk result (FaultsIn options (Part.Valued row value.entry)) }
 {
     if follows(options, value) {
         return Ok(Some(Fault::Whole(value)));
     }
-    if name != "-o" {
+    if !allows(row.values, value) {
+        return Ok(Some(Fault::Refused(row.name, value)));
+    }
+    if !matches!(row.sets, Sets::Older) {
         return Ok(None);
     }
-    match first_astray(alloc, options, value)? {
-        Some(text) => Ok(Some(Fault::OlderUnknown(text))),
-        None => Ok(None),
-    }
+    older_fault(alloc, options, value)
 }
 
 /// What is wrong with a part of a command line.
@@ -206,7 +244,7 @@ fn part_fault<'a>(
         Part::Plain(word) if is_line(options, word) => Ok(Some(Fault::Whole(word))),
         Part::Plain(_) => Ok(None),
         Part::Stray(word) => stray_fault(alloc, options, word),
-        Part::Valued(name, value) => valued_fault(alloc, options, name, value),
+        Part::Valued(row, value) => valued_fault(alloc, options, row, value),
     }
 }
 
@@ -282,7 +320,9 @@ fn push_part<'a>(
             is_older: false,
             word: key_of(word),
         })?,
-        Part::Valued("-o", value) => push_older(unknown, options, guest, value)?,
+        Part::Valued(row, value) if matches!(row.sets, Sets::Older) => {
+            push_older(unknown, options, guest, value)?;
+        }
         _ => {}
     }
     Ok(())

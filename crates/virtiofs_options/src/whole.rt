@@ -36,17 +36,14 @@ fn is_known(options: Options, text: &[u8]) -> bool
     ensures { result ≡ is_known options text.now }
 {
     let key = key_of(text);
-    options.known.iter().any(|(name, _)| name.as_bytes() == key)
+    options.known.iter().any(|it| it.name.as_bytes() == key)
 }
 
 /// Whether a text is the name of an option that is known.
 fn is_name(options: Options, text: &[u8]) -> bool
     ensures { result ≡ is_name options text.now }
 {
-    options
-        .known
-        .iter()
-        .any(|(name, _)| name.as_bytes() == text)
+    options.known.iter().any(|it| it.name.as_bytes() == text)
 }
 
 /// Whether a text begins a command line: it is the daemon's word, or an option without `=`.

@@ -3,9 +3,10 @@
 ghost use Rattle.std.specs.Prelude.{◌≡◌, ◌≤◌, length, IfOk, IfErr};
 ghost use Rattle.virtiofs_options.specs.Lines.{first_end};
 ghost use Rattle.virtiofs_options.specs.Parts.{WrongOnly};
-ghost use Rattle.virtiofs_options.specs.Words.{IsFront, HasFrontFault, belongs, front_fault, start_after, names_processes, IsAudit, AreWords};
+ghost use Rattle.virtiofs_options.specs.Words.{IsFront, HasFrontFault, belongs, front_fault, start_after, names_processes, IsAudit, IsAuditFault, AreWords, AreWrongWords};
 
-use crate::command::{is_option, takes};
+use crate::cluster::split_words;
+use crate::command::{is_option, known_of};
 use crate::fault::{Fault, ReadError, fault_text};
 use crate::front::{Asked, asked_of, telling_of};
 use crate::guest::Guest;
@@ -63,7 +64,7 @@ fn read_front<'a>(
     let asked = asked_of(parts.as_slice())?;
     let values = values_of(alloc, parts.as_slice())?;
     let mut guest = Guest::new(alloc);
-    guest.take_parts(parts.as_slice())?;
+    guest.take_parts(options, parts.as_slice())?;
     Ok(Front::Audit(asked, values, guest))
 }
 
@@ -73,7 +74,7 @@ fn belongs(options: Options, words: &[&str], word: &str) -> bool
     ensures { result ≡ belongs options words.now word.now }
 {
     if is_option(word) {
-        return takes(options, word).is_some();
+        return known_of(options, word).is_some();
     }
     first_daemon(words).is_some()
 }
@@ -107,6 +108,15 @@ fn names_processes(values: &Values<'_>, first: &Guest<'_, Global>, words: &[&str
     !values.pid.is_empty() && !first.has_any() && words.is_empty()
 }
 
+/// What the words come to that are right.
+#[derive(Drop)]
+enum Right<'a> {
+    /// The program is to tell of itself.
+    Tell(Telling),
+    /// An audit of guests: what is asked for, the values of the program's own options, and the guests.
+    Audit(Asked, Values<'a>, Guests<'a>),
+}
+
 /// What the words after the first `--` come to, where `first` has the options before it.
 fn audit_of<'a>(
     alloc: Global,
@@ -115,26 +125,21 @@ fn audit_of<'a>(
     values: Values<'a>,
     words: &[&'a str],
     first: Guest<'a, Global>,
-) -> Result<Words<'a>, AllocError>
-    ensures { IfOk result (IsAudit of_daemon asked values.entry first.entry words.now) }
+) -> Result<Right<'a>, ReadError<'a>>
+    ensures read { IfOk result (IsAudit of_daemon asked values.entry first.entry words.now) }
+    ensures refused { IfErr result (WrongOnly (IsAuditFault of_daemon values.entry first.entry
+        words.now)) }
 {
     if names_processes(&values, &first, words) {
-        return Ok(Words::Audit {
-            asked,
-            values,
+        let guests = Guests {
             guests: Vec::new(alloc),
             unknown: Vec::new(alloc),
-        });
+        };
+        return Ok(Right::Audit(asked, values, guests));
     }
     match read_guests(alloc, of_daemon, words, first) {
-        Ok(Guests { guests, unknown }) => Ok(Words::Audit {
-            asked,
-            values,
-            guests,
-            unknown,
-        }),
-        Err(ReadError::Wrong(fault)) => Ok(Words::Wrong(fault_text(alloc, fault, of_daemon)?)),
-        Err(ReadError::OutOfMemory) => Err(AllocError),
+        Ok(guests) => Ok(Right::Audit(asked, values, guests)),
+        Err(error) => Err(error),
     }
 }
 
@@ -144,20 +149,21 @@ fn words_of<'a>(
     own: Options,
     of_daemon: Options,
     words: &'a [&'a str],
-) -> Result<Words<'a>, AllocError>
-    ensures { IfOk result (AreWords own of_daemon words.now) }
+) -> Result<Right<'a>, ReadError<'a>>
+    ensures read { IfOk result (AreWords own of_daemon words.now) }
+    ensures refused { IfErr result (WrongOnly (AreWrongWords own of_daemon words.now)) }
 {
-    match read_front(alloc, own, line_of(words)) {
+    let front = split_words(alloc, of_daemon, line_of(words))?;
+    match read_front(alloc, own, front.as_slice()) {
         Ok(Front::Audit(asked, values, first)) => {
             let rest = tail_of(words, rest_start(words));
             audit_of(alloc, of_daemon, asked, values, rest, first)
         }
-        Ok(Front::Tell(telling)) => Ok(Words::Shown(told(alloc, telling)?)),
+        Ok(Front::Tell(telling)) => Ok(Right::Tell(telling)),
         Err(ReadError::Wrong(fault)) => {
-            let fault = front_fault(of_daemon, words, fault);
-            Ok(Words::Wrong(fault_text(alloc, fault, own)?))
+            Err(ReadError::Wrong(front_fault(of_daemon, words, fault)))
         }
-        Err(ReadError::OutOfMemory) => Err(AllocError),
+        Err(ReadError::OutOfMemory) => Err(ReadError::OutOfMemory),
     }
 }
 
@@ -167,7 +173,20 @@ fn words_of<'a>(
 ///
 /// `AllocError`: a request for memory was refused.
 pub fn read_words<'a>(alloc: Global, words: &'a [&'a str]) -> Result<Words<'a>, AllocError> {
-    words_of(alloc, OWN, OF_DAEMON, words)
+    match words_of(alloc, OWN, OF_DAEMON, words) {
+        Ok(Right::Audit(asked, values, read)) => {
+            let Guests { guests, unknown } = read;
+            Ok(Words::Audit {
+                asked,
+                values,
+                guests,
+                unknown,
+            })
+        }
+        Ok(Right::Tell(telling)) => Ok(Words::Shown(told(alloc, telling)?)),
+        Err(ReadError::Wrong(fault)) => Ok(Words::Wrong(fault_text(alloc, fault)?)),
+        Err(ReadError::OutOfMemory) => Err(AllocError),
+    }
 }
 
 /// What the words of a process come to, or what is wrong with them.
@@ -191,9 +210,7 @@ pub fn read_process<'a>(
 ) -> Result<ProcessWords<'a>, AllocError> {
     match process_of(alloc, OF_DAEMON, number, words) {
         Ok(process) => Ok(ProcessWords::Read(process)),
-        Err(ReadError::Wrong(fault)) => {
-            Ok(ProcessWords::Wrong(fault_text(alloc, fault, OF_DAEMON)?))
-        }
+        Err(ReadError::Wrong(fault)) => Ok(ProcessWords::Wrong(fault_text(alloc, fault)?)),
         Err(ReadError::OutOfMemory) => Err(AllocError),
     }
 }

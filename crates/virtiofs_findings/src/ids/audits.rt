@@ -5,13 +5,13 @@ ghost use Rattle.virtiofs_findings.specs.IdFindings.{FindsAll, IsAstrayBut, Tell
 ghost use Rattle.virtiofs_id_audit.specs.Namespace.{IsRoot};
 
 use super::found::{IdFindings, IdsFound};
+use crate::ids::Ids;
 use std::alloc::{AllocError, Allocator};
 use virtiofs_id_audit::namespace::lacking_ids;
 use virtiofs_id_audit::outside::{Way, moved_all};
 use virtiofs_id_audit::{Span, ids_astray, ids_into};
 use virtiofs_map::id_types::{GuestUid, HostUid, Id};
 use virtiofs_map::idmap::UidMap;
-use virtiofs_setup::ids::Ids;
 
 /// Whether the id of the guest, which is not 4294967295, becomes that id of the host.
 fn goes_to<A: Allocator>(map: &Ids<A>, guest: GuestUid, host: HostUid) -> bool

@@ -3,18 +3,6 @@
 use std::alloc::Allocator;
 use virtiofs_id_audit::Span;
 
-/// What may be wrong with ids of a guest.
-#[derive(Clone, Copy, PartialEq, Eq)]
-pub enum IdFault {
-    /// They do not round-trip: each becomes an id of the host that leads back to another id of the
-    /// guest.
-    NotBack,
-    /// They become ids that the namespace of the daemon lacks, as each lacks 4294967295.
-    Lacking,
-    /// No specification covers them, and they are the ids of the host of the same numbers.
-    Kept,
-}
-
 /// Ids of a guest that are reported, and what is told of the least of them.
 #[derive(Drop)]
 pub struct IdsFound<A: Allocator> {

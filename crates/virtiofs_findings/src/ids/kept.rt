@@ -6,14 +6,14 @@ ghost use Rattle.virtiofs_findings.specs.KeptParts.{cover_of, same_of, IsUncover
 
 use super::audits::ids_to;
 use super::found::IdsFound;
+use crate::setup::IdSetUp;
 use std::alloc::{AllocError, Allocator};
 use virtiofs_id_audit::Span;
 use virtiofs_id_audit::namespace::ids_of_none;
 use virtiofs_id_audit::outside::{Way, moved_all};
 use virtiofs_map::cmdline::IdMap as Spec;
 use virtiofs_map::idmap::UidMap;
-use virtiofs_map::soft_idmap::IdMap;
-use virtiofs_setup::setup::IdSetUp;
+use virtiofs_map::soft_idmap::{Direction, Entry, IdMap, entry_of};
 
 /// These ids, as a range that keeps numbers.
 fn range_of(first: u32, count: u32) -> UidMap
@@ -30,20 +30,13 @@ fn range_of(first: u32, count: u32) -> UidMap
 fn cover_of(spec: &Spec) -> UidMap
     ensures { result ≡ cover_of spec.now }
 {
-    match *spec {
-        Spec::Guest {
-            from_guest,
-            count,
-            ..
-        } => range_of(from_guest, count),
-        Spec::SquashGuest {
-            from_guest,
-            count,
-            ..
-        } => range_of(from_guest, count),
-        Spec::ForbidGuest { from_guest, count } => range_of(from_guest, count),
-        Spec::Bidirectional { guest, count, .. } => range_of(guest, count),
-        _ => range_of(0, 0),
+    match entry_of(*spec, Direction::GuestToHost) {
+        Some(
+            Entry::Map { first, count, .. }
+            | Entry::Squash { first, count, .. }
+            | Entry::Fail { first, count },
+        ) => range_of(first, count),
+        None => range_of(0, 0),
     }
 }
 
@@ -99,12 +92,12 @@ pub fn kept_ids<A: Allocator + Copy>(
     set: &IdSetUp<A>,
 ) -> Result<Option<IdsFound<A>>, AllocError>
     ensures { IfOk result
-        (FindsKept isolated set.now.specs.items set.now.ranges.items) }
+        (FindsKept isolated set.now.map set.now.ranges.items) }
 {
     if !isolated {
         return Ok(None);
     }
-    let uncovered = uncovered(alloc, set.specs.as_slice())?;
+    let uncovered = uncovered(alloc, set.map.specs())?;
     let kept = same_among(alloc, set.ranges.as_slice(), uncovered.as_slice())?;
     let unmapped = IdMap::empty(alloc);
     ids_to(alloc, &unmapped, kept.as_slice())

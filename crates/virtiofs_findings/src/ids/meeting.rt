@@ -5,12 +5,12 @@ ghost use Rattle.virtiofs_findings.specs.IdFindings.{ReachedOutside, Meets, Tell
 ghost use Rattle.virtiofs_id_audit.specs.Namespace.{StandsBy, StandsFor};
 
 use super::found::IdsFound;
+use crate::setup::IdSetUp;
 use std::alloc::{AllocError, Allocator};
 use virtiofs_id_audit::outside::{Way, id_moved, moved_all};
 use virtiofs_id_audit::{Span, ids_into, reached, reaches_any};
 use virtiofs_map::id_types::{GuestUid, Id};
 use virtiofs_map::idmap::UidMap;
-use virtiofs_setup::setup::IdSetUp;
 
 /// An id of the host that a guest reaches.
 #[derive(Clone, Copy)]

@@ -2,9 +2,10 @@
 ghost use Rattle.std.specs.Prelude.{IfOk, OnOk, ◌≡◌};
 ghost use Rattle.virtiofs_findings.specs.AclNames.{acl_bytes, FindsRenamed, FindsAclName, FindsAclNames};
 ghost use Rattle.virtiofs_findings.specs.AclParts.{IsOther};
-ghost use Rattle.virtiofs_setup.specs.Lists.{Adds};
+ghost use Rattle.virtiofs_findings.specs.Lists.{Adds};
 
-use crate::finding::Finding;
+use crate::finding::{Evidence, Finding, Kind};
+use crate::report::push_of_guest;
 use std::alloc::{AllocError, Allocator};
 use virtiofs_map::xattrmap::{AppliedRule, ErrorKind, XattrMap, XattrName};
 
@@ -78,25 +79,32 @@ fn other_than<A: Allocator>(
 fn push_acl_name<A: Allocator + Copy>(
     alloc: A,
     found: &mut Vec<Finding<A>, A>,
+    number: usize,
     map: &XattrMap<A>,
     name: AclName,
 ) -> Result<(), AllocError>
-    ensures { OnOk result (Adds (FindsAclName map.now name) found.old.items found.new.items) }
+    ensures { OnOk result (Adds (FindsAclName number map.now name) found.old.items found.new.items) }
 {
-    if let Some(host) = renamed(alloc, map, attribute(name))? {
-        found.push(Finding::AclRenamed { name, host })?;
-    }
-    Ok(())
+    let Some(host) = renamed(alloc, map, attribute(name))? else {
+        return Ok(());
+    };
+    push_of_guest(
+        found,
+        number,
+        Kind::AclRenamed,
+        Evidence::Renamed(name, host),
+    )
 }
 
 /// Adds which names of access control lists pass as others.
 pub(crate) fn push_acl_names<A: Allocator + Copy>(
     alloc: A,
     found: &mut Vec<Finding<A>, A>,
+    number: usize,
     map: &XattrMap<A>,
 ) -> Result<(), AllocError>
-    ensures { OnOk result (Adds (FindsAclNames map.now) found.old.items found.new.items) }
+    ensures { OnOk result (Adds (FindsAclNames number map.now) found.old.items found.new.items) }
 {
-    push_acl_name(alloc, found, map, AclName::Access)?;
-    push_acl_name(alloc, found, map, AclName::Default)
+    push_acl_name(alloc, found, number, map, AclName::Access)?;
+    push_acl_name(alloc, found, number, map, AclName::Default)
 }

@@ -1,12 +1,13 @@
 //! What is decided of all names of a guest.
 ghost use Rattle.std.specs.Prelude.{◌≡◌, ◌<◌, ◌↔◌, codes, IfOk, OnOk, IsTrue};
-ghost use Rattle.virtiofs_map.specs.Audit.{AnswersLeast, Within, IsLost, IsStray};
-ghost use Rattle.virtiofs_setup.specs.Lists.{Adds};
-ghost use Rattle.virtiofs_findings.specs.NameFindings.{FindsName, FindsLeast, DecidesWritten, FindsIdle, FindsUnruled, FindsNames};
+ghost use Rattle.virtiofs_map.specs.Audit.{AnswersLeast, Within};
+ghost use Rattle.virtiofs_findings.specs.Lists.{Adds};
+ghost use Rattle.virtiofs_findings.specs.NameFindings.{FindsName, FindsLeast, DecidesWritten, FindsIdle, FindsUnruled, FindsNames, name_found};
 ghost use Rattle.virtiofs_findings.specs.NameParts.{DecidesFrom, HasFault};
 
 use super::found::{LeastName, NameFault};
-use crate::finding::Finding;
+use crate::finding::{Evidence, Finding, Kind};
+use crate::report::push_of_guest;
 use std::alloc::{AllocError, Allocator};
 use virtiofs_map::audit::{
     Audit, audit, audit_listed, audit_listed_within, audit_within, keeps_apart, keeps_apart_within,
@@ -133,16 +134,18 @@ fn decides_written<A: Allocator>(map: &XattrMap<A>, written: usize, place: usize
 /// Adds the written rules that decide no name.
 fn push_idle<A: Allocator>(
     found: &mut Vec<Finding<A>, A>,
+    number: usize,
     map: &XattrMap<A>,
     written: usize,
 ) -> Result<(), AllocError>
-    ensures { OnOk result (Adds (FindsIdle map.now written) found.old.items found.new.items) }
+    ensures { OnOk result
+        (Adds (FindsIdle number map.now written) found.old.items found.new.items) }
 {
     for place in 0..written {
         if decides_written(map, written, place) {
             continue;
         }
-        found.push(Finding::IdleRule(place))?;
+        push_of_guest(found, number, Kind::IdleRule, Evidence::Rule(place))?;
     }
     Ok(())
 }
@@ -150,58 +153,57 @@ fn push_idle<A: Allocator>(
 /// Adds that some names have no rule, unless each has one.
 fn push_unruled<A: Allocator>(
     found: &mut Vec<Finding<A>, A>,
+    number: usize,
     map: &XattrMap<A>,
 ) -> Result<(), AllocError>
-    ensures { OnOk result (Adds (FindsUnruled map.now) found.old.items found.new.items) }
+    ensures { OnOk result (Adds (FindsUnruled number map.now) found.old.items found.new.items) }
 {
     if map.is_terminated() {
         return Ok(());
     }
-    found.push(Finding::NoRule)?;
-    Ok(())
+    push_of_guest(found, number, Kind::NoRule, Evidence::Plain)
 }
 
-/// Adds the least name that the guest sets and that is not listed back, if there is one.
-fn push_lost<A: Allocator + Copy>(
+/// Adds the least name that has this fault, if there is one.
+fn push_name<A: Allocator + Copy>(
     alloc: A,
     found: &mut Vec<Finding<A>, A>,
+    number: usize,
+    kind: Kind,
+    fault: NameFault,
     map: &XattrMap<A>,
 ) -> Result<(), AllocError>
-    ensures { OnOk result
-        (Adds (FindsLeast Finding.NotListed (IsLost map.now)) found.old.items found.new.items) }
+    ensures { OnOk result (Adds
+        (FindsLeast (name_found number kind) (HasFault fault map.now map.now))
+        found.old.items found.new.items) }
 {
-    if let Some(least) = least_name(alloc, NameFault::Lost, map, map)? {
-        found.push(Finding::NotListed(least))?;
-    }
-    Ok(())
+    let Some(least) = least_name(alloc, fault, map, map)? else {
+        return Ok(());
+    };
+    push_of_guest(found, number, kind, Evidence::Name(least))
 }
 
-/// Adds the least name of the host that is listed under a name which leads elsewhere, if there is one.
-fn push_stray<A: Allocator + Copy>(
+/// Adds what is wrong with the names of the guest of that number under these rules, of which that many
+/// are written.
+pub(crate) fn push_names<A: Allocator + Copy>(
     alloc: A,
     found: &mut Vec<Finding<A>, A>,
-    map: &XattrMap<A>,
-) -> Result<(), AllocError>
-    ensures { OnOk result
-        (Adds (FindsLeast Finding.ListedElsewhere (IsStray map.now)) found.old.items found.new.items) }
-{
-    if let Some(least) = least_name(alloc, NameFault::Stray, map, map)? {
-        found.push(Finding::ListedElsewhere(least))?;
-    }
-    Ok(())
-}
-
-/// Adds what is wrong with the names of a guest under these rules, of which that many are written.
-pub fn push_names<A: Allocator + Copy>(
-    alloc: A,
-    found: &mut Vec<Finding<A>, A>,
+    number: usize,
     map: &XattrMap<A>,
     written: usize,
 ) -> Result<(), AllocError>
-    ensures { OnOk result (Adds (FindsNames map.now written) found.old.items found.new.items) }
+    ensures { OnOk result
+        (Adds (FindsNames number map.now written) found.old.items found.new.items) }
 {
-    push_unruled(found, map)?;
-    push_lost(alloc, found, map)?;
-    push_stray(alloc, found, map)?;
-    push_idle(found, map, written)
+    push_unruled(found, number, map)?;
+    push_name(alloc, found, number, Kind::NotListed, NameFault::Lost, map)?;
+    push_name(
+        alloc,
+        found,
+        number,
+        Kind::ListedElsewhere,
+        NameFault::Stray,
+        map,
+    )?;
+    push_idle(found, number, map, written)
 }

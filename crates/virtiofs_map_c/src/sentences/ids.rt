@@ -1,18 +1,18 @@
 //! The sentences for lists and texts of specifications.
 ghost use Rattle.std.specs.Prelude.{◌≡◌, ◌+◌, ◌++◌, ◌∷◌, [], flat_map, codes};
 ghost use Rattle.std.specs.Fmt.{decimal};
-ghost use Rattle.virtiofs_map.specs.Mapping.{entry_of};
-ghost use Rattle.virtiofs_map.specs.Printed.{range_text, direction_text, specification_text, set_up_text};
+ghost use Rattle.virtiofs_map.specs.Printed.{range_text, direction_text, set_up_text};
 ghost use Rattle.virtiofs_map.specs.declared.soft_idmap.entry.Direction.TheVariants.{GuestToHost, HostToGuest};
-ghost use Rattle.virtiofs_map_c.specs.FaultText.{escaped, direction_of, said_text, said_entry_text, overflow_text, intersects_text, length_text, number_text};
+ghost use Rattle.virtiofs_map_c.specs.Escaped.{escaped};
+ghost use Rattle.virtiofs_map_c.specs.FaultText.{direction_of, said_text, said_entry_text, overflow_text, intersects_text, length_text, number_text};
 ghost use Rattle.virtiofs_map_c.specs.Arrays.{said};
 ghost use Rattle.virtiofs_map_c.specs.FrontParts.{Writes};
 
 use super::fixed::number_words;
 use crate::arrays::{Spec, read};
-use crate::front::{put_escaped, say, say_number};
-use virtiofs_map::cmdline;
-use virtiofs_map::soft_idmap::Direction;
+use crate::escaped::put_escaped;
+use crate::front::{say, say_number};
+use virtiofs_map::soft_idmap::{Direction, Entry, entry_of};
 
 /// The direction of a number: any but 0 stands for that from the host.
 pub fn direction_of(number: u32) -> Direction
@@ -85,47 +85,24 @@ fn name_of(direction: Direction) -> &'static str
     }
 }
 
-/// Writes the specification of C's struct; nothing where there is no such kind.
+/// Writes the specification of C's struct as its text says it; nothing where there is no such kind.
 fn say_said(spec: &Spec, out: &mut [u8], len: &mut usize)
     ensures { Writes (said_text (said spec.now)) len.old out.old len.new out.new }
 {
-    match read(spec) {
-        Some(spec) => say_specification(spec, out, len),
-        None => (),
-    }
-}
-
-/// Writes a specification as its text says it.
-fn say_specification(spec: cmdline::IdMap, out: &mut [u8], len: &mut usize)
-    ensures { Writes (specification_text spec) len.old out.old len.new out.new }
-{
-    match spec {
-        cmdline::IdMap::Guest {
-            from_guest,
-            to_host,
-            count,
-        } => say_three("guest", from_guest, to_host, count, out, len),
-        cmdline::IdMap::Host {
-            from_host,
-            to_guest,
-            count,
-        } => say_three("host", from_host, to_guest, count, out, len),
-        cmdline::IdMap::SquashGuest {
-            from_guest,
-            to_host,
-            count,
-        } => say_three("squash-guest", from_guest, to_host, count, out, len),
-        cmdline::IdMap::SquashHost {
-            from_host,
-            to_guest,
-            count,
-        } => say_three("squash-host", from_host, to_guest, count, out, len),
-        cmdline::IdMap::Bidirectional { guest, host, count } => {
-            say_three("map", guest, host, count, out, len)
-        }
-        cmdline::IdMap::ForbidGuest { from_guest, count } => {
-            say_two("forbid-guest", from_guest, count, out, len)
-        }
+    let Spec {
+        kind,
+        first,
+        to,
+        count,
+    } = *spec;
+    match kind {
+        0 => say_three("guest", first, to, count, out, len),
+        1 => say_three("host", first, to, count, out, len),
+        2 => say_three("squash-guest", first, to, count, out, len),
+        3 => say_three("squash-host", first, to, count, out, len),
+        4 => say_three("map", first, to, count, out, len),
+        5 => say_two("forbid-guest", first, count, out, len),
+        _ => (),
     }
 }
 
@@ -158,66 +135,26 @@ fn say_field(number: u32, out: &mut [u8], len: &mut usize)
     say_number(number as u64, out, len);
 }
 
-/// Writes what a specification sets up in one direction; nothing where it does not act on it.
+/// Writes what the specification of C's struct sets up in one direction; nothing where it sets up
+/// nothing.
 fn say_said_entry(spec: &Spec, direction: Direction, out: &mut [u8], len: &mut usize)
     ensures { Writes (said_entry_text (said spec.now) direction) len.old out.old len.new out.new }
 {
-    match (read(spec), direction) {
-        (None, _) => (),
-        (Some(spec), Direction::GuestToHost) => say_guest_entry(spec, out, len),
-        (Some(spec), Direction::HostToGuest) => say_host_entry(spec, out, len),
+    match read(spec) {
+        Some(spec) => say_set_up(entry_of(spec, direction), out, len),
+        None => (),
     }
 }
 
-/// Writes what a specification sets up for guest ids.
-fn say_guest_entry(spec: cmdline::IdMap, out: &mut [u8], len: &mut usize)
-    ensures { Writes (set_up_text (entry_of spec GuestToHost)) len.old out.old len.new out.new }
+/// Writes what is set up, if it is something.
+fn say_set_up(entry: Option<Entry>, out: &mut [u8], len: &mut usize)
+    ensures { Writes (set_up_text entry) len.old out.old len.new out.new }
 {
-    match spec {
-        cmdline::IdMap::Guest {
-            from_guest: first,
-            to_host: to,
-            count,
-        } => say_map(first, to, count, out, len),
-        cmdline::IdMap::SquashGuest {
-            from_guest: first,
-            to_host: to,
-            count,
-        } => say_squash(first, to, count, out, len),
-        cmdline::IdMap::Bidirectional {
-            guest: first,
-            host: to,
-            count,
-        } => say_map(first, to, count, out, len),
-        cmdline::IdMap::ForbidGuest {
-            from_guest: first,
-            count,
-        } => say_fail(first, count, out, len),
-        _ => (),
-    }
-}
-
-/// Writes what a specification sets up for host ids.
-fn say_host_entry(spec: cmdline::IdMap, out: &mut [u8], len: &mut usize)
-    ensures { Writes (set_up_text (entry_of spec HostToGuest)) len.old out.old len.new out.new }
-{
-    match spec {
-        cmdline::IdMap::Host {
-            from_host: first,
-            to_guest: to,
-            count,
-        } => say_map(first, to, count, out, len),
-        cmdline::IdMap::SquashHost {
-            from_host: first,
-            to_guest: to,
-            count,
-        } => say_squash(first, to, count, out, len),
-        cmdline::IdMap::Bidirectional {
-            guest: to,
-            host: first,
-            count,
-        } => say_map(first, to, count, out, len),
-        _ => (),
+    match entry {
+        Some(Entry::Map { first, to, count }) => say_map(first, to, count, out, len),
+        Some(Entry::Squash { first, to, count }) => say_squash(first, to, count, out, len),
+        Some(Entry::Fail { first, count }) => say_fail(first, count, out, len),
+        None => (),
     }
 }
 

@@ -1,11 +1,11 @@
 //! Command lines, users, their subordinate ids, and the ids of processes.
 
 use std::test::Fail;
-use virtiofs_process::command_line::read_command_line;
-use virtiofs_process::error::ReadError;
-use virtiofs_process::status::{effective_gid, effective_uid};
-use virtiofs_process::subordinate::read_subordinate;
-use virtiofs_process::users::find_user;
+use virtiofs_host::command_line::read_command_line;
+use virtiofs_host::error::ReadError;
+use virtiofs_host::status::{effective_gid, effective_uid};
+use virtiofs_host::subordinate::read_subordinate;
+use virtiofs_host::users::find_user;
 
 static WORDS: [(&str, &[&str]); 9] = [
     (

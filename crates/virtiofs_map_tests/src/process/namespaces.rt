@@ -2,11 +2,11 @@
 
 use std::alloc::{AllocError, Global};
 use std::test::Fail;
+use virtiofs_host::allowed::is_allowed;
+use virtiofs_host::error::ReadError;
+use virtiofs_host::id_map::read_id_map;
+use virtiofs_host::subordinate::SubIds;
 use virtiofs_map::idmap::UidMap;
-use virtiofs_process::allowed::is_allowed;
-use virtiofs_process::error::ReadError;
-use virtiofs_process::id_map::read_id_map;
-use virtiofs_process::subordinate::SubIds;
 
 /// Numbers that are read: the first id inside, the first one outside, and how many there are.
 type Numbers = (u32, u32, u32);

@@ -3,10 +3,10 @@
 use rationed::{Call, Ended, Rationed, Verdict, refuse_in_turn};
 use std::alloc::Global;
 use std::test::Fail;
-use virtiofs_process::command_line::read_command_line;
-use virtiofs_process::error::ReadError;
-use virtiofs_process::id_map::read_id_map;
-use virtiofs_process::subordinate::read_subordinate;
+use virtiofs_host::command_line::read_command_line;
+use virtiofs_host::error::ReadError;
+use virtiofs_host::id_map::read_id_map;
+use virtiofs_host::subordinate::read_subordinate;
 
 /// A content, and how it is read.
 struct Read(Reader, &'static str);

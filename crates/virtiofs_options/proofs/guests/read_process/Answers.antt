@@ -1,4 +1,4 @@
-use Rattle.std.proofs.Common.{◌∙◌, ◌++◌, ℕ, List, Bor, map, sym, ap, subst}
+use Rattle.std.proofs.Common.{◌∙◌, ◌++◌, ℕ, List, Bor, drop, map, sym, ap, subst}
 use Rattle.virtiofs_options.proofs.GuestsLemmas.{WrongOnly-map}
 use Rattle.virtiofs_options.specs.Guests.{IsLine, IsLineFault}
 use Rattle.virtiofs_options.specs.Lines.{line_of}
@@ -13,7 +13,7 @@ returns-in-Ok-clause-read c =
       (
         c.new-first.result,
         c.new-first.ensures,
-        subst (IsLine c.args.options c.args.number c.new-first.result _ c.in-Ok.guest)
+        subst (IsLine c.args.options c.args.number c.new-first.result (line_of (drop c.in-Some.start c.args.words.now)) c.in-Ok.guest)
             (sym (said ∙ ap (λ xs. map told xs ++ here) c.new-unknown.ensures.items))
             (subst (λ (it : List (Bor (List ℕ))). IsLine c.args.options c.args.number c.new-first.result it c.in-Ok.guest here)
             (c.line_of-line.ensures ∙ ap line_of c.tail_of.ensures) line),

@@ -5,5 +5,5 @@ use Rattle.virtiofs_options.proofs.older.read_older.Goals as goal
 
 pub loop-part-preserved : goal.loop-part-preserved
 loop-part-preserved c =
-    subst (AddsOlder _ c.with_part-older.result) (sym (older_options-more c.args.parts.now c.loop-part.part-index _ c.loop-part-test.true))
-    (AddsOlder-then _ c.loop-part.older _ _ _ c.loop-part.invariant c.with_part-older.ensures)
+    subst (AddsOlder c.args.options _ c.with_part-older.result) (sym (older_options-more c.args.parts.now c.loop-part.part-index _ c.loop-part-test.true))
+    (AddsOlder-then c.args.options _ c.loop-part.older _ _ _ c.loop-part.invariant c.with_part-older.ensures)

@@ -4,4 +4,4 @@ use Rattle.virtiofs_options.specs.GuestOptions.{AddsOlder, older_options}
 use Rattle.virtiofs_options.proofs.older.read_older.Given as goal
 
 abbrev pub invariant-loop-part : goal.invariant-loop-part
-invariant-loop-part l = AddsOlder l.initial.older l.older (older_options (take l.part-index l.parts))
+invariant-loop-part l = AddsOlder l.fn.options l.initial.older l.older (older_options (take l.part-index l.parts))

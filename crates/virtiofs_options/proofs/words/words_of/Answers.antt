@@ -1,26 +1,28 @@
-use Rattle.std.proofs.Common.{◌∙◌, ℕ, List, Bor, ap, drop, inr, subst, string_bytes}
-use Rattle.virtiofs_options.proofs.ResultLemmas.{audit-words}
-use Rattle.virtiofs_options.specs.Parts.{WrongOnly}
-use Rattle.virtiofs_options.specs.Sentences.{IsSentence}
-use Rattle.virtiofs_options.specs.Words.{HasFrontFault, IsFront}
-use Rattle.virtiofs_options.specs.declared.fault.Fault.{Fault}
+use Rattle.std.proofs.Common.{◌∙◌, ℕ, List, Bor, ap, drop, subst}
+use Rattle.virtiofs_options.proofs.ResultLemmas.{audit-words, audit-wrong}
+use Rattle.virtiofs_options.specs.Clusters.{split_words}
+use Rattle.virtiofs_options.specs.Words.{IsFront}
+use Rattle.virtiofs_options.specs.declared.words.Front.TheVariants.{Audit}
 use Rattle.virtiofs_options.proofs.words.words_of.Goals as goal
 
-pub returns-in-Ok-Audit : goal.returns-in-Ok-Audit
-returns-in-Ok-Audit c =
-    audit-words c.args.own c.args.of_daemon c.args.words.now _ _ c.in-Ok-Audit.asked c.in-Ok-Audit.values c.in-Ok-Audit.first
-    c.audit_of.result
-    (subst (IsFront c.args.own c.line_of.result.now) c.in-Ok-Audit.field-0-is c.in-Ok-Audit.ensures.read) c.line_of.ensures
+pub returns-in-Ok-Audit-clause-read : goal.returns-in-Ok-Audit-clause-read
+returns-in-Ok-Audit-clause-read c =
+    audit-words c.args.own c.args.of_daemon c.args.words.now c.in_ok-front.front.items c.tail_of-rest.result.now
+    c.in-Ok-Audit.asked c.in-Ok-Audit.values c.in-Ok-Audit.first c.audit_of.result
+    (c.in_ok-front.ensures ∙ ap (split_words c.args.of_daemon) c.line_of.ensures)
+    (subst (λ (l : List (Bor (List ℕ))). IsFront c.args.own l (Audit c.in-Ok-Audit.asked c.in-Ok-Audit.values c.in-Ok-Audit.first))
+    c.as_slice.ensures.value
+    (subst (IsFront c.args.own c.as_slice.result.now) c.in-Ok-Audit.field-0-is c.in-Ok-Audit.ensures.read))
     (c.tail_of-rest.ensures ∙ ap (λ (start : ℕ). drop start c.args.words.now) c.rest_start.ensures.start)
-    c.audit_of.ensures
+    c.audit_of.ensures.read
 
-pub returns-in_ok-fault_text-in-Err-Wrong : goal.returns-in_ok-fault_text-in-Err-Wrong
-returns-in_ok-fault_text-in-Err-Wrong c =
-    inr (inr (
-      c.in-Err-Wrong.fault,
-      subst (λ (l : List (Bor (List ℕ))). HasFrontFault c.args.own l c.in-Err-Wrong.fault) c.line_of.ensures
-          (subst (WrongOnly (HasFrontFault c.args.own c.line_of.result.now)) c.in-Err-Wrong.field-0-is
-          c.in-Err-Wrong.ensures.refused),
-      subst (λ (f : Fault). IsSentence f (string_bytes c.in_ok-fault_text-in-Err-Wrong.field-0)) c.front_fault-fault.ensures
-          c.in_ok-fault_text-in-Err-Wrong.ensures,
-    ))
+pub returns-in-Ok-Audit-clause-refused : goal.returns-in-Ok-Audit-clause-refused
+returns-in-Ok-Audit-clause-refused c =
+    audit-wrong c.args.own c.args.of_daemon c.args.words.now c.in_ok-front.front.items c.tail_of-rest.result.now
+    c.in-Ok-Audit.asked c.in-Ok-Audit.values c.in-Ok-Audit.first c.audit_of.result
+    (c.in_ok-front.ensures ∙ ap (split_words c.args.of_daemon) c.line_of.ensures)
+    (subst (λ (l : List (Bor (List ℕ))). IsFront c.args.own l (Audit c.in-Ok-Audit.asked c.in-Ok-Audit.values c.in-Ok-Audit.first))
+    c.as_slice.ensures.value
+    (subst (IsFront c.args.own c.as_slice.result.now) c.in-Ok-Audit.field-0-is c.in-Ok-Audit.ensures.read))
+    (c.tail_of-rest.ensures ∙ ap (λ (start : ℕ). drop start c.args.words.now) c.rest_start.ensures.start)
+    c.audit_of.ensures.refused

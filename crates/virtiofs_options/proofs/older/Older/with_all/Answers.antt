@@ -6,16 +6,16 @@ use Rattle.virtiofs_options.specs.GuestOptions.{AddsOlder}
 use Rattle.virtiofs_options.proofs.OlderLemmas.{AddsOlder-then}
 use Rattle.virtiofs_options.proofs.older.Older.with_all.Goals as goal
 
-pub loop-option-preserved : goal.loop-option-preserved
-loop-option-preserved c =
-    subst (AddsOlder c.args.self c.with-older.result) (sym (map-append _ c.loop-option.yielded (c.in-Some.option ∷ [])))
-    (AddsOlder-then _ c.loop-option.older _ _ (c.in-Some.option.now ∷ []) c.loop-option.invariant c.with-older.ensures)
+pub loop-text-preserved : goal.loop-text-preserved
+loop-text-preserved c =
+    subst (AddsOlder c.args.options c.args.self c.with-older.result) (sym (map-append _ c.loop-text.yielded (c.in-Some.text ∷ [])))
+    (AddsOlder-then c.args.options _ c.loop-text.older _ _ (c.in-Some.text.now ∷ []) c.loop-text.invariant c.with-older.ensures)
 
 pub returns : goal.returns
 returns c =
     let seen = YieldsList-end
-    (YieldsList-at c.into_iter-option-iterator.ensures.into_iter_gives
-    (YieldsList-from_str_split 44 c.args.options.now (lit< tt) c.split-option-items.ensures.text
-    c.split-option-items.ensures.has_more c.split-option-items.ensures.pattern))
-    c.loop-option.yielded _ c.loop-option.yielded_by _ _ c.in-None.is c.next.ensures.steps in
-    rw (← seen.0) c.loop-option.invariant
+    (YieldsList-at c.into_iter-text-iterator.ensures.into_iter_gives
+    (YieldsList-from_str_split 44 c.args.texts.now (lit< tt) c.split-text-items.ensures.text
+    c.split-text-items.ensures.has_more c.split-text-items.ensures.pattern))
+    c.loop-text.yielded _ c.loop-text.yielded_by _ _ c.in-None.is c.next.ensures.steps in
+    rw (← seen.0) c.loop-text.invariant

@@ -1,3 +1,0 @@
-pub mod Advice
-pub mod AdviceText
-pub mod NameMending

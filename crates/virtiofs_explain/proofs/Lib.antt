@@ -1,5 +1,0 @@
-mod ExplainLemmas
-mod ExplainNameLemmas
-mod ExplainQuestionLemmas
-mod ExplainRuleLemmas
-mod ExplainSaidLemmas

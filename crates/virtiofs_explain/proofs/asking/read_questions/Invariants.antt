@@ -1,7 +1,0 @@
--- each of the texts so far asks the question at its place
-use Rattle.std.proofs.Common.{take}
-use Rattle.virtiofs_explain.proofs.ExplainQuestionLemmas.{AllAsk}
-use Rattle.virtiofs_explain.proofs.asking.read_questions.Given as goal
-
-abbrev pub invariant-loop-place : goal.invariant-loop-place
-invariant-loop-place l = AllAsk (take l.place l.texts) l.questions.items

@@ -1,7 +1,0 @@
-use Rattle.std.proofs.lemmas.Iterator.{items_from_collect, YieldsList-from_chars}
-use Rattle.virtiofs_explain.proofs.rule_text.chars_of.Goals as goal
-
-pub returns : goal.returns
-returns g c =
-    items_from_collect c.collect.result c.collect.ensures.ran
-    (YieldsList-from_chars c.args.text.now c.utf8.text (cc))

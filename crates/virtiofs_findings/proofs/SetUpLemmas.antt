@@ -1,0 +1,315 @@
+-- What the options of a guest set up, and what is told of texts that are refused.
+use Rattle.std.proofs.Common.{◌≡◌, inl, inr, ℕ, ◌+◌, ◌<◌, ◌≤◌, List, [], ◌∷◌, ◌++◌, length, take, get_or}
+use Rattle.std.proofs.Common.{Option, Some, None, Result, Ok, Err, OnOk, refl, sym, ap, ◌∙◌, subst, append_assoc, arith}
+use Rattle.std.proofs.Common.{append-nil, string_bytes}
+use Rattle.std.specs.Prelude.{IsSomeAnd, slice_get, slice_index_or, zero, suc}
+use Rattle.std.specs.Borrow.{Bor}
+use Rattle.std.specs.List.{AllZip}
+use Rattle.std.specs.Option.{option_map, option_map_or}
+use Rattle.std.specs.Str.{chars}
+use Rattle.std.proofs.lemmas.List.{take-map, take_all, map_more, get_or-map, length-map, length-take-le}
+use Rattle.std.proofs.lemmas.Option.{same_Some, slice_get-get_or}
+use Rattle.std.proofs.lemmas.List.Elements.{Contains-get_or, All-contains}
+use Rattle.virtiofs_map.specs.Build.{Accepted, BuildFault, build_fault_of}
+use Rattle.virtiofs_map.specs.NamespaceText.{NamespaceFault, HasNamespaceFault}
+use Rattle.virtiofs_map.specs.Printed.{build_error_text, rules_error_text}
+use Rattle.virtiofs_map.specs.Refusal.{OutOfMemoryOr}
+use Rattle.virtiofs_map.specs.RulesFault.{RulesFault, HasRulesFault, InRule, NotOfText, rule_fault_of, fault_at}
+use Rattle.virtiofs_map.specs.RulesFault.{rules_fault_of}
+use Rattle.virtiofs_map.specs.SpecificationText.{Says, SpecificationFault, specification_fault_of}
+use Rattle.virtiofs_map.specs.Specifications.{texts_of, AllSay, SpecsFault, HasSpecsFault, Unread, Unbuilt, specs_fault_of}
+use Rattle.virtiofs_map.specs.declared.cmdline.IdMap.{IdMap}
+use Rattle.virtiofs_map.specs.declared.cmdline.IdMapError.{IdMapError}
+use Rattle.virtiofs_map.specs.declared.idmap.UidMap.{UidMap}
+use Rattle.virtiofs_map.specs.declared.soft_idmap.errors.IdMapBuildError.{IdMapBuildError}
+use Rattle.virtiofs_map.specs.declared.soft_idmap.errors.SpecsError.{SpecsError}
+use Rattle.virtiofs_map.specs.declared.soft_idmap.errors.SpecsError.TheVariants as errors
+use Rattle.virtiofs_map.specs.declared.xattrmap.errors.Error.{Error}
+use Rattle.virtiofs_map.proofs.ForCallers.{AllZip-push, specification_one_value, texts_no_fault, namespace_no_fault, rules_no_fault}
+use Rattle.virtiofs_findings.specs.Guests.{SaysRange, RefusesRanges, ReadsText, SetsUp}
+use Rattle.virtiofs_findings.specs.Lists.{Adds}
+use Rattle.virtiofs_findings.specs.Refusals.{IsAt, TellsPlace, TellsBuildFault, TellsSpecsFault}
+use Rattle.virtiofs_findings.specs.Refusals.{TellsSpecs, TellsRanges, TellsNames, TellsGuest, TellsGuests, place_of}
+use Rattle.virtiofs_findings.specs.Refusals.{TellsIds}
+use Rattle.virtiofs_findings.specs.declared.refusal.Refusal.{Refusal}
+use Rattle.virtiofs_findings.specs.declared.refusal.Refused.{Refused}
+use Rattle.virtiofs_findings.specs.declared.refusal.Refused.TheVariants.{Spec, Range, Rules}
+use Rattle.virtiofs_findings.specs.declared.ids.kind.IdKind.{IdKind}
+use Rattle.virtiofs_findings.specs.declared.ids.kind.IdKind.TheVariants.{Users, Groups}
+use Rattle.virtiofs_findings.specs.declared.guest.Guest.{Guest}
+use Rattle.virtiofs_findings.specs.declared.setup.NamesSetUp.{NamesSetUp}
+use Rattle.virtiofs_findings.specs.declared.setup.SetUp.{SetUp}
+use Rattle.virtiofs_findings.proofs.ListLemmas.{in_two, more_at}
+
+-- ---- what is set up
+
+-- one more guest
+pub sets_up_more : {A : Type 0} (guests : List (Guest A)) (sets : List (SetUp A)) (place : ℕ) (guest : Guest A)
+    (set : SetUp A)
+    → guest ≡ get_or guests place guest → place < length guests → AllZip SetsUp (take place guests) sets
+    → SetsUp guest set
+    → AllZip SetsUp (take (place + 1) guests) (sets ++ set ∷ [])
+sets_up_more guests sets place guest set is below all one =
+    rw (more_at guests place guest is below) (AllZip-push SetsUp (take place guests) sets guest set all one)
+
+-- ---- what is told
+
+-- what was added in two parts
+adds_both : {T : Type 0} (P Q R : List T → Type 0) (before between after : List T) → Adds P before between
+    → Adds Q between after → ((first second : List T) → P first → Q second → R (first ++ second)) → Adds R before after
+adds_both P Q R before between after first second whole = record {
+  more = first.more ++ second.more;
+  is = whole first.more second.more first.is second.is;
+  added = in_two before first.more second.more between after first.added second.added;
+}
+
+-- a call that tells a fault
+pub tells_fault : {F T E : Type 0} (r : Result T E) (told : Option F) (fault : F) → told ≡ Some fault
+    → OnOk r ((f : F) × (told ≡ Some f))
+tells_fault (Ok x) told fault is = (fault, is)
+tells_fault (Err e) told fault is = tt
+
+-- a refusal of an option at a place
+pub adds_place : {A T E : Type 0} (r : Result T E) (before after : List (Refusal A)) (number : ℕ)
+    (what : Refused) (why : List ℕ)
+    → OnOk r ((refusal : Refusal A) × IsAt number what refusal × (string_bytes refusal.why ≡ why)
+    × (after ≡ before ++ refusal ∷ []))
+    → OnOk r (Adds (TellsPlace number what) before after)
+adds_place (Ok x) before after number what why (refusal, at, same, added) =
+    record { more = refusal ∷ []; is = (refusal, at, refl); added = added }
+adds_place (Err e) before after number what why added = tt
+
+-- a refusal of a specification of which no map is made
+pub adds_build : {A T E : Type 0} (r : Result T E) (error : IdMapBuildError) (fault : BuildFault)
+    (before after : List (Refusal A))
+    (number : ℕ) (kind : IdKind) (why : List ℕ)
+    → build_fault_of error ≡ Some fault → why ≡ build_error_text error
+    → OnOk r ((refusal : Refusal A) × IsAt number (Spec kind (place_of fault)) refusal × (string_bytes refusal.why ≡ why)
+    × (after ≡ before ++ refusal ∷ []))
+    → OnOk r ((f : BuildFault) × (build_fault_of error ≡ Some f) × Adds (TellsBuildFault number kind f) before after)
+adds_build (Ok x) error fault before after number kind why about is (refusal, at, same, added) = (
+  fault,
+  about,
+  record {
+    more = refusal ∷ [];
+    is = record { error = error; refusal = refusal; about = about; at = at; why = same ∙ is; alone = refl };
+    added = added;
+  },
+)
+adds_build (Err e) error fault before after number kind why about is added = tt
+
+-- the fault of a text is one of the list
+pub adds_unread : {A T E : Type 0} (r : Result T E) (error : SpecsError A) (index : ℕ) (cause : IdMapError A)
+    (number : ℕ) (kind : IdKind) (before after : List (Refusal A))
+    → error ≡ errors.Spec index cause
+    → OnOk r (Adds (TellsPlace number (Spec kind index)) before after)
+    → OnOk r ((f : SpecificationFault) × (specification_fault_of cause ≡ Some f))
+    → OnOk r ((f : SpecsFault) × (specs_fault_of error ≡ Some f) × Adds (TellsSpecsFault number kind f) before after)
+adds_unread (Ok x) error index cause number kind before after is adds (fault, tells) =
+    (Unread index fault, ap specs_fault_of is ∙ ap (option_map (Unread index)) tells, adds)
+adds_unread (Err e) error index cause number kind before after is adds more = tt
+
+-- and so is that of the map
+pub adds_unbuilt : {A T E : Type 0} (r : Result T E) (error : SpecsError A) (cause : IdMapBuildError)
+    (number : ℕ) (kind : IdKind) (before after : List (Refusal A))
+    → error ≡ errors.Build cause
+    → OnOk r ((f : BuildFault) × (build_fault_of cause ≡ Some f) × Adds (TellsBuildFault number kind f) before after)
+    → OnOk r ((f : SpecsFault) × (specs_fault_of error ≡ Some f) × Adds (TellsSpecsFault number kind f) before after)
+adds_unbuilt (Ok x) error cause number kind before after is (fault, tells, adds) =
+    (Unbuilt fault, ap specs_fault_of is ∙ ap (option_map Unbuilt) tells, adds)
+adds_unbuilt (Err e) error cause number kind before after is told = tt
+
+-- nothing is told of specifications of which a map is made
+pub adds_no_specs : {A : Type 0} (number : ℕ) (kind : IdKind) (texts : List (List ℕ)) (specs : List IdMap)
+    (before after : List (Refusal A))
+    → after ≡ before → AllSay texts specs → Accepted specs → Adds (TellsSpecs number kind texts) before after
+adds_no_specs number kind texts specs before after same say accepted = record {
+  more = [];
+  is = inl ((λ wrong. texts_no_fault texts specs wrong.0 say accepted wrong.1), refl);
+  added = same ∙ sym (append-nil before);
+}
+
+-- else their fault is told
+pub adds_specs : {A : Type 0} (number : ℕ) (kind : IdKind) (texts : List (List ℕ)) (error : Option SpecsFault)
+    (before after : List (Refusal A))
+    → OutOfMemoryOr error (HasSpecsFault texts)
+    → ((f : SpecsFault) × (error ≡ Some f) × Adds (TellsSpecsFault number kind f) before after)
+    → Adds (TellsSpecs number kind texts) before after
+adds_specs number kind texts None before after about (fault, is, adds) = absurd (cc)
+adds_specs number kind texts (Some one) before after about (fault, is, adds) = record {
+  more = adds.more;
+  is = inr (fault, subst (HasSpecsFault texts) (same_Some _ _ is) about, adds.is);
+  added = adds.added;
+}
+
+-- ranges that all are read are not refused
+pub ranges_right : (texts : List (List ℕ)) (ranges : List UidMap) → AllZip SaysRange texts ranges → ¬ RefusesRanges texts
+ranges_right texts ranges say (text, fault, within, wrong) =
+    All-contains IsRight texts text (each texts ranges say) within fault wrong where
+      IsRight : List ℕ → Type 0
+      IsRight one = (f : NamespaceFault) → ¬ HasNamespaceFault one f
+
+      each : (texts : List (List ℕ)) (ranges : List UidMap) → AllZip SaysRange texts ranges → (k : ℕ) (d : List ℕ)
+          → k < length texts
+          → IsRight (slice_index_or texts k d)
+      each [] ranges say k d below = absurd (omega (below, arith))
+      each (x ∷ texts) [] say k d below = absurd say
+      each (x ∷ texts) (range ∷ ranges) say zero d below =
+          λ f. namespace_no_fault x range.inside_uid range.outside_uid range.count f say.0
+      each (x ∷ texts) (range ∷ ranges) say (suc k) d below = each texts ranges say.1 k d (omega (below, arith))
+
+-- nothing is told of ranges that all are read
+pub adds_no_ranges : {A : Type 0} (number : ℕ) (kind : IdKind) (texts : List (List ℕ)) (ranges : List UidMap)
+    (before after : List (Refusal A))
+    → after ≡ before → AllZip SaysRange texts ranges → Adds (TellsRanges number kind texts) before after
+adds_no_ranges number kind texts ranges before after same say = record {
+  more = [];
+  is = inl (ranges_right texts ranges say, refl);
+  added = same ∙ sym (append-nil before);
+}
+
+-- the first that is not read is told of
+pub adds_range : {A : Type 0} (number : ℕ) (kind : IdKind) (why : List ℕ) (texts : List (Bor (List ℕ))) (ranges : List UidMap)
+    (i : ℕ)
+    (d : Bor (List ℕ)) (fault : NamespaceFault) (before after : List (Refusal A))
+    → i < length texts → AllZip SaysRange (take i (texts_of texts)) ranges
+    → HasNamespaceFault (chars (get_or texts i d).now) fault
+    → ((refusal : Refusal A) × IsAt number (Range kind i) refusal × (string_bytes refusal.why ≡ why)
+    × (after ≡ before ++ refusal ∷ []))
+    → Adds (TellsRanges number kind (texts_of texts)) before after
+adds_range number kind why texts ranges i d fault before after below say wrong (refusal, at, same, added) = record {
+  more = refusal ∷ [];
+  is = inr (
+    i,
+    record { before = ranges; say = say; here = here },
+    (refusal, at, refl),
+  );
+  added = added;
+} where
+  f : Bor (List ℕ) → List ℕ
+  f = λ text. chars text.now
+
+  here : IsSomeAnd (slice_get (texts_of texts) i) (λ text. (one : NamespaceFault) × HasNamespaceFault text one)
+  here =
+      rw (slice_get-get_or (texts_of texts) i (f d) (rw length-map below), get_or-map f texts i d (f d) below)
+      (fault, wrong)
+
+-- of rules that are read nothing is told
+pub adds_no_rules : {A : Type 0} (number : ℕ) (rules : Option (Bor (List ℕ))) (text : Bor (List ℕ)) (set : NamesSetUp A)
+    (before after : List (Refusal A))
+    → rules ≡ Some text → after ≡ before → ReadsText (chars text.now) set → Adds (TellsNames number rules) before after
+adds_no_rules {A = A} number rules text set before after is same read = record {
+  more = [];
+  is =
+      subst (λ r. TellsNames {A = A} number r []) (sym is)
+      (inl ((λ wrong. rules_no_fault (chars text.now) set.map wrong.0 read.0 wrong.1), refl));
+  added = same ∙ sym (append-nil before);
+}
+
+-- of those that are refused their fault is told
+pub adds_rules : {A : Type 0} (number : ℕ) (rules : Option (Bor (List ℕ))) (text : Bor (List ℕ)) (error : Error A)
+    (refusal : Refusal A) (before after : List (Refusal A))
+    → rules ≡ Some text → OutOfMemoryOr (rules_fault_of error) (HasRulesFault (chars text.now))
+    → ((f : RulesFault) × (rules_fault_of error ≡ Some f))
+    → refusal.guest ≡ number → refusal.what ≡ Rules → string_bytes refusal.why ≡ rules_error_text error
+    → after ≡ before ++ refusal ∷ []
+    → Adds (TellsNames number rules) before after
+adds_rules number rules text error refusal before after is_text about (fault, is) guest at why added = record {
+  more = refusal ∷ [];
+  is =
+      subst (λ r. TellsNames number r (refusal ∷ [])) (sym is_text)
+      (inr (record {
+        error = error;
+        fault = fault;
+        refusal = refusal;
+        about = is;
+        has = has (rules_fault_of error) is about;
+        guest = guest;
+        at = at;
+        why = why;
+        alone = refl;
+      }));
+  added = added;
+} where
+  has : (told : Option RulesFault) → told ≡ Some fault → OutOfMemoryOr told (HasRulesFault (chars text.now))
+      → HasRulesFault (chars text.now) fault
+  has None is about = absurd (cc)
+  has (Some one) is about = subst (HasRulesFault (chars text.now)) (same_Some _ _ is) about
+
+-- nothing is told where there are no rules
+pub adds_no_names : {A : Type 0} (number : ℕ) (rules : Option (Bor (List ℕ))) (before after : List (Refusal A))
+    → rules ≡ None → after ≡ before
+    → Adds (TellsNames number rules) before after
+adds_no_names number None before after is same =
+    record { more = []; is = refl; added = same ∙ sym (append-nil before) }
+adds_no_names number (Some text) before after is same = absurd (cc)
+
+-- what is told of both options of a kind
+pub adds_ids : {A : Type 0} (number : ℕ) (kind : IdKind) (specs ranges : List (List ℕ))
+    (before between after : List (Refusal A))
+    → Adds (TellsSpecs number kind specs) before between → Adds (TellsRanges number kind ranges) between after
+    → Adds (TellsIds number kind specs ranges) before after
+adds_ids number kind specs ranges before between after first second =
+    adds_both _ _ _ before between after first second
+    (λ of_specs of_ranges tells tells_too. record {
+      of_specs = of_specs;
+      of_ranges = of_ranges;
+      tells_specs = tells;
+      tells_ranges = tells_too;
+      whole = refl;
+    })
+
+-- what is told of users, of groups and of names
+pub adds_kinds : {A : Type 0} (number : ℕ) (guest : Guest A) (before first second after : List (Refusal A))
+    → Adds (TellsIds number Users (texts_of guest.options.translate_uid.items) (texts_of guest.options.uid_map.items))
+    before first
+    → Adds (TellsIds number Groups (texts_of guest.options.translate_gid.items) (texts_of guest.options.gid_map.items))
+    first second
+    → Adds (TellsNames number guest.options.xattrmap) second after
+    → Adds (TellsGuest number guest) before after
+adds_kinds {A = A} number guest before first second after users groups names =
+    adds_both _ (λ told. (of_groups : List (Refusal A)) × (of_names : List (Refusal A))
+    × TellsIds number Groups (texts_of guest.options.translate_gid.items) (texts_of guest.options.gid_map.items) of_groups
+    × TellsNames number guest.options.xattrmap of_names × (told ≡ of_groups ++ of_names)) _ before first after users
+    (adds_both _ _ _ first second after groups names (λ of_groups of_names is is_too. (of_groups, of_names, is, is_too, refl)))
+    (λ of_users told is rest. record {
+      of_users = of_users;
+      of_groups = rest.0;
+      of_names = rest.1;
+      users = is;
+      groups = rest.2;
+      names = rest.3;
+      whole = ap (λ t. of_users ++ t) rest.4 ∙ sym (append_assoc of_users rest.0 rest.1);
+    })
+
+-- ---- faults
+
+-- an error that blames a rule tells a fault
+pub rule_fault : {A : Type 0} (error : Error A) (number : ℕ) → error.rule ≡ Some number
+    → (f : RulesFault) × (rules_fault_of error ≡ Some f)
+rule_fault error number is = (
+  option_map_or (InRule number) (rule_fault_of error.cause) NotOfText,
+  ap (λ (k : Option ℕ). fault_at k error.cause) is,
+)
+
+-- ---- ranges
+
+-- one more text that says a range
+pub says_more : (texts : List (Bor (List ℕ))) (ranges : List UidMap) (i : ℕ) (d : Bor (List ℕ)) (range : UidMap)
+    → i < length texts
+    → AllZip SaysRange (take i (texts_of texts)) ranges → SaysRange (chars (get_or texts i d).now) range
+    → AllZip SaysRange (take (i + 1) (texts_of texts)) (ranges ++ range ∷ [])
+says_more texts ranges i d range below say here =
+    let f : Bor (List ℕ) → List ℕ = λ text. chars text.now in
+    let more : take (i + 1) (texts_of texts) ≡ take i (texts_of texts) ++ f (get_or texts i d) ∷ [] =
+    take-map f (i + 1) texts ∙ map_more f texts i d below
+    ∙ ap (λ (front : List (List ℕ)). front ++ f (get_or texts i d) ∷ []) (sym (take-map f i texts)) in
+    rw more (AllZip-push SaysRange (take i (texts_of texts)) ranges (f (get_or texts i d)) range say here)
+
+-- a text that says none
+pub refuses_range : (texts : List (Bor (List ℕ))) (i : ℕ) (d : Bor (List ℕ)) (fault : NamespaceFault) → i < length texts
+    → HasNamespaceFault (chars (get_or texts i d).now) fault → RefusesRanges (texts_of texts)
+refuses_range texts i d fault below wrong =
+    let f : Bor (List ℕ) → List ℕ = λ text. chars text.now in
+    let is = get_or-map f texts i d (f d) below in
+    (f (get_or texts i d), fault, rw (← is) (Contains-get_or (texts_of texts) i (f d) (rw length-map below)), wrong)

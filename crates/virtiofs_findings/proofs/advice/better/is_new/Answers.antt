@@ -1,0 +1,16 @@
+use Rattle.virtiofs_findings.proofs.TestLemmas.{decides_not, denied}
+use Rattle.virtiofs_findings.proofs.advice.better.is_new.Goals as goal
+
+pub returns-then-not-is_accepted : goal.returns-then-not-is_accepted
+returns-then-not-is_accepted g c =
+    let none = denied c.has_alike.result c.has_alike.ensures in (
+      (λ is. (decides_not _ c.is_accepted.ensures c.if-not-is_accepted.true, none.0 is)),
+      (λ new. none.1 new.1),
+    )
+
+pub returns-else-not-is_accepted : goal.returns-else-not-is_accepted
+returns-else-not-is_accepted g c =
+    let not = denied c.is_accepted.result c.is_accepted.ensures in (
+      (λ is. absurd (not.0 is (c.is_accepted.ensures.0 c.if-not-is_accepted.false))),
+      (λ new. not.1 new.0),
+    )

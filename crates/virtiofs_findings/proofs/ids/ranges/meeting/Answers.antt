@@ -1,0 +1,14 @@
+use Rattle.std.proofs.Common.{arith}
+use Rattle.virtiofs_findings.proofs.TestLemmas.{decides_not}
+use Rattle.virtiofs_findings.proofs.RangeLemmas.{none_met, all_unmet}
+use Rattle.virtiofs_findings.proofs.ids.ranges.meeting.Goals as goal
+
+pub loop-place-preserved : goal.loop-place-preserved
+loop-place-preserved c =
+    none_met c.args.before.now c.args.range.now _ c.loop-place.place c.loop-place.invariant c.loop-place-test.true
+    (decides_not _ c.meet.ensures c.if-meet.false) (decides_not _ c.meet-in-loop-place.ensures c.if-meet-2.false)
+
+pub returns : goal.returns
+returns c =
+    all_unmet c.args.before.now c.args.range.now c.loop-place.place (omega (arith, c.loop-place-test.false))
+    c.loop-place.invariant

@@ -1,0 +1,77 @@
+-- Guests with the same options.
+use Rattle.std.specs.Prelude.{ℕ, ◌+◌, ◌-◌, Bool, true, false, ◌&&◌, ◌||◌, not, if◌then◌else◌, ◌==◌, nat_lt, List, [], ◌∷◌, ◌++◌, length, map}
+use Rattle.std.specs.Prelude.{Option, Some, None, bytes_eq, slice_get}
+use Rattle.std.specs.Borrow.{Bor}
+use Rattle.std.specs.Cmp.Lexicographic.{pointwise}
+use Rattle.virtiofs_findings.specs.declared.alike.Alike.{Alike}
+use Rattle.virtiofs_findings.specs.declared.guest.Guest.{Guest}
+use Rattle.virtiofs_host.specs.declared.runner.Runner.{Runner}
+
+-- the texts are the same, one by one
+abbrev pub are_same : List (Bor (List ℕ)) → List (Bor (List ℕ)) → Bool
+are_same texts others = pointwise (λ text other. bytes_eq text.now other.now) texts others
+
+-- the text is the same, or there is none in both places
+abbrev pub is_same : Option (Bor (List ℕ)) → Option (Bor (List ℕ)) → Bool
+is_same None None = true
+is_same (Some text) (Some other) = bytes_eq text.now other.now
+is_same text other = false
+
+-- both are so, or neither is
+abbrev pub are_both : Bool → Bool → Bool
+are_both true other = other
+are_both false other = not other
+
+-- one runner, or none is said in both places
+abbrev pub is_same_runner : {A : Type 0} → Option (Bor (Runner A)) → Option (Bor (Runner A)) → Bool
+is_same_runner None None = true
+is_same_runner (Some runner) (Some other) = runner.now.place == other.now.place
+is_same_runner runner other = false
+
+-- the guests have the same options, and one runner
+abbrev pub have_same_options : {A : Type 0} → Guest A → Guest A → Bool
+have_same_options guest other =
+    are_same guest.options.translate_uid.items other.options.translate_uid.items
+    && are_same guest.options.translate_gid.items other.options.translate_gid.items
+    && are_same guest.options.uid_map.items other.options.uid_map.items
+    && are_same guest.options.gid_map.items other.options.gid_map.items
+    && is_same guest.options.xattrmap other.options.xattrmap
+    && are_both guest.options.posix_acl other.options.posix_acl
+    && are_both guest.options.acl_flag other.options.acl_flag
+    && is_same guest.options.sandbox other.options.sandbox
+    && is_same_runner guest.runner other.runner
+
+-- the numbers of those guests that have the same options as one; the first guest has that number
+abbrev pub numbers_alike : {A : Type 0} → Guest A → ℕ → List (Guest A) → List ℕ
+numbers_alike guest number [] = []
+numbers_alike guest number (other ∷ guests) =
+    if have_same_options other guest then number ∷ numbers_alike guest (number + 1) guests
+    else numbers_alike guest (number + 1) guests
+
+-- the first two of these numbers, and how many they are
+abbrev pub alike_of : List ℕ → Alike
+alike_of [] = record { first = 0; second = 0; count = 0 }
+alike_of (first ∷ []) = record { first = first; second = first; count = 1 }
+alike_of (first ∷ second ∷ numbers) = record { first = first; second = second; count = 2 + length numbers }
+
+-- the guests that have the same options as one of them
+abbrev pub alike_to : {A : Type 0} → List (Guest A) → Guest A → Alike
+alike_to guests guest = alike_of (numbers_alike guest 1 guests)
+
+-- the same for each guest
+abbrev pub likes_of : {A : Type 0} → List (Guest A) → List Alike
+likes_of guests = map (alike_to guests) guests
+
+-- of guests with the same options, what is found of the first is told, and what is found between the first two
+abbrev pub is_first : Alike → ℕ → Bool
+is_first alike number = alike.first == number
+
+abbrev pub is_second : Alike → ℕ → ℕ → Bool
+is_second alike first number = alike.first == first && alike.second == number
+
+abbrev pub is_told_of : Option Alike → Option Alike → ℕ → ℕ → Bool
+is_told_of (Some one) (Some other) first second = is_first one first && (is_first other second || is_second other first second)
+is_told_of one other first second = true
+
+abbrev pub is_told : List Alike → ℕ → ℕ → Bool
+is_told likes first second = is_told_of (slice_get likes (first - 1)) (slice_get likes (second - 1)) first second

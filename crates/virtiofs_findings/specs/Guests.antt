@@ -1,0 +1,146 @@
+-- What the texts of the options of a guest set up.
+use Rattle.std.specs.Prelude.{◌≡◌, ◌≢◌, ◌⊎◌, ◌↔◌, ℕ, Bool, true, false, ◌||◌, ◌&&◌, ◌==◌, if◌then◌else◌, is_some, List, [], Contains, length, nat_lt, IsTrue, IsFalse, Option, Some, None, option_map}
+use Rattle.std.specs.Borrow.{Bor}
+use Rattle.std.specs.List.{AllZip}
+use Rattle.std.specs.Option.{option_and_then}
+use Rattle.std.specs.Str.{chars}
+use Rattle.virtiofs_map.specs.Build.{Accepted}
+use Rattle.virtiofs_map.specs.NamespaceText.{SaysNamespace, NamespaceFault, HasNamespaceFault}
+use Rattle.virtiofs_map.specs.RulesFault.{RulesFault, HasRulesFault}
+use Rattle.virtiofs_map.specs.RuleText.{SaysRules, CountsRules}
+use Rattle.virtiofs_map.specs.Specifications.{texts_of, AllSay, SpecsFault, HasSpecsFault}
+use Rattle.virtiofs_map.specs.declared.cmdline.IdMap.{IdMap}
+use Rattle.virtiofs_map.specs.declared.idmap.UidMap.{UidMap}
+use Rattle.virtiofs_findings.specs.declared.guest.Guest.{Guest}
+use Rattle.virtiofs_host.specs.declared.runner.Bounds.{Bounds}
+use Rattle.virtiofs_findings.specs.Ranges.{FindsFault, Differ, own_of, ranges_of}
+use Rattle.virtiofs_options.specs.GuestOptions.{sandbox_of, text_in}
+use Rattle.virtiofs_options.specs.declared.guest.Sandbox.{Sandbox}
+use Rattle.virtiofs_options.specs.declared.guest.Sandbox.TheVariants.{Namespace, Chroot, Nothing}
+use Rattle.virtiofs_findings.specs.declared.setup.IdSetUp.{IdSetUp}
+use Rattle.virtiofs_findings.specs.declared.setup.NoStart.{NoStart}
+use Rattle.virtiofs_findings.specs.declared.setup.NoStart.TheVariants.{MapsAsRoot, MapsOutside, ChrootByUser}
+use Rattle.virtiofs_findings.specs.declared.setup.NamesSetUp.{NamesSetUp}
+use Rattle.virtiofs_findings.specs.declared.setup.SetUp.{SetUp}
+
+-- the text says the range
+abbrev pub SaysRange : List ℕ → UidMap → Type 0
+SaysRange text range = SaysNamespace text range.inside_uid range.outside_uid range.count
+
+-- some text says no specification, or no map is made of what they say
+abbrev pub RefusesSpecs : List (List ℕ) → Type 0
+RefusesSpecs texts = (fault : SpecsFault) × HasSpecsFault texts fault
+
+-- some text says no range
+abbrev pub RefusesRanges : List (List ℕ) → Type 0
+RefusesRanges texts = (text : List ℕ) × (fault : NamespaceFault) × Contains texts text × HasNamespaceFault text fault
+
+-- the text is no text of rules
+abbrev pub RefusesRules : List ℕ → Type 0
+RefusesRules text = (fault : RulesFault) × HasRulesFault text fault
+
+-- the specifications that the texts say, or none where they are refused
+abbrev pub ReadsSpecs : List (List ℕ) → Option (List IdMap) → Type 0
+ReadsSpecs texts (Some specs) = AllSay texts specs × Accepted specs
+ReadsSpecs texts None = RefusesSpecs texts
+
+-- the ranges that the texts say, or none where they are refused
+abbrev pub ReadsRanges : List (List ℕ) → Option (List UidMap) → Type 0
+ReadsRanges texts (Some ranges) = AllZip SaysRange texts ranges
+ReadsRanges texts None = RefusesRanges texts
+
+-- the namespace that the daemon runs in, by the ranges of its options and by who runs it; what is wrong with these ranges
+pub record RunsIn {A : Type 0} (bounds : Option (Bounds A)) (sets_up : Bool) (set : IdSetUp A) : Type 0 where
+  pub ranges : set.ranges.items ≡ ranges_of bounds sets_up set.written.items
+  pub fault : FindsFault bounds set.written.items set.fault
+  pub differs : IsTrue set.differs ↔ Differ bounds set.written.items
+
+-- what bounds the users and the groups of the daemon of a guest, if it is said who runs it
+abbrev pub users_of : {A : Type 0} → Guest A → Option (Bounds A)
+users_of guest = option_map (λ runner. runner.now.users) guest.runner
+
+abbrev pub groups_of : {A : Type 0} → Guest A → Option (Bounds A)
+groups_of guest = option_map (λ runner. runner.now.groups) guest.runner
+
+-- the process of the daemon of a guest, if it runs already
+abbrev pub process_of : {A : Type 0} → Guest A → Option ℕ
+process_of guest = option_and_then (λ runner. runner.now.process) guest.runner
+
+-- the daemon has a range of users, or of groups, of a namespace
+abbrev pub has_ranges : {A : Type 0} → Guest A → Bool
+has_ranges guest = nat_lt 0 (length guest.options.uid_map.items) || nat_lt 0 (length guest.options.gid_map.items)
+
+-- the sandbox of a daemon is made of namespaces
+abbrev pub is_namespaces : Sandbox → Bool
+is_namespaces Namespace = true
+is_namespaces Chroot = false
+is_namespaces Nothing = false
+
+abbrev pub has_namespaces : {A : Type 0} → Guest A → Bool
+has_namespaces guest = is_namespaces (sandbox_of (text_in guest.options.sandbox))
+
+-- the daemon sets up a namespace of users: its sandbox is made of namespaces, and it has ranges, or it is not root who
+-- starts it
+abbrev pub sets_up_namespace : {A : Type 0} → Guest A → Bool
+sets_up_namespace guest = has_namespaces guest && (has_ranges guest || nat_lt 0 (own_of (users_of guest)))
+
+-- the user who starts the daemon, if that is said
+abbrev pub starter_of : {A : Type 0} → Guest A → Option ℕ
+starter_of guest = option_map (λ bounds. bounds.own) (users_of guest)
+
+-- why a daemon does not start: with ranges it takes namespaces and a user who is not root, and another root folder takes
+-- root
+abbrev pub no_start : Bool → Sandbox → Option ℕ → Option NoStart
+no_start true Namespace None = None
+no_start true Namespace (Some uid) = if uid == 0 then Some MapsAsRoot else None
+no_start true Chroot starter = Some MapsOutside
+no_start true Nothing starter = Some MapsOutside
+no_start false Namespace starter = None
+no_start false Chroot None = None
+no_start false Chroot (Some uid) = if uid == 0 then None else Some ChrootByUser
+no_start false Nothing starter = None
+
+-- the same of a guest; one whose daemon runs has started
+abbrev pub no_start_of : {A : Type 0} → Guest A → Option NoStart
+no_start_of guest =
+    if is_some (process_of guest) then None
+    else no_start (has_ranges guest) (sandbox_of (text_in guest.options.sandbox)) (starter_of guest)
+
+-- what the texts set up for ids of a kind; nothing where one of them is refused
+abbrev pub ReadsIds : {A : Type 0} → Option (Bounds A) → Bool → List (List ℕ) → List (List ℕ) → Option (IdSetUp A) → Type 0
+ReadsIds bounds sets_up texts ranges (Some set) =
+    AllSay texts set.map × Accepted set.map × AllZip SaysRange ranges set.written.items × RunsIn bounds sets_up set
+ReadsIds bounds sets_up texts ranges None = RefusesSpecs texts ⊎ RefusesRanges ranges
+
+-- the rules that the text says, and how many are written
+abbrev pub ReadsText : {A : Type 0} → List ℕ → NamesSetUp A → Type 0
+ReadsText text set = SaysRules text set.map × CountsRules text set.written
+
+-- what the text of rules sets up, if there is one; nothing where there is none, or where it is refused
+abbrev pub ReadsNames : {A : Type 0} → Option (Bor (List ℕ)) → Option (NamesSetUp A) → Type 0
+ReadsNames None set = set ≡ None
+ReadsNames (Some text) (Some set) = ReadsText (chars text.now) set
+ReadsNames (Some text) None = RefusesRules (chars text.now)
+
+-- the daemon translates users or groups
+abbrev pub Translates : {A : Type 0} → Guest A → Type 0
+Translates guest = (guest.options.translate_uid.items ≢ []) ⊎ (guest.options.translate_gid.items ≢ [])
+
+-- what the options of the daemon of a guest set up
+pub record SetsUp {A : Type 0} (guest : Guest A) (set : SetUp A) : Type 0 where
+  pub users : ReadsIds (users_of guest) (sets_up_namespace guest) (texts_of guest.options.translate_uid.items)
+      (texts_of guest.options.uid_map.items) set.users
+  pub groups : ReadsIds (groups_of guest) (sets_up_namespace guest) (texts_of guest.options.translate_gid.items)
+      (texts_of guest.options.gid_map.items) set.groups
+  pub names : ReadsNames guest.options.xattrmap set.names
+  pub acl : set.posix_acl ≡ guest.options.posix_acl
+  pub process : set.process ≡ process_of guest
+  pub refused : IsTrue set.acl_refused ↔ (IsTrue guest.options.acl_flag × Translates guest)
+  pub untranslated : IsTrue set.acl_untranslated
+      ↔ (IsTrue guest.options.posix_acl × IsFalse guest.options.acl_flag × Translates guest)
+  pub starts : set.no_start ≡ no_start_of guest
+
+-- some text of the guest is refused
+abbrev pub IsRefused : {A : Type 0} → Guest A → SetUp A → Type 0
+IsRefused guest set =
+    (set.users ≡ None) ⊎ (set.groups ≡ None) ⊎ ((guest.options.xattrmap ≢ None) × (set.names ≡ None))

@@ -1,0 +1,119 @@
+-- The ranges of a daemon's namespace, and what is wrong with those of its options: the daemon gets no namespace with
+-- such a range.
+use Rattle.std.specs.Prelude.{◌≡◌, ◌⊎◌, ℕ, ◌+◌, ◌<◌, ◌≤◌, Bool, true, false, ◌==◌, ◌&&◌, if◌then◌else◌, List, [], ◌∷◌, ◌++◌, All, Contains}
+use Rattle.std.specs.Prelude.{codes, flat_map, length, take, slice_get, Option, Some, None, MatchOption, option_map}
+use Rattle.std.specs.Fmt.{decimal}
+use Rattle.std.specs.Option.{option_and_then, option_map_or}
+use Rattle.virtiofs_map.specs.Mapping.{InRange}
+use Rattle.virtiofs_map.specs.declared.idmap.UidMap.{UidMap}
+use Rattle.virtiofs_host.specs.Allowed.{IsAllowed}
+use Rattle.virtiofs_host.specs.declared.runner.Bounds.{Bounds}
+use Rattle.virtiofs_findings.specs.Lists.{joined}
+use Rattle.virtiofs_findings.specs.declared.ids.ranges.RangeFault.{RangeFault}
+use Rattle.virtiofs_findings.specs.declared.ids.ranges.RangeFault.TheVariants.{Empty, Beyond, TooMany, PastPage, NotGiven, MeetsInside, MeetsOutside}
+use Rattle.virtiofs_findings.specs.declared.ids.ranges.RangeFound.{RangeFound}
+
+-- some id is one of both
+abbrev pub MeetAt : ℕ → ℕ → ℕ → ℕ → Type 0
+MeetAt first count other other_count = (n : ℕ) × InRange first count n × InRange other other_count n
+
+-- the range has an id above 4294967294, inside or outside
+abbrev pub IsBeyond : UidMap → Type 0
+IsBeyond range = (4294967295 < range.inside_uid + range.count) ⊎ (4294967295 < range.outside_uid + range.count)
+
+-- some id inside the namespace is one of both ranges
+abbrev pub MeetInside : UidMap → UidMap → Type 0
+MeetInside range other = MeetAt range.inside_uid range.count other.inside_uid other.count
+
+-- some id outside the namespace is one of both ranges
+abbrev pub MeetOutside : UidMap → UidMap → Type 0
+MeetOutside range other = MeetAt range.outside_uid range.count other.outside_uid other.count
+
+-- the range at that place, counted from 0, has that property
+abbrev pub MeetsOneAt : List UidMap → ℕ → (UidMap → Type 0) → Type 0
+MeetsOneAt ranges place Meets = (one : UidMap) × (slice_get ranges place ≡ Some one) × Meets one
+
+-- the range as a line of `/proc/PID/uid_map`
+abbrev pub line_of : UidMap → List ℕ
+line_of range =
+    joined (decimal range.inside_uid ∷ codes " " ∷ decimal range.outside_uid ∷ codes " " ∷ decimal range.count ∷ codes "\n" ∷ [])
+
+-- a line for each
+abbrev pub lines_of : List UidMap → List ℕ
+lines_of ranges = flat_map line_of ranges
+
+-- `newuidmap` is asked for the range, and refuses it
+abbrev pub IsRefused : {A : Type 0} → Option (Bounds A) → UidMap → Type 0
+IsRefused None range = ⊥
+IsRefused (Some bounds) range =
+    MatchOption bounds.given ⊥ (λ given. ¬ IsAllowed bounds.own given.items range)
+
+-- the range, before which those others stand, is at fault in that way. Linux takes up to 340 lines, and less than 4096
+-- bytes
+abbrev pub IsAtFault : {A : Type 0} → Option (Bounds A) → List UidMap → UidMap → RangeFault → Type 0
+IsAtFault bounds before range Empty = range.count ≡ 0
+IsAtFault bounds before range Beyond = IsBeyond range
+IsAtFault bounds before range TooMany = 340 ≤ length before
+IsAtFault bounds before range PastPage = 4096 ≤ length (lines_of before ++ line_of range)
+IsAtFault bounds before range NotGiven = IsRefused bounds range
+IsAtFault bounds before range (MeetsInside place) = MeetsOneAt before place (MeetInside range)
+IsAtFault bounds before range (MeetsOutside place) = MeetsOneAt before place (MeetOutside range)
+
+-- the range at that place, counted from 0, is at fault in that way
+pub record HasFaultAt {A : Type 0} (bounds : Option (Bounds A)) (ranges : List UidMap) (place : ℕ) (fault : RangeFault)
+    : Type 0 where
+  pub range : UidMap
+  pub here : slice_get ranges place ≡ Some range
+  pub is_at_fault : IsAtFault bounds (take place ranges) range fault
+
+-- None where no range is at fault, and else the first that is, with what is wrong with it
+abbrev pub FindsFault : {A : Type 0} → Option (Bounds A) → List UidMap → Option RangeFound → Type 0
+FindsFault bounds ranges None = (place : ℕ) (fault : RangeFault) → ¬ HasFaultAt bounds ranges place fault
+FindsFault bounds ranges (Some it) =
+    HasFaultAt bounds ranges it.place it.fault
+    × ((place : ℕ) (fault : RangeFault) → place < it.place → ¬ HasFaultAt bounds ranges place fault)
+
+-- ---- the namespace that a daemon runs in
+
+-- the ranges that the kernel shows, if it shows any
+abbrev pub shown_of : {A : Type 0} → Option (Bounds A) → Option (List UidMap)
+shown_of bounds = option_and_then (λ it. option_map (λ all. all.items) it.shown) bounds
+
+-- the id that the daemon runs as: root, where nothing else is said
+abbrev pub own_of : {A : Type 0} → Option (Bounds A) → ℕ
+own_of None = 0
+own_of (Some bounds) = bounds.own
+
+-- the range has each id of the host, under its number
+abbrev pub is_host : UidMap → Bool
+is_host range = range.inside_uid == 0 && range.outside_uid == 0 && range.count == 4294967295
+
+-- the ranges as those of a namespace of the daemon's own: none where they are all ids of the host
+abbrev pub but_host : List UidMap → List UidMap
+but_host [] = []
+but_host (range ∷ []) = if is_host range then [] else range ∷ []
+but_host (range ∷ other ∷ ranges) = range ∷ other ∷ ranges
+
+-- the range of one id, under its number
+abbrev pub alone : ℕ → UidMap
+alone id = record { inside_uid = id; outside_uid = id; count = 1 }
+
+-- the ranges that a daemon sets up: those of its options, or else, where it sets up a namespace, the id that it runs as
+abbrev pub set_up_ranges : Bool → ℕ → List UidMap → List UidMap
+set_up_ranges true own [] = alone own ∷ []
+set_up_ranges false own [] = []
+set_up_ranges sets_up own (range ∷ written) = range ∷ written
+
+-- the ranges of the namespace that the daemon runs in: those that the kernel shows, or else those that it sets up
+abbrev pub ranges_of : {A : Type 0} → Option (Bounds A) → Bool → List UidMap → List UidMap
+ranges_of bounds sets_up written =
+    option_map_or but_host (shown_of bounds) (set_up_ranges sets_up (own_of bounds) written)
+
+-- as many ranges as those of the options, and no others
+abbrev pub AreSame : List UidMap → List UidMap → Type 0
+AreSame shown written = (length shown ≡ length written) × All (Contains written) shown
+
+-- the kernel shows other ranges than those of the options, if there are any
+abbrev pub Differ : {A : Type 0} → Option (Bounds A) → List UidMap → Type 0
+Differ bounds [] = ⊥
+Differ bounds (range ∷ written) = MatchOption (shown_of bounds) ⊥ (λ shown. ¬ AreSame shown (range ∷ written))

@@ -1,0 +1,131 @@
+-- Which texts are refused, and what is told of them.
+use Rattle.std.specs.Prelude.{◌≡◌, ◌⊎◌, ℕ, ◌+◌, List, [], ◌∷◌, ◌++◌, take, slice_get, string_bytes, IsSomeAnd}
+use Rattle.std.specs.Prelude.{Option, Some, None}
+use Rattle.std.specs.Borrow.{Bor}
+use Rattle.std.specs.List.{AllZip}
+use Rattle.std.specs.Str.{chars}
+use Rattle.virtiofs_map.specs.Build.{BuildFault, RangeOverflow, Intersects, build_fault_of}
+use Rattle.virtiofs_map.specs.NamespaceText.{NamespaceFault, HasNamespaceFault}
+use Rattle.virtiofs_map.specs.Printed.{build_error_text, rules_error_text}
+use Rattle.virtiofs_map.specs.RulesFault.{RulesFault, HasRulesFault, rules_fault_of}
+use Rattle.virtiofs_map.specs.Specifications.{texts_of, SpecsFault, Unread, Unbuilt, HasSpecsFault}
+use Rattle.virtiofs_map.specs.declared.idmap.UidMap.{UidMap}
+use Rattle.virtiofs_map.specs.declared.soft_idmap.errors.IdMapBuildError.{IdMapBuildError}
+use Rattle.virtiofs_map.specs.declared.xattrmap.errors.Error.{Error}
+use Rattle.virtiofs_findings.specs.Guests.{SaysRange, RefusesSpecs, RefusesRanges, RefusesRules, IsRefused}
+use Rattle.virtiofs_findings.specs.Lists.{AnyTwoHave}
+use Rattle.virtiofs_findings.specs.declared.guest.Guest.{Guest}
+use Rattle.virtiofs_findings.specs.declared.ids.kind.IdKind.{IdKind}
+use Rattle.virtiofs_findings.specs.declared.ids.kind.IdKind.TheVariants.{Users, Groups}
+use Rattle.virtiofs_findings.specs.declared.refusal.Refused.{Refused}
+use Rattle.virtiofs_findings.specs.declared.refusal.Refused.TheVariants.{Spec, Range, Rules}
+use Rattle.virtiofs_findings.specs.Findings.{Each}
+use Rattle.virtiofs_findings.specs.declared.refusal.Refusal.{Refusal}
+use Rattle.virtiofs_findings.specs.declared.setup.SetUp.{SetUp}
+
+-- some text of one of the guests is refused
+abbrev pub IsSomeRefused : {A : Type 0} → List (Guest A) → List (SetUp A) → Type 0
+IsSomeRefused guests sets = AnyTwoHave IsRefused guests sets
+
+-- ---- one refusal
+
+-- that text of that guest is refused
+pub record IsAt {A : Type 0} (number : ℕ) (what : Refused) (refusal : Refusal A) : Type 0 where
+  pub is_guest : refusal.guest ≡ number
+  pub is_what : refusal.what ≡ what
+
+-- that one alone is told; the reason may be any text
+abbrev pub TellsPlace : {A : Type 0} → ℕ → Refused → List (Refusal A) → Type 0
+TellsPlace {A} number what told = (refusal : Refusal A) × IsAt number what refusal × (told ≡ refusal ∷ [])
+
+-- ---- specifications
+
+-- the place of the specification at fault
+abbrev pub place_of : BuildFault → ℕ
+place_of (RangeOverflow spec index direction range_end) = index
+place_of (Intersects spec index direction) = index
+
+-- the specification at fault is refused, for the reason that the library gives
+pub record TellsBuildFault {A : Type 0} (number : ℕ) (kind : IdKind) (fault : BuildFault) (told : List (Refusal A)) :
+    Type 0 where
+  pub error : IdMapBuildError
+  pub refusal : Refusal A
+  pub about : build_fault_of error ≡ Some fault
+  pub at : IsAt number (Spec kind (place_of fault)) refusal
+  pub why : string_bytes refusal.why ≡ build_error_text error
+  pub alone : told ≡ refusal ∷ []
+
+-- the text at fault is refused
+abbrev pub TellsSpecsFault : {A : Type 0} → ℕ → IdKind → SpecsFault → List (Refusal A) → Type 0
+TellsSpecsFault number kind (Unread index fault) told = TellsPlace number (Spec kind index) told
+TellsSpecsFault number kind (Unbuilt fault) told = TellsBuildFault number kind fault told
+
+-- what is told of the texts of specifications: nothing where they are not refused, and else of their first fault
+abbrev pub TellsSpecs : {A : Type 0} → ℕ → IdKind → List (List ℕ) → List (Refusal A) → Type 0
+TellsSpecs number kind texts told =
+    ((¬ RefusesSpecs texts) × (told ≡ []))
+    ⊎ ((fault : SpecsFault) × HasSpecsFault texts fault × TellsSpecsFault number kind fault told)
+
+-- ---- ranges
+
+-- the text at that place says no range, and each before it says one
+pub record IsFirstNoRange (texts : List (List ℕ)) (place : ℕ) : Type 0 where
+  pub before : List UidMap
+  pub say : AllZip SaysRange (take place texts) before
+  pub here : IsSomeAnd (slice_get texts place) (λ text. (fault : NamespaceFault) × HasNamespaceFault text fault)
+
+-- what is told of the texts of ranges: nothing where they are not refused, and else of the first that says none
+abbrev pub TellsRanges : {A : Type 0} → ℕ → IdKind → List (List ℕ) → List (Refusal A) → Type 0
+TellsRanges number kind texts told =
+    ((¬ RefusesRanges texts) × (told ≡ []))
+    ⊎ ((place : ℕ) × IsFirstNoRange texts place × TellsPlace number (Range kind place) told)
+
+-- what is told of ids of a kind: first of the specifications, then of the ranges
+pub record TellsIds {A : Type 0} (number : ℕ) (kind : IdKind) (specs ranges : List (List ℕ)) (told : List (Refusal A)) :
+    Type 0 where
+  pub of_specs : List (Refusal A)
+  pub of_ranges : List (Refusal A)
+  pub tells_specs : TellsSpecs number kind specs of_specs
+  pub tells_ranges : TellsRanges number kind ranges of_ranges
+  pub whole : told ≡ of_specs ++ of_ranges
+
+-- ---- rules
+
+-- the rules are refused, for the reason that the library gives
+pub record TellsRulesFault {A : Type 0} (number : ℕ) (text : List ℕ) (told : List (Refusal A)) : Type 0 where
+  pub error : Error A
+  pub fault : RulesFault
+  pub refusal : Refusal A
+  pub about : rules_fault_of error ≡ Some fault
+  pub has : HasRulesFault text fault
+  pub guest : refusal.guest ≡ number
+  pub at : refusal.what ≡ Rules
+  pub why : string_bytes refusal.why ≡ rules_error_text error
+  pub alone : told ≡ refusal ∷ []
+
+-- what is told of a text of rules: nothing where it is not refused, and else of its first fault
+abbrev pub TellsRules : {A : Type 0} → ℕ → List ℕ → List (Refusal A) → Type 0
+TellsRules number text told = ((¬ RefusesRules text) × (told ≡ [])) ⊎ TellsRulesFault number text told
+
+-- what is told of the rules of a guest: nothing where it has none
+abbrev pub TellsNames : {A : Type 0} → ℕ → Option (Bor (List ℕ)) → List (Refusal A) → Type 0
+TellsNames number None told = told ≡ []
+TellsNames number (Some text) told = TellsRules number (chars text.now) told
+
+-- ---- guests
+
+-- what is told of a guest: of users, of groups and of names, in this order
+pub record TellsGuest {A : Type 0} (number : ℕ) (guest : Guest A) (told : List (Refusal A)) : Type 0 where
+  pub of_users : List (Refusal A)
+  pub of_groups : List (Refusal A)
+  pub of_names : List (Refusal A)
+  pub users : TellsIds number Users (texts_of guest.options.translate_uid.items)
+      (texts_of guest.options.uid_map.items) of_users
+  pub groups : TellsIds number Groups (texts_of guest.options.translate_gid.items)
+      (texts_of guest.options.gid_map.items) of_groups
+  pub names : TellsNames number guest.options.xattrmap of_names
+  pub whole : told ≡ of_users ++ of_groups ++ of_names
+
+-- what is told of guests, one after the other, from that number on
+abbrev pub TellsGuests : {A : Type 0} → ℕ → List (Guest A) → List (Refusal A) → Type 0
+TellsGuests number guests told = Each TellsGuest number guests told

@@ -1,0 +1,141 @@
+//! Guests with the same options. What is said of one of them is true of all, and is said once.
+ghost use Rattle.std.specs.Prelude.{◌≡◌, ◌<◌, ◌++◌, ◌∷◌, [], List, ℕ, IfOk};
+ghost use Rattle.virtiofs_findings.specs.AlikeGuests.{are_both, is_same_runner, have_same_options, alike_of, alike_to, likes_of, is_first, is_second, is_told};
+
+use crate::guest::Guest;
+use std::alloc::{AllocError, Allocator};
+use virtiofs_host::runner::Runner;
+
+/// The guests that have the same options as one of them.
+#[derive(Clone, Copy)]
+pub struct Alike {
+    /// The number of the first of them, counted from 1.
+    pub first: usize,
+    /// The number of the second; that of the first where there is no other.
+    pub second: usize,
+    /// How many there are.
+    pub count: usize,
+}
+
+/// Whether both are so, or neither is.
+fn are_both(one: bool, other: bool) -> bool
+    ensures { result ≡ are_both one other }
+{
+    if one { other } else { !other }
+}
+
+/// Whether two guests have one runner, or none is said of both.
+fn is_same_runner<A: Allocator>(runner: Option<&Runner<A>>, other: Option<&Runner<A>>) -> bool
+    ensures { result ≡ is_same_runner runner.entry other.entry }
+{
+    match (runner, other) {
+        (None, None) => true,
+        (Some(runner), Some(other)) => runner.place == other.place,
+        _ => false,
+    }
+}
+
+/// Whether two guests have the same options, and one runner.
+fn have_same_options<A: Allocator>(guest: &Guest<'_, A>, other: &Guest<'_, A>) -> bool
+    ensures { result ≡ have_same_options guest.now other.now }
+{
+    let users = guest.options.translate_uid.as_slice() == other.options.translate_uid.as_slice();
+    let groups = guest.options.translate_gid.as_slice() == other.options.translate_gid.as_slice();
+    let of_users = guest.options.uid_map.as_slice() == other.options.uid_map.as_slice();
+    let of_groups = guest.options.gid_map.as_slice() == other.options.gid_map.as_slice();
+    let rules = guest.options.xattrmap == other.options.xattrmap;
+    let lists = are_both(guest.options.posix_acl, other.options.posix_acl);
+    let flags = are_both(guest.options.acl_flag, other.options.acl_flag);
+    let sandboxes = guest.options.sandbox == other.options.sandbox;
+    let runner = is_same_runner(guest.runner, other.runner);
+    users && groups && of_users && of_groups && rules && lists && flags && sandboxes && runner
+}
+
+/// These guests, and one more of a greater number.
+fn with_one(alike: Alike, number: usize) -> Alike
+    requires { alike.count < number }
+    ensures { (numbers : List ℕ) → alike ≡ alike_of numbers
+        → result ≡ alike_of (numbers ++ number ∷ []) }
+{
+    let Alike {
+        first,
+        second,
+        count,
+    } = alike;
+    match count {
+        0 => Alike {
+            first: number,
+            second: number,
+            count: 1,
+        },
+        1 => Alike {
+            first,
+            second: number,
+            count: 2,
+        },
+        _ => Alike {
+            first,
+            second,
+            count: count + 1,
+        },
+    }
+}
+
+/// The guests that have the same options as one of them.
+pub fn alike_to<A: Allocator>(guests: &[Guest<'_, A>], guest: &Guest<'_, A>) -> Alike
+    ensures { result ≡ alike_to guests.now guest.now }
+{
+    let mut alike = Alike {
+        first: 0,
+        second: 0,
+        count: 0,
+    };
+    for place in 0..guests.len() {
+        if have_same_options(&guests[place], guest) {
+            alike = with_one(alike, place + 1);
+        }
+    }
+    alike
+}
+
+/// For each guest, those that have the same options.
+pub fn likes_of<A: Allocator + Copy>(
+    alloc: A,
+    guests: &[Guest<'_, A>],
+) -> Result<Vec<Alike, A>, AllocError>
+    ensures { IfOk result (λ likes. likes.items ≡ likes_of guests.now) }
+{
+    let mut likes = Vec::new(alloc);
+    for guest in guests {
+        likes.push(alike_to(guests, guest))?;
+    }
+    Ok(likes)
+}
+
+/// Whether the guest of a number is the first.
+pub fn is_first(alike: Alike, number: usize) -> bool
+    ensures { result ≡ is_first alike number }
+{
+    alike.first == number
+}
+
+/// Whether the guest of a number is the second, and the first has that other number.
+fn is_second(alike: Alike, first: usize, number: usize) -> bool
+    ensures { result ≡ is_second alike first number }
+{
+    alike.first == first && alike.second == number
+}
+
+/// Whether what is found of a guest, which has both numbers, or between two, is told: of guests with
+/// the same options, that of the first is, and that between the first two.
+pub fn is_told(likes: &[Alike], first: usize, second: usize) -> bool
+    ensures { result ≡ is_told likes.now first second }
+{
+    let (Some(one), Some(other)) = (
+        likes.get(first.saturating_sub(1)),
+        likes.get(second.saturating_sub(1)),
+    ) else {
+        return true;
+    };
+    is_first(*one, first) && (is_first(*other, second) || is_second(*other, first, second))
+}

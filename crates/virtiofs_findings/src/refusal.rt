@@ -1,0 +1,27 @@
+//! Texts of options that are refused.
+
+use crate::ids::kind::IdKind;
+use std::alloc::Allocator;
+
+/// Which text of the options of a guest is refused. Its place among the values of its option is counted
+/// from 0.
+#[derive(Clone, Copy)]
+pub enum Refused {
+    /// A specification, of `--translate-uid` or `--translate-gid`.
+    Spec(IdKind, usize),
+    /// A range of the namespace, of `--uid-map` or `--gid-map`.
+    Range(IdKind, usize),
+    /// The rules for names, which are one text.
+    Rules,
+}
+
+/// The first fault of an option of a guest.
+#[derive(Drop)]
+pub struct Refusal<A: Allocator> {
+    /// The number of the guest, counted from 1.
+    pub guest: usize,
+    /// The text at fault.
+    pub what: Refused,
+    /// Why it is refused, as the library says it.
+    pub why: String<A>,
+}

@@ -1,0 +1,511 @@
+//! What the texts of a guest set up, and which of them are refused.
+ghost use Rattle.std.specs.Prelude.{◌≡◌, ◌≢◌, ◌++◌, ◌∷◌, ◌↔◌, [], IfOk, IfErr, IfSome, IfNone, IsTrue, IsFalse, OnOk, option_map, Some, None, string_bytes};
+ghost use Rattle.std.specs.Str.{chars};
+ghost use Rattle.virtiofs_map.specs.Refusal.{OutOfMemoryOr};
+ghost use Rattle.virtiofs_map.specs.Build.{BuildFault, build_fault_of};
+ghost use Rattle.virtiofs_map.specs.RulesFault.{RulesFault, HasRulesFault, rules_fault_of};
+ghost use Rattle.virtiofs_map.specs.SpecificationText.{SpecificationFault, specification_fault_of};
+ghost use Rattle.std.specs.Option.{option_map};
+ghost use Rattle.virtiofs_findings.specs.Guests.{ReadsSpecs, ReadsRanges, ReadsIds, RunsIn, users_of, groups_of, process_of, has_ranges, has_namespaces, sets_up_namespace, starter_of, no_start, no_start_of, RefusesRules, ReadsText, ReadsNames, SetsUp, Translates};
+ghost use Rattle.virtiofs_map.specs.Printed.{build_error_text, rules_error_text};
+ghost use Rattle.virtiofs_findings.specs.Lists.{Adds};
+ghost use Rattle.virtiofs_findings.specs.Refusals.{IsAt, TellsPlace, TellsBuildFault, TellsSpecsFault, TellsSpecs, TellsRanges, TellsIds, TellsNames, TellsGuest};
+ghost use Rattle.virtiofs_map.specs.Specifications.{SpecsFault, specs_fault_of, texts_of};
+
+use crate::guest::Guest;
+use crate::ids::Ids;
+use crate::ids::kind::IdKind;
+use crate::ids::namespace::{differ, own_of, ranges_of};
+use crate::ids::ranges::{RangeFound, first_fault};
+use crate::refusal::{Refusal, Refused};
+use std::alloc::{AllocError, Allocator};
+use virtiofs_host::runner::Bounds;
+use virtiofs_map::cmdline;
+use virtiofs_map::idmap::UidMap;
+use virtiofs_map::soft_idmap::{IdMap, IdMapBuildError, SpecsError};
+use virtiofs_map::xattrmap::{Error, ErrorKind, XattrMap};
+use virtiofs_options::guest::Sandbox;
+
+/// What the options of a daemon set up for ids of one kind.
+#[derive(Drop)]
+pub struct IdSetUp<A: Allocator> {
+    /// The map of the specifications.
+    pub map: Ids<A>,
+    /// The ranges of the options.
+    pub written: Vec<UidMap, A>,
+    /// The first of these that is at fault.
+    pub fault: Option<RangeFound>,
+    /// Whether the kernel shows other ranges than these.
+    pub differs: bool,
+    /// The ranges of the namespace that the daemon runs in; none where it runs in the host's.
+    pub ranges: Vec<UidMap, A>,
+}
+
+/// What the rules of a daemon set up for names.
+#[derive(Drop)]
+pub struct NamesSetUp<A: Allocator> {
+    /// The map of the rules.
+    pub map: XattrMap<A>,
+    /// How many rules are written in the text. A `map` rule is one of them.
+    pub written: usize,
+}
+
+/// Why a daemon does not start as the user who runs it, or in its sandbox.
+#[derive(Clone, Copy)]
+pub enum NoStart {
+    /// It is root, and has a range of a namespace.
+    MapsAsRoot,
+    /// It has a range of a namespace, and another sandbox than namespaces.
+    MapsOutside,
+    /// It is not root, and its sandbox is another root folder.
+    ChrootByUser,
+}
+
+/// What the options of the daemon of a guest set up.
+#[derive(Drop)]
+pub struct SetUp<A: Allocator> {
+    /// For users; `None` where a text for them is refused.
+    pub users: Option<IdSetUp<A>>,
+    /// For groups; `None` where a text for them is refused.
+    pub groups: Option<IdSetUp<A>>,
+    /// The rules for names; `None` where there are none, or where they are refused.
+    pub names: Option<NamesSetUp<A>>,
+    /// Whether access control lists are on.
+    pub posix_acl: bool,
+    /// Whether `--posix-acl` stands beside a translation of ids, with which the daemon does not start.
+    pub acl_refused: bool,
+    /// Whether they are on beside a translation all the same, by `-o posix_acl`. The ids in them are then
+    /// not translated.
+    pub acl_untranslated: bool,
+    /// Why the daemon does not start as the user who runs it, or in its sandbox.
+    pub no_start: Option<NoStart>,
+    /// The process of the daemon, if it runs already.
+    pub process: Option<u32>,
+}
+
+/// Tells that a text of the options of a guest is refused, and why.
+fn tell<A: Allocator>(
+    refusals: &mut Vec<Refusal<A>, A>,
+    guest: usize,
+    what: Refused,
+    why: String<A>,
+) -> Result<(), AllocError>
+    ensures { OnOk result ((refusal : Refusal A) × IsAt guest what refusal
+        × (string_bytes refusal.why ≡ string_bytes why)
+        × (refusals.new.items ≡ refusals.old.items ++ refusal ∷ [])) }
+{
+    refusals.push(Refusal { guest, what, why })?;
+    Ok(())
+}
+
+/// Tells what is wrong with the text of a specification of a guest.
+fn refuse_text<A: Allocator + Copy>(
+    alloc: A,
+    refusals: &mut Vec<Refusal<A>, A>,
+    number: usize,
+    what: Refused,
+    cause: &cmdline::IdMapError<A>,
+) -> Result<(), AllocError>
+    ensures told { OnOk result (Adds (TellsPlace number what)
+        refusals.old.items refusals.new.items) }
+    ensures faulty { OnOk result ((fault : SpecificationFault)
+        × (specification_fault_of cause.now ≡ Some fault)) }
+{
+    let why = format!(in alloc; "{cause}")?;
+    match cause {
+        cmdline::IdMapError::InvalidPrefix(_) => tell(refusals, number, what, why),
+        cmdline::IdMapError::InvalidLength { .. } => tell(refusals, number, what, why),
+        cmdline::IdMapError::InvalidValue { .. } => tell(refusals, number, what, why),
+        cmdline::IdMapError::OutOfMemory => Err(AllocError),
+    }
+}
+
+/// What the library says of specifications of which no map is made.
+fn build_sentence<A: Allocator + Copy>(
+    alloc: A,
+    error: &IdMapBuildError,
+) -> Result<String<A>, AllocError>
+    ensures { IfOk result (λ why. string_bytes why ≡ build_error_text error.now) }
+{
+    let mut why = String::new(alloc);
+    write!(why, "{error}")?;
+    Ok(why)
+}
+
+/// Tells why no map is made of the specifications of a guest.
+fn refuse_build<A: Allocator + Copy>(
+    alloc: A,
+    refusals: &mut Vec<Refusal<A>, A>,
+    number: usize,
+    kind: IdKind,
+    error: &IdMapBuildError,
+) -> Result<(), AllocError>
+    ensures { OnOk result ((fault : BuildFault) × (build_fault_of error.now ≡ Some fault)
+        × Adds (TellsBuildFault number kind fault)
+        refusals.old.items refusals.new.items) }
+{
+    let why = build_sentence(alloc, error)?;
+    match error {
+        IdMapBuildError::RangeOverflow { index, .. } => {
+            tell(refusals, number, Refused::Spec(kind, *index), why)
+        }
+        IdMapBuildError::Intersects { index, .. } => {
+            tell(refusals, number, Refused::Spec(kind, *index), why)
+        }
+        IdMapBuildError::OutOfMemory => Err(AllocError),
+    }
+}
+
+/// Tells why no map is made of the texts of specifications of a guest.
+fn refuse_specs<A: Allocator + Copy>(
+    alloc: A,
+    refusals: &mut Vec<Refusal<A>, A>,
+    number: usize,
+    kind: IdKind,
+    error: &SpecsError<A>,
+) -> Result<(), AllocError>
+    ensures { OnOk result ((fault : SpecsFault) × (specs_fault_of error.now ≡ Some fault)
+        × Adds (TellsSpecsFault number kind fault)
+        refusals.old.items refusals.new.items) }
+{
+    match error {
+        SpecsError::Spec { index, cause } => {
+            refuse_text(alloc, refusals, number, Refused::Spec(kind, *index), cause)
+        }
+        SpecsError::Build(fault) => refuse_build(alloc, refusals, number, kind, fault),
+    }
+}
+
+/// The map of the specifications of a guest, or none where a text is refused.
+fn read_specs<A: Allocator + Copy>(
+    alloc: A,
+    refusals: &mut Vec<Refusal<A>, A>,
+    number: usize,
+    kind: IdKind,
+    texts: &[&str],
+) -> Result<Option<Ids<A>>, AllocError>
+    ensures read { IfOk result (ReadsSpecs (texts_of texts.now)) }
+    ensures says { OnOk result (Adds (TellsSpecs number kind (texts_of texts.now))
+        refusals.old.items refusals.new.items) }
+{
+    match IdMap::from_specs(alloc, texts) {
+        Ok(map) => Ok(Some(map)),
+        Err(error) => {
+            refuse_specs(alloc, refusals, number, kind, &error)?;
+            Ok(None)
+        }
+    }
+}
+
+/// The ranges of a guest, or none where a text is refused.
+fn read_ranges<A: Allocator + Copy>(
+    alloc: A,
+    refusals: &mut Vec<Refusal<A>, A>,
+    number: usize,
+    kind: IdKind,
+    texts: &[&str],
+) -> Result<Option<Vec<UidMap, A>>, AllocError>
+    ensures read { IfOk result (λ ranges. ReadsRanges (texts_of texts.now)
+        (option_map (λ all. all.items) ranges)) }
+    ensures says { OnOk result (Adds (TellsRanges number kind (texts_of texts.now))
+        refusals.old.items refusals.new.items) }
+{
+    let mut ranges = Vec::new(alloc);
+    for place in 0..texts.len() {
+        match UidMap::from_str(texts[place]) {
+            Ok(range) => ranges.push(range)?,
+            Err(error) => {
+                let why = format!(in alloc; "{error}")?;
+                tell(refusals, number, Refused::Range(kind, place), why)?;
+                return Ok(None);
+            }
+        }
+    }
+    Ok(Some(ranges))
+}
+
+/// The set-up of specifications, and of ranges that are read.
+fn in_namespace<A: Allocator + Copy>(
+    alloc: A,
+    bounds: Option<&Bounds<A>>,
+    sets_up: bool,
+    map: Ids<A>,
+    written: Vec<UidMap, A>,
+) -> Result<IdSetUp<A>, AllocError>
+    ensures map { IfOk result (λ set. set.map ≡ map) }
+    ensures written { IfOk result (λ set. set.written.items ≡ written.items) }
+    ensures runs { IfOk result (RunsIn (option_map (λ it. it.now) bounds.entry) sets_up) }
+{
+    let fault = first_fault(alloc, bounds, written.as_slice())?;
+    let differs = differ(bounds, written.as_slice());
+    let ranges = ranges_of(alloc, bounds, sets_up, written.as_slice())?;
+    Ok(IdSetUp {
+        map,
+        written,
+        fault,
+        differs,
+        ranges,
+    })
+}
+
+/// What texts set up for ids of a kind, or nothing where one is refused.
+fn read_ids<A: Allocator + Copy>(
+    alloc: A,
+    refusals: &mut Vec<Refusal<A>, A>,
+    number: usize,
+    kind: IdKind,
+    bounds: Option<&Bounds<A>>,
+    sets_up: bool,
+    specs: &[&str],
+    ranges: &[&str],
+) -> Result<Option<IdSetUp<A>>, AllocError>
+    ensures read { IfOk result (ReadsIds (option_map (λ it. it.now) bounds.entry) sets_up
+        (texts_of specs.now) (texts_of ranges.now)) }
+    ensures says { OnOk result (Adds
+        (TellsIds number kind (texts_of specs.now) (texts_of ranges.now))
+        refusals.old.items refusals.new.items) }
+{
+    let map = read_specs(alloc, refusals, number, kind, specs)?;
+    let ranges = read_ranges(alloc, refusals, number, kind, ranges)?;
+    let (Some(map), Some(written)) = (map, ranges) else {
+        return Ok(None);
+    };
+    Ok(Some(in_namespace(alloc, bounds, sets_up, map, written)?))
+}
+
+/// What a text of rules sets up, or the first thing that is wrong with it.
+fn read_text<A: Allocator + Copy>(alloc: A, text: &str) -> Result<NamesSetUp<A>, Error<A>>
+    ensures read { IfOk result (ReadsText (chars text.now)) }
+    ensures refused { IfErr result (λ e.
+        OutOfMemoryOr (rules_fault_of e) (HasRulesFault (chars text.now))) }
+{
+    let map = XattrMap::try_from(alloc, text)?;
+    let written = XattrMap::written_rules(alloc, text)?;
+    Ok(NamesSetUp { map, written })
+}
+
+/// What a text of rules sets up; `None` where the text is refused.
+pub fn names_of_text<A: Allocator + Copy>(
+    alloc: A,
+    text: &str,
+) -> Result<Option<NamesSetUp<A>>, AllocError>
+    ensures read { IfOk result (λ found. IfSome found (ReadsText (chars text.now))) }
+    ensures none { IfOk result (λ found. IfNone found (RefusesRules (chars text.now))) }
+{
+    match read_text(alloc, text) {
+        Ok(set) => Ok(Some(set)),
+        Err(error) => {
+            if tells_fault(&error) {
+                return Ok(None);
+            }
+            Err(AllocError)
+        }
+    }
+}
+
+/// Whether an error tells what is wrong with a text of rules. Otherwise it says that memory ran out.
+fn tells_fault<A: Allocator>(error: &Error<A>) -> bool
+    ensures { IsTrue result ↔ ((fault : RulesFault) × (rules_fault_of error.now ≡ Some fault)) }
+{
+    match error.rule {
+        Some(_) => true,
+        None => match error.cause {
+            ErrorKind::OutOfMemory => false,
+            _ => true,
+        },
+    }
+}
+
+/// What the library says of a text of rules.
+fn rules_sentence<A: Allocator + Copy>(alloc: A, error: &Error<A>) -> Result<String<A>, AllocError>
+    ensures { IfOk result (λ why. string_bytes why ≡ rules_error_text error.now) }
+{
+    let mut why = String::new(alloc);
+    write!(why, "{error}")?;
+    Ok(why)
+}
+
+/// What the rules of a guest set up, or nothing where there are no rules or they are refused.
+fn read_names<A: Allocator + Copy>(
+    alloc: A,
+    refusals: &mut Vec<Refusal<A>, A>,
+    number: usize,
+    rules: Option<&str>,
+) -> Result<Option<NamesSetUp<A>>, AllocError>
+    ensures read { IfOk result (ReadsNames rules.entry) }
+    ensures says { OnOk result (Adds (TellsNames number rules.entry)
+        refusals.old.items refusals.new.items) }
+{
+    let Some(text) = rules else {
+        return Ok(None);
+    };
+    match read_text(alloc, text) {
+        Ok(set) => Ok(Some(set)),
+        Err(error) => {
+            if !tells_fault(&error) {
+                return Err(AllocError);
+            }
+            refusals.push(Refusal {
+                guest: number,
+                what: Refused::Rules,
+                why: rules_sentence(alloc, &error)?,
+            })?;
+            Ok(None)
+        }
+    }
+}
+
+/// Whether the daemon of a guest translates users or groups.
+fn translates<A: Allocator>(guest: &Guest<'_, A>) -> bool
+    ensures { IsTrue result ↔ Translates guest.now }
+{
+    !guest.options.translate_uid.is_empty() || !guest.options.translate_gid.is_empty()
+}
+
+/// Whether `--posix-acl` stands beside a translation of ids.
+fn acl_refused<A: Allocator>(guest: &Guest<'_, A>) -> bool
+    ensures { IsTrue result ↔ (IsTrue guest.now.options.acl_flag × Translates guest.now) }
+{
+    guest.options.acl_flag && translates(guest)
+}
+
+/// Whether access control lists are on beside a translation of ids, and not by `--posix-acl`.
+fn acl_untranslated<A: Allocator>(guest: &Guest<'_, A>) -> bool
+    ensures { IsTrue result ↔ (IsTrue guest.now.options.posix_acl
+        × IsFalse guest.now.options.acl_flag × Translates guest.now) }
+{
+    guest.options.posix_acl && !guest.options.acl_flag && translates(guest)
+}
+
+/// What bounds the users of the daemon of a guest, if it is said who runs it.
+fn users_of<'g, A: Allocator>(guest: &'g Guest<'g, A>) -> Option<&'g Bounds<A>>
+    ensures { option_map (λ it. it.now) result ≡ users_of guest.now }
+{
+    match guest.runner {
+        Some(runner) => Some(&runner.users),
+        None => None,
+    }
+}
+
+/// What bounds its groups.
+fn groups_of<'g, A: Allocator>(guest: &'g Guest<'g, A>) -> Option<&'g Bounds<A>>
+    ensures { option_map (λ it. it.now) result ≡ groups_of guest.now }
+{
+    match guest.runner {
+        Some(runner) => Some(&runner.groups),
+        None => None,
+    }
+}
+
+/// The process of the daemon of a guest, if it runs already.
+fn process_of<A: Allocator>(guest: &Guest<'_, A>) -> Option<u32>
+    ensures { result ≡ process_of guest.now }
+{
+    match guest.runner {
+        Some(runner) => runner.process,
+        None => None,
+    }
+}
+
+/// Whether the daemon of a guest has a range of a namespace.
+fn has_ranges<A: Allocator>(guest: &Guest<'_, A>) -> bool
+    ensures { result ≡ has_ranges guest.now }
+{
+    !guest.options.uid_map.is_empty() || !guest.options.gid_map.is_empty()
+}
+
+/// Whether the sandbox of the daemon of a guest is made of namespaces.
+fn has_namespaces<A: Allocator + Copy>(guest: &Guest<'_, A>) -> bool
+    ensures { result ≡ has_namespaces guest.now }
+{
+    matches!(guest.options.kept_apart(), Sandbox::Namespace)
+}
+
+/// Whether the daemon of a guest sets up a namespace of users: its sandbox is made of namespaces, and it
+/// has ranges, or it is not root who starts it.
+fn sets_up_namespace<A: Allocator + Copy>(guest: &Guest<'_, A>) -> bool
+    ensures { result ≡ sets_up_namespace guest.now }
+{
+    has_namespaces(guest) && (has_ranges(guest) || own_of(users_of(guest)) > 0)
+}
+
+/// The user who starts the daemon of a guest, if that is said.
+fn starter_of<A: Allocator>(guest: &Guest<'_, A>) -> Option<u32>
+    ensures { result ≡ starter_of guest.now }
+{
+    match guest.runner {
+        Some(runner) => Some(runner.users.own),
+        None => None,
+    }
+}
+
+/// Why the daemon of a guest does not start, if it does not run already.
+fn no_start_of<A: Allocator + Copy>(guest: &Guest<'_, A>) -> Option<NoStart>
+    ensures { result ≡ no_start_of guest.now }
+{
+    if process_of(guest).is_some() {
+        return None;
+    }
+    no_start(
+        has_ranges(guest),
+        guest.options.kept_apart(),
+        starter_of(guest),
+    )
+}
+
+/// Why a daemon with ranges of a namespace or without, in that sandbox, does not start as that user.
+fn no_start(has_ranges: bool, sandbox: Sandbox, starter: Option<u32>) -> Option<NoStart>
+    ensures { result ≡ no_start has_ranges sandbox starter }
+{
+    match (has_ranges, sandbox, starter) {
+        (true, Sandbox::Namespace, Some(0)) => Some(NoStart::MapsAsRoot),
+        (true, Sandbox::Namespace, _) => None,
+        (true, _, _) => Some(NoStart::MapsOutside),
+        (false, Sandbox::Chroot, Some(uid)) if uid > 0 => Some(NoStart::ChrootByUser),
+        _ => None,
+    }
+}
+
+/// What the texts of the guest of that number set up.
+pub(crate) fn set_up<A: Allocator + Copy>(
+    alloc: A,
+    refusals: &mut Vec<Refusal<A>, A>,
+    number: usize,
+    guest: &Guest<'_, A>,
+) -> Result<SetUp<A>, AllocError>
+    ensures sets_up { IfOk result (SetsUp guest.now) }
+    ensures says { OnOk result (Adds (TellsGuest number guest.now)
+        refusals.old.items refusals.new.items) }
+{
+    let users = read_ids(
+        alloc,
+        refusals,
+        number,
+        IdKind::Users,
+        users_of(guest),
+        sets_up_namespace(guest),
+        guest.options.translate_uid.as_slice(),
+        guest.options.uid_map.as_slice(),
+    )?;
+    let groups = read_ids(
+        alloc,
+        refusals,
+        number,
+        IdKind::Groups,
+        groups_of(guest),
+        sets_up_namespace(guest),
+        guest.options.translate_gid.as_slice(),
+        guest.options.gid_map.as_slice(),
+    )?;
+    let names = read_names(alloc, refusals, number, guest.options.xattrmap)?;
+    Ok(SetUp {
+        users,
+        groups,
+        names,
+        posix_acl: guest.options.posix_acl,
+        acl_refused: acl_refused(guest),
+        acl_untranslated: acl_untranslated(guest),
+        no_start: no_start_of(guest),
+        process: process_of(guest),
+    })
+}

@@ -1,0 +1,12 @@
+-- The text of /proc/PID/status.
+use Rattle.std.specs.Prelude.{◌≡◌, ℕ, List, ◌∷◌}
+use Rattle.virtiofs_map.specs.Separator.{split_at_each}
+use Rattle.virtiofs_host.specs.Decimal.{IsDecimal}
+
+-- the line is `KEY`, the real id, the effective id and more, with a tab between two
+pub record SaysEffective (key line : List ℕ) (id : ℕ) : Type 0 where
+  pub real : List ℕ
+  pub effective : List ℕ
+  pub more : List (List ℕ)
+  pub fields : split_at_each 9 line ≡ key ∷ real ∷ effective ∷ more
+  pub is_id : IsDecimal effective id

@@ -1,0 +1,158 @@
+//! The kinds of findings: the word and the sentence of each. JSON, `--accept` and the sentences are
+//! made of these rows.
+
+use std::alloc::{AllocError, Global};
+use virtiofs_findings::finding::Kind;
+use virtiofs_options::shown::Shown;
+
+/// A kind of finding in words.
+#[derive(Clone, Copy)]
+pub(crate) struct Row {
+    /// The kind.
+    kind: Kind,
+    /// Its word, which JSON and `--accept` have.
+    pub(crate) word: &'static str,
+    /// Its sentence. `{..}` stands for a field of the finding; `fields.rt` has them.
+    pub(crate) sentence: &'static str,
+}
+
+/// All kinds, in the order in which `--accept` names them.
+pub(crate) static KINDS: [Row; 17] = [
+    Row {
+        kind: Kind::Root,
+        word: "root",
+        sentence: "{users}{and}{groups} {acts} as root of the host: what {creates} is owned by root there",
+    },
+    Row {
+        kind: Kind::NotBack,
+        word: "not_back",
+        sentence: "{extent} {does} not round-trip: {one} {id} becomes {one} {host} {there}{as} and comes back as {one} {back}",
+    },
+    Row {
+        kind: Kind::Lacking,
+        word: "lacking",
+        sentence: "calls with {extent} fail: {one} {id} becomes {one} {host}, {why}",
+    },
+    Row {
+        kind: Kind::Kept,
+        word: "kept",
+        sentence: "{extent} {keeps} number without a specification: {one} {id} is {one} {host} of the host",
+    },
+    Row {
+        kind: Kind::Range,
+        word: "range",
+        sentence: "{place} {what}{second}{where}",
+    },
+    Row {
+        kind: Kind::OtherRanges,
+        word: "other_ranges",
+        sentence: "the kernel shows other ranges than {option} gives, and those of the kernel count here",
+    },
+    Row {
+        kind: Kind::PosixAcl,
+        word: "posix_acl",
+        sentence: "--posix-acl does not go with --translate-uid or --translate-gid: the daemon does not start",
+    },
+    Row {
+        kind: Kind::AclUntranslated,
+        word: "acl_untranslated",
+        sentence: "-o posix_acl leaves the ids in ACLs as they are: an entry for user 1000 of the guest is one for user 1000 of the host",
+    },
+    Row {
+        kind: Kind::NoStart,
+        word: "no_start",
+        sentence: "{why}: the daemon does not start",
+    },
+    Row {
+        kind: Kind::NoRule,
+        word: "no_rule",
+        sentence: "some names have no rule: calls with them fail",
+    },
+    Row {
+        kind: Kind::NotListed,
+        word: "not_listed",
+        sentence: "the guest can set the name {least}, but lists do not show it",
+    },
+    Row {
+        kind: Kind::ListedElsewhere,
+        word: "listed_elsewhere",
+        sentence: "lists show the host's attribute {least} under a name by which the guest does not reach it",
+    },
+    Row {
+        kind: Kind::IdleRule,
+        word: "idle_rule",
+        sentence: "rule {rule} decides no name: earlier rules take all names that it fits",
+    },
+    Row {
+        kind: Kind::AclRenamed,
+        word: "acl_renamed",
+        sentence: "with --posix-acl, '{name}' becomes '{becomes}', which Linux does not take for an ACL",
+    },
+    Row {
+        kind: Kind::IdOfBoth,
+        word: "id_of_both",
+        sentence: "guests {a} and {b} reach the same {one}s of the host, guest {a} by {extent}: {one} {id} of guest {a} and {one} {other} of guest {b} are both {one} {host}",
+    },
+    Row {
+        kind: Kind::ShownToOther,
+        word: "shown_to_other",
+        sentence: "guest {a} can set the name {least}, and lists then show it to guest {b}",
+    },
+    Row {
+        kind: Kind::NameOfBoth,
+        word: "name_of_both",
+        sentence: "guest {a} reaches an attribute of the host by the name {least}, and guest {b} reaches it too",
+    },
+];
+
+/// The row of a kind.
+pub(crate) fn row_of(kind: Kind) -> &'static Row {
+    for row in &KINDS {
+        if row.kind == kind {
+            return row;
+        }
+    }
+    &KINDS[0]
+}
+
+/// The kind that a value of `--accept` names.
+fn kind_of(text: &str) -> Option<Kind> {
+    for row in &KINDS {
+        if row.word == text {
+            return Some(row.kind);
+        }
+    }
+    None
+}
+
+/// The kinds that the values of `--accept` name, or the sentence on the first that names none.
+pub(crate) fn read_kinds(
+    alloc: Global,
+    texts: &[&str],
+) -> Result<Result<Vec<Kind>, String>, AllocError> {
+    let mut kinds = Vec::new(alloc);
+    for text in texts {
+        match kind_of(text) {
+            Some(kind) => kinds.push(kind)?,
+            None => return Ok(Err(no_kind(alloc, text)?)),
+        }
+    }
+    Ok(Ok(kinds))
+}
+
+/// The sentence on a value of `--accept` that names no kind.
+fn no_kind(alloc: Global, text: &str) -> Result<String, AllocError> {
+    let value = virtiofs_options::fault::shown(alloc, text)?;
+    let mut sentence = format!(in alloc; "'--accept' has no value {value}: it has ")?;
+    for place in 0..KINDS.len() {
+        let between = match KINDS.len() - place {
+            1 => " and ",
+            _ if place == 0 => "",
+            _ => ", ",
+        };
+        let word = Shown(KINDS[place].word.as_bytes());
+        write!(sentence, "{between}'{word}'")?;
+    }
+    sentence.push_str("\n")?;
+    Ok(sentence)
+}

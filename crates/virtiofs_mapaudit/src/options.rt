@@ -1,0 +1,86 @@
+//! Options of a guest, as words of a shell.
+
+use crate::words::{ranging, translating};
+use std::alloc::{AllocError, Global};
+use std::fmt;
+use virtiofs_findings::ids::kind::IdKind;
+use virtiofs_options::guest::Guest as GuestOptions;
+use virtiofs_options::shown::is_escaped;
+
+/// Whether a byte means itself to a shell wherever it stands in a word.
+fn is_bare(byte: u8) -> bool {
+    byte.is_ascii_alphanumeric() || byte == b'-' || byte == b'.' || byte == b':'
+}
+
+/// A text that is printed as one word for a shell.
+#[derive(Clone, Copy)]
+struct ShellWord<'a>(&'a str);
+
+impl fmt::Display for ShellWord<'_> {
+    fn fmt<W: fmt::Write>(&self, f: &mut fmt::Formatter<W>) -> fmt::Result {
+        if self.0.as_bytes().iter().all(|byte| is_bare(*byte)) {
+            return f.write_str(self.0);
+        }
+        f.write_str("'")?;
+        for c in self.0.chars() {
+            match c {
+                '\'' => f.write_str("'\\''")?,
+                // (the quotes are left for a character that is written with escapes)
+                _ if is_escaped(c) => {
+                    let mut room = [0u8; 4];
+                    for byte in c.encode_utf8(&mut room).as_bytes() {
+                        write!(f, "'$'\\x{byte:02x}''")?;
+                    }
+                }
+                _ => f.write_char(c)?,
+            }
+        }
+        f.write_str("'")
+    }
+}
+
+/// The options that a guest has, each with its value if it has one, in the order in which they are
+/// written.
+pub(crate) fn words_of<'g>(
+    alloc: Global,
+    guest: &'g GuestOptions<'_, Global>,
+) -> Result<Vec<(&'static str, Option<&'g str>)>, AllocError> {
+    let mut words: Vec<(&'static str, Option<&'g str>)> = Vec::new(alloc);
+    for (option, values) in [
+        (translating(IdKind::Users), &guest.translate_uid),
+        (translating(IdKind::Groups), &guest.translate_gid),
+        (ranging(IdKind::Users), &guest.uid_map),
+        (ranging(IdKind::Groups), &guest.gid_map),
+    ] {
+        for value in values.as_slice() {
+            words.push((option, Some(*value)))?;
+        }
+    }
+    if let Some(rules) = guest.xattrmap {
+        words.push(("--xattrmap", Some(rules)))?;
+    }
+    if guest.posix_acl {
+        words.push(("--posix-acl", None))?;
+    }
+    Ok(words)
+}
+
+/// Writes the options of a guest at the end of a text, each between two texts.
+pub(crate) fn push_options(
+    alloc: Global,
+    text: &mut String,
+    before: &str,
+    after: &str,
+    guest: &GuestOptions<'_, Global>,
+) -> Result<(), AllocError> {
+    for (option, value) in words_of(alloc, guest)? {
+        text.push_str(before)?;
+        text.push_str(option)?;
+        if let Some(value) = value {
+            let word = ShellWord(value);
+            write!(text, " {word}")?;
+        }
+        text.push_str(after)?;
+    }
+    Ok(())
+}

@@ -1,0 +1,21 @@
+//! The line on a text of options that is refused.
+
+use crate::words::{Ordinal, ranging, translating};
+use std::alloc::{AllocError, Global};
+use virtiofs_findings::refusal::{Refusal, Refused};
+use virtiofs_options::shown::Shown;
+
+/// One line, without a line feed. The reason is escaped, so that a line feed in it begins no line of
+/// its own.
+pub(crate) fn refusal_line(alloc: Global, refusal: &Refusal<Global>) -> Result<String, AllocError> {
+    let (guest, why) = (refusal.guest, Shown(refusal.why.as_str().as_bytes()));
+    let (option, place) = match refusal.what {
+        Refused::Spec(kind, place) => (translating(kind), place),
+        Refused::Range(kind, place) => (ranging(kind), place),
+        Refused::Rules => {
+            return format!(in alloc; "guest {guest}: --xattrmap is refused: {why}");
+        }
+    };
+    let ordinal = Ordinal(place);
+    format!(in alloc; "guest {guest}: the {ordinal} {option} is refused: {why}")
+}

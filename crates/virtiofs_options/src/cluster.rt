@@ -1,0 +1,150 @@
+//! Short options that are joined in one word, as `-doxattr`, made words of their own.
+ghost use Rattle.std.specs.Prelude.{◌≡◌, ◌++◌, ℕ, List, OnOk, IfOk, map, flat_map, option_map};
+ghost use Rattle.virtiofs_options.specs.Clusters.{after_letter, cluster, is_bare, is_cluster, is_last, joined_in, short_of, split_words, stripped, value_words, words_in};
+
+use crate::command::is_option;
+use crate::options::{Known, Options, Sets, Takes};
+use std::alloc::{AllocError, Global};
+
+/// The option that a letter names, where it is known.
+fn short_of(options: Options, letter: u8) -> Option<Known>
+    ensures { result ≡ short_of options letter }
+{
+    let name = [b'-', letter];
+    options
+        .known
+        .iter()
+        .find(|it| it.name.as_bytes() == name.as_slice())
+        .copied()
+}
+
+/// What a text has after another that it begins with.
+pub(crate) fn stripped<'a>(begin: &str, text: &'a str) -> Option<&'a str>
+    ensures { option_map (λ it. it.now) result ≡ stripped begin.now text.now }
+{
+    text.strip_prefix(begin)
+}
+
+/// The text after its first letter, which is that of a short option.
+fn after_letter<'a>(name: &str, left: &'a str) -> Option<&'a str>
+    ensures { option_map (λ it. it.now) result ≡ after_letter name.now left.now }
+{
+    match stripped("-", name) {
+        Some(letter) => stripped(letter, left),
+        None => None,
+    }
+}
+
+/// Adds the value that follows the letter of an option, if there is one: a `=` before it is no part
+/// of it.
+fn push_value<'a>(words: &mut Vec<&'a str, Global>, value: &'a str) -> Result<(), AllocError>
+    ensures { OnOk result (map (λ it. it.now) words.new.items
+        ≡ map (λ it. it.now) words.old.items ++ value_words value.now) }
+{
+    if !value.is_empty() {
+        words.push(value.strip_prefix("=").unwrap_or(value))?;
+    }
+    Ok(())
+}
+
+/// Whether an option has no value.
+fn is_bare(takes: Takes) -> bool
+    ensures { result ≡ is_bare takes }
+{
+    matches!(takes, Takes::Nothing)
+}
+
+/// Whether nothing is read after an option.
+fn is_last(sets: Sets) -> bool
+    ensures { result ≡ is_last sets }
+{
+    matches!(sets, Sets::Tells)
+}
+
+/// The words that letters stand for, if they are those of short options: the last may have a value.
+fn cluster<'a>(
+    alloc: Global,
+    options: Options,
+    letters: &'a str,
+) -> Result<Option<Vec<&'a str, Global>>, AllocError>
+    ensures { IfOk result (λ it. option_map (λ words. map (λ it. it.now) words.items) it
+        ≡ cluster options letters.now) }
+{
+    let mut words = Vec::new(alloc);
+    let mut left = letters;
+    while let Some(letter) = left.as_bytes().first() {
+        let Some(row) = short_of(options, *letter) else {
+            return Ok(None);
+        };
+        let Some(rest) = after_letter(row.name, left) else {
+            return Ok(None);
+        };
+        words.push(row.name)?;
+        if !is_bare(row.takes) {
+            push_value(&mut words, rest)?;
+            return Ok(Some(words));
+        }
+        if is_last(row.sets) {
+            return Ok(Some(words));
+        }
+        left = rest;
+    }
+    Ok(Some(words))
+}
+
+/// Whether a word begins with one `-` and has letters after it.
+fn is_cluster(word: &str) -> bool
+    ensures { result ≡ is_cluster word.now }
+{
+    is_option(word) && !word.starts_with("--")
+}
+
+/// The words that a word stands for, if it is joined short options.
+fn joined<'a>(
+    alloc: Global,
+    options: Options,
+    word: &'a str,
+) -> Result<Option<Vec<&'a str, Global>>, AllocError>
+    ensures { IfOk result (λ it. option_map (λ words. map (λ it. it.now) words.items) it
+        ≡ joined_in options word.now) }
+{
+    if !is_cluster(word) {
+        return Ok(None);
+    }
+    match stripped("-", word) {
+        Some(letters) => cluster(alloc, options, letters),
+        None => Ok(None),
+    }
+}
+
+/// Adds the words that a word stands for.
+fn push_words<'a>(
+    alloc: Global,
+    options: Options,
+    word: &'a str,
+    all: &mut Vec<&'a str, Global>,
+) -> Result<(), AllocError>
+    ensures { OnOk result (map (λ it. it.now) all.new.items
+        ≡ map (λ it. it.now) all.old.items ++ words_in options word.now) }
+{
+    match joined(alloc, options, word)? {
+        Some(words) => all.extend_from_slice(words.as_slice())?,
+        None => all.push(word)?,
+    }
+    Ok(())
+}
+
+/// The words, with those that are joined short options made words of their own.
+pub(crate) fn split_words<'a>(
+    alloc: Global,
+    options: Options,
+    words: &[&'a str],
+) -> Result<Vec<&'a str, Global>, AllocError>
+    ensures { IfOk result (λ it. map (λ it. it.now) it.items ≡ split_words options words.now) }
+{
+    let mut all = Vec::new(alloc);
+    for word in words {
+        push_words(alloc, options, word, &mut all)?;
+    }
+    Ok(all)
+}

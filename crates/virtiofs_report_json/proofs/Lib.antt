@@ -1,2 +1,0 @@
-mod NoFloatLemmas
-mod ReportJsonLemmas

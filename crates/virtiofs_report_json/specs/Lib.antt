@@ -1,4 +1,0 @@
-pub mod FindingJson
-pub mod IdJson
-pub mod NameJson
-pub mod ReportJson

@@ -1,5 +1,0 @@
-pub mod ForCallers
-mod IdTableLemmas
-mod NameTableLemmas
-mod SamePiecesLemmas
-mod SummaryLemmas

@@ -1,4 +1,0 @@
-pub mod IdTable
-pub mod NameTable
-pub mod NameTableParts
-pub mod SummaryText
