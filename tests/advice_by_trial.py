@@ -1,13 +1,16 @@
 #!/usr/bin/env python3
-"""Applies the options that virtiofs_mapaudit advises, and sees that less is found with them.
+"""Applies the options that virtiofs_mapaudit advises, and sees that less is found with them and that guests can do no more.
 
 usage: advice_by_trial.py PROGRAM..
 
 Guests are made at random from a fixed seed. If options are advised, the text, the JSON and `--mend` have the same ones, as a
-shell reads them. An audit of them refuses nothing and finds what was said to be left, of which no kind is new for a guest or
-a pair of guests, and fewer kinds than before. No id is left that does not round-trip, that the namespace lacks, or that keeps
-its number under `--isolated`, but where access control lists are on and nothing is translated. The last line is
-'N passed, N failed'.
+shell reads them. An audit of them refuses nothing and finds what was said to be left: no kind that was not found, for a guest
+or a pair of guests, no id that it did not have, and fewer kinds or ids than before. By a reading of the options here, which
+knows nothing of the program, each id at a boundary becomes what it became or is forbidden, each name of some 200 passes and
+is listed as before, or is denied and hidden where no rule decided it, and all else is as it was. No id is left that does not
+round-trip, that the namespace lacks, or that keeps its number under `--isolated`, but where access control lists are on and
+nothing is translated, where a range of the namespace is at fault, and the daemon's own in a namespace of one. The last line
+is 'N passed, N failed'.
 """
 import json
 import os
@@ -65,6 +68,12 @@ def guests(random):
     return [*random.choice(([], [ISOLATED])), *command_lines(made)]
 
 
+def guests_in(words):
+    """The words of each guest."""
+    ends = [place for place, word in enumerate(words) if word == "--"] + [len(words)]
+    return [words[first + 2 : last] for first, last in zip(ends, ends[1:])]
+
+
 def answer(program, words):
     ended = subprocess.run([program, *words], capture_output=True, timeout=SECONDS)
     return ended.returncode, ended.stdout.decode()
@@ -79,6 +88,92 @@ def as_shell_reads(lines):
 def kinds(findings):
     """What kinds are found, and of which guests. It makes a difference which guest sets a name, and whose ids they are."""
     return {(it["kind"], it.get("ids"), it.get("guest"), tuple(it.get("guests", ()))) for it in findings}
+
+
+def ids_of(finding):
+    """The ids of a finding, as pairs of whose they are and a span."""
+    of_both = [(kind, it) for kind in ("users", "groups") for it in ((finding.get(kind) or {}).get("spans") or ())]
+    return [(kind, it["first"], it["last"]) for kind, it in [*((finding.get("ids"), it) for it in finding.get("spans") or ()), *of_both]]
+
+
+def are_within(left, found):
+    """Whether each finding that is left has only ids that one like it had before."""
+    had = {key: [ids for it in found if kinds([it]) == {key} for ids in ids_of(it)] for key in kinds(found)}
+    lie_in = lambda ids, others: any(ids[0] == kind and first <= ids[1] and ids[2] <= last for kind, first, last in others)
+    return all(lie_in(ids, had[key]) for it in left for key in kinds([it]) for ids in ids_of(it))
+
+
+def values(option, words):
+    return [value for name, value in zip(words, words[1:]) if name == option]
+
+
+def becomes(specs, to_host, number):
+    """What specifications make of an id: None where they forbid it."""
+    for spec in specs:
+        word, first, *rest = spec.split(":")
+        first, to, count = int(first), int(rest[0]), int(rest[-1])
+        if word == "map" and not to_host:
+            first, to = to, first
+        acts = {"map": True, "guest": to_host, "squash-guest": to_host, "forbid-guest": to_host}.get(word, not to_host)
+        if acts and first <= number < first + count:
+            return None if word == "forbid-guest" else to if word.startswith("squash") else to + number - first
+    return number
+
+
+def edges(specs):
+    """The ids at the boundaries of specifications, and one beside each."""
+    ends = [int(it) for spec in specs for it in spec.split(":")[1:-1]]
+    ends += [it + int(spec.split(":")[-1]) for spec in specs for it in map(int, spec.split(":")[1:-1])]
+    return {it for end in [0, 4294967294, *ends] for it in (end - 1, end, end + 1) if 0 <= it < 4294967295}
+
+
+def rules_of(text):
+    """The rules of a text, as (type, scope, key, prepend)."""
+    rest, rules = text.strip(" \t\n\f\r"), []
+    while rest:
+        word, rest = rest[1:].split(rest[0], 1)[0], rest
+        fields = rest[1:].split(rest[0], 4 if word != "map" else 3)
+        rest = fields.pop().strip(" \t\n\f\r")
+        if word != "map":
+            rules.append(tuple(fields))
+        elif fields[1]:
+            rules += [("prefix", "all", *fields[1:]), ("bad", "all", fields[2], fields[1]), ("ok", "all", "", "")]
+        else:
+            rules += [("prefix", "all", "", fields[2]), ("bad", "all", "", "")]
+    return rules
+
+
+def decided(rules, side, name):
+    """What rules make of a name of a side; None where none decides it."""
+    for kind, scope, key, prepend in rules:
+        if scope in ("all", side) and name.startswith(key if side == "client" else prepend):
+            passed = {"ok": name, "prefix": prepend + name if side == "client" else name[len(prepend):]}.get(kind)
+            return ("denied" if side == "server" else kind.replace("bad", "denied")) if passed is None else ("passes", passed)
+    return None
+
+
+def opened(given, other):
+    """What other options of a guest allow that the given ones do not, by a reading of both."""
+    for option in ("--uid-map", "--gid-map"):
+        if values(option, given) != values(option, other):
+            return f"other values of {option}"
+    if "--posix-acl" in other and "--posix-acl" not in given:
+        return "ACLs"
+    for option in ("--translate-uid", "--translate-gid"):
+        before, after = values(option, given), values(option, other)
+        for it in edges([*before, *after]):
+            if becomes(after, True, it) not in (None, becomes(before, True, it)) or becomes(after, False, it) != becomes(before, False, it):
+                return f"{option}: {it}"
+    before, after = (rules_of("".join(values("--xattrmap", it)[-1:])) for it in (given, other))
+    if not before:
+        return "rules" if after else ""
+    parts = sorted({it for rule in before for it in rule[2:]} | set(PIECES))
+    for name in {one + two + more for one in parts for two in parts for more in ("", "z")}:
+        for side in ("client", "server"):
+            was, is_now = decided(before, side, name), decided(after, side, name)
+            if is_now != was and (was is not None or is_now != "denied"):
+                return f"{side} {name!r}: {was}, now {is_now}"
+    return ""
 
 
 def as_mend_says(text):
@@ -105,12 +200,22 @@ def fault(program, words):
     isolated = [ISOLATED] if words[0] == ISOLATED else []
     after_status, after = answer(program, ["--json", *isolated, *command_lines(options)])
     after, before, left = json.loads(after), kinds(told["findings"]), kinds(advised["findings"])
-    if after["refused"] or after["findings"] != advised["findings"] or after_status != (5 if left else 0) != mend_status:
+    if after["refused"] or after["findings"] != advised["findings"] or {after_status, mend_status} != {5 if left else 0}:
         return f"applied, they give {after}"
-    if not left < before:
+    if not left <= before or not are_within(advised["findings"], told["findings"]):
+        return f"more is found: {advised['findings']} after {told['findings']}"
+    if left == before and are_within(told["findings"], advised["findings"]):
         return f"not less is found: {left} after {before}"
+    for one, other in zip(guests_in(words), options):
+        if more := opened(one, other):
+            return f"opened: {more}"
+    at_fault = {(it["guest"], it["ids"]) for it in told["findings"] if it["kind"] == "range"}
     kept = [number for number, one in enumerate(options, 1) if "--posix-acl" in one]
-    bad = [it for it in advised["findings"] if it["kind"] in ("not_back", "lacking", "kept") and it["guest"] not in kept]
+    bad = [
+        it for it in advised["findings"]
+        if it["kind"] in ("not_back", "lacking", "kept") and it["guest"] not in kept and (it["guest"], it["ids"]) not in at_fault
+        and not (it["kind"] == "kept" and ids_of(it)[0][1] == ids_of(it)[-1][2])
+    ]
     return f"ids are left: {bad}" if bad else ""
 
 

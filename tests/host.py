@@ -54,9 +54,15 @@ def processes(room, stand_in):
         yield "an id of it, explained", ["--explain", "user=5", "--pid", pid], 0, f"guest 1, process {pid}\n  user 5 of the guest\n"
         with daemon(stand_in, [it.replace("100000", "200000") for it in ranges], ("0 200000 65536\n",) * 2) as other:
             yield "two daemons apart", ["--pid", pid, "--pid", other], 0, "nothing found"
+            yield "the number of each", ["--json", "--pid", pid, "--pid", other], 0, f'"process":{other}'
             yield "a command line beside them", ["--pid", pid, "--pid", other, "--", "virtiofsd", *ranges], 5, "guests 1 and 2"
+            yield "what is found of that alone", ["--pid", pid, "--", "virtiofsd", "--translate-uid=map:0:7:7"], 5, "users 7 to 13 do not round-trip"
     with daemon(stand_in, ranges, ("0 100000 1000\n", "0 100000 65536\n")) as pid:
         yield "a namespace of other ranges", ["--pid", pid], 5, "the kernel shows other ranges than"
+    with daemon(stand_in, ranges, ("0 100000 65536\n", "0 100000 1000\n")) as pid:
+        yield "a namespace of other groups", ["--pid", pid], 5, "the kernel shows other ranges than --gid-map gives"
+    with daemon(stand_in, [*ranges, "--nosuch"], kernels) as pid:
+        yield "a word that virtiofsd does not know", ["--pid", pid], 0, "unknown option of virtiofsd: '--nosuch'"
     with daemon(stand_in, []) as pid:
         yield "root without a namespace", ["--pid", pid], 5, "root of the host"
     with daemon(stand_in, [], ("1234 1234 1\n",) * 2, user=1234) as pid:
@@ -75,6 +81,9 @@ def files(room, _):
     user = next(it for it in pwd.getpwall() if it.pw_uid not in (0, 4321))
     given = Path(room, "given")
     given.write_text(f"# a comment\n4321:100000:65536\n{user.pw_name}:200000:1000\n", encoding="utf-8")
+    given_groups, none = Path(room, "given_groups"), Path(room, "none")
+    given_groups.write_text("4321:300000:65536\n", encoding="ascii")
+    none.write_text("", encoding="ascii")
     both = lambda it: ["--subuid", str(it), "--subgid", str(it)]
     daemon_of = lambda first, count: ["--", "virtiofsd", f"--uid-map=:0:{first}:{count}:", f"--gid-map=:0:{first}:{count}:",
                                       f"--translate-uid=forbid-guest:{count}:{4294967295 - count}",
@@ -82,8 +91,21 @@ def files(room, _):
     yield "ids given by number", ["--run-as", "4321:4321", *both(given), *daemon_of(100000, 65536)], 0, "nothing found"
     yield "one id more", ["--run-as", "4321:4321", *both(given), *daemon_of(100000, 65537)], 5, "the daemon does not start"
     yield "ids given by name", ["--run-as", str(user.pw_uid), *both(given), *daemon_of(200000, 1000)], 0, "nothing found"
+    apart = ["--run-as", "4321:4321", "--subuid", str(given), "--subgid", str(given_groups)]
+    yield "a file for users and one for groups", [*apart, *daemon_of(100000, 65536)], 5, "the first --gid-map has ids that the user may not"
+    yield "the same, with those of each", [*apart, *(it.replace("--gid-map=:0:1", "--gid-map=:0:3") for it in daemon_of(100000, 65536))], 0, "nothing found"
+    yield "the last file counts", ["--run-as", "4321:4321", *both(none), *both(given), *daemon_of(100000, 65536)], 0, "nothing found"
+    yield "a user in root's group", ["--run-as", "4321:0", *both(none), *daemon_of(100000, 65536)], 5, "the first --uid-map has ids that the user may not"
     yield "files for no user", [*both(given), *daemon_of(1, 1)], 2, "'--subuid' and '--subgid' are for '--run-as'"
-    yield "a folder", ["--run-as", "4321:4321", *both(room), *daemon_of(1, 1)], 2, "cannot be read"
+    yield "a folder", ["--run-as", "4321:4321", *both(room), *daemon_of(1, 1)], 2, "is no regular file"
+    yield "a file that never ends", ["--run-as", "4321:4321", *both("/dev/zero"), *daemon_of(1, 1)], 2, "/dev/zero is no regular file"
+    with contextlib.suppress(FileExistsError):
+        os.mkfifo(f"{room}/pipe")
+    yield "a pipe", ["--run-as", "4321:4321", *both(f"{room}/pipe"), *daemon_of(1, 1)], 2, "pipe is no regular file"
+    long = Path(room, "long")
+    with long.open("wb") as it:
+        it.truncate(16 * 1024 * 1024 + 1)
+    yield "a file of more than 16 MiB", ["--run-as", "4321:4321", *both(long), *daemon_of(1, 1)], 2, "has more than 16 MiB"
 
 
 def try_on(tally, program, cases):

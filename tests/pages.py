@@ -137,6 +137,8 @@ def main(words):
     tally.see("commands", [it for it, found in of_pages.items() if not found and it != "docs/RATTLE.md"])
     for page in (*TOP.glob("*.md"), *TOP.glob("docs/**/*.*")):
         see_names(tally, page)
+    recipes = re.findall(r'^const \w+: &str = "(.+)";$', (TOP / "crates/virtiofs_mapaudit/src/kinds.rt").read_text("utf-8"), re.M)
+    tally.see("recipes", not recipes or [it for it in recipes if f"\n## {it}\n" not in (TOP / "docs/ADMIN.md").read_text("utf-8")])
     for name in sorted({it.stem for it in programs}):
         see_man(tally, name)
     for suffix in sorted({it.suffix for it in programs}):

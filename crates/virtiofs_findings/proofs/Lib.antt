@@ -10,6 +10,7 @@ mod KeptLemmas
 mod ListLemmas
 mod MeetingLemmas
 mod NameLemmas
+mod NarrowerLemmas
 mod NamespaceLemmas
 mod RangeLemmas
 mod RefusalLemmas

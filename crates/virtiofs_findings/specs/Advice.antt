@@ -1,33 +1,24 @@
--- Options that are advised in place of those of guests. They were tried: less is found with them.
-use Rattle.std.specs.Prelude.{◌≡◌, ◌≢◌, ◌⊎◌, ℕ, Bool, List, [], Contains, Option, Some, None}
+-- Options that are advised in place of those of guests: the guests can do no more with them, and less is found.
+use Rattle.std.specs.Prelude.{◌≡◌, ◌≢◌, ◌⊎◌, ⊤, ℕ, ◌≤◌, Bool, List, [], All, Contains, Option, Some, None}
 use Rattle.std.specs.List.{AllZip}
-use Rattle.virtiofs_id_audit.specs.IdAudit.{IsAstray, GoesInto}
-use Rattle.virtiofs_id_audit.specs.Mending.{Mends}
-use Rattle.virtiofs_id_audit.specs.Namespace.{IsLacking}
-use Rattle.virtiofs_map.specs.declared.cmdline.IdMap.{IdMap}
-use Rattle.virtiofs_map.specs.declared.idmap.UidMap.{UidMap}
+use Rattle.virtiofs_id_audit.specs.declared.spans.Span.{Span}
 use Rattle.virtiofs_findings.specs.Guests.{SetsUp}
 use Rattle.virtiofs_findings.specs.Lists.{AnyHas}
+use Rattle.virtiofs_findings.specs.Narrower.{AreNarrower}
 use Rattle.virtiofs_findings.specs.Refusals.{TellsGuests}
 use Rattle.virtiofs_findings.specs.Report.{Finds}
 use Rattle.virtiofs_findings.specs.declared.advice.Advised.{Advised}
+use Rattle.virtiofs_findings.specs.declared.advice.Trial.{Trial}
+use Rattle.virtiofs_findings.specs.declared.advice.Trial.TheVariants.{Better, Refused, NoLess, NotNarrower}
 use Rattle.virtiofs_findings.specs.declared.finding.Evidence.{Evidence}
 use Rattle.virtiofs_findings.specs.declared.finding.Evidence.TheVariants as evidence
 use Rattle.virtiofs_findings.specs.declared.finding.Finding.{Finding}
 use Rattle.virtiofs_findings.specs.declared.finding.Kind.{Kind}
 use Rattle.virtiofs_findings.specs.declared.guest.Guest.{Guest}
+use Rattle.virtiofs_findings.specs.declared.ids.found.IdsFound.{IdsFound}
 use Rattle.virtiofs_findings.specs.declared.ids.kind.IdKind.{IdKind}
 use Rattle.virtiofs_findings.specs.declared.refusal.Refusal.{Refusal}
 use Rattle.virtiofs_findings.specs.declared.setup.SetUp.{SetUp}
-
--- ---- what is tried for ids
-
--- the ids that do not round-trip or become one which the namespace lacks are forbidden, and nothing else is changed; so
--- there are no such ids any more
-pub record AreMended (specs : List IdMap) (ranges : List UidMap) (mended : List IdMap) : Type 0 where
-  pub mends : Mends specs (IsLacking ranges) mended
-  pub none_astray : (guest : ℕ) → ¬ IsAstray mended guest
-  pub none_lacking : (guest : ℕ) → ¬ GoesInto mended (IsLacking ranges) guest
 
 -- ---- findings of the same kind
 
@@ -38,23 +29,50 @@ ids_of (evidence.Range kind range) = Some kind
 ids_of (evidence.Ids kind in_namespace found) = Some kind
 ids_of other = None
 
--- both say the same of the same guests, and of ids of the same kind
-pub record AreAlike {A : Type 0} (finding other : Finding A) : Type 0 where
+-- the ids that are found; of users or of groups, where it is about both
+abbrev pub ids_found : {A : Type 0} → Option (IdsFound A) → List Span
+ids_found None = []
+ids_found (Some found) = found.ids.items
+
+abbrev pub first_ids : {A : Type 0} → Evidence A → List Span
+first_ids (evidence.Ids kind in_namespace found) = found.ids.items
+first_ids (evidence.BothIds users groups) = ids_found users
+first_ids other = []
+
+abbrev pub second_ids : {A : Type 0} → Evidence A → List Span
+second_ids (evidence.BothIds users groups) = ids_found groups
+second_ids other = []
+
+-- the span lies in the other one; each of the spans lies in one of these
+abbrev pub LiesIn : Span → Span → Type 0
+LiesIn span other = (other.first ≤ span.first) × (span.last ≤ other.last)
+
+abbrev pub AllLieIn : List Span → List Span → Type 0
+AllLieIn others = All (λ span. AnyHas (LiesIn span) others)
+
+-- it says what the other says, of the same guests, and of ids of the same kind; and its ids are among those of the other
+pub record IsAlike {A : Type 0} (finding other : Finding A) : Type 0 where
   pub about : finding.about ≡ other.about
   pub kind : finding.kind ≡ other.kind
   pub ids : ids_of finding.evidence ≡ ids_of other.evidence
 
--- it is not accepted, and none of the others is like it
+pub record IsWithin {A : Type 0} (finding other : Finding A) : Type 0 where
+  pub alike : IsAlike finding other
+  pub first : AllLieIn (first_ids other.evidence) (first_ids finding.evidence)
+  pub second : AllLieIn (second_ids other.evidence) (second_ids finding.evidence)
+
+-- it is not accepted, and is within none of the others
 abbrev pub IsNew : {A : Type 0} → List Kind → List (Finding A) → Finding A → Type 0
-IsNew accepted others finding = (¬ Contains accepted finding.kind) × (¬ AnyHas (AreAlike finding) others)
+IsNew accepted others finding = (¬ Contains accepted finding.kind) × (¬ AnyHas (IsWithin finding) others)
 
 -- something new is found
 abbrev pub HasNew : {A : Type 0} → List Kind → List (Finding A) → List (Finding A) → Type 0
 HasNew accepted found others = AnyHas (IsNew accepted others) found
 
--- less is found: nothing new, and something no more
+-- less is found: nothing of any kind, accepted or not, that was not found; and something of a kind that is not accepted,
+-- or some of its ids, no more
 abbrev pub FindsLess : {A : Type 0} → List Kind → List (Finding A) → List (Finding A) → Type 0
-FindsLess accepted left found = (¬ HasNew accepted left found) × HasNew accepted found left
+FindsLess accepted left found = (¬ HasNew [] left found) × HasNew accepted found left
 
 -- ---- advice
 
@@ -66,9 +84,12 @@ pub record IsAudited {A : Type 0} (isolated : Bool) (guests : List (Guest A)) (r
   pub refused : TellsGuests 1 guests refusals
   pub finds : Finds isolated sets found
 
--- with these options no text is refused, and less is found than before
-pub record IsAdvice {A : Type 0} (isolated : Bool) (accepted : List Kind) (before : List (Finding A))
-    (advised : Advised A) : Type 0 where
+-- with these options the guests can do no more than with the given ones, no text is refused, and less is found than
+-- before
+pub record IsAdvice {A : Type 0} (isolated : Bool) (accepted : List Kind) (given : List (Guest A))
+    (before : List (Finding A)) (advised : Advised A) : Type 0 where
+  pub narrower : AreNarrower given advised.guests.items
+  pub sets_up : AllZip SetsUp advised.guests.items advised.sets.items
   pub audited : IsAudited isolated advised.guests.items [] advised.findings.items
   pub less : FindsLess accepted advised.findings.items before
 
@@ -78,8 +99,18 @@ pub record AreRefused {A : Type 0} (guests : List (Guest A)) : Type 0 where
   pub refused : TellsGuests 1 guests refusals
   pub some : refusals ≢ []
 
--- some text of these guests is refused, or no less is found than before
-abbrev pub IsNoAdvice : {A : Type 0} → Bool → List Kind → List (Finding A) → List (Guest A) → Type 0
-IsNoAdvice {A} isolated accepted before guests =
-    AreRefused guests
-    ⊎ ((after : List (Finding A)) × IsAudited isolated guests [] after × (¬ FindsLess accepted after before))
+-- no text of these guests is refused, and no less is found than before
+pub record FindNoLess {A : Type 0} (isolated : Bool) (accepted : List Kind) (before : List (Finding A))
+    (guests : List (Guest A)) : Type 0 where
+  pub after : List (Finding A)
+  pub audited : IsAudited isolated guests [] after
+  pub no_less : ¬ FindsLess accepted after before
+
+-- what came out where these guests were tried in place of the given ones
+abbrev pub ComesOut : {A : Type 0} → Bool → List Kind → List (Guest A) → List (Finding A) → List (Guest A) → Trial A
+    → Type 0
+ComesOut isolated accepted given before guests (Better advised) =
+    IsAdvice isolated accepted given before advised × (advised.guests.items ≡ guests)
+ComesOut isolated accepted given before guests Refused = AreRefused guests
+ComesOut isolated accepted given before guests NoLess = FindNoLess isolated accepted before guests
+ComesOut isolated accepted given before guests NotNarrower = ⊤

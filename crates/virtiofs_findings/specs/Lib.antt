@@ -14,8 +14,9 @@ pub mod IdFindings
 pub mod KeptParts
 pub mod Lists
 pub mod NameFindings
-pub mod NameMending
 pub mod NameParts
+pub mod Narrower
+pub mod NarrowerParts
 pub mod PairFindings
 pub mod RangeParts
 pub mod Ranges

@@ -1,24 +1,29 @@
-//! Options in place of those of guests, under which less is found.
+//! Options in place of those of guests, under which less is found and the guests can do no more.
 //!
-//! The options are made of those that the guests have, and tried: they are read as any others are, and
-//! audited. They are advised if no text of them is refused, nothing new is found with them, and
-//! something no more.
-ghost use Rattle.std.specs.Prelude.{◌≡◌, length, IfNone, IfOk, IfSome};
-ghost use Rattle.virtiofs_findings.specs.Advice.{IsAdvice, IsNoAdvice};
+//! The options are made of those that the guests have, and tried: they are read as any others are,
+//! held against the given ones, and audited. They are advised if no text of them is refused, if they
+//! only take away, if nothing is found with them that was not found, and something no more.
+ghost use Rattle.std.specs.Prelude.{IfOk, IfSome};
+ghost use Rattle.std.specs.List.{AllZip};
+ghost use Rattle.virtiofs_findings.specs.Advice.{ComesOut, IsAdvice};
+ghost use Rattle.virtiofs_findings.specs.Audited.{Audits};
+ghost use Rattle.virtiofs_findings.specs.Narrower.{SameRest};
 
 mod better;
 mod mended;
+mod narrower;
 pub mod options;
 mod rules;
 
-use crate::audit::audit;
+use crate::audit::{Audited, audit};
 use crate::finding::{Finding, Kind};
 use crate::guest::Guest;
 use crate::guests::set_up_all;
 use crate::setup::SetUp;
 use better::finds_less;
-use mended::mended_options;
-use options::{Options, guest_of};
+use mended::{PARTS, Parts, mended_options};
+use narrower::are_narrower;
+use options::{Options, guests_of};
 use std::alloc::{AllocError, Allocator};
 
 /// Options of guests that are advised, and what is found with them.
@@ -26,64 +31,117 @@ use std::alloc::{AllocError, Allocator};
 pub struct Advised<'a, A: Allocator> {
     /// The guests, with these options.
     pub guests: Vec<Guest<'a, A>, A>,
+    /// What the options of each set up.
+    pub sets: Vec<SetUp<A>, A>,
     /// What is found.
     pub findings: Vec<Finding<A>, A>,
 }
 
-/// Options that are tried in place of those of each guest, isolated or not, of whom that was found.
-pub fn options_of<'a, A: Allocator + Copy>(
+/// What came out where other options were tried.
+#[derive(Drop)]
+pub enum Trial<'a, A: Allocator> {
+    /// They are advised.
+    Better(Advised<'a, A>),
+    /// A text of them is refused.
+    Refused,
+    /// No less is found with them.
+    NoLess,
+    /// They do not only take away, as far as is seen.
+    NotNarrower,
+}
+
+/// The options of all guests where some parts of them are mended.
+fn options_of<A: Allocator + Copy>(
+    alloc: A,
+    parts: Parts,
+    isolated: bool,
+    accepted: &[Kind],
+    guests: &[Guest<'_, A>],
+    all: &Audited<A>,
+) -> Result<Vec<Options<A>, A>, AllocError> {
+    let mut options = Vec::new(alloc);
+    let found = all.findings.as_slice();
+    for (place, guest) in guests.iter().enumerate() {
+        let Some(set) = all.sets.as_slice().get(place) else {
+            break;
+        };
+        let number = place.saturating_add(1);
+        options.push(mended_options(alloc, parts, isolated, accepted, number, guest, set, found)?)?;
+    }
+    Ok(options)
+}
+
+/// What is to be tried in place of the options of guests, of which that was found: all that is mended
+/// of them, and then each part by itself.
+pub fn tries_of<A: Allocator + Copy>(
     alloc: A,
     isolated: bool,
     accepted: &[Kind],
-    guests: &[Guest<'a, A>],
-    sets: &[SetUp<A>],
-    found: &[Finding<A>],
-) -> Result<Vec<Options<'a, A>, A>, AllocError>
-    requires same { length sets.now ≡ length guests.now }
-{
-    let mut all = Vec::new(alloc);
-    for place in 0..guests.len() {
-        let (guest, set) = (&guests[place], &sets[place]);
-        let number = place + 1;
-        all.push(mended_options(alloc, isolated, accepted, number, guest, set, found)?)?;
+    guests: &[Guest<'_, A>],
+    all: &Audited<A>,
+) -> Result<Vec<Vec<Options<A>, A>, A>, AllocError> {
+    let mut tries = Vec::new(alloc);
+    for parts in PARTS {
+        tries.push(options_of(alloc, parts, isolated, accepted, guests, all)?)?;
     }
-    Ok(all)
+    Ok(tries)
 }
 
-/// Guests with these options.
-pub fn guests_of<'a, A: Allocator + Copy>(
-    alloc: A,
-    options: &'a [Options<'a, A>],
-) -> Result<Vec<Guest<'a, A>, A>, AllocError> {
-    let mut guests = Vec::new(alloc);
-    for one in options {
-        guests.push(guest_of(alloc, one)?)?;
-    }
-    Ok(guests)
-}
-
-/// Tries guests, isolated or not, with other options, in place of those with which that was found
-/// before. `None` if a text of them is refused, or no less is found with them.
-pub fn tried<'a, A: Allocator + Copy>(
+/// Tries guests, isolated or not, with other options, in place of the given ones, of which that was
+/// found.
+pub fn try_others<'a, A: Allocator + Copy>(
     alloc: A,
     isolated: bool,
     accepted: &[Kind],
+    given: &[Guest<'_, A>],
+    all: &Audited<A>,
     guests: Vec<Guest<'a, A>, A>,
-    before: &[Finding<A>],
-) -> Result<Option<Advised<'a, A>>, AllocError>
-    ensures less { IfOk result (λ advised. IfSome advised
-        (IsAdvice isolated accepted.now before.now)) }
-    ensures no_less { IfOk result (λ advised. IfNone advised
-        (IsNoAdvice isolated accepted.now before.now guests.entry.items)) }
+) -> Result<Trial<'a, A>, AllocError>
+    requires audits { Audits isolated given.now all.now }
+    requires rest { AllZip SameRest given.now guests.items }
+    ensures { IfOk result (ComesOut isolated accepted.now given.now
+        all.now.findings.items guests.entry.items) }
 {
     let mut refusals = Vec::new(alloc);
     let sets = set_up_all(alloc, &mut refusals, guests.as_slice())?;
     if !refusals.as_slice().is_empty() {
-        return Ok(None);
+        return Ok(Trial::Refused);
+    }
+    if !are_narrower(alloc, isolated, all.sets.as_slice(), sets.as_slice())? {
+        return Ok(Trial::NotNarrower);
     }
     let findings = audit(alloc, isolated, sets.as_slice())?;
-    if !finds_less(accepted, findings.as_slice(), before) {
-        return Ok(None);
+    if !finds_less(accepted, findings.as_slice(), all.findings.as_slice()) {
+        return Ok(Trial::NoLess);
     }
-    Ok(Some(Advised { guests, findings }))
+    Ok(Trial::Better(Advised {
+        guests,
+        sets,
+        findings,
+    }))
+}
+
+/// The first of these tries that is advised in place of the options of guests, of which that was found.
+pub fn advise<'a, A: Allocator + Copy>(
+    alloc: A,
+    isolated: bool,
+    accepted: &[Kind],
+    given: &'a [Guest<'a, A>],
+    all: &Audited<A>,
+    tries: &'a [Vec<Options<A>, A>],
+) -> Result<Option<Advised<'a, A>>, AllocError>
+    requires { Audits isolated given.now all.now }
+    ensures { IfOk result (λ advised. IfSome advised
+        (IsAdvice isolated accepted.now given.now all.now.findings.items)) }
+{
+    for options in tries {
+        if options.len() != given.len() {
+            continue;
+        }
+        let guests = guests_of(alloc, given, options.as_slice())?;
+        if let Trial::Better(advised) = try_others(alloc, isolated, accepted, given, all, guests)? {
+            return Ok(Some(advised));
+        }
+    }
+    Ok(None)
 }

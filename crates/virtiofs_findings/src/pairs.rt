@@ -104,36 +104,10 @@ fn push_names<A: Allocator + Copy>(
     };
     let (one, other) = (&one.map, &other.map);
     let (shown, shared) = (Kind::ShownToOther, Kind::NameOfBoth);
-    push_name(
-        alloc,
-        found,
-        first,
-        second,
-        shown,
-        NameFault::Seen,
-        one,
-        other,
-    )?;
-    push_name(
-        alloc,
-        found,
-        second,
-        first,
-        shown,
-        NameFault::Seen,
-        other,
-        one,
-    )?;
-    push_name(
-        alloc,
-        found,
-        first,
-        second,
-        shared,
-        NameFault::Shared,
-        one,
-        other,
-    )
+    let (seen, both) = (NameFault::Seen, NameFault::Shared);
+    push_name(alloc, found, first, second, shown, seen, one, other)?;
+    push_name(alloc, found, second, first, shown, seen, other, one)?;
+    push_name(alloc, found, first, second, shared, both, one, other)
 }
 
 /// Adds what is found between the two guests of these numbers, in order.

@@ -284,25 +284,6 @@ fn read_text<A: Allocator + Copy>(alloc: A, text: &str) -> Result<NamesSetUp<A>,
     Ok(NamesSetUp { map, written })
 }
 
-/// What a text of rules sets up; `None` where the text is refused.
-pub fn names_of_text<A: Allocator + Copy>(
-    alloc: A,
-    text: &str,
-) -> Result<Option<NamesSetUp<A>>, AllocError>
-    ensures read { IfOk result (λ found. IfSome found (ReadsText (chars text.now))) }
-    ensures none { IfOk result (λ found. IfNone found (RefusesRules (chars text.now))) }
-{
-    match read_text(alloc, text) {
-        Ok(set) => Ok(Some(set)),
-        Err(error) => {
-            if tells_fault(&error) {
-                return Ok(None);
-            }
-            Err(AllocError)
-        }
-    }
-}
-
 /// Whether an error tells what is wrong with a text of rules. Otherwise it says that memory ran out.
 fn tells_fault<A: Allocator>(error: &Error<A>) -> bool
     ensures { IsTrue result ↔ ((fault : RulesFault) × (rules_fault_of error.now ≡ Some fault)) }

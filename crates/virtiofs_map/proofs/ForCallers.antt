@@ -24,6 +24,8 @@ pub use Rattle.virtiofs_map.proofs.MappingLawLemmas.{KeepsGreatest-accepted, Cov
 pub use Rattle.virtiofs_map.proofs.ServerListLemmas.{position-Some_is, position-None_is}
 -- lists that go by pairs
 pub use Rattle.virtiofs_map.proofs.ZipLemmas.{AllZip-push, AllZip-one}
+-- the first rule that fits a name
+pub use Rattle.virtiofs_map.proofs.FirstRuleLemmas.{deciding-find}
 
 -- Numbers and specifications
 

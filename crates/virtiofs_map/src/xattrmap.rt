@@ -61,6 +61,7 @@ use image::write::image_of;
 pub use listed::ListedNames;
 pub use names::{XattrName, XattrNameBuf};
 use reader::read_rules;
+pub use rules::{RuleKind, RuleRef};
 pub use scopes::Side;
 use std::alloc::{AllocError, Allocator, Global};
 use std::marker::Model;

@@ -1,5 +1,5 @@
 -- What the program answers to what was asked of guests, and how it ends.
-use Rattle.std.specs.Prelude.{◌≡◌, ◌≢◌, ◌⊎◌, Bool, true, false, IsTrue, List, [], IfSome, Option, Some, None, string_bytes}
+use Rattle.std.specs.Prelude.{◌≡◌, ◌≢◌, ◌⊎◌, Bool, true, false, IsTrue, List, [], IfSome, Option, Some, None, length, string_bytes}
 use Rattle.std.specs.Global.{Global}
 use Rattle.virtiofs_findings.specs.Advice.{IsAdvice}
 use Rattle.virtiofs_findings.specs.Audited.{Audits}
@@ -36,13 +36,15 @@ pub record Reports (request : Request) (guests : List (Guest Global)) (answer : 
   pub all : Audited Global
   pub advised : Option (Advised Global)
   pub audits : Audits request.front.isolated guests all
-  pub advice : IfSome advised (IsAdvice request.front.isolated request.accepted.now all.findings.items)
+  pub advice : IfSome advised (IsAdvice request.front.isolated request.accepted.now guests all.findings.items)
   pub none_advised : (all.refusals.items ≢ []) → advised ≡ None
   pub ends : EndsAs request.accepted.now all.refusals.items (counting request.front.mend all advised) answer.outcome
   pub quiet : IsTrue request.front.quiet → string_bytes answer.text ≡ []
+  pub told : length answer.refusals.items ≡ length all.refusals.items
 
 -- the questions were answered for each guest, and the program ends as what was refused says
 pub record ReportsExplained (questions : List Question) (guests : List (Guest Global)) (answer : Answer) : Type 0 where
   pub all : Explained
   pub explains : ExplainsAll questions guests all
   pub ends : EndsAs [] all.refusals.items [] answer.outcome
+  pub told : length answer.refusals.items ≡ length all.refusals.items

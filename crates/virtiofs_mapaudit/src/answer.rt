@@ -1,5 +1,5 @@
 //! What is answered to what was asked of guests: a text, and how the program ends.
-ghost use Rattle.std.specs.Prelude.{◌≡◌, ◌≢◌, ◌↔◌, [], IfOk, IfSome, IsTrue, None, string_bytes};
+ghost use Rattle.std.specs.Prelude.{◌≡◌, ◌≢◌, ◌↔◌, [], IfOk, IfSome, IsTrue, None, length, string_bytes};
 ghost use Rattle.virtiofs_findings.specs.Advice.{IsAdvice};
 ghost use Rattle.virtiofs_findings.specs.Audited.{Audits};
 ghost use Rattle.virtiofs_findings.specs.Findings.{IsFound};
@@ -11,7 +11,7 @@ use crate::refusal::refusal_line;
 use crate::text::{options_as_text, report_as_text};
 use std::alloc::{AllocError, Global};
 use virtiofs_findings::advice::options::Options;
-use virtiofs_findings::advice::{Advised, guests_of, options_of, tried};
+use virtiofs_findings::advice::{Advised, advise, tries_of};
 use virtiofs_findings::audit::{Audited, audit_all, has_found};
 use virtiofs_findings::finding::Kind;
 use virtiofs_findings::guest::Guest;
@@ -53,7 +53,9 @@ pub(crate) struct Reported<'a> {
 pub(crate) fn refusal_lines(
     alloc: Global,
     refusals: &[Refusal<Global>],
-) -> Result<Vec<String>, AllocError> {
+) -> Result<Vec<String>, AllocError>
+    ensures { IfOk result (λ lines. length lines.items ≡ length refusals.now) }
+{
     let mut lines = Vec::new(alloc);
     for refusal in refusals {
         lines.push(refusal_line(alloc, refusal)?)?;
@@ -89,25 +91,26 @@ fn outcome_of(request: Request<'_>, report: &Reported<'_>) -> Answered
     }
 }
 
-/// What is advised of these other options, where that was found. They are tried only where they are to be
-/// written.
+/// What is advised of these tries, where that was found. They are tried only where what is advised is to
+/// be written.
 fn advice<'r>(
     alloc: Global,
     request: Request<'_>,
+    guests: &'r [Guest<'r, Global>],
     all: &Audited<Global>,
-    options: &'r [Options<'r, Global>],
+    tries: &'r [Vec<Options<Global>>],
 ) -> Result<Option<Advised<'r, Global>>, AllocError>
+    requires { Audits request.front.isolated guests.now all.now }
     ensures advice { IfOk result (λ advised. IfSome advised (IsAdvice
-        request.entry.front.isolated request.entry.accepted.now all.now.findings.items)) }
+        request.entry.front.isolated request.entry.accepted.now guests.now
+        all.now.findings.items)) }
     ensures untried { (all.now.refusals.items ≢ []) → IfOk result (λ advised. advised ≡ None) }
 {
     let front = request.front;
     if !all.refusals.as_slice().is_empty() || front.quiet || front.svg {
         return Ok(None);
     }
-    let others = guests_of(alloc, &*options)?;
-    let found = all.findings.as_slice();
-    tried(alloc, front.isolated, request.accepted, others, found)
+    advise(alloc, front.isolated, request.accepted, guests, all, tries)
 }
 
 /// The text of a report, in the form that was asked for.
@@ -149,18 +152,18 @@ fn text_of(
     written(alloc, request, guests, report)
 }
 
-/// What is answered where that is what an audit found, and these are the other options.
+/// What is answered where that is what an audit found, and these are to be tried.
 fn answer_with<'r>(
     alloc: Global,
     request: Request<'_>,
-    guests: &[Guest<'_, Global>],
+    guests: &'r [Guest<'r, Global>],
     all: Audited<Global>,
-    options: &'r [Options<'r, Global>],
+    tries: &'r [Vec<Options<Global>>],
 ) -> Result<Answer, AllocError>
     requires { Audits request.front.isolated guests.now all }
     ensures { IfOk result (Reports request.entry guests.now) }
 {
-    let advised = advice(alloc, request, &all, &*options)?;
+    let advised = advice(alloc, request, guests, &all, tries)?;
     let report = Reported { all, advised };
     let outcome = outcome_of(request, &report);
     let text = text_of(alloc, request, guests, &report)?;
@@ -182,7 +185,6 @@ pub(crate) fn answer_audit(
 {
     let (isolated, accepted) = (request.front.isolated, request.accepted);
     let all = audit_all(alloc, isolated, guests)?;
-    let (found, sets) = (all.findings.as_slice(), all.sets.as_slice());
-    let options = options_of(alloc, isolated, accepted, guests, sets, found)?;
-    answer_with(alloc, request, guests, all, options.as_slice())
+    let tries = tries_of(alloc, isolated, accepted, guests, &all)?;
+    answer_with(alloc, request, guests, all, tries.as_slice())
 }

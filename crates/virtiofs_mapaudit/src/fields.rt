@@ -1,5 +1,4 @@
-//! The fields of a finding. JSON has them in this order, and the sentence of its kind is filled with
-//! them.
+//! The fields of a finding. JSON has them, and the sentence of its kind is filled with them.
 
 use crate::words::{Extent, Ordinal, is_one, many_of, one_of, ranging};
 use std::alloc::{AllocError, Global};

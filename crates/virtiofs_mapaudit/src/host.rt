@@ -63,18 +63,39 @@ pub(crate) struct Host {
     pub(crate) processes: Vec<HostProcess>,
 }
 
+/// The device that is read as an empty file.
+const NO_FILE: &str = "/dev/null";
+
+/// How many bytes a file has at most that is read.
+const MOST_BYTES: u64 = 16777216;
+
+/// Why a file is not read; nothing where there is no such file.
+fn unread(rt: &HostRuntime, path: &str, error: &io::Error) -> Result<Option<Vec<u8>>, HostFault> {
+    match error.kind() {
+        io::ErrorKind::OutOfMemory => Err(HostFault::OutOfMemory),
+        io::ErrorKind::NotFound => Ok(None),
+        io::ErrorKind::PermissionDenied => {
+            Err(told(format!(in rt.alloc(); "{path} may not be read\n")))
+        }
+        _ => Err(told(format!(in rt.alloc(); "{path} cannot be read\n"))),
+    }
+}
+
 /// The content of a file; `None` where there is no such file.
 fn content(rt: &HostRuntime, path: &str) -> Result<Option<Vec<u8>>, HostFault> {
-    match fs::read(rt, path) {
-        Ok(bytes) => Ok(Some(bytes)),
-        Err(error) => match error.kind() {
-            io::ErrorKind::OutOfMemory => Err(HostFault::OutOfMemory),
-            io::ErrorKind::NotFound => Ok(None),
-            io::ErrorKind::PermissionDenied => {
-                Err(told(format!(in rt.alloc(); "{path} may not be read\n")))
-            }
-            _ => Err(told(format!(in rt.alloc(); "{path} cannot be read\n"))),
+    // (what it is, is asked before it is opened: a pipe would wait for a writer)
+    match fs::metadata(rt, path) {
+        Ok(kind) if !kind.is_file() && path != NO_FILE => {
+            Err(told(format!(in rt.alloc(); "{path} is no regular file\n")))
+        }
+        Ok(kind) if kind.len() > MOST_BYTES => {
+            Err(told(format!(in rt.alloc(); "{path} has more than 16 MiB\n")))
+        }
+        Ok(_) => match fs::read(rt, path) {
+            Ok(bytes) => Ok(Some(bytes)),
+            Err(error) => unread(rt, path, &error),
         },
+        Err(error) => unread(rt, path, &error),
     }
 }
 

@@ -46,14 +46,16 @@ virtiofs_mapaudit(1) says more: man virtiofs_mapaudit
 ///
 /// The program ends with status 0 where nothing was found, 1 where a text was refused, 2 where the
 /// words are wrong, 3 where memory ran out, 4 where a write or a flush failed, and 5 where something
-/// was found and no text was refused. If memory ran out, nothing was written, and standard error
-/// says so.
+/// was found and no text was refused. If memory ran out, nothing was written. Standard error says so,
+/// and that a write failed.
 fn main(rt: HostRuntime) -> ExitCode {
     let ended = run(&rt);
-    if matches!(ended, Err(AnswerFault::OutOfMemory)) {
-        // (this takes no memory: std formats on the stack)
-        let _ = eprint!(rt; "virtiofs_mapaudit: out of memory\n");
-    }
+    // (this takes no memory: std formats on the stack)
+    let _ = match ended {
+        Err(AnswerFault::OutOfMemory) => eprint!(rt; "virtiofs_mapaudit: out of memory\n"),
+        Err(_) => eprint!(rt; "virtiofs_mapaudit: standard output cannot be written\n"),
+        Ok(_) => Ok(()),
+    };
     ExitCode::from(status(ended))
 }
 

@@ -1,4 +1,4 @@
-//! Options of a guest, as words of a shell.
+//! Options of a guest, as words, and as a shell reads them.
 
 use crate::words::{ranging, translating};
 use std::alloc::{AllocError, Global};
@@ -9,7 +9,7 @@ use virtiofs_options::shown::is_escaped;
 
 /// Whether a byte means itself to a shell wherever it stands in a word.
 fn is_bare(byte: u8) -> bool {
-    byte.is_ascii_alphanumeric() || byte == b'-' || byte == b'.' || byte == b':'
+    byte.is_ascii_alphanumeric() || matches!(byte, b'-' | b'.' | b':' | b'_')
 }
 
 /// A text that is printed as one word for a shell.
@@ -18,7 +18,7 @@ struct ShellWord<'a>(&'a str);
 
 impl fmt::Display for ShellWord<'_> {
     fn fmt<W: fmt::Write>(&self, f: &mut fmt::Formatter<W>) -> fmt::Result {
-        if self.0.as_bytes().iter().all(|byte| is_bare(*byte)) {
+        if !self.0.is_empty() && self.0.as_bytes().iter().all(|byte| is_bare(*byte)) {
             return f.write_str(self.0);
         }
         f.write_str("'")?;
@@ -39,8 +39,9 @@ impl fmt::Display for ShellWord<'_> {
     }
 }
 
-/// The options that a guest has, each with its value if it has one, in the order in which they are
-/// written.
+/// The options of a guest for ids, names and access control lists, each with its value if it has one,
+/// in the order in which they are written. Lists that are on by `-o posix_acl` stay so: beside
+/// `--posix-acl` virtiofsd takes no translation of ids.
 pub(crate) fn words_of<'g>(
     alloc: Global,
     guest: &'g GuestOptions<'_, Global>,
@@ -60,7 +61,11 @@ pub(crate) fn words_of<'g>(
         words.push(("--xattrmap", Some(rules)))?;
     }
     if guest.posix_acl {
-        words.push(("--posix-acl", None))?;
+        words.push(if guest.acl_flag {
+            ("--posix-acl", None)
+        } else {
+            ("-o", Some("posix_acl"))
+        })?;
     }
     Ok(words)
 }

@@ -171,8 +171,27 @@ fn push_names(
     }
 }
 
-/// Writes what the options of guests set up that have the same at the end of a text: their heading, a
-/// line each for users, groups and names, and one more if access control lists are on.
+/// Writes what the options of a guest set up at the end of a text, each line behind such a space: one
+/// each for users, groups and names, and one more if access control lists are on.
+pub(crate) fn push_set_up(
+    text: &mut String,
+    space: &str,
+    guest: &Guest<'_, Global>,
+    set: &SetUp<Global>,
+) -> Result<(), AllocError> {
+    write!(text, "{space}users: ")?;
+    push_ids(text, &set.users)?;
+    write!(text, "\n{space}groups: ")?;
+    push_ids(text, &set.groups)?;
+    write!(text, "\n{space}names: ")?;
+    push_names(text, guest.options.xattrmap, &set.names)?;
+    if guest.options.posix_acl {
+        write!(text, "\n{space}ACLs: on")?;
+    }
+    text.push_str("\n")
+}
+
+/// Writes what the options of guests set up that have the same at the end of a text, with their heading.
 pub(crate) fn push_summary(
     text: &mut String,
     alike: Alike,
@@ -183,14 +202,6 @@ pub(crate) fn push_summary(
     if let Some(pid) = set.process {
         write!(text, ", process {pid}")?;
     }
-    text.push_str("\n  users: ")?;
-    push_ids(text, &set.users)?;
-    text.push_str("\n  groups: ")?;
-    push_ids(text, &set.groups)?;
-    text.push_str("\n  names: ")?;
-    push_names(text, guest.options.xattrmap, &set.names)?;
-    if guest.options.posix_acl {
-        text.push_str("\n  ACLs: on")?;
-    }
-    text.push_str("\n")
+    text.push_str("\n")?;
+    push_set_up(text, "  ", guest, set)
 }

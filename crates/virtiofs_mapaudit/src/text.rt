@@ -2,9 +2,9 @@
 
 use crate::answer::{Reported, Request};
 use crate::fields::push_finding;
-use crate::kinds::row_of;
+use crate::kinds::{KERNEL, RECIPES, row_of};
 use crate::options::push_options;
-use crate::summary::{push_numbers, push_summary};
+use crate::summary::{push_numbers, push_set_up, push_summary};
 use crate::tables::push_tables;
 use std::alloc::{AllocError, Global};
 use virtiofs_findings::advice::Advised;
@@ -12,6 +12,8 @@ use virtiofs_findings::alike::{Alike, alike_to, is_first, is_told, likes_of};
 use virtiofs_findings::audit::{has_accepted, has_found, is_accepted};
 use virtiofs_findings::finding::{About, Finding, Kind};
 use virtiofs_findings::guest::Guest;
+use virtiofs_findings::setup::{IdSetUp, SetUp};
+use virtiofs_map::id_types::{GuestUid, Id};
 
 /// The guests that a finding is about, the lesser number first; one guest has its number twice.
 pub(crate) fn guests_of(finding: &Finding<Global>) -> (usize, usize) {
@@ -142,11 +144,123 @@ fn push_left(
     Ok(())
 }
 
-/// Writes options that are advised, and what is still found with them, at the end of a text.
+/// Whether what specifications make of id 0 of a guest is there in the namespace.
+fn has_root(set: &Option<IdSetUp<Global>>) -> bool {
+    let Some(set) = set else {
+        return false;
+    };
+    let Ok(id) = set.map.map_guest(GuestUid::from(0)) else {
+        return false;
+    };
+    let (id, ranges) = (id.into_inner(), set.ranges.as_slice());
+    ranges.is_empty()
+        || ranges
+            .iter()
+            .any(|it| it.inside_uid <= id && id - it.inside_uid < it.count)
+}
+
+/// Writes what guests lose by other options that is not to be missed, at the end of a text: id 0, and
+/// access control lists.
+fn push_losses(
+    text: &mut String,
+    before: &SetUp<Global>,
+    after: &SetUp<Global>,
+) -> Result<(), AllocError> {
+    if has_root(&before.users) && !has_root(&after.users) {
+        text.push_str(
+            "    user 0 is forbidden: the guest's root creates nothing and is given nothing; what is there it still opens\n",
+        )?;
+    }
+    if has_root(&before.groups) && !has_root(&after.groups) {
+        text.push_str("    group 0 is forbidden: processes of that group create nothing\n")?;
+    }
+    if before.posix_acl && !after.posix_acl {
+        text.push_str("    ACLs: off, and those that files have no longer apply in the guest\n")?;
+    }
+    Ok(())
+}
+
+/// The recipe for a finding. In a namespace, and with access control lists on, virtiofsd is to run as
+/// another user, since specifications go with neither.
+fn recipe_of(sets: &[SetUp<Global>], finding: &Finding<Global>) -> Option<&'static str> {
+    let is_of_ids = matches!(finding.kind, Kind::Root | Kind::Lacking);
+    if let About::Guest(number) = finding.about
+        && let Some(set) = sets.get(number.saturating_sub(1))
+        && is_of_ids
+    {
+        let has_ranges = match &set.users {
+            Some(users) => !users.ranges.is_empty(),
+            None => false,
+        };
+        if set.posix_acl || has_ranges && finding.kind == Kind::Root {
+            return Some(KERNEL);
+        }
+    }
+    row_of(finding.kind).recipe
+}
+
+/// Writes the recipes for findings that count at the end of a text, each once, or that there is none.
+fn push_recipes(
+    text: &mut String,
+    accepted: &[Kind],
+    sets: &[SetUp<Global>],
+    found: &[Finding<Global>],
+) -> Result<(), AllocError> {
+    let mut has_one = false;
+    for recipe in RECIPES {
+        if found.iter().any(|it| !is_accepted(accepted, it.kind)
+            && recipe_of(sets, it) == Some(recipe))
+        {
+            text.push_str(if has_one {
+                ", "
+            } else {
+                "recipes of ADMIN.md for this: "
+            })?;
+            write!(text, "'{recipe}'")?;
+            has_one = true;
+        }
+    }
+    text.push_str(if has_one {
+        "\n"
+    } else {
+        "no other options are known to mend this\n"
+    })
+}
+
+/// Writes what the advised options of a guest are and do at the end of a text; of guests that then have
+/// the same options once.
+fn push_other(
+    alloc: Global,
+    text: &mut String,
+    before: &[SetUp<Global>],
+    advised: &Advised<'_, Global>,
+    place: usize,
+    guest: &Guest<'_, Global>,
+) -> Result<(), AllocError> {
+    let guests = advised.guests.as_slice();
+    let alike = alike_to(guests, guest);
+    let (Some(set), Some(other)) = (before.get(place), advised.sets.as_slice().get(place)) else {
+        return Ok(());
+    };
+    if !is_first(alike, place.saturating_add(1)) {
+        return Ok(());
+    }
+    text.push_str("  ")?;
+    push_numbers(text, alike)?;
+    text.push_str(":")?;
+    push_options(alloc, text, " ", "", &guest.options)?;
+    text.push_str("\n")?;
+    push_set_up(text, "    ", guest, other)?;
+    push_losses(text, set, other)
+}
+
+/// Writes options that are advised, what they do, and what is still found with them, at the end of a
+/// text.
 fn push_advised(
     alloc: Global,
     text: &mut String,
     accepted: &[Kind],
+    before: &[SetUp<Global>],
     advised: &Advised<'_, Global>,
 ) -> Result<(), AllocError> {
     let (guests, found) = (advised.guests.as_slice(), advised.findings.as_slice());
@@ -158,17 +272,14 @@ fn push_advised(
         },
     )?;
     for (place, guest) in guests.iter().enumerate() {
-        let alike = alike_to(guests, guest);
-        if is_first(alike, place.saturating_add(1)) {
-            text.push_str("  ")?;
-            push_numbers(text, alike)?;
-            text.push_str(":")?;
-            push_options(alloc, text, " ", "", &guest.options)?;
-            text.push_str("\n")?;
-        }
+        push_other(alloc, text, before, advised, place, guest)?;
     }
     let likes = likes_of(alloc, guests)?;
-    push_left(alloc, text, accepted, likes.as_slice(), found)
+    push_left(alloc, text, accepted, likes.as_slice(), found)?;
+    if has_found(accepted, found) {
+        push_recipes(text, accepted, advised.sets.as_slice(), found)?;
+    }
+    Ok(())
 }
 
 /// What is said at the end: what to do about what was found, or that nothing was.
@@ -185,8 +296,10 @@ fn push_closing(
             return Ok(());
         }
         return match &report.advised {
-            Some(advised) => push_advised(alloc, text, accepted, advised),
-            None => text.push_str("no other options are known to mend this\n"),
+            Some(advised) => {
+                push_advised(alloc, text, accepted, report.all.sets.as_slice(), advised)
+            }
+            None => push_recipes(text, accepted, report.all.sets.as_slice(), found),
         };
     }
     text.push_str(match (are_refused, has_accepted(accepted, found)) {

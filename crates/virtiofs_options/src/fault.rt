@@ -134,6 +134,32 @@ fn nothing_text(alloc: Global, guest: usize) -> Result<String, AllocError> {
     )
 }
 
+/// How the sentence on a value of `--show` ends.
+const NOT_SHOWN: &str = ": it has 'ids' and 'names'";
+
+/// How the sentence on a word that is a command line ends.
+const WHOLE: &str = " is more than one word of a command line: remove the quotes around it";
+
+/// How the sentence on a word of a daemon before the first `--` ends.
+const BEFORE_DASHES: &str = ": put '--' before the command line of virtiofsd";
+
+/// How the sentence on an option of the program after the first `--` ends.
+const AFTER_DASHES: &str = "is an option of virtiofs_mapaudit: put it before the first '--'";
+
+/// How the sentence on a word that is no option ends.
+const STRAY: &str = ": virtiofsd takes no words but options and their values";
+
+/// The sentence on options of a daemon that do not go together.
+const AT_ODDS: &str =
+    "'--fd' goes with neither '--socket', '--socket-path' nor '--socket-group', nor does '--socket-group' with '--print-capabilities'\n";
+
+/// The sentence on what does not go with `--mend`.
+const NOT_ALONE: &str = "'--mend' goes with neither '--json', '--quiet', '--svg' nor '--show'\n";
+
+/// The sentence on what does not go with `--explain`.
+const BESIDE: &str =
+    "'--explain' goes with neither '--json', '--quiet', '--svg', '--mend' nor '--show'\n";
+
 /// The sentence on what is wrong with words.
 pub(crate) fn fault_text(alloc: Global, fault: Fault<'_>) -> Result<String, AllocError> {
     match fault {
@@ -144,49 +170,16 @@ pub(crate) fn fault_text(alloc: Global, fault: Fault<'_>) -> Result<String, Allo
         }
         Fault::Missing(option) => option_text(alloc, option, "lacks its value"),
         Fault::Unwanted(option) => option_text(alloc, option, "has no value"),
-        Fault::AfterDashes(option) => option_text(
-            alloc,
-            option,
-            "is an option of virtiofs_mapaudit: put it before the first '--'",
-        ),
-        Fault::NotShown(value) => word_text(
-            alloc,
-            "'--show' has no value ",
-            value,
-            ": it has 'ids' and 'names'",
-        ),
-        Fault::Whole(word) => word_text(
-            alloc,
-            "",
-            word,
-            " is more than one word of a command line: remove the quotes around it",
-        ),
-        Fault::BeforeDashes(word) => word_text(
-            alloc,
-            "unknown word ",
-            word,
-            ": put '--' before the command line of virtiofsd",
-        ),
-        Fault::StrayWord(word) => word_text(
-            alloc,
-            "unknown word ",
-            word,
-            ": virtiofsd takes no words but options and their values",
-        ),
+        Fault::AfterDashes(option) => option_text(alloc, option, AFTER_DASHES),
+        Fault::NotShown(value) => word_text(alloc, "'--show' has no value ", value, NOT_SHOWN),
+        Fault::Whole(word) => word_text(alloc, "", word, WHOLE),
+        Fault::BeforeDashes(word) => word_text(alloc, "unknown word ", word, BEFORE_DASHES),
+        Fault::StrayWord(word) => word_text(alloc, "unknown word ", word, STRAY),
         Fault::Refused(option, value) => refused_text(alloc, option, value),
         Fault::OlderRefused(text) => refused_text(alloc, "-o", text),
-        Fault::AtOdds => String::from_str(
-            alloc,
-            "'--fd' goes with neither '--socket', '--socket-path' nor '--socket-group', nor does '--socket-group' with '--print-capabilities'\n",
-        ),
-        Fault::NotAlone => String::from_str(
-            alloc,
-            "'--mend' goes with neither '--json', '--quiet', '--svg' nor '--show'\n",
-        ),
-        Fault::Beside => String::from_str(
-            alloc,
-            "'--explain' goes with neither '--json', '--quiet', '--svg', '--mend' nor '--show'\n",
-        ),
+        Fault::AtOdds => String::from_str(alloc, AT_ODDS),
+        Fault::NotAlone => String::from_str(alloc, NOT_ALONE),
+        Fault::Beside => String::from_str(alloc, BESIDE),
         Fault::Nothing(guest) => nothing_text(alloc, guest),
     }
 }

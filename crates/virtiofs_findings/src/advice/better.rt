@@ -1,12 +1,14 @@
 //! Which of two audits of the same guests finds less.
 ghost use Rattle.std.specs.Prelude.{◌≡◌, ◌↔◌, IsTrue};
-ghost use Rattle.virtiofs_findings.specs.Advice.{ids_of, AreAlike, IsNew, HasNew, FindsLess};
+ghost use Rattle.virtiofs_findings.specs.Advice.{ids_of, first_ids, second_ids, ids_found, LiesIn, AllLieIn, IsAlike, IsWithin, IsNew, HasNew, FindsLess};
 ghost use Rattle.virtiofs_findings.specs.Lists.{AnyHas};
 
 use crate::audit::is_accepted;
 use crate::finding::{Evidence, Finding, Kind};
+use crate::ids::found::IdsFound;
 use crate::ids::kind::IdKind;
 use std::alloc::Allocator;
+use virtiofs_id_audit::Span;
 
 /// Whose ids it is about, if it is about those of users or those of groups alone.
 pub(crate) fn ids_of<A: Allocator>(evidence: &Evidence<A>) -> Option<IdKind>
@@ -19,35 +21,111 @@ pub(crate) fn ids_of<A: Allocator>(evidence: &Evidence<A>) -> Option<IdKind>
     }
 }
 
-/// Whether both say the same of the same guests, and of ids of the same kind.
-fn are_alike<A: Allocator>(finding: &Finding<A>, other: &Finding<A>) -> bool
-    ensures { IsTrue result ↔ AreAlike finding.now other.now }
+/// The ids that are found, if some are.
+fn ids_found<A: Allocator>(found: &Option<IdsFound<A>>) -> &[Span]
+    ensures { result.now ≡ ids_found found.now }
 {
-    finding.about == other.about
-        && finding.kind == other.kind
-        && ids_of(&finding.evidence) == ids_of(&other.evidence)
+    match found {
+        Some(found) => found.ids.as_slice(),
+        None => &[],
+    }
 }
 
-/// Whether one of the findings is like that one.
-fn has_alike<A: Allocator>(finding: &Finding<A>, others: &[Finding<A>]) -> bool
-    ensures { IsTrue result ↔ AnyHas (AreAlike finding.now) others.now }
+/// The ids that a finding is about; those of users, if it is about both kinds.
+fn first_ids<A: Allocator>(evidence: &Evidence<A>) -> &[Span]
+    ensures { result.now ≡ first_ids evidence.now }
+{
+    match evidence {
+        Evidence::Ids { found, .. } => found.ids.as_slice(),
+        Evidence::BothIds(users, _) => ids_found(users),
+        _ => &[],
+    }
+}
+
+/// Those of groups, if it is about both kinds.
+fn second_ids<A: Allocator>(evidence: &Evidence<A>) -> &[Span]
+    ensures { result.now ≡ second_ids evidence.now }
+{
+    match evidence {
+        Evidence::BothIds(_, groups) => ids_found(groups),
+        _ => &[],
+    }
+}
+
+/// Whether a span lies in another one.
+fn lies_in(span: &Span, other: &Span) -> bool
+    ensures { IsTrue result ↔ LiesIn span.now other.now }
+{
+    other.first <= span.first && span.last <= other.last
+}
+
+/// Whether a span lies in one of these.
+fn lies_in_any(span: &Span, others: &[Span]) -> bool
+    ensures { IsTrue result ↔ AnyHas (LiesIn span.now) others.now }
 {
     for other in others {
-        if are_alike(finding, other) {
+        if lies_in(span, other) {
             return true;
         }
     }
     false
 }
 
-/// Whether a finding is not accepted and none of the others is like it.
+/// Whether each of the spans does.
+fn all_lie_in(others: &[Span], spans: &[Span]) -> bool
+    ensures { IsTrue result ↔ AllLieIn others.now spans.now }
+{
+    for span in spans {
+        if !lies_in_any(span, others) {
+            return false;
+        }
+    }
+    true
+}
+
+/// Whether it says what the other says, of the same guests, and of ids of the same kind.
+fn is_alike<A: Allocator>(finding: &Finding<A>, other: &Finding<A>) -> bool
+    ensures { IsTrue result ↔ IsAlike finding.now other.now }
+{
+    finding.about == other.about
+        && finding.kind == other.kind
+        && ids_of(&finding.evidence) == ids_of(&other.evidence)
+}
+
+/// Whether it does, and its ids are among those of the other.
+fn is_within<A: Allocator>(finding: &Finding<A>, other: &Finding<A>) -> bool
+    ensures { IsTrue result ↔ IsWithin finding.now other.now }
+{
+    if !is_alike(finding, other) {
+        return false;
+    }
+    let (one, another) = (&finding.evidence, &other.evidence);
+    if !all_lie_in(first_ids(another), first_ids(one)) {
+        return false;
+    }
+    all_lie_in(second_ids(another), second_ids(one))
+}
+
+/// Whether a finding is within one of the others.
+fn is_within_any<A: Allocator>(finding: &Finding<A>, others: &[Finding<A>]) -> bool
+    ensures { IsTrue result ↔ AnyHas (IsWithin finding.now) others.now }
+{
+    for other in others {
+        if is_within(finding, other) {
+            return true;
+        }
+    }
+    false
+}
+
+/// Whether a finding is not accepted, and within none of the others.
 fn is_new<A: Allocator>(accepted: &[Kind], finding: &Finding<A>, others: &[Finding<A>]) -> bool
     ensures { IsTrue result ↔ IsNew accepted.now others.now finding.now }
 {
-    !is_accepted(accepted, finding.kind) && !has_alike(finding, others)
+    !is_accepted(accepted, finding.kind) && !is_within_any(finding, others)
 }
 
-/// Whether something is found that is not accepted and that none of the others is like.
+/// Whether something new is found: not accepted, and within none of the others.
 fn has_new<A: Allocator>(accepted: &[Kind], found: &[Finding<A>], others: &[Finding<A>]) -> bool
     ensures { IsTrue result ↔ HasNew accepted.now found.now others.now }
 {
@@ -59,7 +137,8 @@ fn has_new<A: Allocator>(accepted: &[Kind], found: &[Finding<A>], others: &[Find
     false
 }
 
-/// Whether less is found: nothing new, and something no more.
+/// Whether less is found: nothing of any kind that was not found, and something that counts, or some of
+/// its ids, no more.
 pub(crate) fn finds_less<A: Allocator>(
     accepted: &[Kind],
     left: &[Finding<A>],
@@ -67,5 +146,5 @@ pub(crate) fn finds_less<A: Allocator>(
 ) -> bool
     ensures { IsTrue result ↔ FindsLess accepted.now left.now found.now }
 {
-    !has_new(accepted, left, found) && has_new(accepted, found, left)
+    !has_new(&[], left, found) && has_new(accepted, found, left)
 }

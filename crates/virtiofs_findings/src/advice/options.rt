@@ -1,31 +1,23 @@
-//! Options of a guest that are tried.
+//! Guests with other options.
+ghost use Rattle.std.specs.Prelude.{◌≡◌, length, IfOk};
+ghost use Rattle.std.specs.List.{AllZip};
+ghost use Rattle.virtiofs_findings.specs.Narrower.{SameRest};
 
 use crate::guest::Guest;
 use std::alloc::{AllocError, Allocator};
-use virtiofs_host::runner::Runner;
 use virtiofs_options::guest::Guest as GuestOptions;
 
-/// Options of a guest: texts that were made, and the rules for names as they are or made anew.
+/// What takes the place of options of a guest; `None` where the given ones stay.
 #[derive(Drop)]
-pub struct Options<'a, A: Allocator> {
+pub struct Options<A: Allocator> {
     /// The specifications for users.
-    pub translate_uid: Vec<String<A>, A>,
+    pub translate_uid: Option<Vec<String<A>, A>>,
     /// The specifications for groups.
-    pub translate_gid: Vec<String<A>, A>,
-    /// The ranges of users of the daemon's namespace.
-    pub uid_map: Vec<String<A>, A>,
-    /// The ranges of groups of the daemon's namespace.
-    pub gid_map: Vec<String<A>, A>,
-    /// The rules for names of attributes, as the guest has them.
-    pub given_rules: Option<&'a str>,
-    /// Rules that are to take their place.
+    pub translate_gid: Option<Vec<String<A>, A>>,
+    /// The rules for names of attributes.
     pub rules: Option<String<A>>,
-    /// Whether access control lists are on.
-    pub posix_acl: bool,
-    /// How the daemon is kept apart from the host, as the guest has it.
-    pub sandbox: Option<&'a str>,
-    /// Who runs the daemon.
-    pub runner: Option<&'a Runner<A>>,
+    /// Whether access control lists stay on where they are.
+    pub keeps_acl: bool,
 }
 
 /// The texts, lent.
@@ -40,26 +32,62 @@ fn lent<'a, A: Allocator + Copy>(
     Ok(all)
 }
 
-/// A guest with these options.
-pub(super) fn guest_of<'a, A: Allocator + Copy>(
+/// The other texts, or the given ones where there are none.
+fn other_or_given<'a, A: Allocator + Copy>(
     alloc: A,
-    options: &'a Options<'a, A>,
-) -> Result<Guest<'a, A>, AllocError> {
-    let xattrmap = match &options.rules {
+    other: &'a Option<Vec<String<A>, A>>,
+    given: &[&'a str],
+) -> Result<Vec<&'a str, A>, AllocError> {
+    match other {
+        Some(texts) => lent(alloc, texts.as_slice()),
+        None => Vec::from_slice(alloc, given),
+    }
+}
+
+/// A guest with other options.
+fn guest_of<'a, A: Allocator + Copy>(
+    alloc: A,
+    given: &'a Guest<'a, A>,
+    other: &'a Options<A>,
+) -> Result<Guest<'a, A>, AllocError>
+    ensures { IfOk result (SameRest given.now) }
+{
+    let options = &given.options;
+    let xattrmap = match &other.rules {
         Some(rules) => Some(rules.as_str()),
-        None => options.given_rules,
+        None => options.xattrmap,
     };
+    let (users, groups) = (
+        options.translate_uid.as_slice(),
+        options.translate_gid.as_slice(),
+    );
     Ok(Guest {
         options: GuestOptions {
-            translate_uid: lent(alloc, options.translate_uid.as_slice())?,
-            translate_gid: lent(alloc, options.translate_gid.as_slice())?,
-            uid_map: lent(alloc, options.uid_map.as_slice())?,
-            gid_map: lent(alloc, options.gid_map.as_slice())?,
+            translate_uid: other_or_given(alloc, &other.translate_uid, users)?,
+            translate_gid: other_or_given(alloc, &other.translate_gid, groups)?,
+            uid_map: Vec::from_slice(alloc, options.uid_map.as_slice())?,
+            gid_map: Vec::from_slice(alloc, options.gid_map.as_slice())?,
             xattrmap,
-            posix_acl: options.posix_acl,
-            acl_flag: options.posix_acl,
+            posix_acl: options.posix_acl && other.keeps_acl,
+            acl_flag: options.acl_flag && other.keeps_acl,
             sandbox: options.sandbox,
         },
-        runner: options.runner,
+        runner: given.runner,
     })
+}
+
+/// Guests with other options, one for each.
+pub(super) fn guests_of<'a, A: Allocator + Copy>(
+    alloc: A,
+    given: &'a [Guest<'a, A>],
+    others: &'a [Options<A>],
+) -> Result<Vec<Guest<'a, A>, A>, AllocError>
+    requires same { length others.now ≡ length given.now }
+    ensures { IfOk result (λ guests. AllZip SameRest given.now guests.items) }
+{
+    let mut guests = Vec::new(alloc);
+    for place in 0..given.len() {
+        guests.push(guest_of(alloc, &given[place], &others[place])?)?;
+    }
+    Ok(guests)
 }

@@ -1,86 +1,97 @@
-//! Rules that mend what an audit finds of the names of a guest.
-//!
-//! Rules are changed step by step: names that are not listed back are shown or denied, names of the
-//! host that are listed under a name which leads elsewhere are hidden, names without a rule are
-//! denied, and rules that decide no name are left out. What comes out is told only if the audits of
-//! the library say that it is better.
-//!
-//! No step opens anything: names of the guest are denied and never let through, and a name of the host
-//! is listed anew only where the guest can set it already. Names that the guest sets and that are
-//! listed back stay so, as far as the patterns of the rules and the names that programs use show it:
-//! these are tried, and a step after which one of them does not work any more is not taken. That much
-//! is how the steps are made, and no contract says it.
-ghost use Rattle.std.specs.Prelude.{IfOk, IfSome, string_bytes};
-ghost use Rattle.std.specs.Str.{chars};
-ghost use Rattle.virtiofs_findings.specs.NameMending.{SaysMending};
-ghost use Rattle.virtiofs_findings.specs.Report.{FindsNamesOf};
+//! Rules that are tried in place of those of a guest: without those that decide no name, and with one
+//! at the end that denies what no rule decides. Whether they only take away is decided where they are
+//! tried.
 
-mod chase;
-mod sides;
-mod steps;
-mod texts;
-mod works;
-
-use crate::advice::better::finds_less;
-use crate::finding::Finding;
-use crate::names::audits::push_names;
-use crate::setup::{NamesSetUp, names_of_text};
-use chase::chased;
+use crate::names::audits::decides_written;
+use crate::setup::NamesSetUp;
 use std::alloc::{AllocError, Allocator};
+use virtiofs_map::xattrmap::{RuleKind, RuleRef, Side};
 
-/// What is found of names.
-fn names_found<A: Allocator + Copy>(
-    alloc: A,
-    set: &NamesSetUp<A>,
-) -> Result<Vec<Finding<A>, A>, AllocError>
-    ensures { IfOk result (λ found. FindsNamesOf 1 set.now found.items) }
-{
-    let mut found = Vec::new(alloc);
-    push_names(alloc, &mut found, 1, &set.map, set.written)?;
-    Ok(found)
-}
+/// The characters that may stand after each field of a rule: the first one that the fields do not
+/// contain does.
+const MARKS: [char; 16] = [
+    ':', '/', ',', ';', '|', '!', '#', '%', '+', '=', '@', '~', '^', '&', '*', '_',
+];
 
-/// The text, if what it sets up mends what is found of these rules.
-fn told_if_better<A: Allocator + Copy>(
-    alloc: A,
-    text: String<A>,
-    set: &NamesSetUp<A>,
-) -> Result<Option<String<A>>, AllocError>
-    ensures { IfOk result (λ found. IfSome found (λ better.
-        SaysMending set.now (chars (string_bytes better)))) }
-{
-    let Some(better) = names_of_text(alloc, text.as_str())? else {
-        return Ok(None);
-    };
-    let found = names_found(alloc, set)?;
-    let left = names_found(alloc, &better)?;
-    if finds_less(&[], left.as_slice(), found.as_slice()) {
-        return Ok(Some(text));
+/// The rule that denies what no rule decides.
+const DENY_REST: &str = ":bad:all:::";
+
+/// A character that no field contains; `:` where each is contained, with which the text is refused or
+/// says other rules.
+fn mark_for(key: &str, prepend: &str) -> char {
+    for mark in MARKS {
+        if !key.contains(mark) && !prepend.contains(mark) {
+            return mark;
+        }
     }
-    Ok(None)
+    ':'
 }
 
-/// Rules that mend what is found of those of a text, if some were found by trying. `set` is what the
-/// text sets up.
-///
-/// The answer is a text of rules. Under these nothing of a new kind is found (names without a rule,
-/// names that are not listed back, names of the host that are listed under a name which leads
-/// elsewhere, written rules that decide no name), and of some kind nothing is found any more. `None`
-/// says nothing: other rules may be better.
-///
-/// # Errors
-///
-/// `AllocError`: a request for memory was refused.
-pub(crate) fn mended_rules<A: Allocator + Copy>(
-    alloc: A,
-    text: &str,
-    set: &NamesSetUp<A>,
-) -> Result<Option<String<A>>, AllocError>
-    ensures { IfOk result (λ found. IfSome found (λ better.
-        SaysMending set.now (chars (string_bytes better)))) }
-{
-    let Some(better) = chased(alloc, text, &set.map)? else {
-        return Ok(None);
+/// The word of a type.
+fn type_word(kind: RuleKind) -> &'static str {
+    match kind {
+        RuleKind::Prefix => "prefix",
+        RuleKind::Okay => "ok",
+        RuleKind::Bad => "bad",
+        RuleKind::Unsupported => "unsupported",
+    }
+}
+
+/// The word of the sides on which a rule acts.
+fn scope_word(rule: RuleRef<'_>) -> &'static str {
+    match (rule.acts_on(Side::Client), rule.acts_on(Side::Server)) {
+        (true, false) => "client",
+        (false, true) => "server",
+        _ => "all",
+    }
+}
+
+/// Writes a rule at the end of a text; the first rule that a `map` rule is short for stands for it.
+fn push_rule<A: Allocator>(
+    text: &mut String<A>,
+    rule: RuleRef<'_>,
+    is_map: bool,
+) -> Result<(), AllocError> {
+    let (Ok(key), Ok(prepend)) = (str::from_utf8(rule.key), str::from_utf8(rule.prepend)) else {
+        return Ok(());
     };
-    told_if_better(alloc, better, set)
+    let mark = mark_for(key, prepend);
+    if !text.is_empty() {
+        text.push(' ')?;
+    }
+    if is_map {
+        return write!(text, "{mark}map{mark}{key}{mark}{prepend}{mark}");
+    }
+    let (word, scope) = (type_word(rule.kind), scope_word(rule));
+    write!(
+        text,
+        "{mark}{word}{mark}{scope}{mark}{key}{mark}{prepend}{mark}"
+    )
+}
+
+/// The rules, without those that decide no name, and with the rest denied.
+pub(super) fn narrowed_rules<A: Allocator + Copy>(
+    alloc: A,
+    names: &NamesSetUp<A>,
+    drops_idle: bool,
+    denies_rest: bool,
+) -> Result<String<A>, AllocError> {
+    let (map, written) = (&names.map, names.written);
+    let mut text = String::new(alloc);
+    for place in 0..written {
+        if drops_idle && !decides_written(map, written, place) {
+            continue;
+        }
+        if let Some(rule) = map.rule(place) {
+            let is_map = place + 1 == written && map.rule_count() > written;
+            push_rule(&mut text, rule, is_map)?;
+        }
+    }
+    if denies_rest && !map.is_terminated() {
+        if !text.is_empty() {
+            text.push(' ')?;
+        }
+        text.push_str(DENY_REST)?;
+    }
+    Ok(text)
 }

@@ -65,7 +65,10 @@ fn sames_of<A: Allocator>(alloc: A, ranges: &[UidMap]) -> Result<Vec<UidMap, A>,
 }
 
 /// The ids of the guest that no specification covers.
-fn uncovered<A: Allocator + Copy>(alloc: A, specs: &[Spec]) -> Result<Vec<Span, A>, AllocError>
+pub(crate) fn uncovered<A: Allocator + Copy>(
+    alloc: A,
+    specs: &[Spec],
+) -> Result<Vec<Span, A>, AllocError>
     ensures { IfOk result (λ ids. (id : ℕ) → Hold ids.items id ↔ IsUncovered specs.now id) }
 {
     let covers = covers_of(alloc, specs)?;
@@ -73,7 +76,7 @@ fn uncovered<A: Allocator + Copy>(alloc: A, specs: &[Spec]) -> Result<Vec<Span, 
 }
 
 /// Those of the ids inside the namespace of these ranges that are outside it the same.
-fn same_among<A: Allocator + Copy>(
+pub(crate) fn same_among<A: Allocator + Copy>(
     alloc: A,
     ranges: &[UidMap],
     ids: &[Span],

@@ -83,7 +83,8 @@ fn push_acl_name<A: Allocator + Copy>(
     map: &XattrMap<A>,
     name: AclName,
 ) -> Result<(), AllocError>
-    ensures { OnOk result (Adds (FindsAclName number map.now name) found.old.items found.new.items) }
+    ensures { OnOk result
+        (Adds (FindsAclName number map.now name) found.old.items found.new.items) }
 {
     let Some(host) = renamed(alloc, map, attribute(name))? else {
         return Ok(());

@@ -121,7 +121,7 @@ fn decides_from<A: Allocator>(map: &XattrMap<A>, place: usize) -> bool
 
 /// Whether some rule that the written rule at a place stands for decides a name. The last one stands
 /// for all rules of the map from its place on.
-fn decides_written<A: Allocator>(map: &XattrMap<A>, written: usize, place: usize) -> bool
+pub(crate) fn decides_written<A: Allocator>(map: &XattrMap<A>, written: usize, place: usize) -> bool
     requires { place < written }
     ensures { IsTrue result ↔ DecidesWritten map.now written place }
 {

@@ -110,7 +110,7 @@ impl<A: Allocator> XattrMap<A> {
 ///
 /// The result is `NoMap` if the bytes do not begin as an image does. For other bytes that are no
 /// image, any result is possible; a prepend in it is then some part of these bytes.
-#[inline]
+#[inline(always)]
 pub fn decide<'m>(image: &'m [u8], side: Side, name: &[u8]) -> Decision<'m>
     ensures closed { IsNoImage image.now → result ≡ Decision.NoMap }
     ensures says { (rules : List MappingRule) → IsImage rules image.now

@@ -23,8 +23,9 @@ impl<A: Allocator> XattrMap<A> {
         self.as_ref().len()
     }
 
-    /// The rule at a place, lent for reading inside the crate.
-    pub(crate) fn rule(&self, place: usize) -> Option<RuleRef<'_>>
+    /// The rule at a place of the list, counted from 0, lent for reading; `None` behind the last one.
+    /// Each `map` rule of the text is replaced by the rules that it is short for.
+    pub fn rule(&self, place: usize) -> Option<RuleRef<'_>>
         ensures here { option_map rule_meant result ≡ slice_get self.now place }
         ensures no_zero { IfSome result (λ rule. HasNoZero (rule_meant rule)) }
     {

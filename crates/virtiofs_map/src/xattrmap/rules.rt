@@ -2,7 +2,7 @@
 //! two or three rules that it is short for. The patterns of all rules stand in one memory.
 
 ghost use Rattle.std.specs.Option.{option_map};
-ghost use Rattle.std.specs.Prelude.{◌≡◌, ◌+◌, ◌<◌, ◌==◌, ℕ, List, ◌++◌, ◌∷◌, [], length, slice_get, IfOk, IsSomeAnd};
+ghost use Rattle.std.specs.Prelude.{◌≡◌, ◌↔◌, ◌+◌, ◌<◌, ◌==◌, ℕ, List, ◌++◌, ◌∷◌, [], length, slice_get, IfOk, IsSomeAnd, IsTrue};
 ghost use Rattle.std.specs.Prelude.{MatchOption, OnOk};
 ghost use Rattle.virtiofs_map.specs.NodeParts.{AreSpans, IsSpan};
 ghost use Rattle.virtiofs_map.specs.FirstRule.{acts, pattern};
@@ -15,12 +15,17 @@ use crate::xattrmap::spans::Span;
 use std::alloc::{AllocError, Allocator};
 use std::marker::Model;
 
-/// What a rule does with the names that it decides.
+/// What a rule does with the names that it decides: the type of the rule.
 #[derive(Clone, Copy, PartialEq, Eq, Debug)]
-pub(crate) enum RuleKind {
+pub enum RuleKind {
+    /// `prefix`: a name of the guest passes with the prepend before it, and one of the host is listed
+    /// without it.
     Prefix,
+    /// `ok`: it passes, or is listed, as it is.
     Okay,
+    /// `bad`: it is denied, or hidden.
     Bad,
+    /// `unsupported`: it is refused as unsupported, or hidden.
     Unsupported,
 }
 
@@ -54,18 +59,21 @@ impl RuleKind {
     }
 }
 
-/// A rule, lent for reading.
+/// A rule of a map, lent for reading.
 #[derive(Clone, Copy)]
-pub(crate) struct RuleRef<'m> {
-    pub(crate) kind: RuleKind,
+pub struct RuleRef<'m> {
+    /// What it does.
+    pub kind: RuleKind,
     pub(crate) scope: Scope,
-    pub(crate) key: &'m [u8],
-    pub(crate) prepend: &'m [u8],
+    /// What names of the guest are compared with.
+    pub key: &'m [u8],
+    /// What names of the host are compared with.
+    pub prepend: &'m [u8],
 }
 
 impl<'m> RuleRef<'m> {
     /// Whether the rule acts on that side.
-    pub(crate) fn acts_on(self, side: Side) -> bool
+    pub fn acts_on(self, side: Side) -> bool
         ensures { result ≡ acts side (rule_meant self.entry) }
     {
         self.scope.has(side)
@@ -82,8 +90,9 @@ impl<'m> RuleRef<'m> {
     }
 
     /// Whether the two rules are the same.
-    pub(crate) fn is_same(self, other: RuleRef<'_>) -> bool
-        ensures { result ≡ same_rule (rule_meant self.entry) (rule_meant other.entry) }
+    pub fn is_same(self, other: RuleRef<'_>) -> bool
+        ensures value { result ≡ same_rule (rule_meant self.entry) (rule_meant other.entry) }
+        ensures same { IsTrue result ↔ (rule_meant self.entry ≡ rule_meant other.entry) }
     {
         self.kind == other.kind
             && self.acts_on(Side::Client) == other.acts_on(Side::Client)

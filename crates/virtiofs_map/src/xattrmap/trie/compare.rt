@@ -5,30 +5,6 @@ ghost use Rattle.virtiofs_map.specs.FirstRule.{shared};
 
 use crate::xattrmap::le_u64::le_u64_at;
 
-/// The lowest bytes of a number of eight: none, one, and so on.
-static LOW_BYTES: [u64; 8] = [
-    0,
-    255,
-    65535,
-    16777215,
-    4294967295,
-    1099511627775,
-    281474976710655,
-    72057594037927935,
-];
-
-/// Whether two rows of eight bytes or more begin with the same few bytes.
-#[inline(always)]
-pub(crate) fn begins_alike(one: &[u8], other: &[u8], count: usize) -> bool
-    requires few { count < 8 }
-    requires one { 8 ≤ length one.now }
-    requires other { 8 ≤ length other.now }
-    ensures { IsTrue result ↔ (take count one.now ≡ take count other.now) }
-{
-    let mask = LOW_BYTES[count];
-    le_u64_at(one, 0) & mask == le_u64_at(other, 0) & mask
-}
-
 /// Whether two rows of bytes are the same, by their first `N` bytes and their last `N`.
 #[inline(always)]
 fn same_ends<const N: usize>(one: &[u8], other: &[u8]) -> bool
@@ -55,7 +31,7 @@ fn are_few_same(one: &[u8], other: &[u8]) -> bool
     ensures { IsTrue result ↔ (one.now ≡ other.now) }
 {
     if one.len() < 4 {
-        return one == other;
+        return are_same_by_one(one, other);
     }
     same_ends::<4>(one, other)
 }
@@ -119,7 +95,7 @@ pub(crate) fn are_same(one: &[u8], other: &[u8]) -> bool
 /// Whether two rows of a few bytes are the same.
 // (byte by byte, with no call)
 #[inline(always)]
-pub(crate) fn are_same_by_one(one: &[u8], other: &[u8]) -> bool
+fn are_same_by_one(one: &[u8], other: &[u8]) -> bool
     requires { length one.now ≡ length other.now }
     ensures { IsTrue result ↔ (one.now ≡ other.now) }
 {

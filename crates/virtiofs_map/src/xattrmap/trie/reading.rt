@@ -9,9 +9,7 @@ ghost use Rattle.virtiofs_map.specs.Steps.{count_after};
 ghost use Rattle.virtiofs_map.specs.declared.xattrmap.trie.node.Node.{Node};
 
 use crate::steps::Steps;
-use crate::xattrmap::trie::compare::{
-    are_same, are_same_by_one, begins_alike, common_prefix_length,
-};
+use crate::xattrmap::trie::compare::{are_same, common_prefix_length};
 use crate::xattrmap::trie::rows::{
     SPARSE, base_of, first_byte_of, is_sparse, label_of, length_of, low_byte_of, row_at, width_of,
 };
@@ -142,22 +140,6 @@ impl<'a> Rows<'a> {
         }
     }
 
-    /// Whether a row of bytes begins with a few bytes of the map from a place on, where one of them
-    /// may end within eight bytes.
-    #[inline(always)]
-    fn begins_at_end(self, row: &[u8], from: usize, count: usize) -> bool
-        requires from { from < 281474976710656 }
-        requires count { count < 8 }
-        requires long { count ≤ length row.now }
-        ensures { from + count ≤ length self.entry.image.now → IsTrue result
-            ↔ (take count row.now ≡ take count (drop from self.entry.image.now)) }
-    {
-        if from + count > self.image.len() {
-            return false;
-        }
-        are_same_by_one(&row[..count], &self.image[from..from + count])
-    }
-
     /// Whether a row of bytes begins with `count` bytes of the map from a place on.
     #[inline(always)]
     fn begins(self, row: &[u8], from: usize, count: usize) -> bool
@@ -167,12 +149,6 @@ impl<'a> Rows<'a> {
         ensures { from + count ≤ length self.entry.image.now → IsTrue result
             ↔ (take count row.now ≡ take count (drop from self.entry.image.now)) }
     {
-        if count < 8 {
-            if row.len() < 8 || from + 8 > self.image.len() {
-                return self.begins_at_end(row, from, count);
-            }
-            return begins_alike(row, &self.image[from..], count);
-        }
         if from + count > self.image.len() {
             return false;
         }

@@ -9,4 +9,5 @@ returns c = record {
   none_advised = c.in_ok-advised.ensures.untried;
   ends = c.outcome_of-outcome.ensures;
   quiet = c.in_ok-text.ensures;
+  told = rw c.as_slice.ensures.value at c.in_ok-refusals.ensures;
 }

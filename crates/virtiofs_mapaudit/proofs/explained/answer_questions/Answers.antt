@@ -5,4 +5,5 @@ returns c = record {
   all = c.in_ok-all.all;
   explains = c.in_ok-all.ensures;
   ends = rw c.as_slice.ensures.value at c.outcome_of-outcome.ensures;
+  told = rw c.as_slice-2.ensures.value at c.in_ok-refusals.ensures;
 }

@@ -3,7 +3,7 @@ use Rattle.virtiofs_findings.proofs.advice.better.is_new.Goals as goal
 
 pub returns-then-not-is_accepted : goal.returns-then-not-is_accepted
 returns-then-not-is_accepted g c =
-    let none = denied c.has_alike.result c.has_alike.ensures in (
+    let none = denied c.is_within_any.result c.is_within_any.ensures in (
       (λ is. (decides_not _ c.is_accepted.ensures c.if-not-is_accepted.true, none.0 is)),
       (λ new. none.1 new.1),
     )

@@ -1,10 +1,7 @@
 -- The lowest bytes of a number of eight bytes are the first ones of its row.
 use Rattle.std.proofs.Common.{◌≡◌, ℕ, zero, suc, ◌+◌, ◌-◌, ◌*◌, ◌/◌, ◌%◌, ◌^◌, ◌<◌, ◌≤◌, List, [], ◌∷◌, length, take, get_or, refl, sym, ap, ◌∙◌, arith}
 use Rattle.std.specs.Int.{w64, from_le_bytes}
-use Rattle.std.proofs.lemmas.Nat.{mod-pow-add, and_mask}
-use Rattle.std.specs.Prelude.{bit_and, IsTrue, ◌↔◌}
-use Rattle.std.proofs.Common.{eqb}
-use Rattle.std.proofs.lemmas.Bool.Decides.{Decides-eqb}
+use Rattle.std.proofs.lemmas.Nat.{mod-pow-add}
 use Rattle.std.proofs.Common.{drop, ◌++◌}
 use Rattle.std.proofs.lemmas.List.{length-take-le, length-drop, drop-drop, drop-take, take-take}
 use Rattle.virtiofs_map.specs.LeU64Parts.{le_u64_at}
@@ -53,48 +50,6 @@ there (suc c) (x ∷ xs) (y ∷ ys) one other a b e =
     ∙ ap (λ zs. y ∷ zs)
     (there c xs ys (λ k. one (suc k)) (λ k. other (suc k)) (omega (arith, a)) (omega (arith, b)) tail)
 
-first_byte_of : List ℕ → ℕ
-first_byte_of [] = 0
-first_byte_of (x ∷ xs) = x
-
-tail_of : List ℕ → List ℕ
-tail_of [] = []
-tail_of (x ∷ xs) = xs
-
-first_bytes : (x y : ℕ) (xs ys : List ℕ) → x ∷ xs ≡ y ∷ ys → x ≡ y
-unfolding first_byte_of
-first_bytes x y xs ys e = ap first_byte_of e
-
-tails : (x y : ℕ) (xs ys : List ℕ) → x ∷ xs ≡ y ∷ ys → xs ≡ ys
-unfolding tail_of
-tails x y xs ys e = ap tail_of e
-
-pub back : (c : ℕ) (xs ys : List ℕ) → AreBytes xs → AreBytes ys → c ≤ length xs → c ≤ length ys
-    → take c xs ≡ take c ys → low xs % 2 ^ (8 * c) ≡ low ys % 2 ^ (8 * c)
-back zero xs ys one other a b e = omega arith
-back (suc c) [] ys one other a b e = absurd (omega (arith, a))
-back (suc c) (x ∷ xs) [] one other a b e = absurd (omega (arith, b))
-back (suc c) (x ∷ xs) (y ∷ ys) one other a b e =
-    step x (low xs) c (one 0)
-    ∙ ap (λ m. m * 256 + x)
-    (back c xs ys (λ k. one (suc k)) (λ k. other (suc k)) (omega (arith, a)) (omega (arith, b))
-    (tails x y (take c xs) (take c ys) e))
-    ∙ ap (λ z. (low ys % 2 ^ (8 * c)) * 256 + z) (first_bytes x y (take c xs) (take c ys) e)
-    ∙ sym (step y (low ys) c (other 0))
-
-pub mask_of : (c : ℕ) → c < 8
-    → get_or (0 ∷ 255 ∷ 65535 ∷ 16777215 ∷ 4294967295 ∷ 1099511627775 ∷ 281474976710655 ∷ 72057594037927935 ∷ []) c 0
-    ≡ 2 ^ (8 * c) - 1
-mask_of zero few = refl
-mask_of (suc zero) few = refl
-mask_of (suc (suc zero)) few = refl
-mask_of (suc (suc (suc zero))) few = refl
-mask_of (suc (suc (suc (suc zero)))) few = refl
-mask_of (suc (suc (suc (suc (suc zero))))) few = refl
-mask_of (suc (suc (suc (suc (suc (suc zero)))))) few = refl
-mask_of (suc (suc (suc (suc (suc (suc (suc zero))))))) few = refl
-mask_of (suc (suc (suc (suc (suc (suc (suc (suc c)))))))) few = absurd (omega (arith, few))
-
 shorter : (c n : ℕ) (xs : List ℕ) → c ≤ n → take c (take n xs) ≡ take c xs
 shorter zero n xs le = refl
 shorter (suc c) zero xs le = absurd (omega (arith, le))
@@ -106,33 +61,6 @@ front_bytes zero xs one k = omega arith
 front_bytes (suc n) [] one k = omega arith
 front_bytes (suc n) (x ∷ xs) one zero = one 0
 front_bytes (suc n) (x ∷ xs) one (suc k) = front_bytes n xs (λ i. one (suc i)) k
-
--- masked words are the same exactly where their first bytes are
-pub agree : (c m n mask : ℕ) (xs ys : List ℕ) → c < 8 → AreBytes xs → AreBytes ys → 8 ≤ length xs → 8 ≤ length ys
-    → m ≡ from_le_bytes w64 (take 8 xs) → n ≡ from_le_bytes w64 (take 8 ys) → mask ≡ 2 ^ (8 * c) - 1
-    → IsTrue (eqb (bit_and m mask) (bit_and n mask)) ↔ (take c xs ≡ take c ys)
-agree c m n mask xs ys few one other a b word label is =
-    let first : bit_and m mask ≡ low (take 8 xs) % 2 ^ (8 * c) =
-    ap (λ k. bit_and m k) is ∙ and_mask m (8 * c) ∙ ap (λ k. k % 2 ^ (8 * c)) (word ∙ eight_low xs) in
-    let second : bit_and n mask ≡ low (take 8 ys) % 2 ^ (8 * c) =
-    ap (λ k. bit_and n k) is ∙ and_mask n (8 * c) ∙ ap (λ k. k % 2 ^ (8 * c)) (label ∙ eight_low ys) in
-    let test = Decides-eqb (bit_and m mask) (bit_and n mask) in
-    let long : c ≤ length (take 8 xs) = let k = length-take-le 8 xs a in omega (arith, k, few) in
-    let long' : c ≤ length (take 8 ys) = let k = length-take-le 8 ys b in omega (arith, k, few) in
-    let le : c ≤ 8 = omega (arith, few) in
-    let bytes = front_bytes 8 xs one in
-    let bytes' = front_bytes 8 ys other in (
-      λ yes.
-          sym (shorter c 8 xs le)
-          ∙ there c (take 8 xs) (take 8 ys) bytes bytes' long long' (sym first ∙ test.0 yes ∙ second)
-          ∙ shorter c 8 ys le,
-      λ same.
-          test.1 (
-          first
-          ∙ back c (take 8 xs) (take 8 ys) bytes bytes' long long'
-          (shorter c 8 xs le ∙ same ∙ sym (shorter c 8 ys le))
-          ∙ sym second),
-    )
 
 -- ---- whole words
 

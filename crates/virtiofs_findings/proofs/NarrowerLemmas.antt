@@ -1,0 +1,220 @@
+-- Options that only take away.
+use Rattle.std.proofs.Common.{◌≡◌, ◌⊎◌, ◌↔◌, refl, inl, inr, ℕ, ◌+◌, ◌<◌, ◌≤◌, Bool, true, false, not, cond, ltb, List, [], ◌∷◌, ◌++◌, length, take, get_or, slice_get, Option, Some, None, sym, ap, ◌∙◌, subst, arith, zero, suc, Vec, Result, Ok, Err, IfOk}
+use Rattle.std.specs.List.{AllZip, find, position, position_or_len}
+use Rattle.std.specs.Option.{option_or, option_map_or}
+use Rattle.std.proofs.lemmas.Bool.{lt-ltb}
+use Rattle.std.proofs.lemmas.List.{take_all, take_more}
+use Rattle.std.proofs.lemmas.List.Folds.{find-append}
+use Rattle.std.proofs.lemmas.Option.{get_or_from_slice_get, none-some, slice_get_within}
+use Rattle.virtiofs_id_audit.specs.Mending.{IsBad, Mends}
+use Rattle.virtiofs_map.specs.Audit.{Decides}
+use Rattle.virtiofs_map.specs.MapRule.{IsName}
+use Rattle.virtiofs_map.specs.Mapping.{Becomes}
+use Rattle.virtiofs_map.specs.Names.{fits, deciding, answer_by, client_answer, IsDenied, IsUnterminated, host_answer_by, host_answer, IsHidden, IsUndecided}
+use Rattle.virtiofs_map.specs.Rule.{MappingRule}
+use Rattle.virtiofs_map.specs.declared.cmdline.IdMap.{IdMap}
+use Rattle.virtiofs_map.specs.declared.soft_idmap.entry.Direction.TheVariants.{GuestToHost, HostToGuest}
+use Rattle.virtiofs_map.specs.declared.xattrmap.scopes.Side.{Side}
+use Rattle.virtiofs_map.specs.declared.xattrmap.scopes.Side.TheVariants.{Client, Server}
+use Rattle.virtiofs_map.proofs.ForCallers.{AllZip-push, Becomes-forbidden, deciding-find}
+use Rattle.virtiofs_findings.specs.Guests.{SetsUp}
+use Rattle.virtiofs_findings.specs.Narrower.{NarrowerIds, NarrowerNames, NarrowerSet, SameRest, IsNarrower, AreNarrower, deny_all}
+use Rattle.virtiofs_findings.specs.NarrowerParts.{EndsAt, IsSameAt}
+use Rattle.virtiofs_findings.specs.declared.guest.Guest.{Guest}
+use Rattle.virtiofs_findings.specs.declared.setup.SetUp.{SetUp}
+
+-- ---- ids
+
+-- the given specifications take nothing away
+pub narrower_self : (specs other : List IdMap) → other ≡ specs → NarrowerIds specs other
+narrower_self specs other same = subst (NarrowerIds specs) (sym same)
+    (record { guest = λ guest value is. inr is; host = λ host value. ((λ is. is), (λ is. is)) })
+
+-- where ids are forbidden, the others become what they became
+kept_or_not : (specs : List IdMap) (bad : ℕ → Type 0) (mended : List IdMap) → Mends specs bad mended → (guest : ℕ)
+    (value : Option ℕ) → Becomes mended GuestToHost guest value → (value ≡ None) ⊎ Becomes specs GuestToHost guest value
+kept_or_not specs bad mended mends guest None is = inl refl
+kept_or_not specs bad mended mends guest (Some host) is = inr ((mends.keeps guest (Some host)
+    (λ is_bad. Becomes-forbidden mended GuestToHost guest host mends.accepted is
+    ((mends.forbids guest).1 (inr is_bad)))).0 is)
+
+pub narrower_mended : (specs : List IdMap) (bad : ℕ → Type 0) (mended : List IdMap) → Mends specs bad mended
+    → NarrowerIds specs mended
+narrower_mended specs bad mended mends =
+    record { guest = kept_or_not specs bad mended mends; host = λ host value. mends.leaves host value }
+
+pub narrower_made : {A E : Type 0} (r : Result (Vec IdMap A) E) (specs : List IdMap) (bad : ℕ → Type 0)
+    → IfOk r (λ mended. Mends specs bad mended.items) → IfOk r (λ mended. NarrowerIds specs mended.items)
+narrower_made (Ok made) specs bad mends = narrower_mended specs bad made.items mends
+narrower_made (Err e) specs bad mends = tt
+
+-- ---- names
+
+-- the first place of which it holds
+first_or_later : {X : Type 0} (p : X → Bool) (x : X) (xs : List X) (i : ℕ) (holds : Bool) → holds ≡ p x
+    → cond holds (Some x) (find p (take i xs)) ≡ None → (find p (take i xs) ≡ None → position_or_len p xs ≡ i)
+    → position_or_len p (x ∷ xs) ≡ suc i
+first_or_later p x xs i true here none later = absurd (none-some x (sym none))
+first_or_later p x xs i false here none later =
+    let more : 1 + i ≡ suc i = omega arith in
+    ap (λ b. cond (not b) (1 + position_or_len p xs) 0) (sym here) ∙ ap (λ n. 1 + n) (later none) ∙ more
+
+first_place : {X : Type 0} (p : X → Bool) (xs : List X) (i : ℕ) (d : X) → i < length xs → find p (take i xs) ≡ None
+    → p (get_or xs i d) ≡ true → position_or_len p xs ≡ i
+first_place p [] i d lt none holds = absurd (omega arith)
+first_place p (x ∷ xs) zero d lt none holds = ap (λ b. cond (not b) (1 + position_or_len p xs) 0) holds
+first_place p (x ∷ xs) (suc i) d lt none holds = first_or_later p x xs i (p x) refl none
+    (λ rest. first_place p xs i d (omega arith) rest holds)
+
+position_here : {X : Type 0} (p : X → Bool) (xs : List X) (i : ℕ) (d : X) → i < length xs → find p (take i xs) ≡ None
+    → p (get_or xs i d) ≡ true → position p xs ≡ Some i
+position_here p xs i d lt none holds =
+    ap (λ n. cond (ltb n (length xs)) (Some n) None) (first_place p xs i d lt none holds)
+    ∙ ap (λ b. cond b (Some i) None) (lt-ltb i (length xs) lt)
+
+-- so far the given rules and the other ones decide the same names, by the same rules
+pub record AgreeSoFar (given : List MappingRule) (place : ℕ) (other : List MappingRule) (at : ℕ) : Type 0 where
+  pub within : at ≤ length other
+  pub few : at ≤ place
+  pub alike : (side : Side) (name : List ℕ) → IsName name
+      → find (fits side name) (take at other) ≡ find (fits side name) (take place given)
+
+pub agree_none : (given other : List MappingRule) → AgreeSoFar given 0 other 0
+agree_none given other = record { within = omega arith; few = omega arith; alike = λ side name is. refl }
+
+-- one more at both places
+found_more : {X : Type 0} (p : X → Bool) (xs : List X) (i : ℕ) (x : X) → slice_get xs i ≡ Some x
+    → find p (take (i + 1) xs) ≡ option_or (find p (take i xs)) (find p (x ∷ []))
+found_more p xs i x here =
+    ap (find p) (take_more xs i x (slice_get_within xs i x here)
+    ∙ ap (λ y. take i xs ++ y ∷ []) (get_or_from_slice_get xs i x x here))
+    ∙ find-append p (take i xs) (x ∷ [])
+
+pub agree_kept : (given : List MappingRule) (place : ℕ) (other : List MappingRule) (at : ℕ)
+    → AgreeSoFar given place other at → IsSameAt given place other at → AgreeSoFar given (place + 1) other (at + 1)
+agree_kept given place other at agree same =
+    let inside = slice_get_within other at same.rule same.there in record {
+      within = omega (arith, inside);
+      few = omega (arith, agree.few);
+      alike = λ side name is.
+          found_more (fits side name) other at same.rule same.there
+          ∙ ap (λ found. option_or found (find (fits side name) (same.rule ∷ []))) (agree.alike side name is)
+          ∙ sym (found_more (fits side name) given place same.rule same.here);
+    }
+
+-- a rule that decides no name makes no difference
+left_out : (given : List MappingRule) (place : ℕ) (rule : MappingRule) (side : Side) (name : List ℕ) → IsName name
+    → slice_get given place ≡ Some rule → ¬ Decides given place → (found : Option MappingRule)
+    → found ≡ find (fits side name) (take place given) → (fit : Bool) → fit ≡ fits side name rule
+    → option_or found (cond fit (Some rule) None) ≡ found
+left_out given place rule side name is here idle None none true fit = absurd (idle (
+  side,
+  record {
+    name = name;
+    is_name = is;
+    is_first = position_here (fits side name) given place rule (slice_get_within given place rule here) (sym none)
+        (ap (fits side name) (get_or_from_slice_get given place rule rule here) ∙ sym fit);
+  },
+))
+left_out given place rule side name is here idle None none false fit = refl
+left_out given place rule side name is here idle (Some one) some fit is_fit = refl
+
+pub agree_dropped : (given : List MappingRule) (place : ℕ) (rule : MappingRule) (other : List MappingRule) (at : ℕ)
+    → AgreeSoFar given place other at → slice_get given place ≡ Some rule → ¬ Decides given place
+    → AgreeSoFar given (place + 1) other at
+agree_dropped given place rule other at agree here idle = record {
+  within = agree.within;
+  few = omega (arith, agree.few);
+  alike = λ side name is.
+      agree.alike side name is
+      ∙ sym (left_out given place rule side name is here idle (find (fits side name) (take place given)) refl
+      (fits side name rule) refl)
+      ∙ sym (found_more (fits side name) given place rule here);
+}
+
+-- what decides a name is what decided it, or denies it where nothing did
+denied_or_same : (given : List MappingRule) (other : List MappingRule) (at : ℕ)
+    → AgreeSoFar given (length given) other at → EndsAt other at → (side : Side) (name : List ℕ) → IsName name
+    → (deciding side other name ≡ deciding side given name)
+    ⊎ (deciding side other name ≡ option_or (deciding side given name) (Some deny_all))
+denied_or_same given other at agree ends side name is =
+    let so_far = agree.alike side name is ∙ ap (find (fits side name)) (take_all (length given) given (omega arith))
+    ∙ sym (deciding-find side given name) in
+    elim ends [
+      | inl all ↦ inl (deciding-find side other name
+          ∙ ap (find (fits side name)) (sym (take_all at other (omega (arith, all)))) ∙ so_far)
+      | inr last ↦ inr (deciding-find side other name
+          ∙ ap (find (fits side name)) (sym (take_all (at + 1) other (omega (arith, last.0))))
+          ∙ found_more (fits side name) other at deny_all last.1
+          ∙ ap (λ found. option_or found (find (fits side name) (deny_all ∷ []))) so_far
+          ∙ ap (option_or (deciding side given name)) (denies side name))
+    ]
+  where
+    denies : (side : Side) (name : List ℕ) → find (fits side name) (deny_all ∷ []) ≡ Some deny_all
+    denies Client name = refl
+    denies Server name = refl
+
+client_of : (name : List ℕ) (before after : Option MappingRule) → after ≡ option_or before (Some deny_all)
+    → let answer = option_map_or (λ (rule : MappingRule). answer_by rule.kind rule.prepend name) in
+    (answer after IsUnterminated ≡ answer before IsUnterminated)
+    ⊎ ((answer before IsUnterminated ≡ IsUnterminated) × (answer after IsUnterminated ≡ IsDenied))
+client_of name None after is =
+    inr (refl, ap (λ it. option_map_or (λ (rule : MappingRule). answer_by rule.kind rule.prepend name) it IsUnterminated) is)
+client_of name (Some rule) after is =
+    inl (ap (λ it. option_map_or (λ (rule : MappingRule). answer_by rule.kind rule.prepend name) it IsUnterminated) is)
+
+server_of : (name : List ℕ) (before after : Option MappingRule) → after ≡ option_or before (Some deny_all)
+    → let answer = option_map_or (λ (rule : MappingRule). host_answer_by rule.kind rule.prepend name) in
+    (answer after IsUndecided ≡ answer before IsUndecided)
+    ⊎ ((answer before IsUndecided ≡ IsUndecided) × (answer after IsUndecided ≡ IsHidden))
+server_of name None after is =
+    inr (refl, ap (λ it. option_map_or (λ (rule : MappingRule). host_answer_by rule.kind rule.prepend name) it IsUndecided) is)
+server_of name (Some rule) after is =
+    inl (ap (λ it. option_map_or (λ (rule : MappingRule). host_answer_by rule.kind rule.prepend name) it IsUndecided) is)
+
+pub narrower_rules : (given other : List MappingRule) (place at : ℕ) → length given ≤ place → place ≤ length given
+    → AgreeSoFar given place other at → EndsAt other at → NarrowerNames given other
+narrower_rules given other place at past within agree ends =
+    let all = subst (λ n. AgreeSoFar given n other at) (omega (arith, past, within)) agree in record {
+      client = λ name is. elim (denied_or_same given other at all ends Client name is) [
+        | inl same ↦ inl (ap (λ it. option_map_or (λ (rule : MappingRule). answer_by rule.kind rule.prepend name) it
+            IsUnterminated) same)
+        | inr more ↦ client_of name (deciding Client given name) (deciding Client other name) more
+      ];
+      server = λ name is. elim (denied_or_same given other at all ends Server name is) [
+        | inl same ↦ inl (ap (λ it. option_map_or (λ (rule : MappingRule). host_answer_by rule.kind rule.prepend name) it
+            IsUndecided) same)
+        | inr more ↦ server_of name (deciding Server given name) (deciding Server other name) more
+      ];
+    }
+
+-- ---- guests
+
+pub all_narrower_more : {X Y : Type 0} (R : X → Y → Type 0) (xs : List X) (ys : List Y) (i : ℕ) (x : X) (y : Y)
+    → i < length xs → i < length ys → x ≡ get_or xs i x → y ≡ get_or ys i y → AllZip R (take i xs) (take i ys) → R x y
+    → AllZip R (take (i + 1) xs) (take (i + 1) ys)
+all_narrower_more R xs ys i x y in_xs in_ys here there all one =
+    subst (λ z. AllZip R z (take (i + 1) ys)) (sym (take_more xs i x in_xs ∙ ap (λ z. take i xs ++ z ∷ []) (sym here)))
+    (subst (AllZip R (take i xs ++ x ∷ [])) (sym (take_more ys i y in_ys ∙ ap (λ z. take i ys ++ z ∷ []) (sym there)))
+    (AllZip-push R (take i xs) (take i ys) x y all one))
+
+-- what holds of what the options set up, and of the rest, holds of the guests
+pub are_narrower : {A : Type 0} (given others : List (Guest A)) (sets other_sets : List (SetUp A))
+    → AllZip SetsUp given sets → AllZip SetsUp others other_sets → AllZip SameRest given others
+    → AllZip NarrowerSet sets other_sets → AreNarrower given others
+are_narrower [] [] sets other_sets sets_up others_set_up rest narrower = tt
+are_narrower [] (o ∷ others) sets other_sets sets_up others_set_up rest narrower = absurd rest
+are_narrower (g ∷ given) [] sets other_sets sets_up others_set_up rest narrower = absurd rest
+are_narrower (g ∷ given) (o ∷ others) [] other_sets sets_up others_set_up rest narrower = absurd sets_up
+are_narrower (g ∷ given) (o ∷ others) (s ∷ sets) [] sets_up others_set_up rest narrower = absurd others_set_up
+are_narrower (g ∷ given) (o ∷ others) (s ∷ sets) (t ∷ other_sets) sets_up others_set_up rest narrower = (
+  record {
+    rest = rest.0;
+    set = s;
+    other_set = t;
+    sets_up = sets_up.0;
+    other_sets_up = others_set_up.0;
+    narrower = narrower.0;
+  },
+  are_narrower given others sets other_sets sets_up.1 others_set_up.1 rest.1 narrower.1,
+)

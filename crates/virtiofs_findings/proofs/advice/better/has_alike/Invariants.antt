@@ -1,8 +1,0 @@
--- none of the others so far is like it
-use Rattle.std.proofs.Common.{take}
-use Rattle.virtiofs_findings.specs.Advice.{AreAlike}
-use Rattle.virtiofs_findings.specs.Lists.{AnyHas}
-use Rattle.virtiofs_findings.proofs.advice.better.has_alike.Given as goal
-
-abbrev pub invariant-loop-other : goal.invariant-loop-other
-invariant-loop-other g l = ¬ AnyHas (AreAlike l.finding) (take l.other-index l.others)
