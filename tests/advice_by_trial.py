@@ -9,7 +9,7 @@ or a pair of guests, no id that it did not have, and fewer kinds or ids than bef
 knows nothing of the program, each id at a boundary becomes what it became or is forbidden, each name of some 200 passes and
 is listed as before, or is denied and hidden where no rule decided it, and all else is as it was. No id is left that does not
 round-trip, that the namespace lacks, or that keeps its number under `--isolated`, but where access control lists are on and
-nothing is translated, where a range of the namespace is at fault, and the daemon's own in a namespace of one. The last line
+nothing is translated, where a range of the namespace is at fault, and the only id of a namespace that has one. The last line
 is 'N passed, N failed'.
 """
 import json
@@ -209,12 +209,14 @@ def fault(program, words):
     for one, other in zip(guests_in(words), options):
         if more := opened(one, other):
             return f"opened: {more}"
+    ranges = lambda it: values("--uid-map" if it["ids"] == "users" else "--gid-map", options[it["guest"] - 1])
+    is_own = lambda it: it["kind"] == "kept" and [one.split(":")[3] for one in ranges(it)] in ([], ["1"])
     at_fault = {(it["guest"], it["ids"]) for it in told["findings"] if it["kind"] == "range"}
     kept = [number for number, one in enumerate(options, 1) if "--posix-acl" in one]
     bad = [
         it for it in advised["findings"]
         if it["kind"] in ("not_back", "lacking", "kept") and it["guest"] not in kept and (it["guest"], it["ids"]) not in at_fault
-        and not (it["kind"] == "kept" and ids_of(it)[0][1] == ids_of(it)[-1][2])
+        and not (is_own(it) and ids_of(it)[0][1] == ids_of(it)[-1][2])
     ]
     return f"ids are left: {bad}" if bad else ""
 
