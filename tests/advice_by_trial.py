@@ -8,9 +8,9 @@ shell reads them. An audit of them refuses nothing and finds what was said to be
 or a pair of guests, no id that it did not have, and fewer kinds or ids than before. By a reading of the options here, which
 knows nothing of the program, each id at a boundary becomes what it became or is forbidden, each name of some 200 passes and
 is listed as before, or is denied and hidden where no rule decided it, and all else is as it was. No id is left that does not
-round-trip, that the namespace lacks, or that keeps its number under `--isolated`, but where access control lists are on and
-nothing is translated, where a range of the namespace is at fault, and the only id of a namespace that has one. The last line
-is 'N passed, N failed'.
+round-trip, that the namespace lacks, or that keeps its number under `--isolated`, but where that is accepted, where access
+control lists are on, where a range of the namespace is at fault, and the only id of a namespace that has one; and what is
+accepted of ids stays. The last line is 'N passed, N failed'.
 """
 import json
 import os
@@ -25,6 +25,8 @@ from tally import Tally
 
 SEED, TRIALS, SECONDS, ISOLATED = 58, 3000, 60, "--isolated"
 LOW, HIGH = list(range(0, 12)), [4294967290, 4294967293, 4294967294]
+OF_IDS = ("not_back", "lacking", "kept")
+KINDS = (*OF_IDS, "root", "posix_acl", "acl_untranslated", "no_rule", "idle_rule")
 SCOPES, TYPES = ("client", "server", "all"), ("ok", "bad", "prefix", "unsupported")
 PIECES = ("", "", "user.", "user.a.", "trusted.", "security.", "system.", "u", "it's ", "é", "\x01")
 
@@ -51,8 +53,7 @@ def guest(random):
     if random.random() < 0.5:
         last = random.choice((["/map//user.g./"], ["/map/system./user.v./"], ["/map/user./v./"], [rule(random)], ["/bad/all///"], ["/ok/all///"]))
         yield from ("--xattrmap", " ".join([rule(random) for _ in range(random.choice((0, 1, 2, 3)))] + last))
-    if random.random() < 0.2:
-        yield "--posix-acl"
+    yield from random.choice(([],) * 8 + (["--posix-acl"], ["--posix-acl"], ["-o", "posix_acl"]))
 
 
 def command_lines(guests):
@@ -61,11 +62,14 @@ def command_lines(guests):
 
 
 def guests(random):
-    """The words of one to three guests, of which some have the same options. Half of the time they are isolated."""
+    """The words of one to three guests, of which some have the same options. Half of the time they are isolated, some kinds
+    of findings are accepted, or it is said who starts the daemons."""
     made = [list(guest(random))]
     for _ in range(random.choice((0, 0, 1, 2))):
         made.append(random.choice(made) if random.random() < 0.3 else list(guest(random)))
-    return [*random.choice(([], [ISOLATED])), *command_lines(made)]
+    own = random.choice(([], [ISOLATED])) + [f"--accept={kind}" for kind in random.sample(KINDS, random.choice((0, 0, 1, 2)))]
+    own += random.choice(([], [], ["--run-as=0:0"], ["--run-as=1000:1000", "--subuid=/dev/null", "--subgid=/dev/null"]))
+    return [*own, *command_lines(made)]
 
 
 def guests_in(words):
@@ -152,12 +156,16 @@ def decided(rules, side, name):
     return None
 
 
+def has_acl(words):
+    return "--posix-acl" in words or "posix_acl" in values("-o", words)
+
+
 def opened(given, other):
     """What other options of a guest allow that the given ones do not, by a reading of both."""
     for option in ("--uid-map", "--gid-map"):
         if values(option, given) != values(option, other):
             return f"other values of {option}"
-    if "--posix-acl" in other and "--posix-acl" not in given:
+    if has_acl(other) and not has_acl(given):
         return "ACLs"
     for option in ("--translate-uid", "--translate-gid"):
         before, after = values(option, given), values(option, other)
@@ -197,14 +205,15 @@ def fault(program, words):
     mended = as_mend_says(mend)
     if shown != alike or mended != options:
         return f"text, JSON and --mend differ: {shown}, {options}, {mended}"
-    isolated = [ISOLATED] if words[0] == ISOLATED else []
-    after_status, after = answer(program, ["--json", *isolated, *command_lines(options)])
+    after_status, after = answer(program, ["--json", *words[: words.index("--")], *command_lines(options)])
     after, before, left = json.loads(after), kinds(told["findings"]), kinds(advised["findings"])
-    if after["refused"] or after["findings"] != advised["findings"] or {after_status, mend_status} != {5 if left else 0}:
+    counting = [it for it in told["findings"] if not it["accepted"]]
+    wanted = 0 if all(it["accepted"] for it in advised["findings"]) else 5
+    if after["refused"] or after["findings"] != advised["findings"] or {after_status, mend_status} != {wanted}:
         return f"applied, they give {after}"
     if not left <= before or not are_within(advised["findings"], told["findings"]):
         return f"more is found: {advised['findings']} after {told['findings']}"
-    if left == before and are_within(told["findings"], advised["findings"]):
+    if kinds(counting) <= left and are_within(counting, advised["findings"]):
         return f"not less is found: {left} after {before}"
     for one, other in zip(guests_in(words), options):
         if more := opened(one, other):
@@ -212,13 +221,27 @@ def fault(program, words):
     ranges = lambda it: values("--uid-map" if it["ids"] == "users" else "--gid-map", options[it["guest"] - 1])
     is_own = lambda it: it["kind"] == "kept" and [one.split(":")[3] for one in ranges(it)] in ([], ["1"])
     at_fault = {(it["guest"], it["ids"]) for it in told["findings"] if it["kind"] == "range"}
-    kept = [number for number, one in enumerate(options, 1) if "--posix-acl" in one]
+    kept = [number for number, one in enumerate(options, 1) if has_acl(one)]
+    stay = {(it["guest"], it["ids"]) for it in told["findings"] if it["kind"] == "not_back" and it["accepted"]}
     bad = [
         it for it in advised["findings"]
-        if it["kind"] in ("not_back", "lacking", "kept") and it["guest"] not in kept and (it["guest"], it["ids"]) not in at_fault
-        and not (is_own(it) and ids_of(it)[0][1] == ids_of(it)[-1][2])
+        if it["kind"] in OF_IDS and not it["accepted"] and it["guest"] not in kept and (it["guest"], it["ids"]) not in at_fault
+        and not (is_own(it) and ids_of(it)[0][1] == ids_of(it)[-1][2]) and not (it["kind"] == "lacking" and (it["guest"], it["ids"]) in stay)
     ]
-    return f"ids are left: {bad}" if bad else ""
+    if bad:
+        return f"ids are left: {bad}"
+    counted = {(it["guest"], *ids) for it in counting if it["kind"] in OF_IDS for ids in ids_of(it)}
+    for it in told["findings"]:
+        for ids, first, last in ids_of(it) if it["accepted"] and it["kind"] in OF_IDS else ():
+            option = "--translate-uid" if ids == "users" else "--translate-gid"
+            specs = [values(option, one) for one in (guests_in(words)[it["guest"] - 1], options[it["guest"] - 1])]
+            for one in (first, last):
+                of_others = any(whose == (it["guest"], ids) and a <= one <= b for *whose, a, b in counted for whose in [tuple(whose)])
+                was = becomes(specs[0], True, one)
+                # (an id that also does not come back may be forbidden for that)
+                if not of_others and was != becomes(specs[1], True, one) and (it["kind"] == "not_back" or becomes(specs[0], False, was) == one):
+                    return f"{it['kind']} is accepted, and {option} {one} changes"
+    return ""
 
 
 def main(words):

@@ -115,6 +115,16 @@ def see_names(tally, page):
         tally.see(f"{page.name} names {it}", not LEFT_OPEN.search(it) and not any(TOP.glob(it)) and "it is not there")
 
 
+def kinds_differ(name, page, environment):
+    """The kinds of findings of the manual page and of the completion, where they are not those that `--accept` takes."""
+    said = subprocess.run([name, "--accept", "?", "--posix-acl"], capture_output=True, text=True, env=environment).stderr
+    told = sorted(re.findall(r"'(\w+)'", said.partition("it has ")[2]))
+    of_page = sorted(re.findall(r'^\.BR (\w+) " \(guest', section(page, "JSON"), re.M))
+    of_words = re.search(r"--accept\)\n(.*?);;", (TOP / f"completions/{name}.bash").read_text("utf-8"), re.S)[1]
+    completed = sorted(re.findall(r"\w+", " ".join(re.findall(r'"(.*)"', of_words))))
+    return not (told == of_page == completed) and f"--accept takes {told}, the page has {of_page}, the completion {completed}"
+
+
 def see_build(tally, programs, shown, asked):
     """Runs commands with these programs, which one compiler built, first on the path."""
     with tempfile.TemporaryDirectory(prefix="path-") as room:
@@ -122,6 +132,8 @@ def see_build(tally, programs, shown, asked):
         for it in programs:
             os.symlink(it.absolute(), f"{room}/{it.stem}")
             tally.see(f"forms and options, by {it.name}", lacks(it.stem, shown[it.stem], environment))
+            if it.stem == "virtiofs_mapaudit":
+                tally.see(f"kinds, by {it.name}", kinds_differ(it.stem, shown[it.stem], environment))
         for command, wanted in asked:
             if wanted is None:
                 tally.see(f"{command}, by {programs[0].name}", daemon_differs(command, environment, room))

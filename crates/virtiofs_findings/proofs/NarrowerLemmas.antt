@@ -1,24 +1,26 @@
 -- Options that only take away.
-use Rattle.std.proofs.Common.{◌≡◌, ◌⊎◌, ◌↔◌, refl, inl, inr, ℕ, ◌+◌, ◌<◌, ◌≤◌, Bool, true, false, not, cond, ltb, List, [], ◌∷◌, ◌++◌, length, take, get_or, slice_get, Option, Some, None, sym, ap, ◌∙◌, subst, arith, zero, suc, Vec, Result, Ok, Err, IfOk}
+use Rattle.std.proofs.Common.{◌≡◌, ◌⊎◌, refl, inl, inr, ℕ, ◌+◌, ◌<◌, ◌≤◌, Bool, true, false, not, cond, ltb, List, [], ◌∷◌, ◌++◌, length, take, get_or, slice_get, Option, Some, None, sym, ap, ◌∙◌, subst, arith, zero, suc, Vec, Result, Ok, Err, IfOk}
 use Rattle.std.specs.List.{AllZip, find, position, position_or_len}
 use Rattle.std.specs.Option.{option_or, option_map_or}
 use Rattle.std.proofs.lemmas.Bool.{lt-ltb}
 use Rattle.std.proofs.lemmas.List.{take_all, take_more}
+use Rattle.std.proofs.lemmas.List.Elements.{AllZip-get_or, Contains-append_left, Contains-push_cases}
 use Rattle.std.proofs.lemmas.List.Folds.{find-append}
-use Rattle.std.proofs.lemmas.Option.{get_or_from_slice_get, none-some, slice_get_within}
-use Rattle.virtiofs_id_audit.specs.Mending.{IsBad, Mends}
+use Rattle.std.proofs.lemmas.Option.{get_or_from_slice_get, none-some, slice_get-get_or, slice_get_within}
+use Rattle.virtiofs_id_audit.specs.Mending.{Mends}
 use Rattle.virtiofs_map.specs.Audit.{Decides}
 use Rattle.virtiofs_map.specs.MapRule.{IsName}
-use Rattle.virtiofs_map.specs.Mapping.{Becomes}
-use Rattle.virtiofs_map.specs.Names.{fits, deciding, answer_by, client_answer, IsDenied, IsUnterminated, host_answer_by, host_answer, IsHidden, IsUndecided}
+use Rattle.virtiofs_map.specs.Mapping.{Becomes, Covers, Maps}
+use Rattle.virtiofs_map.specs.Names.{fits, deciding, answer_by, IsDenied, IsUnterminated, host_answer_by, IsHidden, IsUndecided}
 use Rattle.virtiofs_map.specs.Rule.{MappingRule}
 use Rattle.virtiofs_map.specs.declared.cmdline.IdMap.{IdMap}
+use Rattle.virtiofs_map.specs.declared.cmdline.IdMap.TheVariants.{ForbidGuest}
 use Rattle.virtiofs_map.specs.declared.soft_idmap.entry.Direction.TheVariants.{GuestToHost, HostToGuest}
 use Rattle.virtiofs_map.specs.declared.xattrmap.scopes.Side.{Side}
 use Rattle.virtiofs_map.specs.declared.xattrmap.scopes.Side.TheVariants.{Client, Server}
 use Rattle.virtiofs_map.proofs.ForCallers.{AllZip-push, Becomes-forbidden, deciding-find}
 use Rattle.virtiofs_findings.specs.Guests.{SetsUp}
-use Rattle.virtiofs_findings.specs.Narrower.{NarrowerIds, NarrowerNames, NarrowerSet, SameRest, IsNarrower, AreNarrower, deny_all}
+use Rattle.virtiofs_findings.specs.Narrower.{NarrowerIds, NarrowerNames, NarrowerSet, SameRest, AreNarrower, deny_all}
 use Rattle.virtiofs_findings.specs.NarrowerParts.{EndsAt, IsSameAt}
 use Rattle.virtiofs_findings.specs.declared.guest.Guest.{Guest}
 use Rattle.virtiofs_findings.specs.declared.setup.SetUp.{SetUp}
@@ -47,6 +49,55 @@ pub narrower_made : {A E : Type 0} (r : Result (Vec IdMap A) E) (specs : List Id
     → IfOk r (λ mended. Mends specs bad mended.items) → IfOk r (λ mended. NarrowerIds specs mended.items)
 narrower_made (Ok made) specs bad mends = narrower_mended specs bad made.items mends
 narrower_made (Err e) specs bad mends = tt
+
+-- one more specification that forbids ids takes away
+more_forbidden : (given specs : List IdMap) (first count guest : ℕ) (value : Option ℕ) → NarrowerIds given specs
+    → Becomes (specs ++ ForbidGuest first count ∷ []) GuestToHost guest value
+    → (value ≡ None) ⊎ Becomes given GuestToHost guest value
+more_forbidden given specs first count guest value narrower (inl (spec, listed, maps)) =
+    elim (Contains-push_cases specs (ForbidGuest first count) spec listed) [
+      | inl before ↦ narrower.guest guest value (inl (spec, before, maps))
+      | inr last ↦ inl (sym (subst (λ it. Maps it GuestToHost guest value) (sym last) maps).1)
+    ]
+more_forbidden given specs first count guest value narrower (inr (none, same)) =
+    narrower.guest guest value (inr (
+      (λ spec listed. none spec
+          (Contains-append_left specs (ForbidGuest first count ∷ []) spec listed)),
+      same,
+    ))
+
+host_as_before : (specs : List IdMap) (first count host : ℕ) (value : Option ℕ)
+    → Becomes (specs ++ ForbidGuest first count ∷ []) HostToGuest host value → Becomes specs HostToGuest host value
+host_as_before specs first count host value (inl (spec, listed, maps)) =
+    elim (Contains-push_cases specs (ForbidGuest first count) spec listed) [
+      | inl before ↦ inl (spec, before, maps)
+      | inr last ↦ absurd (subst (λ it. Maps it HostToGuest host value) (sym last) maps)
+    ]
+host_as_before specs first count host value (inr (none, same)) =
+    inr ((λ spec listed. none spec (Contains-append_left specs (ForbidGuest first count ∷ []) spec listed)), same)
+
+host_as_after : (specs : List IdMap) (first count host : ℕ) (value : Option ℕ) → Becomes specs HostToGuest host value
+    → Becomes (specs ++ ForbidGuest first count ∷ []) HostToGuest host value
+host_as_after specs first count host value (inl (spec, listed, maps)) =
+    inl (spec, Contains-append_left specs (ForbidGuest first count ∷ []) spec listed, maps)
+host_as_after specs first count host value (inr (none, same)) = inr (
+  (λ spec listed covers.
+      elim (Contains-push_cases specs (ForbidGuest first count) spec listed) [
+        | inl before ↦ none spec before covers
+        | inr last ↦ absurd (subst (λ it. Covers it HostToGuest host) (sym last) covers)
+      ]),
+  same,
+)
+
+pub narrower_forbid : (given specs : List IdMap) (first count : ℕ) → NarrowerIds given specs
+    → NarrowerIds given (specs ++ ForbidGuest first count ∷ [])
+narrower_forbid given specs first count narrower = record {
+  guest = λ guest value. more_forbidden given specs first count guest value narrower;
+  host = λ host value. (
+    (λ is. (narrower.host host value).0 (host_as_before specs first count host value is)),
+    (λ is. host_as_after specs first count host value ((narrower.host host value).1 is)),
+  );
+}
 
 -- ---- names
 
@@ -132,6 +183,16 @@ agree_dropped given place rule other at agree here idle = record {
       ∙ sym (found_more (fits side name) given place rule here);
 }
 
+-- where all rules are the same, so are those at a place
+pub same_here : (given : List MappingRule) (place : ℕ) (other : List MappingRule) (at : ℕ) → place < length given
+    → other ≡ given → at ≡ place → IsSameAt given place other at
+same_here given place other at inside same here =
+    subst (λ rules. IsSameAt given place rules at) (sym same) (subst (IsSameAt given place given) (sym here) (record {
+      rule = get_or given place deny_all;
+      here = slice_get-get_or given place deny_all inside;
+      there = slice_get-get_or given place deny_all inside;
+    }))
+
 -- what decides a name is what decided it, or denies it where nothing did
 denied_or_same : (given : List MappingRule) (other : List MappingRule) (at : ℕ)
     → AgreeSoFar given (length given) other at → EndsAt other at → (side : Side) (name : List ℕ) → IsName name
@@ -197,6 +258,12 @@ all_narrower_more R xs ys i x y in_xs in_ys here there all one =
     subst (λ z. AllZip R z (take (i + 1) ys)) (sym (take_more xs i x in_xs ∙ ap (λ z. take i xs ++ z ∷ []) (sym here)))
     (subst (AllZip R (take i xs ++ x ∷ [])) (sym (take_more ys i y in_ys ∙ ap (λ z. take i ys ++ z ∷ []) (sym there)))
     (AllZip-push R (take i xs) (take i ys) x y all one))
+
+-- what holds place by place holds at a place
+pub holds_at : {X : Type 0} (R : X → X → Type 0) (xs ys : List X) (i : ℕ) (x y : X) → i < length xs → x ≡ get_or xs i x
+    → y ≡ get_or ys i y → AllZip R xs ys → R x y
+holds_at R xs ys i x y inside here there all = subst (λ z. R z y) (sym here)
+    (subst (R (get_or xs i x)) (sym there) (AllZip-get_or R xs ys i x y all inside))
 
 -- what holds of what the options set up, and of the rest, holds of the guests
 pub are_narrower : {A : Type 0} (given others : List (Guest A)) (sets other_sets : List (SetUp A))

@@ -6,7 +6,6 @@ use Rattle.virtiofs_findings.proofs.ListLemmas.{in_two, more_at}
 use Rattle.virtiofs_findings.specs.Findings.{Each}
 use Rattle.virtiofs_findings.specs.IdFindings.{FindsIds, FindsKept}
 use Rattle.virtiofs_findings.specs.Lists.{Adds}
-use Rattle.virtiofs_findings.specs.PairFindings.{FindsPair}
 use Rattle.virtiofs_findings.specs.AclNames.{FindsAcl}
 use Rattle.virtiofs_findings.specs.Report.{FindsGuest, FindsKind, FindsIf, FindsRoot, FindsNamesOf, FindsWithEarlier, Finds}
 use Rattle.virtiofs_findings.specs.Report.{range_found, other_found, ids_found, start_found}

@@ -1,5 +1,5 @@
 -- What the options of a guest set up, and what is told of texts that are refused.
-use Rattle.std.proofs.Common.{◌≡◌, inl, inr, ℕ, ◌+◌, ◌<◌, ◌≤◌, List, [], ◌∷◌, ◌++◌, length, take, get_or}
+use Rattle.std.proofs.Common.{◌≡◌, inl, inr, ℕ, ◌+◌, ◌<◌, List, [], ◌∷◌, ◌++◌, length, take, get_or}
 use Rattle.std.proofs.Common.{Option, Some, None, Result, Ok, Err, OnOk, refl, sym, ap, ◌∙◌, subst, append_assoc, arith}
 use Rattle.std.proofs.Common.{append-nil, string_bytes}
 use Rattle.std.specs.Prelude.{IsSomeAnd, slice_get, slice_index_or, zero, suc}
@@ -7,7 +7,7 @@ use Rattle.std.specs.Borrow.{Bor}
 use Rattle.std.specs.List.{AllZip}
 use Rattle.std.specs.Option.{option_map, option_map_or}
 use Rattle.std.specs.Str.{chars}
-use Rattle.std.proofs.lemmas.List.{take-map, take_all, map_more, get_or-map, length-map, length-take-le}
+use Rattle.std.proofs.lemmas.List.{take-map, map_more, get_or-map, length-map}
 use Rattle.std.proofs.lemmas.Option.{same_Some, slice_get-get_or}
 use Rattle.std.proofs.lemmas.List.Elements.{Contains-get_or, All-contains}
 use Rattle.virtiofs_map.specs.Build.{Accepted, BuildFault, build_fault_of}
@@ -16,7 +16,7 @@ use Rattle.virtiofs_map.specs.Printed.{build_error_text, rules_error_text}
 use Rattle.virtiofs_map.specs.Refusal.{OutOfMemoryOr}
 use Rattle.virtiofs_map.specs.RulesFault.{RulesFault, HasRulesFault, InRule, NotOfText, rule_fault_of, fault_at}
 use Rattle.virtiofs_map.specs.RulesFault.{rules_fault_of}
-use Rattle.virtiofs_map.specs.SpecificationText.{Says, SpecificationFault, specification_fault_of}
+use Rattle.virtiofs_map.specs.SpecificationText.{SpecificationFault, specification_fault_of}
 use Rattle.virtiofs_map.specs.Specifications.{texts_of, AllSay, SpecsFault, HasSpecsFault, Unread, Unbuilt, specs_fault_of}
 use Rattle.virtiofs_map.specs.declared.cmdline.IdMap.{IdMap}
 use Rattle.virtiofs_map.specs.declared.cmdline.IdMapError.{IdMapError}
@@ -25,11 +25,11 @@ use Rattle.virtiofs_map.specs.declared.soft_idmap.errors.IdMapBuildError.{IdMapB
 use Rattle.virtiofs_map.specs.declared.soft_idmap.errors.SpecsError.{SpecsError}
 use Rattle.virtiofs_map.specs.declared.soft_idmap.errors.SpecsError.TheVariants as errors
 use Rattle.virtiofs_map.specs.declared.xattrmap.errors.Error.{Error}
-use Rattle.virtiofs_map.proofs.ForCallers.{AllZip-push, specification_one_value, texts_no_fault, namespace_no_fault, rules_no_fault}
+use Rattle.virtiofs_map.proofs.ForCallers.{AllZip-push, texts_no_fault, namespace_no_fault, rules_no_fault}
 use Rattle.virtiofs_findings.specs.Guests.{SaysRange, RefusesRanges, ReadsText, SetsUp}
 use Rattle.virtiofs_findings.specs.Lists.{Adds}
 use Rattle.virtiofs_findings.specs.Refusals.{IsAt, TellsPlace, TellsBuildFault, TellsSpecsFault}
-use Rattle.virtiofs_findings.specs.Refusals.{TellsSpecs, TellsRanges, TellsNames, TellsGuest, TellsGuests, place_of}
+use Rattle.virtiofs_findings.specs.Refusals.{TellsSpecs, TellsRanges, TellsNames, TellsGuest, place_of}
 use Rattle.virtiofs_findings.specs.Refusals.{TellsIds}
 use Rattle.virtiofs_findings.specs.declared.refusal.Refusal.{Refusal}
 use Rattle.virtiofs_findings.specs.declared.refusal.Refused.{Refused}

@@ -1,10 +1,10 @@
 -- Options that are advised in place of those of guests: the guests can do no more with them, and less is found.
-use Rattle.std.specs.Prelude.{◌≡◌, ◌≢◌, ◌⊎◌, ⊤, ℕ, ◌≤◌, Bool, List, [], All, Contains, Option, Some, None}
+use Rattle.std.specs.Prelude.{◌≡◌, ◌≢◌, ◌≤◌, Bool, List, [], All, Contains, Option, Some, None}
 use Rattle.std.specs.List.{AllZip}
 use Rattle.virtiofs_id_audit.specs.declared.spans.Span.{Span}
 use Rattle.virtiofs_findings.specs.Guests.{SetsUp}
 use Rattle.virtiofs_findings.specs.Lists.{AnyHas}
-use Rattle.virtiofs_findings.specs.Narrower.{AreNarrower}
+use Rattle.virtiofs_findings.specs.Narrower.{AreNarrower, SameSet}
 use Rattle.virtiofs_findings.specs.Refusals.{TellsGuests}
 use Rattle.virtiofs_findings.specs.Report.{Finds}
 use Rattle.virtiofs_findings.specs.declared.advice.Advised.{Advised}
@@ -106,6 +106,14 @@ pub record FindNoLess {A : Type 0} (isolated : Bool) (accepted : List Kind) (bef
   pub audited : IsAudited isolated guests [] after
   pub no_less : ¬ FindsLess accepted after before
 
+-- the specifications or the rules of some guest are not those of the given ones
+pub record HaveOthers {A : Type 0} (given guests : List (Guest A)) : Type 0 where
+  pub sets : List (SetUp A)
+  pub other_sets : List (SetUp A)
+  pub sets_up : AllZip SetsUp given sets
+  pub other_sets_up : AllZip SetsUp guests other_sets
+  pub other : ¬ AllZip SameSet sets other_sets
+
 -- what came out where these guests were tried in place of the given ones
 abbrev pub ComesOut : {A : Type 0} → Bool → List Kind → List (Guest A) → List (Finding A) → List (Guest A) → Trial A
     → Type 0
@@ -113,4 +121,4 @@ ComesOut isolated accepted given before guests (Better advised) =
     IsAdvice isolated accepted given before advised × (advised.guests.items ≡ guests)
 ComesOut isolated accepted given before guests Refused = AreRefused guests
 ComesOut isolated accepted given before guests NoLess = FindNoLess isolated accepted before guests
-ComesOut isolated accepted given before guests NotNarrower = ⊤
+ComesOut isolated accepted given before guests NotNarrower = HaveOthers given guests

@@ -1,5 +1,5 @@
 -- Findings: what is found of each guest, one after the other.
-use Rattle.std.specs.Prelude.{◌≡◌, ℕ, ◌+◌, List, [], ◌∷◌, ◌++◌, Contains, Option}
+use Rattle.std.specs.Prelude.{◌≡◌, ℕ, ◌+◌, List, [], ◌∷◌, ◌++◌, Contains}
 use Rattle.virtiofs_findings.specs.Lists.{AnyHas}
 use Rattle.virtiofs_findings.specs.declared.finding.About.TheVariants.{Guest, Pair}
 use Rattle.virtiofs_findings.specs.declared.finding.Evidence.{Evidence}

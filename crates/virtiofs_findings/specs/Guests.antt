@@ -79,10 +79,10 @@ is_namespaces Nothing = false
 abbrev pub has_namespaces : {A : Type 0} → Guest A → Bool
 has_namespaces guest = is_namespaces (sandbox_of (text_in guest.options.sandbox))
 
--- the daemon sets up a namespace of users: its sandbox is made of namespaces, and it has ranges, or it is not root who
--- starts it
-abbrev pub sets_up_namespace : {A : Type 0} → Guest A → Bool
-sets_up_namespace guest = has_namespaces guest && (has_ranges guest || nat_lt 0 (own_of (users_of guest)))
+-- the daemon can act as some ids alone: as those of its ranges, in a sandbox that is made of namespaces; or, if it is not
+-- root who starts it, as the one that it runs as
+abbrev pub is_bounded : {A : Type 0} → Guest A → Bool
+is_bounded guest = (has_namespaces guest && has_ranges guest) || nat_lt 0 (own_of (users_of guest))
 
 -- the user who starts the daemon, if that is said
 abbrev pub starter_of : {A : Type 0} → Guest A → Option ℕ
@@ -128,9 +128,9 @@ Translates guest = (guest.options.translate_uid.items ≢ []) ⊎ (guest.options
 
 -- what the options of the daemon of a guest set up
 pub record SetsUp {A : Type 0} (guest : Guest A) (set : SetUp A) : Type 0 where
-  pub users : ReadsIds (users_of guest) (sets_up_namespace guest) (texts_of guest.options.translate_uid.items)
+  pub users : ReadsIds (users_of guest) (is_bounded guest) (texts_of guest.options.translate_uid.items)
       (texts_of guest.options.uid_map.items) set.users
-  pub groups : ReadsIds (groups_of guest) (sets_up_namespace guest) (texts_of guest.options.translate_gid.items)
+  pub groups : ReadsIds (groups_of guest) (is_bounded guest) (texts_of guest.options.translate_gid.items)
       (texts_of guest.options.gid_map.items) set.groups
   pub names : ReadsNames guest.options.xattrmap set.names
   pub acl : set.posix_acl ≡ guest.options.posix_acl

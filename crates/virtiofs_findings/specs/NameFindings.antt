@@ -1,5 +1,5 @@
 -- What an audit of the names of attributes finds.
-use Rattle.std.specs.Prelude.{◌≡◌, ◌⊎◌, ◌↔◌, ℕ, ◌+◌, ◌<◌, ◌≤◌, List, [], ◌∷◌, ◌++◌, map, codes, Contains}
+use Rattle.std.specs.Prelude.{◌≡◌, ◌⊎◌, ◌↔◌, ℕ, ◌<◌, List, [], ◌∷◌, ◌++◌, map, codes, Contains}
 use Rattle.std.specs.Prelude.{Option, Some, None}
 use Rattle.virtiofs_map.specs.Audit.{IsLeast, AnswersLeast, Within, IsLost, IsStray, Terminated, Decides}
 use Rattle.virtiofs_map.specs.Rule.{MappingRule}

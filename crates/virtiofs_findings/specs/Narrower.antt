@@ -51,13 +51,20 @@ pub record NarrowerSet {A : Type 0} (given other : SetUp A) : Type 0 where
   pub groups : BothOrNone NarrowerKind given.groups other.groups
   pub names : BothOrNone NarrowerRules given.names other.names
 
--- what is not about ids or names is as it was: who runs the daemon, its namespace, and how it is kept apart; access
--- control lists are on only where they were
+-- the specifications and the rules are the given ones
+pub record SameSet {A : Type 0} (given other : SetUp A) : Type 0 where
+  pub users : BothOrNone (λ one another. another.map ≡ one.map) given.users other.users
+  pub groups : BothOrNone (λ one another. another.map ≡ one.map) given.groups other.groups
+  pub names : BothOrNone (λ one another. another.map ≡ one.map) given.names other.names
+
+-- what is not about ids or names is as it was: who runs the daemon, its namespace, and how it is kept apart; there are
+-- rules where there were, and access control lists are on only where they were
 pub record SameRest {A : Type 0} (given other : Guest A) : Type 0 where
   pub runner : other.runner ≡ given.runner
   pub users : other.options.uid_map.items ≡ given.options.uid_map.items
   pub groups : other.options.gid_map.items ≡ given.options.gid_map.items
   pub sandbox : other.options.sandbox ≡ given.options.sandbox
+  pub rules : (given.options.xattrmap ≡ None) ↔ (other.options.xattrmap ≡ None)
   pub lists : IsTrue other.options.posix_acl → IsTrue given.options.posix_acl
   pub flag : IsTrue other.options.acl_flag → IsTrue given.options.acl_flag
 

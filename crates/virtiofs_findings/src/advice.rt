@@ -21,7 +21,7 @@ use crate::guest::Guest;
 use crate::guests::set_up_all;
 use crate::setup::SetUp;
 use better::finds_less;
-use mended::{PARTS, Parts, mended_options};
+use mended::{PARTS, Parts, mended_options, unwanted_ids};
 use narrower::are_narrower;
 use options::{Options, guests_of};
 use std::alloc::{AllocError, Allocator};
@@ -107,7 +107,8 @@ pub fn try_others<'a, A: Allocator + Copy>(
     if !refusals.as_slice().is_empty() {
         return Ok(Trial::Refused);
     }
-    if !are_narrower(alloc, isolated, all.sets.as_slice(), sets.as_slice())? {
+    let unwanted = unwanted_ids(isolated, accepted);
+    if !are_narrower(alloc, unwanted, all.sets.as_slice(), sets.as_slice())? {
         return Ok(Trial::NotNarrower);
     }
     let findings = audit(alloc, isolated, sets.as_slice())?;

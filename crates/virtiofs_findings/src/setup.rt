@@ -6,7 +6,7 @@ ghost use Rattle.virtiofs_map.specs.Build.{BuildFault, build_fault_of};
 ghost use Rattle.virtiofs_map.specs.RulesFault.{RulesFault, HasRulesFault, rules_fault_of};
 ghost use Rattle.virtiofs_map.specs.SpecificationText.{SpecificationFault, specification_fault_of};
 ghost use Rattle.std.specs.Option.{option_map};
-ghost use Rattle.virtiofs_findings.specs.Guests.{ReadsSpecs, ReadsRanges, ReadsIds, RunsIn, users_of, groups_of, process_of, has_ranges, has_namespaces, sets_up_namespace, starter_of, no_start, no_start_of, RefusesRules, ReadsText, ReadsNames, SetsUp, Translates};
+ghost use Rattle.virtiofs_findings.specs.Guests.{ReadsSpecs, ReadsRanges, ReadsIds, RunsIn, users_of, groups_of, process_of, has_ranges, has_namespaces, is_bounded, starter_of, no_start, no_start_of, RefusesRules, ReadsText, ReadsNames, SetsUp, Translates};
 ghost use Rattle.virtiofs_map.specs.Printed.{build_error_text, rules_error_text};
 ghost use Rattle.virtiofs_findings.specs.Lists.{Adds};
 ghost use Rattle.virtiofs_findings.specs.Refusals.{IsAt, TellsPlace, TellsBuildFault, TellsSpecsFault, TellsSpecs, TellsRanges, TellsIds, TellsNames, TellsGuest};
@@ -402,12 +402,12 @@ fn has_namespaces<A: Allocator + Copy>(guest: &Guest<'_, A>) -> bool
     matches!(guest.options.kept_apart(), Sandbox::Namespace)
 }
 
-/// Whether the daemon of a guest sets up a namespace of users: its sandbox is made of namespaces, and it
-/// has ranges, or it is not root who starts it.
-fn sets_up_namespace<A: Allocator + Copy>(guest: &Guest<'_, A>) -> bool
-    ensures { result ≡ sets_up_namespace guest.now }
+/// Whether the daemon of a guest can act as some ids alone: as those of its ranges, in a sandbox that is
+/// made of namespaces; or, if it is not root who starts it, as the one that it runs as.
+fn is_bounded<A: Allocator + Copy>(guest: &Guest<'_, A>) -> bool
+    ensures { result ≡ is_bounded guest.now }
 {
-    has_namespaces(guest) && (has_ranges(guest) || own_of(users_of(guest)) > 0)
+    has_namespaces(guest) && has_ranges(guest) || own_of(users_of(guest)) > 0
 }
 
 /// The user who starts the daemon of a guest, if that is said.
@@ -464,7 +464,7 @@ pub(crate) fn set_up<A: Allocator + Copy>(
         number,
         IdKind::Users,
         users_of(guest),
-        sets_up_namespace(guest),
+        is_bounded(guest),
         guest.options.translate_uid.as_slice(),
         guest.options.uid_map.as_slice(),
     )?;
@@ -474,7 +474,7 @@ pub(crate) fn set_up<A: Allocator + Copy>(
         number,
         IdKind::Groups,
         groups_of(guest),
-        sets_up_namespace(guest),
+        is_bounded(guest),
         guest.options.translate_gid.as_slice(),
         guest.options.gid_map.as_slice(),
     )?;

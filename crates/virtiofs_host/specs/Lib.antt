@@ -6,6 +6,7 @@ pub mod IdMapParts
 pub mod IdMapText
 pub mod Lines
 pub mod RunAs
+pub mod Runners
 pub mod Sequence
 pub mod Status
 pub mod SubordinateIds

@@ -1,11 +1,17 @@
 //! Who runs a daemon, and what of the host bounds the namespace that it runs in.
-ghost use Rattle.std.specs.Prelude.{IfSome, IfNone};
+ghost use Rattle.std.specs.Prelude.{◌≡◌, ◌⊎◌, IfSome, IfNone, IfOk, IfErr};
+ghost use Rattle.virtiofs_host.specs.declared.runner.NotShown.TheVariants.{OutOfMemory};
 ghost use Rattle.virtiofs_host.specs.RunAs.{SaysUser};
+ghost use Rattle.virtiofs_host.specs.Runners.{name_of, GivesTo, group_of, Starts, BoundsShown, SaysNoRanges, IsShown, IsNotShown};
 
 use crate::cut::cut;
 use crate::decimal::decimal;
-use crate::subordinate::SubIds;
-use std::alloc::Allocator;
+use crate::error::ReadError;
+use crate::id_map::read_id_map;
+use crate::status::{effective_gid, effective_uid};
+use crate::subordinate::{SubIds, read_subordinate};
+use crate::users::User;
+use std::alloc::{AllocError, Allocator};
 use virtiofs_map::idmap::UidMap;
 
 /// What bounds the ids of one kind, users or groups.
@@ -59,4 +65,146 @@ pub fn read_run_as(text: &str) -> Option<RunAs>
     }
     let gid = Some(decimal(group)?);
     Some(RunAs { uid, gid })
+}
+
+/// The name that the files of subordinate ids may have of a user: none where the host knows no such
+/// user, which is a name that no line can have.
+fn name_of<'a>(user: Option<User<'a>>) -> &'a [u8]
+    ensures { result.now ≡ name_of user.entry }
+{
+    match user {
+        Some(user) => user.name,
+        None => b":",
+    }
+}
+
+/// The other ids that a file gives to a user's namespace; `None` for root, for whom it is not asked.
+fn given_to<A: Allocator + Copy>(
+    alloc: A,
+    text: &[u8],
+    name: &[u8],
+    uid: u32,
+) -> Result<Option<Vec<SubIds, A>>, AllocError>
+    ensures { IfOk result (GivesTo name.now uid text.now) }
+{
+    if uid == 0 {
+        return Ok(None);
+    }
+    Ok(Some(read_subordinate(alloc, text, name, uid)?))
+}
+
+/// The group that a daemon runs as which a user starts: the one that is said, or that of the user.
+pub fn group_of(run_as: RunAs, user: Option<User<'_>>) -> Option<u32>
+    ensures { result ≡ group_of run_as user.entry }
+{
+    match (run_as.gid, user) {
+        (None, Some(user)) => Some(user.gid),
+        (gid, _) => gid,
+    }
+}
+
+/// The runner, of that place, of a daemon that a user of that group starts, where `user` is what
+/// `/etc/passwd` says of the user, and these are the contents of `/etc/subuid` and `/etc/subgid`.
+///
+/// # Errors
+///
+/// `AllocError`: a request for memory was refused.
+pub fn starting<A: Allocator + Copy>(
+    alloc: A,
+    uid: u32,
+    gid: u32,
+    user: Option<User<'_>>,
+    subuid: &[u8],
+    subgid: &[u8],
+    place: usize,
+) -> Result<Runner<A>, AllocError>
+    ensures { IfOk result (Starts uid gid user.entry subuid.now subgid.now place) }
+{
+    let name = name_of(user);
+    Ok(Runner {
+        users: Bounds {
+            own: uid,
+            given: given_to(alloc, subuid, name, uid)?,
+            shown: None,
+        },
+        groups: Bounds {
+            own: gid,
+            given: given_to(alloc, subgid, name, uid)?,
+            shown: None,
+        },
+        process: None,
+        place,
+    })
+}
+
+/// What Linux shows of a process: the content of files under `/proc/PID`, by their names there.
+#[derive(Clone, Copy)]
+pub struct Shown<'a> {
+    /// Who runs it.
+    pub status: &'a [u8],
+    /// The ranges of users of its namespace.
+    pub uid_map: &'a [u8],
+    /// The ranges of groups.
+    pub gid_map: &'a [u8],
+}
+
+/// Why it is not said who runs a process.
+#[derive(Clone, Copy, Debug, PartialEq, Eq)]
+pub enum NotShown {
+    /// `status` does not say as which user and which group it runs.
+    Status,
+    /// `uid_map` is not as Linux writes it.
+    UidMap,
+    /// `gid_map` is not as Linux writes it.
+    GidMap,
+    /// A request for memory was refused.
+    OutOfMemory,
+}
+
+/// The bounds of a process that runs as that id.
+fn bounds_shown<A: Allocator>(
+    alloc: A,
+    own: u32,
+    text: &[u8],
+    wrong: NotShown,
+) -> Result<Bounds<A>, NotShown>
+    ensures shown { IfOk result (BoundsShown own text.now) }
+    ensures wrong { IfErr result (λ e. (e ≡ OutOfMemory) ⊎ ((e ≡ wrong) × SaysNoRanges text.now)) }
+{
+    match read_id_map(alloc, text) {
+        Ok(ranges) => Ok(Bounds {
+            own,
+            given: None,
+            shown: Some(ranges),
+        }),
+        Err(ReadError::Wrong(_)) => Err(wrong),
+        Err(ReadError::OutOfMemory) => Err(NotShown::OutOfMemory),
+    }
+}
+
+/// The runner, of that place, of a process of that number.
+///
+/// # Errors
+///
+/// The first of the files, as [`NotShown`] has them, that does not say what it has to; or a request for
+/// memory was refused.
+pub fn running<A: Allocator + Copy>(
+    alloc: A,
+    process: u32,
+    shown: Shown<'_>,
+    place: usize,
+) -> Result<Runner<A>, NotShown>
+    ensures shown { IfOk result (IsShown process shown.entry place) }
+    ensures refused { IfErr result (IsNotShown shown.entry) }
+{
+    let ids = (effective_uid(shown.status), effective_gid(shown.status));
+    let (Some(uid), Some(gid)) = ids else {
+        return Err(NotShown::Status);
+    };
+    Ok(Runner {
+        users: bounds_shown(alloc, uid, shown.uid_map, NotShown::UidMap)?,
+        groups: bounds_shown(alloc, gid, shown.gid_map, NotShown::GidMap)?,
+        process: Some(process),
+        place,
+    })
 }

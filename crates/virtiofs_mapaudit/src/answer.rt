@@ -6,6 +6,7 @@ ghost use Rattle.virtiofs_findings.specs.Findings.{IsFound};
 ghost use Rattle.virtiofs_mapaudit.specs.Answers.{EndsAs, Reports, counting};
 
 use crate::json::report_as_json;
+use crate::losses::loss_lines;
 use crate::picture::report_as_svg;
 use crate::refusal::refusal_line;
 use crate::text::{options_as_text, report_as_text};
@@ -36,6 +37,8 @@ pub(crate) struct Answer {
     /// The lines that are to be written to standard error: guest by guest, the first fault of each
     /// option that is refused.
     pub(crate) refusals: Vec<String>,
+    /// Further such lines: where options alone are written, what guests lose by them.
+    pub(crate) losses: Vec<String>,
     /// How the program ends where all of it is written.
     pub(crate) outcome: Answered,
 }
@@ -91,8 +94,22 @@ fn outcome_of(request: Request<'_>, report: &Reported<'_>) -> Answered
     }
 }
 
-/// What is advised of these tries, where that was found. They are tried only where what is advised is to
-/// be written.
+/// What is to be tried, where that was found: nothing where a text is refused, or what is advised is not
+/// to be written.
+fn tries_for(
+    alloc: Global,
+    request: Request<'_>,
+    guests: &[Guest<'_, Global>],
+    all: &Audited<Global>,
+) -> Result<Vec<Vec<Options<Global>>>, AllocError> {
+    let front = request.front;
+    if !all.refusals.as_slice().is_empty() || front.quiet || front.svg {
+        return Ok(Vec::new(alloc));
+    }
+    tries_of(alloc, front.isolated, request.accepted, guests, all)
+}
+
+/// What is advised of these tries, where that was found: nothing where a text is refused.
 fn advice<'r>(
     alloc: Global,
     request: Request<'_>,
@@ -106,11 +123,17 @@ fn advice<'r>(
         all.now.findings.items)) }
     ensures untried { (all.now.refusals.items ≢ []) → IfOk result (λ advised. advised ≡ None) }
 {
-    let front = request.front;
-    if !all.refusals.as_slice().is_empty() || front.quiet || front.svg {
+    if !all.refusals.as_slice().is_empty() {
         return Ok(None);
     }
-    advise(alloc, front.isolated, request.accepted, guests, all, tries)
+    advise(
+        alloc,
+        request.front.isolated,
+        request.accepted,
+        guests,
+        all,
+        tries,
+    )
 }
 
 /// The text of a report, in the form that was asked for.
@@ -168,9 +191,16 @@ fn answer_with<'r>(
     let outcome = outcome_of(request, &report);
     let text = text_of(alloc, request, guests, &report)?;
     let refusals = refusal_lines(alloc, report.all.refusals.as_slice())?;
+    let losses = match &report.advised {
+        Some(advised) if request.front.mend => {
+            loss_lines(alloc, report.all.sets.as_slice(), advised.sets.as_slice())?
+        }
+        _ => Vec::new(alloc),
+    };
     Ok(Answer {
         text,
         refusals,
+        losses,
         outcome,
     })
 }
@@ -183,8 +213,7 @@ pub(crate) fn answer_audit(
 ) -> Result<Answer, AllocError>
     ensures { IfOk result (Reports request.entry guests.now) }
 {
-    let (isolated, accepted) = (request.front.isolated, request.accepted);
-    let all = audit_all(alloc, isolated, guests)?;
-    let tries = tries_of(alloc, isolated, accepted, guests, &all)?;
+    let all = audit_all(alloc, request.front.isolated, guests)?;
+    let tries = tries_for(alloc, request, guests, &all)?;
     answer_with(alloc, request, guests, all, tries.as_slice())
 }

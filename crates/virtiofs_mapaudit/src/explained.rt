@@ -341,6 +341,7 @@ pub(crate) fn answer_questions(
     Ok(Answer {
         text,
         refusals,
+        losses: Vec::new(alloc),
         outcome,
     })
 }

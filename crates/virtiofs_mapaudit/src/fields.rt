@@ -239,29 +239,29 @@ pub(crate) fn fields_of<'a>(
     Ok(fields)
 }
 
-/// Whether a name begins as names of attributes do.
-fn is_usual(name: &[u8]) -> bool {
-    [b"user.".as_slice(), b"trusted.", b"security.", b"system."]
-        .iter()
-        .any(|front| name.starts_with(front))
-}
-
-/// Writes the least name at the end of a text, and after it the least of the usual ones, if it is none
-/// of them.
+/// Writes the least name at the end of a text, and after it the least of those that begin as usual, if
+/// it is none of them.
 fn push_least(text: &mut String, least: &LeastName<Global>) -> Result<(), AllocError> {
     let name = least.name.as_name().as_bytes();
     let first = Shown(name);
     write!(text, "'{first}'")?;
-    if is_usual(name) {
-        return Ok(());
-    }
+    let mut also = None;
     for usual in [&least.user, &least.trusted, &least.security, &least.system] {
-        if let Audit::No(name) = usual {
-            let also = Shown(name.as_name().as_bytes());
-            return write!(text, " (also '{also}')");
+        if let Audit::No(it) = usual {
+            let it = it.as_name().as_bytes();
+            if it == name {
+                return Ok(());
+            }
+            also = also.or(Some(it));
         }
     }
-    Ok(())
+    match also {
+        Some(also) => {
+            let also = Shown(also);
+            write!(text, " (also '{also}')")
+        }
+        None => Ok(()),
+    }
 }
 
 /// Writes a field at the end of a text.

@@ -1,15 +1,13 @@
 //! What the host tells of the processes and the users that the words name. Files are read here alone.
 
+use crate::guests::HostProcess;
 use std::alloc::{AllocError, AllocFailed, Global};
 use std::{fs, io};
 use virtiofs_host::decimal::decimal;
-use virtiofs_host::error::ReadError;
-use virtiofs_host::id_map::read_id_map;
-use virtiofs_host::runner::{Bounds, RunAs, Runner, read_run_as};
-use virtiofs_host::status::{effective_gid, effective_uid};
-use virtiofs_host::subordinate::{SubIds, read_subordinate};
+use virtiofs_host::runner::{
+    NotShown, RunAs, Runner, Shown, group_of, read_run_as, running, starting,
+};
 use virtiofs_host::users::find_user;
-use virtiofs_map::idmap::UidMap;
 use virtiofs_options::fault::shown;
 use virtiofs_options::values::Values;
 
@@ -40,17 +38,6 @@ fn told(sentence: Result<String, AllocError>) -> HostFault {
         Ok(sentence) => HostFault::Told(sentence),
         Err(_) => HostFault::OutOfMemory,
     }
-}
-
-/// What the host tells of a process.
-#[derive(Drop)]
-pub(crate) struct HostProcess {
-    /// The number of the process.
-    pub(crate) pid: u32,
-    /// What the kernel shows as its command line.
-    pub(crate) cmdline: Vec<u8>,
-    /// Who runs it.
-    pub(crate) runner: Runner<Global>,
 }
 
 /// What the host tells.
@@ -108,76 +95,45 @@ fn of_process(rt: &HostRuntime, pid: u32, name: &str) -> Result<Vec<u8>, HostFau
     }
 }
 
-/// The ranges of the namespace of a process, of users or of groups.
-fn ranges_shown(rt: &HostRuntime, pid: u32, name: &str) -> Result<Vec<UidMap>, HostFault> {
-    let text = of_process(rt, pid, name)?;
-    match read_id_map(rt.alloc(), text.as_slice()) {
-        Ok(ranges) => Ok(ranges),
-        Err(ReadError::OutOfMemory) => Err(HostFault::OutOfMemory),
-        Err(ReadError::Wrong(_)) => Err(told(format!(in rt.alloc();
-            "/proc/{pid}/{name} is not as Linux writes it\n"
-        ))),
-    }
-}
-
-/// What bounds the ids of a process.
-fn bounds_shown(own: u32, shown: Vec<UidMap>) -> Bounds<Global> {
-    Bounds {
-        own,
-        given: None,
-        shown: Some(shown),
-    }
-}
-
-/// The user and the group of a process.
-fn ids_shown(rt: &HostRuntime, pid: u32) -> Result<(u32, u32), HostFault> {
-    let status = of_process(rt, pid, "status")?;
-    let ids = (
-        effective_uid(status.as_slice()),
-        effective_gid(status.as_slice()),
-    );
-    let (Some(uid), Some(gid)) = ids else {
-        return Err(told(format!(in rt.alloc(); "/proc/{pid}/status does not say who runs it\n")));
+/// Why it is not said who runs a process.
+fn not_shown(alloc: Global, pid: u32, fault: NotShown) -> HostFault {
+    let name = match fault {
+        NotShown::Status => {
+            return told(format!(in alloc; "/proc/{pid}/status does not say who runs it\n"));
+        }
+        NotShown::UidMap => "uid_map",
+        NotShown::GidMap => "gid_map",
+        NotShown::OutOfMemory => return HostFault::OutOfMemory,
     };
-    Ok((uid, gid))
+    told(format!(in alloc; "/proc/{pid}/{name} is not as Linux writes it\n"))
 }
 
 /// Who runs a process. `place` is that of the runner.
 fn runner_of(rt: &HostRuntime, pid: u32, place: usize) -> Result<Runner<Global>, HostFault> {
-    let (uid, gid) = ids_shown(rt, pid)?;
-    let users = bounds_shown(uid, ranges_shown(rt, pid, "uid_map")?);
-    let groups = bounds_shown(gid, ranges_shown(rt, pid, "gid_map")?);
-    Ok(Runner {
-        users,
-        groups,
-        process: Some(pid),
-        place,
-    })
-}
-
-/// The ids that a file gives to a user besides its own. Without `--subuid` or `--subgid` there may be
-/// no such file.
-fn given(
-    rt: &HostRuntime,
-    files: &[&str],
-    usual: &str,
-    name: &[u8],
-    uid: u32,
-) -> Result<Vec<SubIds>, HostFault> {
-    let path = files.last().copied().unwrap_or(usual);
-    match content(rt, path)? {
-        Some(text) => Ok(read_subordinate(rt.alloc(), text.as_slice(), name, uid)?),
-        None if files.is_empty() => Ok(Vec::new(rt.alloc())),
-        None => Err(told(format!(in rt.alloc(); "there is no file {path}\n"))),
+    let status = of_process(rt, pid, "status")?;
+    let (uid_map, gid_map) = (
+        of_process(rt, pid, "uid_map")?,
+        of_process(rt, pid, "gid_map")?,
+    );
+    let shown = Shown {
+        status: status.as_slice(),
+        uid_map: uid_map.as_slice(),
+        gid_map: gid_map.as_slice(),
+    };
+    match running(rt.alloc(), pid, shown, place) {
+        Ok(runner) => Ok(runner),
+        Err(fault) => Err(not_shown(rt.alloc(), pid, fault)),
     }
 }
 
-/// What bounds the ids of a daemon that is started: `given` alone for one who is not root.
-fn bounds_given(own: u32, is_root: bool, given: Vec<SubIds>) -> Bounds<Global> {
-    Bounds {
-        own,
-        given: if is_root { None } else { Some(given) },
-        shown: None,
+/// The content of a file of subordinate ids: the last that is named, or the usual one, which may be
+/// missing.
+fn subordinate(rt: &HostRuntime, files: &[&str], usual: &str) -> Result<Vec<u8>, HostFault> {
+    let path = files.last().copied().unwrap_or(usual);
+    match content(rt, path)? {
+        Some(text) => Ok(text),
+        None if files.is_empty() => Ok(Vec::new(rt.alloc())),
+        None => Err(told(format!(in rt.alloc(); "there is no file {path}\n"))),
     }
 }
 
@@ -197,24 +153,15 @@ fn started_by(
 ) -> Result<Runner<Global>, HostFault> {
     let uid = run_as.uid;
     let user = find_user(passwd, uid);
-    let Some(gid) = run_as.gid.or(user.map(|user| user.gid)) else {
+    let Some(gid) = group_of(run_as, user) else {
         return Err(told(format!(in rt.alloc();
             "/etc/passwd has no user {uid}: say the group too, as --run-as {uid}:GID\n"
         )));
     };
-    let number = format!(in rt.alloc(); "{uid}")?;
-    let name = match user {
-        Some(user) => user.name,
-        None => number.as_bytes(),
-    };
-    let uids = given(rt, values.subuid.as_slice(), "/etc/subuid", name, uid)?;
-    let gids = given(rt, values.subgid.as_slice(), "/etc/subgid", name, uid)?;
-    Ok(Runner {
-        users: bounds_given(uid, uid == 0, uids),
-        groups: bounds_given(gid, uid == 0, gids),
-        process: None,
-        place,
-    })
+    let subuid = subordinate(rt, values.subuid.as_slice(), "/etc/subuid")?;
+    let subgid = subordinate(rt, values.subgid.as_slice(), "/etc/subgid")?;
+    let (subuid, subgid) = (subuid.as_slice(), subgid.as_slice());
+    Ok(starting(rt.alloc(), uid, gid, user, subuid, subgid, place)?)
 }
 
 /// The user who starts a daemon, as `--run-as` says.

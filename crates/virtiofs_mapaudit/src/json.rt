@@ -3,18 +3,17 @@
 use crate::answer::{Reported, Request};
 use crate::fields::{Field, fields_of};
 use crate::kinds::row_of;
+use crate::losses::losses_of;
 use crate::options::words_of;
 use crate::refusal::refusal_line;
-use crate::tables::{NameAnswer, answer_of};
+use crate::tables::{NameAnswer, SHOWN, answer_of};
 use crate::text::are_of_same;
 use serde_json::{Map, Value, json};
 use std::alloc::{AllocError, AllocFailed, Global};
-use virtiofs_findings::advice::Advised;
 use virtiofs_findings::audit::is_accepted;
 use virtiofs_findings::finding::{Finding, Kind};
 use virtiofs_findings::guest::Guest;
 use virtiofs_findings::ids::found::IdsFound;
-use virtiofs_findings::names::SHOWN;
 use virtiofs_findings::names::found::LeastName;
 use virtiofs_findings::setup::{IdSetUp, NamesSetUp, SetUp};
 use virtiofs_id_audit::Span;
@@ -229,14 +228,29 @@ fn options_value(alloc: Global, guests: &[Guest<'_, Global>]) -> Built {
     Ok(Value::Array(list))
 }
 
+/// What each guest loses by other options that is not to be missed.
+fn losses_value(alloc: Global, before: &[SetUp<Global>], after: &[SetUp<Global>]) -> Built {
+    let mut list = Vec::new(alloc);
+    for (set, other) in before.iter().zip(after.iter()) {
+        let mut words = Vec::new(alloc);
+        for loss in losses_of(alloc, set, other)? {
+            words.push(Value::try_from_str(alloc, loss.word)?)?;
+        }
+        list.push(Value::Array(words))?;
+    }
+    Ok(Value::Array(list))
+}
+
 /// What is advised, or null.
-fn advised_value(alloc: Global, accepted: &[Kind], advised: &Option<Advised<'_, Global>>) -> Built {
-    let Some(advised) = advised else {
+fn advised_value(alloc: Global, accepted: &[Kind], report: &Reported<'_>) -> Built {
+    let Some(advised) = &report.advised else {
         return Ok(Value::Null);
     };
+    let (before, after) = (report.all.sets.as_slice(), advised.sets.as_slice());
     let options = options_value(alloc, advised.guests.as_slice())?;
+    let losses = losses_value(alloc, before, after)?;
     let findings = findings_value(alloc, accepted, advised.findings.as_slice())?;
-    json!(in alloc; {"options": options, "findings": findings})
+    json!(in alloc; {"options": options, "losses": losses, "findings": findings})
 }
 
 /// The JSON of a report, and a line feed.
@@ -254,7 +268,7 @@ pub(crate) fn report_as_json(
         refused.push(Value::String(refusal_line(alloc, refusal)?))?;
     }
     let findings = findings_value(alloc, request.accepted, report.all.findings.as_slice())?;
-    let advised = advised_value(alloc, request.accepted, &report.advised)?;
+    let advised = advised_value(alloc, request.accepted, report)?;
     let value = json!(in alloc; {
         "schema": 4, "guests": guests, "findings": findings, "refused": refused,
         "advised": advised

@@ -4,9 +4,11 @@
 mod answer;
 mod explained;
 mod fields;
+mod guests;
 mod host;
 mod json;
 mod kinds;
+mod losses;
 mod options;
 mod picture;
 mod refusal;
@@ -17,22 +19,22 @@ mod words;
 
 use crate::answer::{Request, answer_audit};
 use crate::explained::{answer_questions, question_sentence};
-use crate::host::{Host, HostFault, HostProcess, ask};
+use crate::guests::{ProcessFault, all_guests};
+use crate::host::{Host, HostFault, ask};
 use crate::kinds::read_kinds;
 use std::alloc::{AllocError, Global};
 use std::process::ExitCode;
 use std::{env, io};
 use virtiofs_findings::explain::asking::{Question, Questions, read_questions};
 use virtiofs_findings::guest::Guest;
-use virtiofs_host::command_line::read_command_line;
-use virtiofs_host::error::ReadError;
-use virtiofs_host::runner::Runner;
+use virtiofs_options::fault::{ReadError, fault_text};
 use virtiofs_options::front::Asked;
-use virtiofs_options::guest::Guest as GuestOptions;
-use virtiofs_options::guests::Process;
+use virtiofs_options::guests::Guests;
+use virtiofs_options::help::told;
+use virtiofs_options::options::{OF_DAEMON, OWN};
 use virtiofs_options::unknown::{UnknownWord, unknown_line};
 use virtiofs_options::values::Values;
-use virtiofs_options::words::{ProcessWords, Words, read_process, read_words};
+use virtiofs_options::words::{Words, read_words};
 use virtiofs_output::emit::emit;
 use virtiofs_output::outcome::{AnswerFault, Answered, status};
 use virtiofs_output::tally::{Tally, WriteFailed};
@@ -91,18 +93,14 @@ fn run(rt: &HostRuntime) -> Result<Answered, AnswerFault> {
 
 /// Does what the words ask for.
 fn answered(rt: &HostRuntime, words: &[&str]) -> Result<Answered, AnswerFault> {
-    match read_words(rt.alloc(), words)? {
-        Words::Shown(text) => {
-            write_whole(rt, text.as_str())?;
+    match read_words(rt.alloc(), OWN, OF_DAEMON, words) {
+        Ok(Words::Tell(telling)) => {
+            write_whole(rt, told(rt.alloc(), telling)?.as_str())?;
             Ok(Answered::Given)
         }
-        Words::Wrong(text) => { Ok(wrong(rt, text.as_str())) }
-        Words::Audit {
-            asked,
-            values,
-            guests,
-            unknown,
-        } => audited(rt, asked, &values, guests, unknown),
+        Ok(Words::Audit(asked, values, guests)) => audited(rt, asked, &values, guests),
+        Err(ReadError::Wrong(fault)) => Ok(wrong(rt, fault_text(rt.alloc(), fault)?.as_str())),
+        Err(ReadError::OutOfMemory) => Err(AnswerFault::OutOfMemory),
     }
 }
 
@@ -112,84 +110,16 @@ fn wrong(rt: &HostRuntime, text: &str) -> Answered {
     Answered::WrongWords
 }
 
-/// Adds the guest of a process that has these words, or says what is wrong with them.
-fn add_guest<'a>(
-    rt: &HostRuntime,
-    process: &'a HostProcess,
-    words: &[&'a str],
-    guests: &mut Vec<Guest<'a, Global>>,
-    unknown: &mut Vec<UnknownWord<'a>, Global>,
-) -> Result<Option<String>, AnswerFault> {
-    let pid = process.pid;
-    match read_process(rt.alloc(), guests.len() + 1, words)? {
-        ProcessWords::Wrong(text) => Ok(Some(text)),
-        ProcessWords::Read(Process::NoDaemon) => Ok(Some(format!(in rt.alloc();
-            "process {pid} is no virtiofsd\n"
-        )?)),
-        ProcessWords::Read(
-            Process::OfGuest {
-                guest,
-                unknown: more,
-            },
-        ) => {
-            guests.push(Guest {
-                options: guest,
-                runner: Some(&process.runner),
-            })?;
-            for word in more.as_slice() {
-                unknown.push(*word)?;
-            }
-            Ok(None)
+/// What is wrong with a process.
+fn process_text(alloc: Global, fault: ProcessFault<'_>) -> Result<String, AllocError> {
+    match fault {
+        ProcessFault::NotText(pid) => {
+            format!(in alloc; "a word of process {pid} is not UTF-8\n")
         }
+        ProcessFault::NoDaemon(pid) => format!(in alloc; "process {pid} is no virtiofsd\n"),
+        ProcessFault::Words(fault) => fault_text(alloc, fault),
+        ProcessFault::OutOfMemory => Err(AllocError),
     }
-}
-
-/// Adds the guest of a process, or says what is wrong with its words.
-fn add_process<'a>(
-    rt: &HostRuntime,
-    process: &'a HostProcess,
-    guests: &mut Vec<Guest<'a, Global>>,
-    unknown: &mut Vec<UnknownWord<'a>, Global>,
-) -> Result<Option<String>, AnswerFault> {
-    let pid = process.pid;
-    match read_command_line(rt.alloc(), process.cmdline.as_slice()) {
-        Ok(words) => add_guest(rt, process, words.as_slice(), guests, unknown),
-        Err(ReadError::OutOfMemory) => Err(AnswerFault::OutOfMemory),
-        Err(ReadError::Wrong(_)) => Ok(Some(format!(in rt.alloc();
-            "a word of process {pid} is not UTF-8\n"
-        )?)),
-    }
-}
-
-/// Adds the guests of processes; at the first whose words are wrong, says what is wrong with them.
-fn add_processes<'a>(
-    rt: &HostRuntime,
-    processes: &'a [HostProcess],
-    guests: &mut Vec<Guest<'a, Global>>,
-    unknown: &mut Vec<UnknownWord<'a>, Global>,
-) -> Result<Option<String>, AnswerFault> {
-    for process in processes {
-        if let Some(text) = add_process(rt, process, guests, unknown)? {
-            return Ok(Some(text));
-        }
-    }
-    Ok(None)
-}
-
-/// The guests that have these options, each with who starts its daemon: the only one of these, or the
-/// one at its place.
-fn with_starters<'a>(
-    alloc: Global,
-    given: Vec<GuestOptions<'a, Global>>,
-    starters: &'a [Runner<Global>],
-) -> Result<Vec<Guest<'a, Global>>, AllocError> {
-    let is_one = starters.len() == 1;
-    let mut guests = Vec::new(alloc);
-    for options in given {
-        let runner = starters.get(if is_one { 0 } else { guests.len() });
-        guests.push(Guest { options, runner })?;
-    }
-    Ok(guests)
 }
 
 /// Answers, and then tells which words are not known, unless `quiet`.
@@ -207,11 +137,10 @@ fn answer_on(
     };
     write_whole(rt, answer.text.as_str())?;
     if !request.front.quiet {
-        for line in answer.refusals.as_slice() {
-            let _ = eprintln!(rt; "{line}");
-        }
-        for line in lines.as_slice() {
-            let _ = eprintln!(rt; "{line}");
+        for lines in [&answer.refusals, &answer.losses, &lines] {
+            for line in lines.as_slice() {
+                let _ = eprintln!(rt; "{line}");
+            }
         }
     }
     Ok(answer.outcome)
@@ -222,8 +151,7 @@ fn audited<'a>(
     rt: &HostRuntime,
     asked: Asked,
     values: &Values<'a>,
-    given: Vec<GuestOptions<'a, Global>>,
-    unknown: Vec<UnknownWord<'a>, Global>,
+    given: Guests<'a>,
 ) -> Result<Answered, AnswerFault> {
     let accepted = match read_kinds(rt.alloc(), values.accept.as_slice())? {
         Ok(kinds) => kinds,
@@ -236,7 +164,7 @@ fn audited<'a>(
             return Ok(wrong(rt, text.as_str()));
         }
     };
-    let host = match ask(rt, values, given.len()) {
+    let host = match ask(rt, values, given.guests.len()) {
         Ok(host) => host,
         Err(HostFault::Told(text)) => return Ok(wrong(rt, text.as_str())),
         Err(HostFault::OutOfMemory) => return Err(AnswerFault::OutOfMemory),
@@ -245,7 +173,7 @@ fn audited<'a>(
         front: asked,
         accepted: accepted.as_slice(),
     };
-    audited_on(rt, request, questions.as_slice(), &host, given, unknown)
+    audited_on(rt, request, questions.as_slice(), &host, given)
 }
 
 /// Answers on the guests of command lines, and on those of the host's processes.
@@ -254,17 +182,16 @@ fn audited_on<'a>(
     request: Request<'_>,
     questions: &[Question<'_>],
     host: &'a Host,
-    given: Vec<GuestOptions<'a, Global>>,
-    unknown: Vec<UnknownWord<'a>, Global>,
+    given: Guests<'a>,
 ) -> Result<Answered, AnswerFault> {
-    let mut unknown = unknown;
-    let mut guests = with_starters(rt.alloc(), given, host.starters.as_slice())?;
-    let processes = host.processes.as_slice();
-    if let Some(text) = add_processes(rt, processes, &mut guests, &mut unknown)? {
-        return Ok(wrong(rt, text.as_str()));
+    let (starters, processes) = (host.starters.as_slice(), host.processes.as_slice());
+    match all_guests(rt.alloc(), OF_DAEMON, given, starters, processes) {
+        Ok(all) => {
+            let (guests, unknown) = (all.guests.as_slice(), all.unknown.as_slice());
+            answer_on(rt, request, questions, guests, unknown)
+        }
+        Err(fault) => Ok(wrong(rt, process_text(rt.alloc(), fault)?.as_str())),
     }
-    let (guests, unknown) = (guests.as_slice(), unknown.as_slice());
-    answer_on(rt, request, questions, guests, unknown)
 }
 
 /// Writes a text to standard output, and flushes.

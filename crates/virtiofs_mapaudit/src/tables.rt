@@ -4,12 +4,25 @@ use crate::summary::{images_of, span_of};
 use crate::words::{Ids as Span, one_of};
 use std::alloc::{AllocError, Global};
 use virtiofs_findings::ids::kind::IdKind;
-use virtiofs_findings::names::SHOWN;
 use virtiofs_findings::setup::{IdSetUp, SetUp};
 use virtiofs_map::idmap::UidMap;
 use virtiofs_map::soft_idmap::{Direction, Outcome, Piece};
 use virtiofs_map::xattrmap::{AppliedRule, ErrorKind, Side, XattrMap, XattrName};
 use virtiofs_options::shown::Shown;
+
+/// Names that stand for all where a few are looked at: those that programs use, and one for each
+/// beginning.
+pub(crate) const SHOWN: [&str; 9] = [
+    "user.name",
+    "user.overlay.opaque",
+    "trusted.name",
+    "trusted.overlay.opaque",
+    "security.capability",
+    "security.selinux",
+    "security.ima",
+    "system.posix_acl_access",
+    "system.posix_acl_default",
+];
 
 /// Writes a piece at the end of a text, on a line.
 fn push_piece(text: &mut String, from: &str, to: &str, piece: Piece) -> Result<(), AllocError> {

@@ -3,6 +3,7 @@
 use crate::answer::{Reported, Request};
 use crate::fields::push_finding;
 use crate::kinds::{KERNEL, RECIPES, row_of};
+use crate::losses::losses_of;
 use crate::options::push_options;
 use crate::summary::{push_numbers, push_set_up, push_summary};
 use crate::tables::push_tables;
@@ -12,8 +13,7 @@ use virtiofs_findings::alike::{Alike, alike_to, is_first, is_told, likes_of};
 use virtiofs_findings::audit::{has_accepted, has_found, is_accepted};
 use virtiofs_findings::finding::{About, Finding, Kind};
 use virtiofs_findings::guest::Guest;
-use virtiofs_findings::setup::{IdSetUp, SetUp};
-use virtiofs_map::id_types::{GuestUid, Id};
+use virtiofs_findings::setup::SetUp;
 
 /// The guests that a finding is about, the lesser number first; one guest has its number twice.
 pub(crate) fn guests_of(finding: &Finding<Global>) -> (usize, usize) {
@@ -144,42 +144,6 @@ fn push_left(
     Ok(())
 }
 
-/// Whether what specifications make of id 0 of a guest is there in the namespace.
-fn has_root(set: &Option<IdSetUp<Global>>) -> bool {
-    let Some(set) = set else {
-        return false;
-    };
-    let Ok(id) = set.map.map_guest(GuestUid::from(0)) else {
-        return false;
-    };
-    let (id, ranges) = (id.into_inner(), set.ranges.as_slice());
-    ranges.is_empty()
-        || ranges
-            .iter()
-            .any(|it| it.inside_uid <= id && id - it.inside_uid < it.count)
-}
-
-/// Writes what guests lose by other options that is not to be missed, at the end of a text: id 0, and
-/// access control lists.
-fn push_losses(
-    text: &mut String,
-    before: &SetUp<Global>,
-    after: &SetUp<Global>,
-) -> Result<(), AllocError> {
-    if has_root(&before.users) && !has_root(&after.users) {
-        text.push_str(
-            "    user 0 is forbidden: the guest's root creates nothing and is given nothing; what is there it still opens\n",
-        )?;
-    }
-    if has_root(&before.groups) && !has_root(&after.groups) {
-        text.push_str("    group 0 is forbidden: processes of that group create nothing\n")?;
-    }
-    if before.posix_acl && !after.posix_acl {
-        text.push_str("    ACLs: off, and those that files have no longer apply in the guest\n")?;
-    }
-    Ok(())
-}
-
 /// The recipe for a finding. In a namespace, and with access control lists on, virtiofsd is to run as
 /// another user, since specifications go with neither.
 fn recipe_of(sets: &[SetUp<Global>], finding: &Finding<Global>) -> Option<&'static str> {
@@ -251,7 +215,11 @@ fn push_other(
     push_options(alloc, text, " ", "", &guest.options)?;
     text.push_str("\n")?;
     push_set_up(text, "    ", guest, other)?;
-    push_losses(text, set, other)
+    for loss in losses_of(alloc, set, other)? {
+        let line = loss.line;
+        write!(text, "    {line}\n")?;
+    }
+    Ok(())
 }
 
 /// Writes options that are advised, what they do, and what is still found with them, at the end of a

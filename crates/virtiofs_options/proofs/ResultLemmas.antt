@@ -10,19 +10,19 @@ use Rattle.virtiofs_options.specs.declared.guest.Guest.{Guest}
 use Rattle.virtiofs_options.specs.declared.options.Options.{Options}
 use Rattle.virtiofs_options.specs.declared.values.Values.{Values}
 use Rattle.virtiofs_options.specs.declared.words.Front.TheVariants.{Audit}
-use Rattle.virtiofs_options.specs.declared.words.Right.{Right}
-use Rattle.virtiofs_options.specs.declared.words.Right.TheVariants as right
+use Rattle.virtiofs_options.specs.declared.words.Words.{Words}
+use Rattle.virtiofs_options.specs.declared.words.Words.TheVariants as words_are
 
 audit-right : (own of_daemon : Options) (words front : List (Bor (List ℕ))) (asked : Asked) (values : Values)
-    (first : Guest Global) (it : Right) → AreFrontWords of_daemon words front → IsFront own front (Audit asked values first)
+    (first : Guest Global) (it : Words) → AreFrontWords of_daemon words front → IsFront own front (Audit asked values first)
     → IsAudit of_daemon asked values first (rest_of words) it → AreWords own of_daemon words it
-audit-right own of_daemon words front asked values first (right.Tell telling) are is audit = absurd audit
-audit-right own of_daemon words front asked values first (right.Audit asked_for all read) are is (same, these, guests) =
+audit-right own of_daemon words front asked values first (words_are.Tell telling) are is audit = absurd audit
+audit-right own of_daemon words front asked values first (words_are.Audit asked_for all read) are is (same, these, guests) =
     (front, asked, values, first, are, is, (same, these, guests))
 
 -- an audit of what stands after the first `--`
 pub audit-words : (own of_daemon : Options) (words front rest : List (Bor (List ℕ))) (asked : Asked) (values : Values)
-    (first : Guest Global) (r : Result Right ReadError) → AreFrontWords of_daemon words front
+    (first : Guest Global) (r : Result Words ReadError) → AreFrontWords of_daemon words front
     → IsFront own front (Audit asked values first) → rest ≡ rest_of words
     → IfOk r (IsAudit of_daemon asked values first rest) → IfOk r (AreWords own of_daemon words)
 audit-words own of_daemon words front rest asked values first (Ok it) are is rest_is audit =
@@ -32,7 +32,7 @@ audit-words own of_daemon words front rest asked values first (Err error) are is
 
 -- what is wrong with what stands after the first `--`
 pub audit-wrong : (own of_daemon : Options) (words front rest : List (Bor (List ℕ))) (asked : Asked) (values : Values)
-    (first : Guest Global) (r : Result Right ReadError) → AreFrontWords of_daemon words front
+    (first : Guest Global) (r : Result Words ReadError) → AreFrontWords of_daemon words front
     → IsFront own front (Audit asked values first) → rest ≡ rest_of words
     → IfErr r (WrongOnly (IsAuditFault of_daemon values first rest)) → IfErr r (WrongOnly (AreWrongWords own of_daemon words))
 audit-wrong own of_daemon words front rest asked values first (Ok it) are is rest_is wrong = tt

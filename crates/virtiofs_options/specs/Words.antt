@@ -19,8 +19,8 @@ use Rattle.virtiofs_options.specs.declared.front.Asked.{Asked}
 use Rattle.virtiofs_options.specs.declared.values.Values.{Values}
 use Rattle.virtiofs_options.specs.declared.words.Front.{Front}
 use Rattle.virtiofs_options.specs.declared.words.Front.TheVariants.{Tell, Audit}
-use Rattle.virtiofs_options.specs.declared.words.Right.{Right}
-use Rattle.virtiofs_options.specs.declared.words.Right.TheVariants as right
+use Rattle.virtiofs_options.specs.declared.words.Words.{Words}
+use Rattle.virtiofs_options.specs.declared.words.Words.TheVariants as words_are
 
 -- the guest whose daemon has the options of these parts, and no other
 abbrev pub IsGuestOf : {A : Type 0} → Options → List Part → Guest A → Type 0
@@ -73,8 +73,8 @@ AreGuestsUnless true of_daemon first words guests unknown = (guests ≡ []) × (
 AreGuestsUnless false of_daemon first words guests unknown = AreGuests of_daemon first words guests unknown
 
 -- what the words after the first `--` come to, where the first guest has the options before it
-abbrev pub IsAudit : Options → Asked → Values → Guest Global → List (Bor (List ℕ)) → Right → Type 0
-IsAudit of_daemon asked values first words (right.Audit asked_for all read) =
+abbrev pub IsAudit : Options → Asked → Values → Guest Global → List (Bor (List ℕ)) → Words → Type 0
+IsAudit of_daemon asked values first words (words_are.Audit asked_for all read) =
     (asked_for ≡ asked) × (all ≡ values)
     × AreGuestsUnless (names_processes values first words) of_daemon first words read.guests.items
     (map told read.unknown.items)
@@ -90,13 +90,13 @@ abbrev pub AreFrontWords : Options → List (Bor (List ℕ)) → List (Bor (List
 AreFrontWords of_daemon words front = map (λ it. it.now) front ≡ split_words of_daemon (line_of words)
 
 -- what the program's words come to: an audit, or what the program is to tell of itself
-abbrev pub AreWords : Options → Options → List (Bor (List ℕ)) → Right → Type 0
-AreWords own of_daemon words (right.Tell telling) =
+abbrev pub AreWords : Options → Options → List (Bor (List ℕ)) → Words → Type 0
+AreWords own of_daemon words (words_are.Tell telling) =
     (front : List (Bor (List ℕ))) × AreFrontWords of_daemon words front × IsFront own front (Tell telling)
-AreWords own of_daemon words (right.Audit asked_for all read) =
+AreWords own of_daemon words (words_are.Audit asked_for all read) =
     (front : List (Bor (List ℕ))) × (asked : Asked) × (values : Values) × (first : Guest Global)
     × AreFrontWords of_daemon words front × IsFront own front (Audit asked values first)
-    × IsAudit of_daemon asked values first (rest_of words) (right.Audit asked_for all read)
+    × IsAudit of_daemon asked values first (rest_of words) (words_are.Audit asked_for all read)
 
 -- what is wrong with the program's words: before the first `--`, or after it
 abbrev pub AreWrongWords : Options → Options → List (Bor (List ℕ)) → Fault → Type 0

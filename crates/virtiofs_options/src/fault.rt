@@ -11,7 +11,7 @@ use std::alloc::{AllocError, AllocFailed, Global};
 
 /// What is wrong with words.
 #[derive(Clone, Copy)]
-pub(crate) enum Fault<'a> {
+pub enum Fault<'a> {
     /// The word is not known before the first `--`.
     Unknown(&'a str),
     /// The option is not known, and is a near miss of one for ids or names.
@@ -47,7 +47,7 @@ pub(crate) enum Fault<'a> {
 }
 
 /// Why words are not read.
-pub(crate) enum ReadError<'a> {
+pub enum ReadError<'a> {
     /// A request for memory was refused.
     OutOfMemory,
     /// The words are wrong.
@@ -161,7 +161,11 @@ const BESIDE: &str =
     "'--explain' goes with neither '--json', '--quiet', '--svg', '--mend' nor '--show'\n";
 
 /// The sentence on what is wrong with words.
-pub(crate) fn fault_text(alloc: Global, fault: Fault<'_>) -> Result<String, AllocError> {
+///
+/// # Errors
+///
+/// `AllocError`: a request for memory was refused.
+pub fn fault_text(alloc: Global, fault: Fault<'_>) -> Result<String, AllocError> {
     match fault {
         Fault::Unknown(word) => unknown_text(alloc, "word", word, word, OWN.known),
         Fault::Miss(word) => unknown_text(alloc, "word", word, word, OF_DAEMON.known),

@@ -17,11 +17,11 @@ use std::alloc::Global;
 
 /// Guests, and what the daemon does not know of their command lines.
 #[derive(Drop)]
-pub(crate) struct Guests<'a> {
+pub struct Guests<'a> {
     /// The guests, in their order.
-    pub(crate) guests: Vec<Guest<'a, Global>>,
+    pub guests: Vec<Guest<'a, Global>>,
     /// What is not known, in the order of the words.
-    pub(crate) unknown: Vec<UnknownWord<'a>, Global>,
+    pub unknown: Vec<UnknownWord<'a>, Global>,
 }
 
 /// Where the command line of a guest begins. One that has options already may lack a command line.
@@ -127,13 +127,13 @@ pub enum Process<'a> {
     NoDaemon,
 }
 
-/// Reads the words of a process, for the guest of that number. The command line begins at the
-/// daemon's word.
+/// Reads the words of a process, for the guest of that number, counted from 1, where these options are
+/// the daemon's. The command line begins at the daemon's word.
 ///
 /// # Errors
 ///
 /// What is wrong with the command line; or a request for memory was refused.
-pub(crate) fn read_process<'a>(
+pub fn read_process<'a>(
     alloc: Global,
     options: Options,
     number: usize,

@@ -78,7 +78,7 @@ fn command<'a>(alloc: Global) -> Result<Command<'a>, AllocError> {
 
 /// What the program says of itself, on demand.
 #[derive(Clone, Copy)]
-pub(crate) enum Telling {
+pub enum Telling {
     /// The help.
     Help,
     /// The version.
@@ -86,7 +86,11 @@ pub(crate) enum Telling {
 }
 
 /// The text of it.
-pub(crate) fn told(alloc: Global, telling: Telling) -> Result<String, AllocError> {
+///
+/// # Errors
+///
+/// `AllocError`: a request for memory was refused.
+pub fn told(alloc: Global, telling: Telling) -> Result<String, AllocError> {
     let mut command = command(alloc)?;
     match telling {
         Telling::Help => command.render_help(),

@@ -2,8 +2,8 @@
 //!
 //! Words become parts (`parts`), and parts become what is asked for (`front`) and the options of a
 //! guest (`guest`, `older`). The contracts say what counts: values in the order of the words, of
-//! `--xattrmap` the last, and older options before the others. `read_words`, which puts all of it
-//! together, has no contract: what it does is shown by the rows of `tests/audit_program.jsonl`.
+//! `--xattrmap` the last, and older options before the others. `read_words` puts all of it together
+//! (`words`), and `read_process` reads the words of a process (`guests`).
 #![tactic(auto)]
 
 mod allowed;
@@ -13,11 +13,11 @@ pub mod fault;
 pub mod front;
 pub mod guest;
 pub mod guests;
-mod help;
+pub mod help;
 mod line;
 mod nearest;
 mod older;
-mod options;
+pub mod options;
 mod parts;
 pub mod shown;
 mod strays;

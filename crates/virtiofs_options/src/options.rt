@@ -84,7 +84,7 @@ use Values::{Any, AnyCase, Digits, NoEquals, Of, Tag};
 
 /// What may stand in a part of the words.
 #[derive(Clone, Copy)]
-pub(crate) struct Options {
+pub struct Options {
     /// The options.
     pub(crate) known: &'static [Known],
     /// Where the daemon's options may stand: the options that are the program's own.
@@ -96,7 +96,7 @@ pub(crate) struct Options {
 }
 
 /// What may stand before the first `--`.
-pub(crate) const OWN: Options = Options {
+pub const OWN: Options = Options {
     known: &OPTIONS,
     own: &[],
     older: &[],
@@ -104,7 +104,7 @@ pub(crate) const OWN: Options = Options {
 };
 
 /// What may stand on a command line of the daemon.
-pub(crate) const OF_DAEMON: Options = Options {
+pub const OF_DAEMON: Options = Options {
     known: &OPTIONS_OF_DAEMON,
     own: &OPTIONS,
     older: &OLDER_OPTIONS,

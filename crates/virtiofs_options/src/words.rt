@@ -7,37 +7,17 @@ ghost use Rattle.virtiofs_options.specs.Words.{IsFront, HasFrontFault, belongs, 
 
 use crate::cluster::split_words;
 use crate::command::{is_option, known_of};
-use crate::fault::{Fault, ReadError, fault_text};
+use crate::fault::{Fault, ReadError};
 use crate::front::{Asked, asked_of, telling_of};
 use crate::guest::Guest;
-use crate::guests::{Guests, Process, read_guests, read_process as process_of};
-use crate::help::{Telling, told};
+use crate::guests::{Guests, read_guests};
+use crate::help::Telling;
 use crate::line::{first_daemon, first_end, line_of, tail_of};
-use crate::options::{OF_DAEMON, OWN, Options};
+use crate::options::Options;
 use crate::parts::read_parts;
-use crate::unknown::UnknownWord;
 use crate::values::{Values, values_of};
 use crate::whole::is_line;
-use std::alloc::{AllocError, Global};
-
-/// What the words come to.
-#[derive(Drop)]
-pub enum Words<'a> {
-    /// An audit of guests.
-    Audit {
-        asked: Asked,
-        /// The values of the program's own options.
-        values: Values<'a>,
-        /// The guests of command lines: none where only processes are named.
-        guests: Vec<Guest<'a, Global>>,
-        /// What the daemon does not know of their command lines.
-        unknown: Vec<UnknownWord<'a>, Global>,
-    },
-    /// A text that was asked for: the help or the version.
-    Shown(String),
-    /// Wrong words, and what is wrong with them.
-    Wrong(String),
-}
+use std::alloc::Global;
 
 /// What the words before the first `--` come to.
 #[derive(Drop)]
@@ -108,12 +88,13 @@ fn names_processes(values: &Values<'_>, first: &Guest<'_, Global>, words: &[&str
     !values.pid.is_empty() && !first.has_any() && words.is_empty()
 }
 
-/// What the words come to that are right.
+/// What the program's words come to.
 #[derive(Drop)]
-enum Right<'a> {
+pub enum Words<'a> {
     /// The program is to tell of itself.
     Tell(Telling),
-    /// An audit of guests: what is asked for, the values of the program's own options, and the guests.
+    /// An audit of guests: what is asked for, the values of the program's own options, and the guests
+    /// of command lines, none where only processes are named.
     Audit(Asked, Values<'a>, Guests<'a>),
 }
 
@@ -125,7 +106,7 @@ fn audit_of<'a>(
     values: Values<'a>,
     words: &[&'a str],
     first: Guest<'a, Global>,
-) -> Result<Right<'a>, ReadError<'a>>
+) -> Result<Words<'a>, ReadError<'a>>
     ensures read { IfOk result (IsAudit of_daemon asked values.entry first.entry words.now) }
     ensures refused { IfErr result (WrongOnly (IsAuditFault of_daemon values.entry first.entry
         words.now)) }
@@ -135,21 +116,25 @@ fn audit_of<'a>(
             guests: Vec::new(alloc),
             unknown: Vec::new(alloc),
         };
-        return Ok(Right::Audit(asked, values, guests));
+        return Ok(Words::Audit(asked, values, guests));
     }
     match read_guests(alloc, of_daemon, words, first) {
-        Ok(guests) => Ok(Right::Audit(asked, values, guests)),
+        Ok(guests) => Ok(Words::Audit(asked, values, guests)),
         Err(error) => Err(error),
     }
 }
 
-/// What the program's words come to, where these options are its own, and those the daemon's.
-fn words_of<'a>(
+/// Reads the program's words, where these options are its own, and those the daemon's.
+///
+/// # Errors
+///
+/// What is wrong with the words; or a request for memory was refused.
+pub fn read_words<'a>(
     alloc: Global,
     own: Options,
     of_daemon: Options,
     words: &'a [&'a str],
-) -> Result<Right<'a>, ReadError<'a>>
+) -> Result<Words<'a>, ReadError<'a>>
     ensures read { IfOk result (AreWords own of_daemon words.now) }
     ensures refused { IfErr result (WrongOnly (AreWrongWords own of_daemon words.now)) }
 {
@@ -159,58 +144,10 @@ fn words_of<'a>(
             let rest = tail_of(words, rest_start(words));
             audit_of(alloc, of_daemon, asked, values, rest, first)
         }
-        Ok(Front::Tell(telling)) => Ok(Right::Tell(telling)),
+        Ok(Front::Tell(telling)) => Ok(Words::Tell(telling)),
         Err(ReadError::Wrong(fault)) => {
             Err(ReadError::Wrong(front_fault(of_daemon, words, fault)))
         }
         Err(ReadError::OutOfMemory) => Err(ReadError::OutOfMemory),
-    }
-}
-
-/// Reads the program's words.
-///
-/// # Errors
-///
-/// `AllocError`: a request for memory was refused.
-pub fn read_words<'a>(alloc: Global, words: &'a [&'a str]) -> Result<Words<'a>, AllocError> {
-    match words_of(alloc, OWN, OF_DAEMON, words) {
-        Ok(Right::Audit(asked, values, read)) => {
-            let Guests { guests, unknown } = read;
-            Ok(Words::Audit {
-                asked,
-                values,
-                guests,
-                unknown,
-            })
-        }
-        Ok(Right::Tell(telling)) => Ok(Words::Shown(told(alloc, telling)?)),
-        Err(ReadError::Wrong(fault)) => Ok(Words::Wrong(fault_text(alloc, fault)?)),
-        Err(ReadError::OutOfMemory) => Err(AllocError),
-    }
-}
-
-/// What the words of a process come to, or what is wrong with them.
-#[derive(Drop)]
-pub enum ProcessWords<'a> {
-    /// What they come to.
-    Read(Process<'a>),
-    /// A sentence on what is wrong.
-    Wrong(String),
-}
-
-/// Reads the words of a process, for the guest of that number, counted from 1.
-///
-/// # Errors
-///
-/// `AllocError`: a request for memory was refused.
-pub fn read_process<'a>(
-    alloc: Global,
-    number: usize,
-    words: &[&'a str],
-) -> Result<ProcessWords<'a>, AllocError> {
-    match process_of(alloc, OF_DAEMON, number, words) {
-        Ok(process) => Ok(ProcessWords::Read(process)),
-        Err(ReadError::Wrong(fault)) => Ok(ProcessWords::Wrong(fault_text(alloc, fault)?)),
-        Err(ReadError::OutOfMemory) => Err(AllocError),
     }
 }

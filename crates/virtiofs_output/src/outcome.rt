@@ -8,14 +8,14 @@ use std::alloc::{AllocError, AllocFailed};
 /// What a program's words came to, once their whole text was written.
 #[derive(Clone, Copy, Debug, PartialEq, Eq)]
 pub enum Answered {
-    /// The words were read and answered. If they ask `virtiofs_mapaudit` to audit guests, nothing
-    /// was found.
+    /// The words were read and answered. If they ask `virtiofs_mapaudit` to audit guests, nothing was
+    /// found that counts; with `--mend`, with the options that are written.
     Given,
-    /// A configuration among the words was refused, and a text says why.
+    /// A configuration among the words was refused. A text says why, unless `--quiet` is one of them.
     Refused,
     /// The words are wrong.
     WrongWords,
-    /// `virtiofs_mapaudit` found something, and no configuration was refused.
+    /// `virtiofs_mapaudit` found something that counts, and no configuration was refused.
     Found,
 }
 

@@ -50,26 +50,6 @@ impl<W: Write> Tally<W> {
         }
     }
 
-    /// Whether a write or a flush failed. It takes no memory.
-    pub fn failed(&self) -> bool
-        ensures { result ≡ self.now.failed }
-    {
-        self.has_failed
-    }
-
-    /// The writer, with all that was written to it. It takes no memory, and writes and flushes
-    /// nothing.
-    pub fn into_inner(self) -> W
-        ensures { W.contents result ≡ self.bytes }
-    {
-        let Tally {
-            writer,
-            has_failed: _,
-            is_flushed: _,
-        } = self;
-        writer
-    }
-
     /// Hands `piece` to the writer once, and answers how many of its first bytes were taken: at
     /// least one of a piece that has some. Where the write fails, nothing was taken, and the tally
     /// has failed from here on. Nothing may be written after that.

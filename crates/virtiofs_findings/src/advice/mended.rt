@@ -12,9 +12,10 @@ use crate::ids::kept::{same_among, uncovered};
 use crate::ids::kind::IdKind;
 use crate::setup::{IdSetUp, SetUp};
 use std::alloc::{AllocError, Allocator};
-use virtiofs_id_audit::mended;
 use virtiofs_id_audit::namespace::lacking_ids;
+use virtiofs_id_audit::{Span, ids_astray, mended};
 use virtiofs_map::cmdline;
+use virtiofs_map::idmap::UidMap;
 
 /// Which parts of the options are mended.
 #[derive(Clone, Copy)]
@@ -39,26 +40,101 @@ pub(super) const PARTS: [Parts; 3] = [
     },
 ];
 
-/// The specifications of a set-up, with the ids forbidden that do not round-trip, those that become one
-/// which the namespace lacks, and, where guests are isolated, those that keep their number. In a
-/// namespace of one id that one stays: it is the daemon's own.
+/// Which ids are forbidden.
+#[derive(Clone, Copy)]
+pub(super) struct Unwanted {
+    /// Those that do not round-trip.
+    astray: bool,
+    /// Those that become one which the namespace lacks.
+    lacking: bool,
+    /// Those that keep their number.
+    kept: bool,
+}
+
+/// Which ids are forbidden of guests, isolated or not, where findings of these kinds are accepted.
+pub(super) fn unwanted_ids(isolated: bool, accepted: &[Kind]) -> Unwanted {
+    Unwanted {
+        astray: !is_accepted(accepted, Kind::NotBack),
+        lacking: !is_accepted(accepted, Kind::Lacking),
+        kept: isolated && !is_accepted(accepted, Kind::Kept),
+    }
+}
+
+/// Specifications, and after them those that forbid ids.
+fn with_forbidden<A: Allocator + Copy>(
+    alloc: A,
+    specs: &[cmdline::IdMap],
+    ids: &[Span],
+) -> Result<Vec<cmdline::IdMap, A>, AllocError>
+    ensures { IfOk result (λ more. NarrowerIds specs.now more.items) }
+{
+    let mut more = Vec::from_slice(alloc, specs)?;
+    for span in ids {
+        more.push(cmdline::IdMap::ForbidGuest {
+            from_guest: span.first,
+            count: span.last.saturating_sub(span.first).saturating_add(1),
+        })?;
+    }
+    Ok(more)
+}
+
+/// The ids that keep their number under specifications, where they are unwanted. (4294967295 is none.)
+fn kept_of<A: Allocator + Copy>(
+    alloc: A,
+    are_unwanted: bool,
+    ranges: &[UidMap],
+    specs: &[cmdline::IdMap],
+) -> Result<Vec<Span, A>, AllocError> {
+    if !are_unwanted {
+        return Ok(Vec::new(alloc));
+    }
+    let uncovered = uncovered(alloc, specs)?;
+    let mut kept = Vec::new(alloc);
+    for span in same_among(alloc, ranges, uncovered.as_slice())? {
+        if span.first < u32::MAX {
+            let (first, last) = (span.first, span.last.min(u32::MAX - 1));
+            kept.push(Span { first, last })?;
+        }
+    }
+    Ok(kept)
+}
+
+/// The ids that a namespace lacks, where they are unwanted.
+fn lacking_of<A: Allocator + Copy>(
+    alloc: A,
+    are_unwanted: bool,
+    ranges: &[UidMap],
+) -> Result<Vec<Span, A>, AllocError> {
+    if are_unwanted {
+        lacking_ids(alloc, ranges)
+    } else {
+        Ok(Vec::new(alloc))
+    }
+}
+
+/// The specifications of a set-up, with unwanted ids forbidden. In a namespace of one id that one stays:
+/// it is the daemon's own. Where some ids do not round-trip and may, none that a specification covers is
+/// forbidden.
 pub(super) fn mended_ids<A: Allocator + Copy>(
     alloc: A,
-    isolated: bool,
+    unwanted: Unwanted,
     set: &IdSetUp<A>,
 ) -> Result<Vec<cmdline::IdMap, A>, AllocError>
     ensures { IfOk result (λ specs. NarrowerIds set.now.map specs.items) }
 {
     let ranges = set.ranges.as_slice();
-    let mut bad = lacking_ids(alloc, ranges)?;
-    let specs = mended(alloc, &set.map, bad.as_slice())?;
     let is_own = ranges.len() == 1 && ranges[0].count == 1;
-    if !isolated || is_own {
-        return Ok(specs);
+    let closes = unwanted.kept && !is_own;
+    let mut bad = lacking_of(alloc, unwanted.lacking, ranges)?;
+    if !unwanted.astray && !ids_astray(alloc, &set.map, bad.as_slice())?.is_empty() {
+        let kept = kept_of(alloc, closes, ranges, set.map.specs())?;
+        return with_forbidden(alloc, set.map.specs(), kept.as_slice());
     }
-    let uncovered = uncovered(alloc, specs.as_slice())?;
-    let kept = same_among(alloc, ranges, uncovered.as_slice())?;
-    bad.extend_from_slice(kept.as_slice())?;
+    if closes {
+        let specs = mended(alloc, &set.map, bad.as_slice())?;
+        let kept = kept_of(alloc, closes, ranges, specs.as_slice())?;
+        bad.extend_from_slice(kept.as_slice())?;
+    }
     mended(alloc, &set.map, bad.as_slice())
 }
 
@@ -82,37 +158,41 @@ fn counts<A: Allocator>(
 /// What specifications mend.
 const OF_IDS: [Kind; 3] = [Kind::NotBack, Kind::Lacking, Kind::Kept];
 
-/// Beside which they mend nothing: a range is at fault, or the kernel shows other ranges than the
-/// options. Ids that the namespace lacks now may be there when the daemon is started again.
-const OF_RANGES: [Kind; 2] = [Kind::Range, Kind::OtherRanges];
-
 /// The texts of specifications in which ids of a guest are forbidden; `None` where the given ones stay.
+/// They do where a range is at fault, or the kernel shows other ranges than the options: ids that the
+/// namespace lacks now may be there when the daemon is started again.
 fn mended_texts<A: Allocator + Copy>(
     alloc: A,
-    isolated: bool,
+    unwanted: Unwanted,
     accepted: &[Kind],
     number: usize,
     kind: IdKind,
     set: &Option<IdSetUp<A>>,
     found: &[Finding<A>],
 ) -> Result<Option<Vec<String<A>, A>>, AllocError> {
-    let has = |kinds: &[Kind]| counts(accepted, number, found, kinds, Some(kind));
     let Some(set) = set else {
         return Ok(None);
     };
-    if !has(&OF_IDS) || has(&OF_RANGES) {
+    let has_bad_ranges = set.fault.is_some() || set.differs;
+    if has_bad_ranges || !counts(accepted, number, found, &OF_IDS, Some(kind)) {
         return Ok(None);
     }
     let mut texts = Vec::new(alloc);
-    for spec in mended_ids(alloc, isolated, set)?.as_slice() {
+    for spec in mended_ids(alloc, unwanted, set)?.as_slice() {
         texts.push(format!(in alloc; "{spec}")?)?;
     }
     Ok(Some(texts))
 }
 
+/// Whether access control lists are turned off: they stand beside a translation of ids, which they do
+/// not go with, and that is not accepted.
+fn drops_acl<A: Allocator>(accepted: &[Kind], set: &SetUp<A>) -> bool {
+    set.acl_refused && !is_accepted(accepted, Kind::PosixAcl)
+        || set.acl_untranslated && !is_accepted(accepted, Kind::AclUntranslated)
+}
+
 /// What is tried in place of the options of the guest of a number, isolated or not, of whom that was
-/// found. Access control lists go with no translation of ids: they are turned off where they stand
-/// beside one, and no ids are forbidden where they stay on.
+/// found. No ids are forbidden where access control lists stay on and no ids are translated yet.
 pub(super) fn mended_options<A: Allocator + Copy>(
     alloc: A,
     parts: Parts,
@@ -123,21 +203,22 @@ pub(super) fn mended_options<A: Allocator + Copy>(
     set: &SetUp<A>,
     found: &[Finding<A>],
 ) -> Result<Options<A>, AllocError> {
-    let keeps_acl = guest.options.posix_acl && !(set.acl_refused || set.acl_untranslated);
+    let keeps_acl = guest.options.posix_acl && !drops_acl(accepted, set);
+    let unwanted = unwanted_ids(isolated, accepted);
     let mut options = Options {
         translate_uid: None,
         translate_gid: None,
         rules: None,
         keeps_acl,
     };
-    if parts.ids && !keeps_acl {
+    if parts.ids && (!keeps_acl || set.acl_refused || set.acl_untranslated) {
         let (users, groups) = (IdKind::Users, IdKind::Groups);
         options.translate_uid = mended_texts(
-            alloc, isolated, accepted, number, users, &set.users, found,
+            alloc, unwanted, accepted, number, users, &set.users, found,
         )?;
         options.translate_gid = mended_texts(
             alloc,
-            isolated,
+            unwanted,
             accepted,
             number,
             groups,

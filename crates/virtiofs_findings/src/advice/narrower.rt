@@ -1,11 +1,11 @@
 //! Whether what other options set up lets guests do no more than what the given ones do.
-ghost use Rattle.std.specs.Prelude.{◌≡◌, IfOk, IsTrue};
+ghost use Rattle.std.specs.Prelude.{◌≡◌, ◌↔◌, IfOk, IsTrue, length};
 ghost use Rattle.std.specs.List.{AllZip};
 ghost use Rattle.virtiofs_map.specs.RuleParts.{rule_meant};
-ghost use Rattle.virtiofs_findings.specs.Narrower.{BothOrNone, NarrowerKind, NarrowerRules, NarrowerNames, NarrowerSet, deny_all};
+ghost use Rattle.virtiofs_findings.specs.Narrower.{BothOrNone, NarrowerKind, NarrowerRules, NarrowerNames, NarrowerSet, SameSet, deny_all};
 ghost use Rattle.virtiofs_findings.specs.NarrowerParts.{EndsAt, IsSameAt};
 
-use crate::advice::mended::mended_ids;
+use crate::advice::mended::{Unwanted, mended_ids};
 use crate::setup::{IdSetUp, NamesSetUp, SetUp};
 use std::alloc::{AllocError, Allocator};
 use virtiofs_map::cmdline::IdMap as Spec;
@@ -13,7 +13,7 @@ use virtiofs_map::xattrmap::{RuleKind, RuleRef, Side, XattrMap};
 
 /// Whether two lists of specifications are the same.
 fn are_same(one: &[Spec], other: &[Spec]) -> bool
-    ensures { IsTrue result → one.now ≡ other.now }
+    ensures { IsTrue result ↔ (one.now ≡ other.now) }
 {
     if one.len() != other.len() {
         return false;
@@ -29,30 +29,33 @@ fn are_same(one: &[Spec], other: &[Spec]) -> bool
 /// Whether the other specifications are the given ones, or these with ids forbidden.
 fn narrows_ids<A: Allocator + Copy>(
     alloc: A,
-    isolated: bool,
+    unwanted: Unwanted,
     given: &IdSetUp<A>,
     other: &IdSetUp<A>,
 ) -> Result<bool, AllocError>
-    ensures { IfOk result (λ yes. IsTrue yes → NarrowerKind given.now other.now) }
+    ensures narrower { IfOk result (λ yes. IsTrue yes → NarrowerKind given.now other.now) }
+    ensures same { IfOk result (λ yes. other.now.map ≡ given.now.map → IsTrue yes) }
 {
     if are_same(other.map.specs(), given.map.specs()) {
         return Ok(true);
     }
-    let mended = mended_ids(alloc, isolated, given)?;
+    let mended = mended_ids(alloc, unwanted, given)?;
     Ok(are_same(other.map.specs(), mended.as_slice()))
 }
 
 /// The same where both are there, and whether neither is.
 fn narrows_kind<A: Allocator + Copy>(
     alloc: A,
-    isolated: bool,
+    unwanted: Unwanted,
     given: &Option<IdSetUp<A>>,
     other: &Option<IdSetUp<A>>,
 ) -> Result<bool, AllocError>
-    ensures { IfOk result (λ yes. IsTrue yes → BothOrNone NarrowerKind given.now other.now) }
+    ensures narrower { IfOk result (λ yes. IsTrue yes → BothOrNone NarrowerKind given.now other.now) }
+    ensures same { IfOk result (λ yes. BothOrNone (λ one another. another.map ≡ one.map) given.now
+        other.now → IsTrue yes) }
 {
     match (given, other) {
-        (Some(given), Some(other)) => narrows_ids(alloc, isolated, given, other),
+        (Some(given), Some(other)) => narrows_ids(alloc, unwanted, given, other),
         (None, None) => Ok(true),
         _ => Ok(false),
     }
@@ -65,7 +68,7 @@ fn is_same_at<A: Allocator>(
     other: &XattrMap<A>,
     at: usize,
 ) -> bool
-    ensures { IsTrue result → IsSameAt given.now place other.now at }
+    ensures { IsTrue result ↔ IsSameAt given.now place other.now at }
 {
     let (Some(rule), Some(another)) = (given.rule(place), other.rule(at)) else {
         return false;
@@ -86,7 +89,8 @@ fn denies_all(rule: RuleRef<'_>) -> bool
 
 /// Whether no rule stands at that place or behind it, or only one that denies all.
 fn ends_at<A: Allocator>(other: &XattrMap<A>, at: usize) -> bool
-    ensures { IsTrue result → EndsAt other.now at }
+    ensures ends { IsTrue result → EndsAt other.now at }
+    ensures past { length other.now ≡ at → IsTrue result }
 {
     if at == other.rule_count() {
         return true;
@@ -100,7 +104,8 @@ fn ends_at<A: Allocator>(other: &XattrMap<A>, at: usize) -> bool
 /// Whether the other rules are those of the given ones, in their order, but for some that decide no
 /// name, and one at the end that denies all.
 fn narrows_rules<A: Allocator>(given: &XattrMap<A>, other: &XattrMap<A>) -> bool
-    ensures { IsTrue result → NarrowerNames given.now other.now }
+    ensures narrower { IsTrue result → NarrowerNames given.now other.now }
+    ensures same { other.now ≡ given.now → IsTrue result }
 {
     let mut at = 0;
     for place in 0..given.rule_count() {
@@ -115,7 +120,9 @@ fn narrows_rules<A: Allocator>(given: &XattrMap<A>, other: &XattrMap<A>) -> bool
 
 /// The same where both are there, and whether neither is.
 fn narrows_names<A: Allocator>(given: &Option<NamesSetUp<A>>, other: &Option<NamesSetUp<A>>) -> bool
-    ensures { IsTrue result → BothOrNone NarrowerRules given.now other.now }
+    ensures narrower { IsTrue result → BothOrNone NarrowerRules given.now other.now }
+    ensures same { BothOrNone (λ one another. another.map ≡ one.map) given.now other.now →
+        IsTrue result }
 {
     match (given, other) {
         (Some(given), Some(other)) => narrows_rules(&given.map, &other.map),
@@ -127,16 +134,17 @@ fn narrows_names<A: Allocator>(given: &Option<NamesSetUp<A>>, other: &Option<Nam
 /// Whether what the options of one guest set up only takes away.
 fn is_narrower<A: Allocator + Copy>(
     alloc: A,
-    isolated: bool,
+    unwanted: Unwanted,
     given: &SetUp<A>,
     other: &SetUp<A>,
 ) -> Result<bool, AllocError>
-    ensures { IfOk result (λ yes. IsTrue yes → NarrowerSet given.now other.now) }
+    ensures narrower { IfOk result (λ yes. IsTrue yes → NarrowerSet given.now other.now) }
+    ensures same { IfOk result (λ yes. SameSet given.now other.now → IsTrue yes) }
 {
-    if !narrows_kind(alloc, isolated, &given.users, &other.users)? {
+    if !narrows_kind(alloc, unwanted, &given.users, &other.users)? {
         return Ok(false);
     }
-    if !narrows_kind(alloc, isolated, &given.groups, &other.groups)? {
+    if !narrows_kind(alloc, unwanted, &given.groups, &other.groups)? {
         return Ok(false);
     }
     Ok(narrows_names(&given.names, &other.names))
@@ -145,17 +153,18 @@ fn is_narrower<A: Allocator + Copy>(
 /// Whether what the options of all guests set up only takes away from each.
 pub(super) fn are_narrower<A: Allocator + Copy>(
     alloc: A,
-    isolated: bool,
+    unwanted: Unwanted,
     given: &[SetUp<A>],
     others: &[SetUp<A>],
 ) -> Result<bool, AllocError>
-    ensures { IfOk result (λ yes. IsTrue yes → AllZip NarrowerSet given.now others.now) }
+    ensures narrower { IfOk result (λ yes. IsTrue yes → AllZip NarrowerSet given.now others.now) }
+    ensures same { IfOk result (λ yes. AllZip SameSet given.now others.now → IsTrue yes) }
 {
     if given.len() != others.len() {
         return Ok(false);
     }
     for place in 0..given.len() {
-        if !is_narrower(alloc, isolated, &given[place], &others[place])? {
+        if !is_narrower(alloc, unwanted, &given[place], &others[place])? {
             return Ok(false);
         }
     }

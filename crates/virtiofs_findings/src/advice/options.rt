@@ -53,9 +53,9 @@ fn guest_of<'a, A: Allocator + Copy>(
     ensures { IfOk result (SameRest given.now) }
 {
     let options = &given.options;
-    let xattrmap = match &other.rules {
-        Some(rules) => Some(rules.as_str()),
-        None => options.xattrmap,
+    let xattrmap = match (&other.rules, options.xattrmap) {
+        (Some(rules), Some(_)) => Some(rules.as_str()),
+        (_, given) => given,
     };
     let (users, groups) = (
         options.translate_uid.as_slice(),

@@ -1,4 +1,5 @@
-use Rattle.std.proofs.Common.{refl}
+use Rattle.std.proofs.Common.{◌∙◌, refl, sym}
+use Rattle.std.proofs.lemmas.Bool.{true≢false}
 use Rattle.virtiofs_findings.proofs.AdviceLemmas.{are_refused, is_audited}
 use Rattle.virtiofs_findings.proofs.ListLemmas.{is_empty_here, is_some_here}
 use Rattle.virtiofs_findings.proofs.NarrowerLemmas.{are_narrower}
@@ -9,6 +10,16 @@ pub returns-then-not-is_empty : goal.returns-then-not-is_empty
 returns-then-not-is_empty g c =
     are_refused c.args.guests.items _ _ (rw c.as_slice.ensures.value at c.in_ok-sets.ensures.says)
     c.new-refusals.ensures.items (is_some_here _ _ (rw c.as_slice-2.ensures.value at c.if-not-is_empty.ensures) refl)
+
+pub returns-then-not-branch : goal.returns-then-not-branch
+returns-then-not-branch g c = record {
+  sets = c.args.all.now.sets.items;
+  other_sets = c.in_ok-sets.sets.items;
+  sets_up = c.requires.audits.sets_up;
+  other_sets_up = rw c.as_slice.ensures.value at c.in_ok-sets.ensures.sets_up;
+  other = λ same. true≢false (sym (c.in_ok-are_narrower.ensures.same
+      (rw (sym c.as_slice-3.ensures.value, sym c.as_slice-4.ensures.value) at same)) ∙ c.if-not-branch.true);
+}
 
 pub returns-then-not-finds_less : goal.returns-then-not-finds_less
 returns-then-not-finds_less g c = record {
@@ -28,7 +39,7 @@ returns g c = (
     narrower = are_narrower c.args.given.now c.args.guests.items c.args.all.now.sets.items c.in_ok-sets.sets.items
         c.requires.audits.sets_up (rw c.as_slice.ensures.value at c.in_ok-sets.ensures.sets_up) c.requires.rest
         (rw (c.as_slice-3.ensures.value, c.as_slice-4.ensures.value) at
-        (c.in_ok-are_narrower.ensures c.if-not-branch.false));
+        (c.in_ok-are_narrower.ensures.narrower c.if-not-branch.false));
     sets_up = rw c.as_slice.ensures.value at c.in_ok-sets.ensures.sets_up;
     audited = is_audited c.args.isolated c.args.guests.items c.in_ok-sets.sets.items _ _
         c.in_ok-findings.findings.items (rw c.as_slice.ensures.value at c.in_ok-sets.ensures.sets_up)

@@ -1,4 +1,4 @@
-use Rattle.std.proofs.Common.{◌≡◌, refl, subst, arith, take, ◌+◌, ◌-◌}
+use Rattle.std.proofs.Common.{◌≡◌, refl, subst, arith, take, ◌-◌}
 use Rattle.virtiofs_findings.specs.Findings.{Each}
 use Rattle.virtiofs_findings.specs.Lists.{Adds}
 use Rattle.virtiofs_findings.specs.PairFindings.{FindsPair}

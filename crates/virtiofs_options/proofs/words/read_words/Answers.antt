@@ -3,7 +3,7 @@ use Rattle.virtiofs_options.proofs.ResultLemmas.{audit-words, audit-wrong}
 use Rattle.virtiofs_options.specs.Clusters.{split_words}
 use Rattle.virtiofs_options.specs.Words.{IsFront}
 use Rattle.virtiofs_options.specs.declared.words.Front.TheVariants.{Audit}
-use Rattle.virtiofs_options.proofs.words.words_of.Goals as goal
+use Rattle.virtiofs_options.proofs.words.read_words.Goals as goal
 
 pub returns-in-Ok-Audit-clause-read : goal.returns-in-Ok-Audit-clause-read
 returns-in-Ok-Audit-clause-read c =

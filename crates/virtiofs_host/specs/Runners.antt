@@ -1,0 +1,80 @@
+-- Who runs a daemon, as the files of a host say.
+use Rattle.std.specs.Prelude.{◌≡◌, ◌≢◌, ◌⊎◌, ⊤, ℕ, List, Option, Some, None, option_map, codes}
+use Rattle.std.specs.Option.{option_or}
+use Rattle.std.specs.declared.vec.Vec.{Vec}
+use Rattle.virtiofs_map.specs.declared.idmap.UidMap.{UidMap}
+use Rattle.virtiofs_host.specs.IdMapText.{SaysRanges}
+use Rattle.virtiofs_host.specs.Lines.{lines, AllSaid, FirstSaid}
+use Rattle.virtiofs_host.specs.Status.{SaysEffective}
+use Rattle.virtiofs_host.specs.SubordinateIds.{GivesIds}
+use Rattle.virtiofs_host.specs.declared.runner.Bounds.{Bounds}
+use Rattle.virtiofs_host.specs.declared.runner.NotShown.{NotShown}
+use Rattle.virtiofs_host.specs.declared.runner.NotShown.TheVariants.{Status, UidMap as WrongUidMap, GidMap, OutOfMemory}
+use Rattle.virtiofs_host.specs.declared.runner.RunAs.{RunAs}
+use Rattle.virtiofs_host.specs.declared.runner.Runner.{Runner}
+use Rattle.virtiofs_host.specs.declared.runner.Shown.{Shown}
+use Rattle.virtiofs_host.specs.declared.subordinate.SubIds.{SubIds}
+use Rattle.virtiofs_host.specs.declared.users.User.{User}
+
+-- the name of a user in the files of subordinate ids; of one that the host does not know, a name that no line has
+abbrev pub name_of : Option User → List ℕ
+name_of None = codes ":"
+name_of (Some user) = user.name.now
+
+-- the group that is said, or that of the user
+abbrev pub group_of : RunAs → Option User → Option ℕ
+group_of run_as user = option_or run_as.gid (option_map (λ user. user.gid) user)
+
+-- the other ids of the user's namespace are those that the lines of a file give; for root no file is asked
+abbrev pub GivesTo : {A : Type 0} → List ℕ → ℕ → List ℕ → Option (Vec SubIds A) → Type 0
+GivesTo name uid text None = uid ≡ 0
+GivesTo name uid text (Some given) = (uid ≢ 0) × AllSaid (GivesIds name uid) (lines text) given.items
+
+-- the runner of a daemon that a user starts
+pub record Starts {A : Type 0} (uid gid : ℕ) (user : Option User) (subuid subgid : List ℕ) (place : ℕ) (runner : Runner A)
+    : Type 0 where
+  pub runs_as : runner.users.own ≡ uid
+  pub in_group : runner.groups.own ≡ gid
+  pub users : GivesTo (name_of user) uid subuid runner.users.given
+  pub groups : GivesTo (name_of user) uid subgid runner.groups.given
+  pub no_users : runner.users.shown ≡ None
+  pub no_groups : runner.groups.shown ≡ None
+  pub starts : runner.process ≡ None
+  pub at : runner.place ≡ place
+
+-- the bounds of a process that runs as that id, whose ranges the text says
+pub record BoundsShown {A : Type 0} (own : ℕ) (text : List ℕ) (bounds : Bounds A) : Type 0 where
+  pub runs_as : bounds.own ≡ own
+  pub given : bounds.given ≡ None
+  pub ranges : Vec UidMap A
+  pub says : SaysRanges text ranges.items
+  pub shown : bounds.shown ≡ Some ranges
+
+-- the text says no ranges
+abbrev pub SaysNoRanges : List ℕ → Type 0
+SaysNoRanges text = (ranges : List UidMap) → ¬ SaysRanges text ranges
+
+-- the ids that the content of `status` says
+abbrev pub IsUser : List ℕ → Option ℕ → Type 0
+IsUser status = FirstSaid (SaysEffective (codes "Uid:")) (lines status)
+
+abbrev pub IsGroup : List ℕ → Option ℕ → Type 0
+IsGroup status = FirstSaid (SaysEffective (codes "Gid:")) (lines status)
+
+-- the runner of a process
+pub record IsShown {A : Type 0} (process : ℕ) (shown : Shown) (place : ℕ) (runner : Runner A) : Type 0 where
+  pub uid : ℕ
+  pub gid : ℕ
+  pub user : IsUser shown.status.now (Some uid)
+  pub group : IsGroup shown.status.now (Some gid)
+  pub users : BoundsShown uid shown.uid_map.now runner.users
+  pub groups : BoundsShown gid shown.gid_map.now runner.groups
+  pub runs : runner.process ≡ Some process
+  pub at : runner.place ≡ place
+
+-- why it is not said who runs a process
+abbrev pub IsNotShown : Shown → NotShown → Type 0
+IsNotShown shown Status = IsUser shown.status.now None ⊎ IsGroup shown.status.now None
+IsNotShown shown WrongUidMap = SaysNoRanges shown.uid_map.now
+IsNotShown shown GidMap = SaysNoRanges shown.gid_map.now
+IsNotShown shown OutOfMemory = ⊤

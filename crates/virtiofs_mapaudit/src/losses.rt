@@ -1,0 +1,139 @@
+//! What guests lose by options that are advised, and that is not to be missed.
+
+use crate::summary::images_of;
+use crate::words::Ids;
+use std::alloc::{AllocError, Global};
+use virtiofs_findings::setup::{IdSetUp, SetUp};
+use virtiofs_map::id_types::{GuestUid, Id};
+use virtiofs_map::soft_idmap::Direction;
+
+/// What a guest loses.
+#[derive(Clone, Copy)]
+pub(crate) struct Loss {
+    /// Its word, which JSON has.
+    pub(crate) word: &'static str,
+    /// What it means to the guest.
+    pub(crate) line: &'static str,
+}
+
+/// All users.
+const USERS: Loss = Loss {
+    word: "users",
+    line: "all users are forbidden: nobody in the guest creates anything",
+};
+
+/// All groups.
+const GROUPS: Loss = Loss {
+    word: "groups",
+    line: "all groups are forbidden: no process of the guest creates anything",
+};
+
+/// The guest's root.
+const USER_0: Loss = Loss {
+    word: "user_0",
+    line: "user 0 is forbidden: the guest's root creates nothing and is given nothing; what is there it still opens",
+};
+
+/// The group of the guest's root.
+const GROUP_0: Loss = Loss {
+    word: "group_0",
+    line: "group 0 is forbidden: processes of that group create nothing",
+};
+
+/// Access control lists.
+const ACLS: Loss = Loss {
+    word: "acls",
+    line: "ACLs: off, and those that files have no longer apply in the guest",
+};
+
+/// Whether one of these ids is there in the namespace. (4294967295 is no id.)
+fn has_one(ids: Ids, set: &IdSetUp<Global>) -> bool {
+    let ranges = set.ranges.as_slice();
+    ranges.is_empty() && ids.first < u64::from(u32::MAX)
+        || ranges.iter().any(|it| {
+            let first = u64::from(it.inside_uid);
+            ids.first < first + u64::from(it.count) && first <= ids.last
+        })
+}
+
+/// Whether what specifications make of id 0 of a guest is there.
+fn has_root(set: &IdSetUp<Global>) -> bool {
+    let Ok(id) = set.map.map_guest(GuestUid::from(0)) else {
+        return false;
+    };
+    let id = u64::from(id.into_inner());
+    let ids = Ids {
+        first: id,
+        last: id,
+    };
+    has_one(ids, set)
+}
+
+/// Whether what they make of some id of a guest is there.
+fn has_some(set: &IdSetUp<Global>) -> bool {
+    for piece in set.map.pieces(Direction::GuestToHost) {
+        if let Some(ids) = images_of(piece)
+            && has_one(ids, set)
+        {
+            return true;
+        }
+    }
+    false
+}
+
+/// What a guest loses of the ids of a kind: all of them, or id 0.
+fn loss_of(
+    before: &Option<IdSetUp<Global>>,
+    after: &Option<IdSetUp<Global>>,
+    all: Loss,
+    root: Loss,
+) -> Option<Loss> {
+    let (Some(before), Some(after)) = (before, after) else {
+        return None;
+    };
+    if has_some(before) && !has_some(after) {
+        return Some(all);
+    }
+    if has_root(before) && !has_root(after) {
+        return Some(root);
+    }
+    None
+}
+
+/// What the guest of these options loses by the other ones.
+pub(crate) fn losses_of(
+    alloc: Global,
+    before: &SetUp<Global>,
+    after: &SetUp<Global>,
+) -> Result<Vec<Loss>, AllocError> {
+    let mut losses = Vec::new(alloc);
+    if let Some(loss) = loss_of(&before.users, &after.users, USERS, USER_0) {
+        losses.push(loss)?;
+    }
+    if let Some(loss) = loss_of(&before.groups, &after.groups, GROUPS, GROUP_0) {
+        losses.push(loss)?;
+    }
+    if before.posix_acl && !after.posix_acl {
+        losses.push(ACLS)?;
+    }
+    Ok(losses)
+}
+
+/// The lines on what each guest loses by other options.
+pub(crate) fn loss_lines(
+    alloc: Global,
+    before: &[SetUp<Global>],
+    after: &[SetUp<Global>],
+) -> Result<Vec<String>, AllocError> {
+    let mut lines = Vec::new(alloc);
+    for (place, set) in before.iter().enumerate() {
+        let Some(other) = after.get(place) else {
+            break;
+        };
+        for loss in losses_of(alloc, set, other)? {
+            let (guest, line) = (place.saturating_add(1), loss.line);
+            lines.push(format!(in alloc; "guest {guest}: {line}")?)?;
+        }
+    }
+    Ok(lines)
+}
