@@ -17,7 +17,7 @@ _virtiofs_mapaudit()
         --explain) words="user= host-user= group= host-group= name= host-name=" ;;
         *)
             words="--translate-uid --translate-gid --uid-map --gid-map --xattrmap --posix-acl"
-            words+=" --show --accept --explain --pid --run-as --subuid --subgid --svg --isolated --json --quiet --mend"
+            words+=" --show --accept --explain --pid --run-as --subuid --subgid --svg --json --quiet --mend"
             words+=" --help --version"
             for before in "${COMP_WORDS[@]:1:COMP_CWORD-1}"; do
                 [[ $before == -- ]] && words=${words%% --show*}

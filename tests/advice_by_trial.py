@@ -8,9 +8,9 @@ shell reads them. An audit of them refuses nothing and finds what was said to be
 or a pair of guests, no id that it did not have, and fewer kinds or ids than before. By a reading of the options here, which
 knows nothing of the program, each id at a boundary becomes what it became or is forbidden, each name of some 200 passes and
 is listed as before, or is denied and hidden where no rule decided it, and all else is as it was. No id is left that does not
-round-trip, that the namespace lacks, or that keeps its number under `--isolated`, but where that is accepted, where access
-control lists are on, where a range of the namespace is at fault, and the only id of a namespace that has one; and what is
-accepted of ids stays. The last line is 'N passed, N failed'.
+round-trip, that the namespace lacks, or that keeps its number beside specifications, but where that is accepted, where access
+control lists are on, where no specification maps ids of the guest, and where a range of the namespace is at fault; and what
+is accepted of ids stays. The last line is 'N passed, N failed'.
 """
 import json
 import os
@@ -23,7 +23,7 @@ from concurrent.futures import ThreadPoolExecutor
 sys.dont_write_bytecode = True
 from tally import Tally
 
-SEED, TRIALS, SECONDS, ISOLATED = 58, 3000, 60, "--isolated"
+SEED, TRIALS, SECONDS = 58, 3000, 60
 LOW, HIGH = list(range(0, 12)), [4294967290, 4294967293, 4294967294]
 OF_IDS = ("not_back", "lacking", "kept")
 KINDS = (*OF_IDS, "root", "posix_acl", "acl_untranslated", "no_rule", "idle_rule")
@@ -62,12 +62,12 @@ def command_lines(guests):
 
 
 def guests(random):
-    """The words of one to three guests, of which some have the same options. Half of the time they are isolated, some kinds
-    of findings are accepted, or it is said who starts the daemons."""
+    """The words of one to three guests, of which some have the same options. Half of the time some kinds of findings are
+    accepted, or it is said who starts the daemons."""
     made = [list(guest(random))]
     for _ in range(random.choice((0, 0, 1, 2))):
         made.append(random.choice(made) if random.random() < 0.3 else list(guest(random)))
-    own = random.choice(([], [ISOLATED])) + [f"--accept={kind}" for kind in random.sample(KINDS, random.choice((0, 0, 1, 2)))]
+    own = [f"--accept={kind}" for kind in random.sample(KINDS, random.choice((0, 0, 1, 2)))]
     own += random.choice(([], [], ["--run-as=0:0"], ["--run-as=1000:1000", "--subuid=/dev/null", "--subgid=/dev/null"]))
     return [*own, *command_lines(made)]
 
@@ -218,15 +218,18 @@ def fault(program, words):
     for one, other in zip(guests_in(words), options):
         if more := opened(one, other):
             return f"opened: {more}"
-    ranges = lambda it: values("--uid-map" if it["ids"] == "users" else "--gid-map", options[it["guest"] - 1])
-    is_own = lambda it: it["kind"] == "kept" and [one.split(":")[3] for one in ranges(it)] in ([], ["1"])
     at_fault = {(it["guest"], it["ids"]) for it in told["findings"] if it["kind"] == "range"}
+    specs_of = lambda it: values("--translate-uid" if it["ids"] == "users" else "--translate-gid", options[it["guest"] - 1])
+    maps = lambda it: any(spec.split(":")[0] in ("map", "guest", "squash-guest") and spec.split(":")[-1] != "0" for spec in specs_of(it))
+    # (to forbid ids where nothing is translated makes a finding of those that keep their number)
+    ranges = lambda it: values("--uid-map" if it["ids"] == "users" else "--gid-map", options[it["guest"] - 1])
+    is_free = lambda it: not specs_of(it) and any(one.split(":")[1] == one.split(":")[2] for one in ranges(it))
     kept = [number for number, one in enumerate(options, 1) if has_acl(one)]
     stay = {(it["guest"], it["ids"]) for it in told["findings"] if it["kind"] == "not_back" and it["accepted"]}
     bad = [
         it for it in advised["findings"]
         if it["kind"] in OF_IDS and not it["accepted"] and it["guest"] not in kept and (it["guest"], it["ids"]) not in at_fault
-        and not (is_own(it) and ids_of(it)[0][1] == ids_of(it)[-1][2]) and not (it["kind"] == "lacking" and (it["guest"], it["ids"]) in stay)
+        and not (it["kind"] == "kept" and not maps(it)) and not (it["kind"] == "lacking" and is_free(it)) and not (it["kind"] == "lacking" and (it["guest"], it["ids"]) in stay)
     ]
     if bad:
         return f"ids are left: {bad}"

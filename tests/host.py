@@ -50,7 +50,6 @@ def processes(room, stand_in):
     kernels = ("0 100000 65536\n",) * 2
     with daemon(stand_in, ranges, kernels) as pid:
         yield "a namespace as its options say", ["--pid", pid], 0, "its 0 to 65535 are 100000 to 165535 on the host"
-        yield "the same, isolated", ["--isolated", "--pid", pid], 0, "nothing found"
         yield "an id of it, explained", ["--explain", "user=5", "--pid", pid], 0, f"guest 1, process {pid}\n  user 5 of the guest\n"
         with daemon(stand_in, [it.replace("100000", "200000") for it in ranges], ("0 200000 65536\n",) * 2) as other:
             yield "two daemons apart", ["--pid", pid, "--pid", other], 0, "nothing found"

@@ -12,7 +12,7 @@ use Rattle.virtiofs_id_audit.specs.declared.spans.Span.{Span}
 use Rattle.virtiofs_map.specs.declared.idmap.UidMap.{UidMap}
 use Rattle.virtiofs_map.specs.declared.soft_idmap.entry.Direction.TheVariants.{GuestToHost}
 use Rattle.virtiofs_findings.proofs.IdLemmas.{all_same}
-use Rattle.virtiofs_findings.specs.IdFindings.{FindsAll, TellsHost, IsKept, TellsKept, FindsKept}
+use Rattle.virtiofs_findings.specs.IdFindings.{AreMapped, FindsAll, TellsHost, IsKept, TellsKept, FindsKept}
 use Rattle.virtiofs_findings.specs.KeptParts.{cover_of, covered, same_of, IsUncovered, IsSame}
 use Rattle.virtiofs_id_audit.specs.Namespace.{Has, HasNone, StandsBy, StandsAmong, StandsFor}
 use Rattle.virtiofs_id_audit.specs.Outside.{AreMoved}
@@ -133,18 +133,18 @@ stays id host (inr (none, is)) = cc
 itself : (id : ℕ) → Becomes [] GuestToHost id (Some id)
 itself id = inr ((λ spec (k, inside, here). absurd (omega (arith, inside))), refl)
 
-finds_kept : {A : Type 0} (isolated : Bool) (specs : List IdMap) (ranges : List UidMap) (uncovered kept : List Span)
-    (found : Option (IdsFound A)) → isolated ≡ true → ((id : ℕ) → Hold uncovered id ↔ IsUncovered specs id)
+-- where ids are mapped
+finds_kept : {A : Type 0} (specs : List IdMap) (ranges : List UidMap) (uncovered kept : List Span)
+    (found : Option (IdsFound A)) → AreMapped specs ranges → ((id : ℕ) → Hold uncovered id ↔ IsUncovered specs id)
     → ((id : ℕ) → Hold kept id ↔ IsSame ranges uncovered id)
-    → FindsAll (GoesInto [] (Hold kept)) (TellsHost []) found → FindsKept isolated specs ranges found
-finds_kept false specs ranges uncovered kept found is free same finds = absurd (cc)
-finds_kept {A = A} true specs ranges uncovered kept found is free same finds = told found
+    → FindsAll (GoesInto [] (Hold kept)) (TellsHost []) found → FindsKept specs ranges found
+finds_kept {A = A} specs ranges uncovered kept found mapped free same finds = told found
     (all_same (GoesInto [] (Hold kept)) (IsKept specs ranges) (TellsHost []) found keeps goes finds) where
       keeps : (id : ℕ) → GoesInto [] (Hold kept) id → IsKept specs ranges id
       keeps id into =
           let stay : into.host ≡ id = stays id into.host into.goes.becomes in
           let (held, stands) = (same id).0 (subst (Hold kept) stay into.is_one) in
-          record { is_id = into.goes.is_id; uncovered = ((free id).0 held).1; same = stands }
+          record { mapped = mapped; is_id = into.goes.is_id; uncovered = ((free id).0 held).1; same = stands }
 
       goes : (id : ℕ) → IsKept specs ranges id → GoesInto [] (Hold kept) id
       goes id keep = record {
@@ -163,10 +163,10 @@ finds_kept {A = A} true specs ranges uncovered kept found is free same finds = t
         tells = stays it.guest it.host all.tells.becomes;
       }
 
-pub kept_made : {A E : Type 0} (r : Result (Option (IdsFound A)) E) (isolated : Bool) (specs : List IdMap)
-    (ranges : List UidMap) (uncovered kept : List Span) → isolated ≡ true
-    → ((id : ℕ) → Hold uncovered id ↔ IsUncovered specs id) → ((id : ℕ) → Hold kept id ↔ IsSame ranges uncovered id)
-    → IfOk r (FindsAll (GoesInto [] (Hold kept)) (TellsHost [])) → IfOk r (FindsKept isolated specs ranges)
-kept_made (Ok found) isolated specs ranges uncovered kept is free same finds =
-    finds_kept isolated specs ranges uncovered kept found is free same finds
-kept_made (Err e) isolated specs ranges uncovered kept is free same finds = tt
+pub kept_made : {A E : Type 0} (r : Result (Option (IdsFound A)) E) (specs : List IdMap) (ranges : List UidMap)
+    (uncovered kept : List Span) → AreMapped specs ranges → ((id : ℕ) → Hold uncovered id ↔ IsUncovered specs id)
+    → ((id : ℕ) → Hold kept id ↔ IsSame ranges uncovered id)
+    → IfOk r (FindsAll (GoesInto [] (Hold kept)) (TellsHost [])) → IfOk r (FindsKept specs ranges)
+kept_made (Ok found) specs ranges uncovered kept mapped free same finds =
+    finds_kept specs ranges uncovered kept found mapped free same finds
+kept_made (Err e) specs ranges uncovered kept mapped free same finds = tt

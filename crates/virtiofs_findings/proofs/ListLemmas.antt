@@ -1,10 +1,11 @@
 -- Lists of which some item has a property.
 use Rattle.std.proofs.Common.{◌≡◌, ◌≢◌, ◌⊎◌, ◌↔◌, inl, inr, ℕ, ◌+◌, ◌<◌, ◌≤◌, List, [], ◌∷◌, ◌++◌, length, take, get_or}
-use Rattle.std.proofs.Common.{Result, Ok, Err, OnOk}
+use Rattle.std.proofs.Common.{All, Result, Ok, Err, OnOk, subst}
 use Rattle.std.proofs.Common.{Bool, true, false, zero, suc, refl, sym, ap, ◌∙◌, arith, append_assoc, append-nil, flat_map}
 use Rattle.std.proofs.lemmas.Bool.{true≢false}
 use Rattle.std.proofs.lemmas.Grind.{flat_map-append}
 use Rattle.std.proofs.lemmas.List.{take_more, take_all, length-take-le}
+use Rattle.std.proofs.lemmas.List.Elements.{All-more}
 use Rattle.std.specs.Bool.{◌==◌}
 use Rattle.virtiofs_findings.specs.Lists.{AnyHas, AnyTwoHave}
 
@@ -14,6 +15,11 @@ use Rattle.virtiofs_findings.specs.Lists.{AnyHas, AnyTwoHave}
 pub more_at : {A : Type 0} (xs : List A) (i : ℕ) (x : A) → x ≡ get_or xs i x → i < length xs
     → take (i + 1) xs ≡ take i xs ++ x ∷ []
 more_at xs i x is below = take_more xs i x below ∙ ap (λ y. take i xs ++ y ∷ []) (sym is)
+
+-- so it is of each item so far
+pub all_at : {A : Type 0} (P : A → Type 0) (xs : List A) (i : ℕ) (x : A) → x ≡ get_or xs i x → i < length xs
+    → All P (take i xs) → P x → All P (take (i + 1) xs)
+all_at P xs i x is below all holds = All-more P xs i x below all (subst P is holds)
 
 -- ---- some item
 

@@ -215,38 +215,28 @@ denied_or_same given other at agree ends side name is =
     denies Client name = refl
     denies Server name = refl
 
-client_of : (name : List ℕ) (before after : Option MappingRule) → after ≡ option_or before (Some deny_all)
-    → let answer = option_map_or (λ (rule : MappingRule). answer_by rule.kind rule.prepend name) in
-    (answer after IsUnterminated ≡ answer before IsUnterminated)
-    ⊎ ((answer before IsUnterminated ≡ IsUnterminated) × (answer after IsUnterminated ≡ IsDenied))
-client_of name None after is =
-    inr (refl, ap (λ it. option_map_or (λ (rule : MappingRule). answer_by rule.kind rule.prepend name) it IsUnterminated) is)
-client_of name (Some rule) after is =
-    inl (ap (λ it. option_map_or (λ (rule : MappingRule). answer_by rule.kind rule.prepend name) it IsUnterminated) is)
-
-server_of : (name : List ℕ) (before after : Option MappingRule) → after ≡ option_or before (Some deny_all)
-    → let answer = option_map_or (λ (rule : MappingRule). host_answer_by rule.kind rule.prepend name) in
-    (answer after IsUndecided ≡ answer before IsUndecided)
-    ⊎ ((answer before IsUndecided ≡ IsUndecided) × (answer after IsUndecided ≡ IsHidden))
-server_of name None after is =
-    inr (refl, ap (λ it. option_map_or (λ (rule : MappingRule). host_answer_by rule.kind rule.prepend name) it IsUndecided) is)
-server_of name (Some rule) after is =
-    inl (ap (λ it. option_map_or (λ (rule : MappingRule). host_answer_by rule.kind rule.prepend name) it IsUndecided) is)
+-- what is answered by the rule that decides is what was answered, or what denying all answers where none decided
+answer_or_denial : {X : Type 0} (answer : MappingRule → X) (none denial : X) → answer deny_all ≡ denial
+    → (before after : Option MappingRule)
+    → (after ≡ before) ⊎ (after ≡ option_or before (Some deny_all))
+    → (option_map_or answer after none ≡ option_map_or answer before none)
+    ⊎ ((option_map_or answer before none ≡ none) × (option_map_or answer after none ≡ denial))
+answer_or_denial answer none denial denies before after (inl same) = inl (ap (λ it. option_map_or answer it none) same)
+answer_or_denial answer none denial denies None after (inr more) =
+    inr (refl, ap (λ it. option_map_or answer it none) more ∙ denies)
+answer_or_denial answer none denial denies (Some rule) after (inr more) =
+    inl (ap (λ it. option_map_or answer it none) more)
 
 pub narrower_rules : (given other : List MappingRule) (place at : ℕ) → length given ≤ place → place ≤ length given
     → AgreeSoFar given place other at → EndsAt other at → NarrowerNames given other
 narrower_rules given other place at past within agree ends =
     let all = subst (λ n. AgreeSoFar given n other at) (omega (arith, past, within)) agree in record {
-      client = λ name is. elim (denied_or_same given other at all ends Client name is) [
-        | inl same ↦ inl (ap (λ it. option_map_or (λ (rule : MappingRule). answer_by rule.kind rule.prepend name) it
-            IsUnterminated) same)
-        | inr more ↦ client_of name (deciding Client given name) (deciding Client other name) more
-      ];
-      server = λ name is. elim (denied_or_same given other at all ends Server name is) [
-        | inl same ↦ inl (ap (λ it. option_map_or (λ (rule : MappingRule). host_answer_by rule.kind rule.prepend name) it
-            IsUndecided) same)
-        | inr more ↦ server_of name (deciding Server given name) (deciding Server other name) more
-      ];
+      client = λ name is.
+          answer_or_denial (λ rule. answer_by rule.kind rule.prepend name) IsUnterminated IsDenied refl _ _
+          (denied_or_same given other at all ends Client name is);
+      server = λ name is.
+          answer_or_denial (λ rule. host_answer_by rule.kind rule.prepend name) IsUndecided IsHidden refl _ _
+          (denied_or_same given other at all ends Server name is);
     }
 
 -- ---- guests

@@ -67,16 +67,16 @@ adds_all Tells sets place before after over adds =
 -- ---- ids of a kind
 
 -- what is found of ids of a kind, part by part
-pub kind_found : {A V E : Type 0} (r : Result V E) (isolated : Bool) (number : ℕ) (kind : IdKind) (set : IdSetUp A)
+pub kind_found : {A V E : Type 0} (r : Result V E) (number : ℕ) (kind : IdKind) (set : IdSetUp A)
     (ids : IdFindings A) (kept : Option (IdsFound A)) (in_namespace : Bool) (a b c d e f : List (Finding A))
-    → FindsIds set.map set.ranges.items ids → FindsKept isolated set.map set.ranges.items kept
+    → FindsIds set.map set.ranges.items ids → FindsKept set.map set.ranges.items kept
     → (IsTrue in_namespace ↔ (set.ranges.items ≢ []))
     → b ≡ a ++ range_found number kind set.fault → c ≡ b ++ other_found number kind set.differs
     → d ≡ c ++ ids_found number kind in_namespace NotBack ids.astray
     → e ≡ d ++ ids_found number kind in_namespace Lacking ids.lacking
     → OnOk r (f ≡ e ++ ids_found number kind in_namespace Kept kept)
-    → OnOk r (Adds (FindsKind isolated number kind set) a f)
-kind_found (Ok x) isolated number kind set ids kept in_namespace a b c d e f finds_ids finds_kept namespace first second
+    → OnOk r (Adds (FindsKind number kind set) a f)
+kind_found (Ok x) number kind set ids kept in_namespace a b c d e f finds_ids finds_kept namespace first second
     third fourth fifth =
     record {
       more = range_found number kind set.fault ++ other_found number kind set.differs
@@ -94,19 +94,19 @@ kind_found (Ok x) isolated number kind set ids kept in_namespace a b c d e f fin
       };
       added = simp (fifth, fourth, third, second, first, append_assoc);
     }
-kind_found (Err x) isolated number kind set ids kept in_namespace a b c d e f finds_ids finds_kept namespace first second
+kind_found (Err x) number kind set ids kept in_namespace a b c d e f finds_ids finds_kept namespace first second
     third fourth fifth = tt
 
 -- ---- a guest
 
 -- what is found of a guest, part by part
-pub guest_found : {A V E : Type 0} (r : Result V E) (isolated : Bool) (number : ℕ) (set : SetUp A)
+pub guest_found : {A V E : Type 0} (r : Result V E) (number : ℕ) (set : SetUp A)
     (a b c d e f g : List (Finding A)) → b ≡ a ++ start_found number set
-    → Adds (FindsIf (FindsKind isolated number Users) set.users) b c
-    → Adds (FindsIf (FindsKind isolated number Groups) set.groups) c d
+    → Adds (FindsIf (FindsKind number Users) set.users) b c
+    → Adds (FindsIf (FindsKind number Groups) set.groups) c d
     → Adds (FindsRoot number set) d e → Adds (FindsIf (FindsNamesOf number) set.names) e f
-    → OnOk r (Adds (FindsAcl number set.posix_acl set.names) f g) → OnOk r (Adds (FindsGuest isolated number set) a g)
-guest_found (Ok x) isolated number set a b c d e f g start users groups root names acl = record {
+    → OnOk r (Adds (FindsAcl number set.posix_acl set.names) f g) → OnOk r (Adds (FindsGuest number set) a g)
+guest_found (Ok x) number set a b c d e f g start users groups root names acl = record {
   more = start_found number set ++ users.more ++ groups.more ++ root.more ++ names.more ++ acl.more;
   is = record {
     of_users = users.more;
@@ -123,16 +123,16 @@ guest_found (Ok x) isolated number set a b c d e f g start users groups root nam
   };
   added = simp (acl.added, names.added, root.added, groups.added, users.added, start, append_assoc);
 }
-guest_found (Err x) isolated number set a b c d e f g start users groups root names acl = tt
+guest_found (Err x) number set a b c d e f g start users groups root names acl = tt
 
 -- ---- all
 
 -- of each by itself, and then between each two
-pub finds_all : {A : Type 0} (isolated : Bool) (sets : List (SetUp A)) (before between after : List (Finding A))
-    → before ≡ [] → Adds (Each (FindsGuest isolated) 1 sets) before between
+pub finds_all : {A : Type 0} (sets : List (SetUp A)) (before between after : List (Finding A))
+    → before ≡ [] → Adds (Each FindsGuest 1 sets) before between
     → Adds (Each (FindsWithEarlier sets) 1 sets) between after
-    → Finds isolated sets after
-finds_all isolated sets before between after none guests pairs = record {
+    → Finds sets after
+finds_all sets before between after none guests pairs = record {
   of_guests = guests.more;
   of_pairs = pairs.more;
   guests = guests.is;

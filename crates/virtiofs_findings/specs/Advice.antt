@@ -1,14 +1,17 @@
 -- Options that are advised in place of those of guests: the guests can do no more with them, and less is found.
-use Rattle.std.specs.Prelude.{◌≡◌, ◌≢◌, ◌≤◌, Bool, List, [], All, Contains, Option, Some, None}
+use Rattle.std.specs.Prelude.{◌≡◌, ◌≢◌, ◌⊎◌, ◌≤◌, List, [], length, All, Contains, Option, Some, None}
 use Rattle.std.specs.List.{AllZip}
+use Rattle.std.specs.declared.vec.Vec.{Vec}
 use Rattle.virtiofs_id_audit.specs.declared.spans.Span.{Span}
 use Rattle.virtiofs_findings.specs.Guests.{SetsUp}
 use Rattle.virtiofs_findings.specs.Lists.{AnyHas}
 use Rattle.virtiofs_findings.specs.Narrower.{AreNarrower, SameSet}
 use Rattle.virtiofs_findings.specs.Refusals.{TellsGuests}
 use Rattle.virtiofs_findings.specs.Report.{Finds}
+use Rattle.virtiofs_findings.specs.Tries.{AreWith}
 use Rattle.virtiofs_findings.specs.declared.advice.Advised.{Advised}
 use Rattle.virtiofs_findings.specs.declared.advice.Trial.{Trial}
+use Rattle.virtiofs_findings.specs.declared.advice.options.Options.{Options}
 use Rattle.virtiofs_findings.specs.declared.advice.Trial.TheVariants.{Better, Refused, NoLess, NotNarrower}
 use Rattle.virtiofs_findings.specs.declared.finding.Evidence.{Evidence}
 use Rattle.virtiofs_findings.specs.declared.finding.Evidence.TheVariants as evidence
@@ -76,21 +79,21 @@ FindsLess accepted left found = (¬ HasNew [] left found) × HasNew accepted fou
 
 -- ---- advice
 
--- an audit of guests, isolated or not: which of their texts are refused, and what is found
-pub record IsAudited {A : Type 0} (isolated : Bool) (guests : List (Guest A)) (refusals : List (Refusal A))
+-- an audit of guests: which of their texts are refused, and what is found
+pub record IsAudited {A : Type 0} (guests : List (Guest A)) (refusals : List (Refusal A))
     (found : List (Finding A)) : Type 0 where
   pub sets : List (SetUp A)
   pub sets_up : AllZip SetsUp guests sets
   pub refused : TellsGuests 1 guests refusals
-  pub finds : Finds isolated sets found
+  pub finds : Finds sets found
 
 -- with these options the guests can do no more than with the given ones, no text is refused, and less is found than
 -- before
-pub record IsAdvice {A : Type 0} (isolated : Bool) (accepted : List Kind) (given : List (Guest A))
+pub record IsAdvice {A : Type 0} (accepted : List Kind) (given : List (Guest A))
     (before : List (Finding A)) (advised : Advised A) : Type 0 where
   pub narrower : AreNarrower given advised.guests.items
   pub sets_up : AllZip SetsUp advised.guests.items advised.sets.items
-  pub audited : IsAudited isolated advised.guests.items [] advised.findings.items
+  pub audited : IsAudited advised.guests.items [] advised.findings.items
   pub less : FindsLess accepted advised.findings.items before
 
 -- some text of these guests is refused
@@ -100,10 +103,10 @@ pub record AreRefused {A : Type 0} (guests : List (Guest A)) : Type 0 where
   pub some : refusals ≢ []
 
 -- no text of these guests is refused, and no less is found than before
-pub record FindNoLess {A : Type 0} (isolated : Bool) (accepted : List Kind) (before : List (Finding A))
+pub record FindNoLess {A : Type 0} (accepted : List Kind) (before : List (Finding A))
     (guests : List (Guest A)) : Type 0 where
   pub after : List (Finding A)
-  pub audited : IsAudited isolated guests [] after
+  pub audited : IsAudited guests [] after
   pub no_less : ¬ FindsLess accepted after before
 
 -- the specifications or the rules of some guest are not those of the given ones
@@ -115,10 +118,22 @@ pub record HaveOthers {A : Type 0} (given guests : List (Guest A)) : Type 0 wher
   pub other : ¬ AllZip SameSet sets other_sets
 
 -- what came out where these guests were tried in place of the given ones
-abbrev pub ComesOut : {A : Type 0} → Bool → List Kind → List (Guest A) → List (Finding A) → List (Guest A) → Trial A
+abbrev pub ComesOut : {A : Type 0} → List Kind → List (Guest A) → List (Finding A) → List (Guest A) → Trial A
     → Type 0
-ComesOut isolated accepted given before guests (Better advised) =
-    IsAdvice isolated accepted given before advised × (advised.guests.items ≡ guests)
-ComesOut isolated accepted given before guests Refused = AreRefused guests
-ComesOut isolated accepted given before guests NoLess = FindNoLess isolated accepted before guests
-ComesOut isolated accepted given before guests NotNarrower = HaveOthers given guests
+ComesOut accepted given before guests (Better advised) =
+    IsAdvice accepted given before advised × (advised.guests.items ≡ guests)
+ComesOut accepted given before guests Refused = AreRefused guests
+ComesOut accepted given before guests NoLess = FindNoLess accepted before guests
+ComesOut accepted given before guests NotNarrower = HaveOthers given guests
+
+-- no advice comes of these options: there are not as many as guests; or of the guests with them some text is refused,
+-- no less is found than before, or the specifications or the rules are others
+pub record ComesToNothing {A : Type 0} (accepted : List Kind) (given : List (Guest A))
+    (before : List (Finding A)) (options : List (Options A)) : Type 0 where
+  pub guests : List (Guest A)
+  pub is_with : AreWith given options guests
+  pub why : AreRefused guests ⊎ FindNoLess accepted before guests ⊎ HaveOthers given guests
+
+abbrev pub IsPassedOver : {A : Type 0} → List Kind → List (Guest A) → List (Finding A) → Vec (Options A) A → Type 0
+IsPassedOver accepted given before options =
+    (length options.items ≢ length given) ⊎ ComesToNothing accepted given before options.items

@@ -1,5 +1,5 @@
 -- What an audit of the ids of users, or of groups, finds.
-use Rattle.std.specs.Prelude.{◌≡◌, ◌↔◌, ℕ, ◌<◌, Bool, true, false, IsTrue, List, Option, Some, None}
+use Rattle.std.specs.Prelude.{◌≡◌, ◌≢◌, ◌↔◌, ℕ, ◌<◌, IsTrue, List, [], ◌∷◌, Option, Some, None}
 use Rattle.virtiofs_id_audit.specs.IdAudit.{IsLeastId, GoesTo, WanderTo, IsAstray, GoesInto, Hold, AreRuns}
 use Rattle.virtiofs_map.specs.declared.cmdline.IdMap.{IdMap}
 use Rattle.virtiofs_map.specs.declared.soft_idmap.entry.Direction.TheVariants.{GuestToHost}
@@ -44,9 +44,15 @@ pub record FindsIds {A : Type 0} (specs : List IdMap) (ranges : List UidMap) (fo
   pub astray : FindsAll (IsAstrayBut specs (IsLacking ranges)) (TellsAstray specs) found.astray
   pub lacking : FindsAll (GoesInto specs (IsLacking ranges)) (TellsHost specs) found.lacking
 
--- an id of the guest that no specification covers, and that is, outside the namespace of these ranges, the id of the
--- host of the same number
+-- the ids are mapped: some specification is given, and the namespace of these ranges has more ids than the daemon's own
+pub record AreMapped (specs : List IdMap) (ranges : List UidMap) : Type 0 where
+  pub some : specs ≢ []
+  pub more : (range : UidMap) → ranges ≡ range ∷ [] → range.count ≢ 1
+
+-- where ids are mapped, an id of the guest that no specification covers, and that is, outside the namespace of these
+-- ranges, the id of the host of the same number
 pub record IsKept (specs : List IdMap) (ranges : List UidMap) (guest : ℕ) : Type 0 where
+  pub mapped : AreMapped specs ranges
   pub is_id : guest < 4294967295
   pub uncovered : CoversNone specs GuestToHost guest
   pub same : StandsFor ranges guest guest
@@ -55,10 +61,9 @@ pub record IsKept (specs : List IdMap) (ranges : List UidMap) (guest : ℕ) : Ty
 abbrev pub TellsKept : {A : Type 0} → IdsFound A → Type 0
 TellsKept it = it.host ≡ it.guest
 
--- if guests are to act only as ids that their specifications map: all ids that keep their number; and else nothing
-abbrev pub FindsKept : {A : Type 0} → Bool → List IdMap → List UidMap → Option (IdsFound A) → Type 0
-FindsKept true specs ranges found = FindsAll (IsKept specs ranges) TellsKept found
-FindsKept false specs ranges found = found ≡ None
+-- None, or all ids that keep their number
+abbrev pub FindsKept : {A : Type 0} → List IdMap → List UidMap → Option (IdsFound A) → Type 0
+FindsKept specs ranges = FindsAll (IsKept specs ranges) TellsKept
 
 -- some id of the guest is that id of the host, outside the namespace of these ranges
 abbrev pub ReachedOutside : List IdMap → List UidMap → ℕ → Type 0

@@ -22,4 +22,5 @@ pub mod RangeParts
 pub mod Ranges
 pub mod Refusals
 pub mod Report
+pub mod Tries
 pub mod WrittenRules

@@ -52,10 +52,16 @@ pub record NarrowerSet {A : Type 0} (given other : SetUp A) : Type 0 where
   pub names : BothOrNone NarrowerRules given.names other.names
 
 -- the specifications and the rules are the given ones
+abbrev pub SameKind : {A : Type 0} → IdSetUp A → IdSetUp A → Type 0
+SameKind given other = other.map ≡ given.map
+
+abbrev pub SameRules : {A : Type 0} → NamesSetUp A → NamesSetUp A → Type 0
+SameRules given other = other.map ≡ given.map
+
 pub record SameSet {A : Type 0} (given other : SetUp A) : Type 0 where
-  pub users : BothOrNone (λ one another. another.map ≡ one.map) given.users other.users
-  pub groups : BothOrNone (λ one another. another.map ≡ one.map) given.groups other.groups
-  pub names : BothOrNone (λ one another. another.map ≡ one.map) given.names other.names
+  pub users : BothOrNone SameKind given.users other.users
+  pub groups : BothOrNone SameKind given.groups other.groups
+  pub names : BothOrNone SameRules given.names other.names
 
 -- what is not about ids or names is as it was: who runs the daemon, its namespace, and how it is kept apart; there are
 -- rules where there were, and access control lists are on only where they were

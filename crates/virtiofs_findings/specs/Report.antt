@@ -37,14 +37,14 @@ abbrev pub ids_found : {A : Type 0} → ℕ → IdKind → Bool → Kind → Opt
 ids_found number kind in_namespace what ids =
     listed (λ it. of_guest number what (evidence.Ids kind in_namespace it)) ids
 
--- what is found of ids of one kind, where guests are isolated or not
-pub record FindsKind {A : Type 0} (isolated : Bool) (number : ℕ) (kind : IdKind) (set : IdSetUp A)
+-- what is found of ids of one kind
+pub record FindsKind {A : Type 0} (number : ℕ) (kind : IdKind) (set : IdSetUp A)
     (found : List (Finding A)) : Type 0 where
   pub ids : IdFindings A
   pub kept : Option (IdsFound A)
   pub in_namespace : Bool
   pub finds_ids : FindsIds set.map set.ranges.items ids
-  pub finds_kept : FindsKept isolated set.map set.ranges.items kept
+  pub finds_kept : FindsKept set.map set.ranges.items kept
   pub namespace : IsTrue in_namespace ↔ (set.ranges.items ≢ [])
   pub whole : found ≡ range_found number kind set.fault ++ other_found number kind set.differs
       ++ ids_found number kind in_namespace kinds.NotBack ids.astray
@@ -82,15 +82,14 @@ start_found number set =
     ++ if_so set.acl_untranslated (of_guest number kinds.AclUntranslated evidence.Plain)
 
 -- what is found of the guest of that number by itself, in order
-pub record FindsGuest {A : Type 0} (isolated : Bool) (number : ℕ) (set : SetUp A) (found : List (Finding A)) : Type
-    0 where
+pub record FindsGuest {A : Type 0} (number : ℕ) (set : SetUp A) (found : List (Finding A)) : Type 0 where
   pub of_users : List (Finding A)
   pub of_groups : List (Finding A)
   pub of_root : List (Finding A)
   pub of_names : List (Finding A)
   pub of_acl : List (Finding A)
-  pub users : FindsIf (FindsKind isolated number Users) set.users of_users
-  pub groups : FindsIf (FindsKind isolated number Groups) set.groups of_groups
+  pub users : FindsIf (FindsKind number Users) set.users of_users
+  pub groups : FindsIf (FindsKind number Groups) set.groups of_groups
   pub root : FindsRoot number set of_root
   pub names : FindsIf (FindsNamesOf number) set.names of_names
   pub acl : FindsAcl number set.posix_acl set.names of_acl
@@ -102,9 +101,9 @@ FindsWithEarlier sets second set found =
     Each (λ first earlier. FindsPair first second earlier set) 1 (take (second - 1) sets) found
 
 -- what is found of guests: of each by itself, and then between each two
-pub record Finds {A : Type 0} (isolated : Bool) (sets : List (SetUp A)) (found : List (Finding A)) : Type 0 where
+pub record Finds {A : Type 0} (sets : List (SetUp A)) (found : List (Finding A)) : Type 0 where
   pub of_guests : List (Finding A)
   pub of_pairs : List (Finding A)
-  pub guests : Each (FindsGuest isolated) 1 sets of_guests
+  pub guests : Each FindsGuest 1 sets of_guests
   pub pairs : Each (FindsWithEarlier sets) 1 sets of_pairs
   pub whole : found ≡ of_guests ++ of_pairs

@@ -3,9 +3,9 @@
 //! The options are made of those that the guests have, and tried: they are read as any others are,
 //! held against the given ones, and audited. They are advised if no text of them is refused, if they
 //! only take away, if nothing is found with them that was not found, and something no more.
-ghost use Rattle.std.specs.Prelude.{IfOk, IfSome};
+ghost use Rattle.std.specs.Prelude.{◌≡◌, All, IfOk, IfSome, None};
 ghost use Rattle.std.specs.List.{AllZip};
-ghost use Rattle.virtiofs_findings.specs.Advice.{ComesOut, IsAdvice};
+ghost use Rattle.virtiofs_findings.specs.Advice.{ComesOut, IsAdvice, IsPassedOver};
 ghost use Rattle.virtiofs_findings.specs.Audited.{Audits};
 ghost use Rattle.virtiofs_findings.specs.Narrower.{SameRest};
 
@@ -54,7 +54,6 @@ pub enum Trial<'a, A: Allocator> {
 fn options_of<A: Allocator + Copy>(
     alloc: A,
     parts: Parts,
-    isolated: bool,
     accepted: &[Kind],
     guests: &[Guest<'_, A>],
     all: &Audited<A>,
@@ -66,7 +65,7 @@ fn options_of<A: Allocator + Copy>(
             break;
         };
         let number = place.saturating_add(1);
-        options.push(mended_options(alloc, parts, isolated, accepted, number, guest, set, found)?)?;
+        options.push(mended_options(alloc, parts, accepted, number, guest, set, found)?)?;
     }
     Ok(options)
 }
@@ -75,31 +74,28 @@ fn options_of<A: Allocator + Copy>(
 /// of them, and then each part by itself.
 pub fn tries_of<A: Allocator + Copy>(
     alloc: A,
-    isolated: bool,
     accepted: &[Kind],
     guests: &[Guest<'_, A>],
     all: &Audited<A>,
 ) -> Result<Vec<Vec<Options<A>, A>, A>, AllocError> {
     let mut tries = Vec::new(alloc);
     for parts in PARTS {
-        tries.push(options_of(alloc, parts, isolated, accepted, guests, all)?)?;
+        tries.push(options_of(alloc, parts, accepted, guests, all)?)?;
     }
     Ok(tries)
 }
 
-/// Tries guests, isolated or not, with other options, in place of the given ones, of which that was
-/// found.
+/// Tries guests with other options, in place of the given ones, of which that was found.
 pub fn try_others<'a, A: Allocator + Copy>(
     alloc: A,
-    isolated: bool,
     accepted: &[Kind],
     given: &[Guest<'_, A>],
     all: &Audited<A>,
     guests: Vec<Guest<'a, A>, A>,
 ) -> Result<Trial<'a, A>, AllocError>
-    requires audits { Audits isolated given.now all.now }
+    requires audits { Audits given.now all.now }
     requires rest { AllZip SameRest given.now guests.items }
-    ensures { IfOk result (ComesOut isolated accepted.now given.now
+    ensures { IfOk result (ComesOut accepted.now given.now
         all.now.findings.items guests.entry.items) }
 {
     let mut refusals = Vec::new(alloc);
@@ -107,11 +103,11 @@ pub fn try_others<'a, A: Allocator + Copy>(
     if !refusals.as_slice().is_empty() {
         return Ok(Trial::Refused);
     }
-    let unwanted = unwanted_ids(isolated, accepted);
+    let unwanted = unwanted_ids(accepted);
     if !are_narrower(alloc, unwanted, all.sets.as_slice(), sets.as_slice())? {
         return Ok(Trial::NotNarrower);
     }
-    let findings = audit(alloc, isolated, sets.as_slice())?;
+    let findings = audit(alloc, sets.as_slice())?;
     if !finds_less(accepted, findings.as_slice(), all.findings.as_slice()) {
         return Ok(Trial::NoLess);
     }
@@ -122,26 +118,30 @@ pub fn try_others<'a, A: Allocator + Copy>(
     }))
 }
 
-/// The first of these tries that is advised in place of the options of guests, of which that was found.
+/// The first of these tries that is advised in place of the options of guests, of which that was found;
+/// `None` if each came to nothing.
 pub fn advise<'a, A: Allocator + Copy>(
     alloc: A,
-    isolated: bool,
     accepted: &[Kind],
     given: &'a [Guest<'a, A>],
     all: &Audited<A>,
     tries: &'a [Vec<Options<A>, A>],
 ) -> Result<Option<Advised<'a, A>>, AllocError>
-    requires { Audits isolated given.now all.now }
-    ensures { IfOk result (λ advised. IfSome advised
-        (IsAdvice isolated accepted.now given.now all.now.findings.items)) }
+    requires { Audits given.now all.now }
+    ensures advice { IfOk result (λ advised. IfSome advised
+        (IsAdvice accepted.now given.now all.now.findings.items)) }
+    ensures none { IfOk result (λ advised. advised ≡ None → All
+        (IsPassedOver accepted.now given.now all.now.findings.items) tries.now) }
 {
     for options in tries {
+        let options = options.as_slice();
         if options.len() != given.len() {
             continue;
         }
-        let guests = guests_of(alloc, given, options.as_slice())?;
-        if let Trial::Better(advised) = try_others(alloc, isolated, accepted, given, all, guests)? {
-            return Ok(Some(advised));
+        let guests = guests_of(alloc, given, options)?;
+        match try_others(alloc, accepted, given, all, guests)? {
+            Trial::Better(advised) => return Ok(Some(advised)),
+            Trial::Refused | Trial::NoLess | Trial::NotNarrower => {}
         }
     }
     Ok(None)

@@ -44,18 +44,17 @@ fn push_pairs<A: Allocator + Copy>(
     Ok(())
 }
 
-/// Adds what is found of each guest by itself, isolated or not.
+/// Adds what is found of each guest by itself.
 fn push_guests<A: Allocator + Copy>(
     alloc: A,
-    isolated: bool,
     found: &mut Vec<Finding<A>, A>,
     sets: &[SetUp<A>],
 ) -> Result<(), AllocError>
     ensures { OnOk result
-        (Adds (Each (FindsGuest isolated) 1 sets.now) found.old.items found.new.items) }
+        (Adds (Each FindsGuest 1 sets.now) found.old.items found.new.items) }
 {
     for place in 0..sets.len() {
-        push_guest(alloc, isolated, found, place + 1, &sets[place])?;
+        push_guest(alloc, found, place + 1, &sets[place])?;
     }
     Ok(())
 }
@@ -75,31 +74,29 @@ fn push_each_two<A: Allocator + Copy>(
     Ok(())
 }
 
-/// What is found of guests, isolated or not: of each by itself, and then between each two.
+/// What is found of guests: of each by itself, and then between each two.
 pub fn audit<A: Allocator + Copy>(
     alloc: A,
-    isolated: bool,
     sets: &[SetUp<A>],
 ) -> Result<Vec<Finding<A>, A>, AllocError>
-    ensures { IfOk result (λ found. Finds isolated sets.now found.items) }
+    ensures { IfOk result (λ found. Finds sets.now found.items) }
 {
     let mut found = Vec::new(alloc);
-    push_guests(alloc, isolated, &mut found, sets)?;
+    push_guests(alloc, &mut found, sets)?;
     push_each_two(alloc, &mut found, sets)?;
     Ok(found)
 }
 
-/// Sets up and audits all guests, isolated or not.
+/// Sets up and audits all guests.
 pub fn audit_all<A: Allocator + Copy>(
     alloc: A,
-    isolated: bool,
     guests: &[Guest<'_, A>],
 ) -> Result<Audited<A>, AllocError>
-    ensures { IfOk result (Audits isolated guests.now) }
+    ensures { IfOk result (Audits guests.now) }
 {
     let mut refusals = Vec::new(alloc);
     let sets = set_up_all(alloc, &mut refusals, guests)?;
-    let findings = audit(alloc, isolated, sets.as_slice())?;
+    let findings = audit(alloc, sets.as_slice())?;
     Ok(Audited {
         sets,
         findings,

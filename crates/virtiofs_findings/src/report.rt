@@ -92,18 +92,17 @@ fn push_other<A: Allocator>(
 /// Adds what is found of ids of one kind.
 fn push_kind<A: Allocator + Copy>(
     alloc: A,
-    isolated: bool,
     found: &mut Vec<Finding<A>, A>,
     number: usize,
     kind: IdKind,
     set: &IdSetUp<A>,
 ) -> Result<(), AllocError>
     ensures { OnOk result
-        (Adds (FindsKind isolated number kind set.now) found.old.items found.new.items) }
+        (Adds (FindsKind number kind set.now) found.old.items found.new.items) }
 {
     let ranges = set.ranges.as_slice();
     let IdFindings { astray, lacking } = audit_ids(alloc, &set.map, ranges)?;
-    let kept = kept_ids(alloc, isolated, set)?;
+    let kept = kept_ids(alloc, set)?;
     let inside = has_some(ranges);
     push_range(found, number, kind, set.fault)?;
     push_other(found, number, kind, set.differs)?;
@@ -122,17 +121,16 @@ fn has_some(ranges: &[UidMap]) -> bool
 /// Adds what is found of ids of one kind, where no text for them is refused.
 fn push_some_kind<A: Allocator + Copy>(
     alloc: A,
-    isolated: bool,
     found: &mut Vec<Finding<A>, A>,
     number: usize,
     kind: IdKind,
     set: &Option<IdSetUp<A>>,
 ) -> Result<(), AllocError>
     ensures { OnOk result
-        (Adds (FindsIf (FindsKind isolated number kind) set.now) found.old.items found.new.items) }
+        (Adds (FindsIf (FindsKind number kind) set.now) found.old.items found.new.items) }
 {
     match set {
-        Some(set) => push_kind(alloc, isolated, found, number, kind, set),
+        Some(set) => push_kind(alloc, found, number, kind, set),
         None => Ok(()),
     }
 }
@@ -259,20 +257,19 @@ fn push_start<A: Allocator>(
     push_if(found, number, set.acl_untranslated, Kind::AclUntranslated)
 }
 
-/// Adds what is found of the guest of that number, isolated or not, in order.
+/// Adds what is found of the guest of that number, in order.
 pub(crate) fn push_guest<A: Allocator + Copy>(
     alloc: A,
-    isolated: bool,
     found: &mut Vec<Finding<A>, A>,
     number: usize,
     set: &SetUp<A>,
 ) -> Result<(), AllocError>
     ensures { OnOk result
-        (Adds (FindsGuest isolated number set.now) found.old.items found.new.items) }
+        (Adds (FindsGuest number set.now) found.old.items found.new.items) }
 {
     push_start(found, number, set)?;
-    push_some_kind(alloc, isolated, found, number, IdKind::Users, &set.users)?;
-    push_some_kind(alloc, isolated, found, number, IdKind::Groups, &set.groups)?;
+    push_some_kind(alloc, found, number, IdKind::Users, &set.users)?;
+    push_some_kind(alloc, found, number, IdKind::Groups, &set.groups)?;
     push_root(alloc, found, number, set)?;
     push_some_names(alloc, found, number, &set.names)?;
     push_acl(alloc, found, number, set.posix_acl, &set.names)

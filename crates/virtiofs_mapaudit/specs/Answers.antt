@@ -35,8 +35,8 @@ counting false all advised = all.findings.items
 pub record Reports (request : Request) (guests : List (Guest Global)) (answer : Answer) : Type 0 where
   pub all : Audited Global
   pub advised : Option (Advised Global)
-  pub audits : Audits request.front.isolated guests all
-  pub advice : IfSome advised (IsAdvice request.front.isolated request.accepted.now guests all.findings.items)
+  pub audits : Audits guests all
+  pub advice : IfSome advised (IsAdvice request.accepted.now guests all.findings.items)
   pub none_advised : (all.refusals.items ≢ []) → advised ≡ None
   pub ends : EndsAs request.accepted.now all.refusals.items (counting request.front.mend all advised) answer.outcome
   pub quiet : IsTrue request.front.quiet → string_bytes answer.text ≡ []

@@ -1,5 +1,5 @@
 -- The guests of an audit: those of command lines, each with who starts its daemon, and those of processes.
-use Rattle.std.specs.Prelude.{◌≡◌, ◌==◌, ⊤, ℕ, ◌+◌, List, [], ◌∷◌, ◌++◌, length, map, slice_get, option_map, Option, Some, Contains, if◌then◌else◌}
+use Rattle.std.specs.Prelude.{◌≡◌, ◌==◌, ⊤, ℕ, ◌+◌, List, [], ◌∷◌, ◌++◌, length, map, take, slice_get, option_map, Option, Some, if◌then◌else◌}
 use Rattle.std.specs.Borrow.{Bor}
 use Rattle.std.specs.Global.{Global}
 use Rattle.std.specs.declared.vec.Vec.{Vec}
@@ -80,8 +80,16 @@ pub record AreEveryone (of_daemon : Options) (given : Guests) (starters : List (
   pub unknown : before.unknown.items ≡ given.unknown.items
   pub adds : AddsProcesses of_daemon processes before all
 
--- some process makes no guest, for that reason
+-- the process at some place makes no guest, for that reason, and each one before it makes one
+pub record IsFirstFault (of_daemon : Options) (processes : List HostProcess) (fault : ProcessFault) : Type 0 where
+  pub place : ℕ
+  pub process : HostProcess
+  pub here : slice_get processes place ≡ Some process
+  pub why : IsProcessFault of_daemon process fault
+  pub before : Everyone
+  pub after : Everyone
+  pub first : AddsProcesses of_daemon (take place processes) before after
+
 abbrev pub HasProcessFault : Options → List HostProcess → ProcessFault → Type 0
 HasProcessFault of_daemon processes OutOfMemory = ⊤
-HasProcessFault of_daemon processes fault =
-    (process : HostProcess) × Contains processes process × IsProcessFault of_daemon process fault
+HasProcessFault of_daemon processes fault = IsFirstFault of_daemon processes fault

@@ -106,7 +106,7 @@ fn tries_for(
     if !all.refusals.as_slice().is_empty() || front.quiet || front.svg {
         return Ok(Vec::new(alloc));
     }
-    tries_of(alloc, front.isolated, request.accepted, guests, all)
+    tries_of(alloc, request.accepted, guests, all)
 }
 
 /// What is advised of these tries, where that was found: nothing where a text is refused.
@@ -117,23 +117,16 @@ fn advice<'r>(
     all: &Audited<Global>,
     tries: &'r [Vec<Options<Global>>],
 ) -> Result<Option<Advised<'r, Global>>, AllocError>
-    requires { Audits request.front.isolated guests.now all.now }
+    requires { Audits guests.now all.now }
     ensures advice { IfOk result (λ advised. IfSome advised (IsAdvice
-        request.entry.front.isolated request.entry.accepted.now guests.now
+        request.entry.accepted.now guests.now
         all.now.findings.items)) }
     ensures untried { (all.now.refusals.items ≢ []) → IfOk result (λ advised. advised ≡ None) }
 {
     if !all.refusals.as_slice().is_empty() {
         return Ok(None);
     }
-    advise(
-        alloc,
-        request.front.isolated,
-        request.accepted,
-        guests,
-        all,
-        tries,
-    )
+    advise(alloc, request.accepted, guests, all, tries)
 }
 
 /// The text of a report, in the form that was asked for.
@@ -183,7 +176,7 @@ fn answer_with<'r>(
     all: Audited<Global>,
     tries: &'r [Vec<Options<Global>>],
 ) -> Result<Answer, AllocError>
-    requires { Audits request.front.isolated guests.now all }
+    requires { Audits guests.now all }
     ensures { IfOk result (Reports request.entry guests.now) }
 {
     let advised = advice(alloc, request, guests, &all, tries)?;
@@ -213,7 +206,7 @@ pub(crate) fn answer_audit(
 ) -> Result<Answer, AllocError>
     ensures { IfOk result (Reports request.entry guests.now) }
 {
-    let all = audit_all(alloc, request.front.isolated, guests)?;
+    let all = audit_all(alloc, guests)?;
     let tries = tries_for(alloc, request, guests, &all)?;
     answer_with(alloc, request, guests, all, tries.as_slice())
 }

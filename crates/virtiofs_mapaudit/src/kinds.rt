@@ -57,7 +57,7 @@ pub(crate) static KINDS: [Row; 17] = [
         kind: Kind::Kept,
         word: "kept",
         sentence: "{extent} {keeps} number without a specification: {one} {id} is {one} {host} of the host",
-        recipe: None,
+        recipe: Some(RANGE),
     },
     Row {
         kind: Kind::Range,

@@ -46,10 +46,12 @@ const ACLS: Loss = Loss {
     line: "ACLs: off, and those that files have no longer apply in the guest",
 };
 
-/// Whether one of these ids is there in the namespace. (4294967295 is no id.)
+/// Whether the daemon can act as one of these ids: it is there in the namespace, or it is 0, for which
+/// the daemon switches nothing. (4294967295 is no id.)
 fn has_one(ids: Ids, set: &IdSetUp<Global>) -> bool {
     let ranges = set.ranges.as_slice();
-    ranges.is_empty() && ids.first < u64::from(u32::MAX)
+    ids.first == 0
+        || ranges.is_empty() && ids.first < u64::from(u32::MAX)
         || ranges.iter().any(|it| {
             let first = u64::from(it.inside_uid);
             ids.first < first + u64::from(it.count) && first <= ids.last

@@ -80,7 +80,7 @@ fn push_clause(text: &mut String, place: &str, piece: Piece) -> Result<(), Alloc
 }
 
 /// Writes what the ids of a guest become at the end of a text: those that do not keep their number,
-/// and then that the others do.
+/// and then that the others do; or, where nothing maps any, that all are the host's own.
 fn push_map(text: &mut String, map: &Ids<Global>, ranges: &[UidMap]) -> Result<(), AllocError> {
     let (place, kept_place) = match ranges.is_empty() {
         true => ("on the host", ""),
@@ -109,6 +109,9 @@ fn push_map(text: &mut String, map: &Ids<Global>, ranges: &[UidMap]) -> Result<(
                 is_first = false;
             }
         }
+    }
+    if map.specs().is_empty() && ranges.is_empty() {
+        return text.push_str("all are the host's own");
     }
     if has_kept {
         let kept = if moved == 0 { "all" } else { ", the others" };

@@ -34,7 +34,6 @@ pub record IsAsked (parts : List Part) (asked : Asked) : Type 0 where
   pub mend : asked.mend ≡ has_flag (codes "--mend") parts
   pub ids : asked.ids ≡ has_shown (codes "ids") parts
   pub names : asked.names ≡ has_shown (codes "names") parts
-  pub isolated : asked.isolated ≡ has_flag (codes "--isolated") parts
 
 -- the values of the program's own options that are among the parts
 pub record AreValues (parts : List Part) (values : Values) : Type 0 where

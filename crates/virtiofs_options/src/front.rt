@@ -22,8 +22,6 @@ pub struct Asked {
     pub ids: bool,
     /// What becomes of some names.
     pub names: bool,
-    /// Whether a guest is to act only as ids that its specifications map.
-    pub isolated: bool,
 }
 
 /// Whether an option that has no value is among the parts.
@@ -92,7 +90,6 @@ pub(crate) fn asked_of<'a>(parts: &[Part<'a>]) -> Result<Asked, Fault<'a>>
         mend: has_flag(parts, "--mend"),
         ids: has_shown(parts, "ids"),
         names: has_shown(parts, "names"),
-        isolated: has_flag(parts, "--isolated"),
     };
     if asked.mend && (asked.json || asked.quiet || asked.svg || asked.ids || asked.names) {
         return Err(Fault::NotAlone);

@@ -131,7 +131,7 @@ macro_rules! table {
 
 /// The options of the program, and those of the daemon that may stand beside them; in the order in
 /// which the help has those of which it says something.
-const OPTIONS: [Known; 22] = table! {
+const OPTIONS: [Known; 21] = table! {
     "--translate-uid": Value, TranslateUid, Any, "SPEC", "Translate users, as the daemon does";
     "--translate-gid": Value, TranslateGid, Any, "SPEC", "Translate groups, as the daemon does";
     "--uid-map": Value, UidMap, Any, "RANGE", "A range of users of the daemon's namespace";
@@ -148,8 +148,6 @@ const OPTIONS: [Known; 22] = table! {
     "--subuid": Value, Other, Any, "FILE", "Read FILE in place of /etc/subuid";
     "--subgid": Value, Other, Any, "FILE", "Read FILE in place of /etc/subgid";
     "--show": Value, Other, Any, "WHAT", "Show also what becomes of all ids, or of some names";
-    "--isolated": Nothing, Other, Any, "",
-        "Report ids that keep their number: no specification maps them";
     "--json": Nothing, Other, Any, "", "Write JSON";
     "--quiet": Nothing, Other, Any, "", "Write nothing: the status tells";
     "--mend": Nothing, Other, Any, "", "Write mended options alone, each on a line";

@@ -8,7 +8,7 @@ use crate::advice::rules::narrowed_rules;
 use crate::audit::is_accepted;
 use crate::finding::{About, Finding, Kind};
 use crate::guest::Guest;
-use crate::ids::kept::{same_among, uncovered};
+use crate::ids::kept::{are_mapped, same_among, uncovered};
 use crate::ids::kind::IdKind;
 use crate::setup::{IdSetUp, SetUp};
 use std::alloc::{AllocError, Allocator};
@@ -16,6 +16,7 @@ use virtiofs_id_audit::namespace::lacking_ids;
 use virtiofs_id_audit::{Span, ids_astray, mended};
 use virtiofs_map::cmdline;
 use virtiofs_map::idmap::UidMap;
+use virtiofs_map::soft_idmap::{Direction, Entry, entry_of};
 
 /// Which parts of the options are mended.
 #[derive(Clone, Copy)]
@@ -51,12 +52,12 @@ pub(super) struct Unwanted {
     kept: bool,
 }
 
-/// Which ids are forbidden of guests, isolated or not, where findings of these kinds are accepted.
-pub(super) fn unwanted_ids(isolated: bool, accepted: &[Kind]) -> Unwanted {
+/// Which ids are forbidden of guests, where findings of these kinds are accepted.
+pub(super) fn unwanted_ids(accepted: &[Kind]) -> Unwanted {
     Unwanted {
         astray: !is_accepted(accepted, Kind::NotBack),
         lacking: !is_accepted(accepted, Kind::Lacking),
-        kept: isolated && !is_accepted(accepted, Kind::Kept),
+        kept: !is_accepted(accepted, Kind::Kept),
     }
 }
 
@@ -78,18 +79,25 @@ fn with_forbidden<A: Allocator + Copy>(
     Ok(more)
 }
 
-/// The ids that keep their number under specifications, where they are unwanted. (4294967295 is none.)
+/// Whether a specification maps ids of the guest.
+fn maps_some(spec: &cmdline::IdMap) -> bool {
+    match entry_of(*spec, Direction::GuestToHost) {
+        Some(Entry::Map { count, .. } | Entry::Squash { count, .. }) => count > 0,
+        _ => false,
+    }
+}
+
+/// The ids that keep their number under specifications, where ids are mapped. (4294967295 is no id.)
 fn kept_of<A: Allocator + Copy>(
     alloc: A,
-    are_unwanted: bool,
     ranges: &[UidMap],
     specs: &[cmdline::IdMap],
 ) -> Result<Vec<Span, A>, AllocError> {
-    if !are_unwanted {
-        return Ok(Vec::new(alloc));
+    let mut kept = Vec::new(alloc);
+    if !are_mapped(specs, ranges) {
+        return Ok(kept);
     }
     let uncovered = uncovered(alloc, specs)?;
-    let mut kept = Vec::new(alloc);
     for span in same_among(alloc, ranges, uncovered.as_slice())? {
         if span.first < u32::MAX {
             let (first, last) = (span.first, span.last.min(u32::MAX - 1));
@@ -97,6 +105,21 @@ fn kept_of<A: Allocator + Copy>(
         }
     }
     Ok(kept)
+}
+
+/// Those of them that are forbidden, where they are unwanted; none where no specification maps ids of
+/// the guest, which would be left none.
+fn closed_of<A: Allocator + Copy>(
+    alloc: A,
+    are_unwanted: bool,
+    ranges: &[UidMap],
+    specs: &[cmdline::IdMap],
+) -> Result<Vec<Span, A>, AllocError> {
+    if are_unwanted && specs.iter().any(|spec| maps_some(spec)) {
+        kept_of(alloc, ranges, specs)
+    } else {
+        Ok(Vec::new(alloc))
+    }
 }
 
 /// The ids that a namespace lacks, where they are unwanted.
@@ -112,9 +135,9 @@ fn lacking_of<A: Allocator + Copy>(
     }
 }
 
-/// The specifications of a set-up, with unwanted ids forbidden. In a namespace of one id that one stays:
-/// it is the daemon's own. Where some ids do not round-trip and may, none that a specification covers is
-/// forbidden.
+/// The specifications of a set-up, with unwanted ids forbidden. Where some ids do not round-trip and
+/// may, none that a specification covers is forbidden. Where no specification is given, none is added
+/// beside which ids would keep their number.
 pub(super) fn mended_ids<A: Allocator + Copy>(
     alloc: A,
     unwanted: Unwanted,
@@ -122,19 +145,18 @@ pub(super) fn mended_ids<A: Allocator + Copy>(
 ) -> Result<Vec<cmdline::IdMap, A>, AllocError>
     ensures { IfOk result (λ specs. NarrowerIds set.now.map specs.items) }
 {
-    let ranges = set.ranges.as_slice();
-    let is_own = ranges.len() == 1 && ranges[0].count == 1;
-    let closes = unwanted.kept && !is_own;
+    let (given, ranges) = (set.map.specs(), set.ranges.as_slice());
     let mut bad = lacking_of(alloc, unwanted.lacking, ranges)?;
     if !unwanted.astray && !ids_astray(alloc, &set.map, bad.as_slice())?.is_empty() {
-        let kept = kept_of(alloc, closes, ranges, set.map.specs())?;
-        return with_forbidden(alloc, set.map.specs(), kept.as_slice());
+        let closed = closed_of(alloc, unwanted.kept, ranges, given)?;
+        return with_forbidden(alloc, given, closed.as_slice());
     }
-    if closes {
-        let specs = mended(alloc, &set.map, bad.as_slice())?;
-        let kept = kept_of(alloc, closes, ranges, specs.as_slice())?;
-        bad.extend_from_slice(kept.as_slice())?;
+    let specs = mended(alloc, &set.map, bad.as_slice())?;
+    if given.is_empty() && !kept_of(alloc, ranges, specs.as_slice())?.is_empty() {
+        return with_forbidden(alloc, given, &[]);
     }
+    let closed = closed_of(alloc, unwanted.kept, ranges, specs.as_slice())?;
+    bad.extend_from_slice(closed.as_slice())?;
     mended(alloc, &set.map, bad.as_slice())
 }
 
@@ -191,12 +213,10 @@ fn drops_acl<A: Allocator>(accepted: &[Kind], set: &SetUp<A>) -> bool {
         || set.acl_untranslated && !is_accepted(accepted, Kind::AclUntranslated)
 }
 
-/// What is tried in place of the options of the guest of a number, isolated or not, of whom that was
-/// found. No ids are forbidden where access control lists stay on and no ids are translated yet.
+/// What is tried in place of the options of the guest of a number, of whom that was found. No ids are forbidden where access control lists stay on and no ids are translated yet.
 pub(super) fn mended_options<A: Allocator + Copy>(
     alloc: A,
     parts: Parts,
-    isolated: bool,
     accepted: &[Kind],
     number: usize,
     guest: &Guest<'_, A>,
@@ -204,7 +224,7 @@ pub(super) fn mended_options<A: Allocator + Copy>(
     found: &[Finding<A>],
 ) -> Result<Options<A>, AllocError> {
     let keeps_acl = guest.options.posix_acl && !drops_acl(accepted, set);
-    let unwanted = unwanted_ids(isolated, accepted);
+    let unwanted = unwanted_ids(accepted);
     let mut options = Options {
         translate_uid: None,
         translate_gid: None,

@@ -2,7 +2,7 @@
 ghost use Rattle.std.specs.Prelude.{◌≡◌, ◌↔◌, IfOk, IsTrue, length};
 ghost use Rattle.std.specs.List.{AllZip};
 ghost use Rattle.virtiofs_map.specs.RuleParts.{rule_meant};
-ghost use Rattle.virtiofs_findings.specs.Narrower.{BothOrNone, NarrowerKind, NarrowerRules, NarrowerNames, NarrowerSet, SameSet, deny_all};
+ghost use Rattle.virtiofs_findings.specs.Narrower.{BothOrNone, NarrowerKind, NarrowerRules, NarrowerNames, NarrowerSet, SameKind, SameRules, SameSet, deny_all};
 ghost use Rattle.virtiofs_findings.specs.NarrowerParts.{EndsAt, IsSameAt};
 
 use crate::advice::mended::{Unwanted, mended_ids};
@@ -34,7 +34,7 @@ fn narrows_ids<A: Allocator + Copy>(
     other: &IdSetUp<A>,
 ) -> Result<bool, AllocError>
     ensures narrower { IfOk result (λ yes. IsTrue yes → NarrowerKind given.now other.now) }
-    ensures same { IfOk result (λ yes. other.now.map ≡ given.now.map → IsTrue yes) }
+    ensures same { IfOk result (λ yes. SameKind given.now other.now → IsTrue yes) }
 {
     if are_same(other.map.specs(), given.map.specs()) {
         return Ok(true);
@@ -50,9 +50,9 @@ fn narrows_kind<A: Allocator + Copy>(
     given: &Option<IdSetUp<A>>,
     other: &Option<IdSetUp<A>>,
 ) -> Result<bool, AllocError>
-    ensures narrower { IfOk result (λ yes. IsTrue yes → BothOrNone NarrowerKind given.now other.now) }
-    ensures same { IfOk result (λ yes. BothOrNone (λ one another. another.map ≡ one.map) given.now
-        other.now → IsTrue yes) }
+    ensures narrower { IfOk result (λ yes. IsTrue yes
+        → BothOrNone NarrowerKind given.now other.now) }
+    ensures same { IfOk result (λ yes. BothOrNone SameKind given.now other.now → IsTrue yes) }
 {
     match (given, other) {
         (Some(given), Some(other)) => narrows_ids(alloc, unwanted, given, other),
@@ -121,8 +121,7 @@ fn narrows_rules<A: Allocator>(given: &XattrMap<A>, other: &XattrMap<A>) -> bool
 /// The same where both are there, and whether neither is.
 fn narrows_names<A: Allocator>(given: &Option<NamesSetUp<A>>, other: &Option<NamesSetUp<A>>) -> bool
     ensures narrower { IsTrue result → BothOrNone NarrowerRules given.now other.now }
-    ensures same { BothOrNone (λ one another. another.map ≡ one.map) given.now other.now →
-        IsTrue result }
+    ensures same { BothOrNone SameRules given.now other.now → IsTrue result }
 {
     match (given, other) {
         (Some(given), Some(other)) => narrows_rules(&given.map, &other.map),

@@ -1,7 +1,6 @@
 //! Guests with other options.
-ghost use Rattle.std.specs.Prelude.{◌≡◌, length, IfOk};
-ghost use Rattle.std.specs.List.{AllZip};
-ghost use Rattle.virtiofs_findings.specs.Narrower.{SameRest};
+ghost use Rattle.std.specs.Prelude.{◌≡◌, length, map, string_bytes, IfOk};
+ghost use Rattle.virtiofs_findings.specs.Tries.{AreWith, IsWith, bytes_of, texts_or};
 
 use crate::guest::Guest;
 use std::alloc::{AllocError, Allocator};
@@ -24,7 +23,9 @@ pub struct Options<A: Allocator> {
 fn lent<'a, A: Allocator + Copy>(
     alloc: A,
     texts: &'a [String<A>],
-) -> Result<Vec<&'a str, A>, AllocError> {
+) -> Result<Vec<&'a str, A>, AllocError>
+    ensures { IfOk result (λ all. bytes_of all.items ≡ map string_bytes texts.now) }
+{
     let mut all = Vec::new(alloc);
     for text in texts {
         all.push(text.as_str())?;
@@ -37,7 +38,9 @@ fn other_or_given<'a, A: Allocator + Copy>(
     alloc: A,
     other: &'a Option<Vec<String<A>, A>>,
     given: &[&'a str],
-) -> Result<Vec<&'a str, A>, AllocError> {
+) -> Result<Vec<&'a str, A>, AllocError>
+    ensures { IfOk result (λ all. bytes_of all.items ≡ texts_or other.now given.now) }
+{
     match other {
         Some(texts) => lent(alloc, texts.as_slice()),
         None => Vec::from_slice(alloc, given),
@@ -50,7 +53,7 @@ fn guest_of<'a, A: Allocator + Copy>(
     given: &'a Guest<'a, A>,
     other: &'a Options<A>,
 ) -> Result<Guest<'a, A>, AllocError>
-    ensures { IfOk result (SameRest given.now) }
+    ensures { IfOk result (IsWith given.now other.now) }
 {
     let options = &given.options;
     let xattrmap = match (&other.rules, options.xattrmap) {
@@ -83,7 +86,7 @@ pub(super) fn guests_of<'a, A: Allocator + Copy>(
     others: &'a [Options<A>],
 ) -> Result<Vec<Guest<'a, A>, A>, AllocError>
     requires same { length others.now ≡ length given.now }
-    ensures { IfOk result (λ guests. AllZip SameRest given.now guests.items) }
+    ensures { IfOk result (λ guests. AreWith given.now others.now guests.items) }
 {
     let mut guests = Vec::new(alloc);
     for place in 0..given.len() {

@@ -1,7 +1,7 @@
 //! The ids of a guest that no specification covers, and that keep their number.
-ghost use Rattle.std.specs.Prelude.{◌≡◌, ◌↔◌, ℕ, IfOk, map};
+ghost use Rattle.std.specs.Prelude.{◌≡◌, ◌↔◌, ℕ, IfOk, IsTrue, map};
 ghost use Rattle.virtiofs_id_audit.specs.IdAudit.{Hold};
-ghost use Rattle.virtiofs_findings.specs.IdFindings.{FindsKept};
+ghost use Rattle.virtiofs_findings.specs.IdFindings.{AreMapped, FindsKept};
 ghost use Rattle.virtiofs_findings.specs.KeptParts.{cover_of, same_of, IsUncovered, IsSame};
 
 use super::audits::ids_to;
@@ -87,17 +87,23 @@ pub(crate) fn same_among<A: Allocator + Copy>(
     moved_all(alloc, Way::Outwards, same.as_slice(), ids)
 }
 
+/// Whether ids are mapped: some specification is given, and the namespace of these ranges has more ids
+/// than one, which is the daemon's own.
+pub(crate) fn are_mapped(specs: &[Spec], ranges: &[UidMap]) -> bool
+    ensures { IsTrue result ↔ AreMapped specs.now ranges.now }
+{
+    !specs.is_empty() && !(ranges.len() == 1 && ranges[0].count == 1)
+}
+
 /// The ids of the guest that no specification covers and that are, outside the namespace, those of
-/// the host of the same numbers; nothing unless guests are isolated.
+/// the host of the same numbers; nothing where ids are not mapped.
 pub fn kept_ids<A: Allocator + Copy>(
     alloc: A,
-    isolated: bool,
     set: &IdSetUp<A>,
 ) -> Result<Option<IdsFound<A>>, AllocError>
-    ensures { IfOk result
-        (FindsKept isolated set.now.map set.now.ranges.items) }
+    ensures { IfOk result (FindsKept set.now.map set.now.ranges.items) }
 {
-    if !isolated {
+    if !are_mapped(set.map.specs(), set.ranges.as_slice()) {
         return Ok(None);
     }
     let uncovered = uncovered(alloc, set.map.specs())?;

@@ -24,7 +24,7 @@ returns-then-not-branch g c = record {
 pub returns-then-not-finds_less : goal.returns-then-not-finds_less
 returns-then-not-finds_less g c = record {
   after = c.in_ok-findings.findings.items;
-  audited = is_audited c.args.isolated c.args.guests.items c.in_ok-sets.sets.items _ _ c.in_ok-findings.findings.items
+  audited = is_audited c.args.guests.items c.in_ok-sets.sets.items _ _ c.in_ok-findings.findings.items
       (rw c.as_slice.ensures.value at c.in_ok-sets.ensures.sets_up)
       (rw c.as_slice.ensures.value at c.in_ok-sets.ensures.says) c.new-refusals.ensures.items
       (is_empty_here _ _ (rw c.as_slice-2.ensures.value at c.if-not-is_empty.ensures) refl)
@@ -41,7 +41,7 @@ returns g c = (
         (rw (c.as_slice-3.ensures.value, c.as_slice-4.ensures.value) at
         (c.in_ok-are_narrower.ensures.narrower c.if-not-branch.false));
     sets_up = rw c.as_slice.ensures.value at c.in_ok-sets.ensures.sets_up;
-    audited = is_audited c.args.isolated c.args.guests.items c.in_ok-sets.sets.items _ _
+    audited = is_audited c.args.guests.items c.in_ok-sets.sets.items _ _
         c.in_ok-findings.findings.items (rw c.as_slice.ensures.value at c.in_ok-sets.ensures.sets_up)
         (rw c.as_slice.ensures.value at c.in_ok-sets.ensures.says) c.new-refusals.ensures.items
         (is_empty_here _ _ (rw c.as_slice-2.ensures.value at c.if-not-is_empty.ensures) refl)

@@ -4,13 +4,13 @@ use Rattle.virtiofs_findings.proofs.ReportLemmas.{adds_none, adds_more, adds_all
 use Rattle.virtiofs_findings.proofs.audit.push_guests.Goals as goal
 
 pub loop-place-init : goal.loop-place-init
-loop-place-init g c = adds_none (FindsGuest c.args.isolated) 1 _ _ refl
+loop-place-init g c = adds_none FindsGuest 1 _ _ refl
 
 pub loop-place-preserved : goal.loop-place-preserved
 loop-place-preserved g c =
-    adds_more (FindsGuest c.args.isolated) c.args.sets.now c.loop-place.place _ c.index-sets-place.result _ _ _
+    adds_more FindsGuest c.args.sets.now c.loop-place.place _ c.index-sets-place.result _ _ _
     c.index-sets-place.is c.loop-place-test.true refl c.loop-place.invariant c.in_ok-push_guest.ensures
 
 pub returns : goal.returns
 returns g c =
-    adds_all (FindsGuest c.args.isolated) c.args.sets.now c.loop-place.place _ _ c.loop-place-test.false c.loop-place.invariant
+    adds_all FindsGuest c.args.sets.now c.loop-place.place _ _ c.loop-place-test.false c.loop-place.invariant

@@ -7,4 +7,4 @@ use Rattle.virtiofs_findings.proofs.audit.push_guests.Given as goal
 
 abbrev pub invariant-loop-place : goal.invariant-loop-place
 invariant-loop-place g l =
-    Adds (Each (FindsGuest l.isolated) 1 (take l.place l.sets)) l.initial.found.items l.found.items
+    Adds (Each FindsGuest 1 (take l.place l.sets)) l.initial.found.items l.found.items

@@ -11,7 +11,8 @@ loop-process-init c =
 pub returns-in-Err-clause-refused : goal.returns-in-Err-clause-refused
 returns-in-Err-clause-refused c =
     fault_in c.args.of_daemon c.args.processes.now c.loop-process.process-index c.process-item.result c.in-Err.fault
-    c.loop-process-test.true c.process-item.is c.in-Err.ensures.refused
+    c.loop-process.invariant.0 c.loop-process.all c.loop-process-test.true c.process-item.is
+    c.loop-process.invariant.3 c.in-Err.ensures.refused
 
 pub loop-process-preserved : goal.loop-process-preserved
 loop-process-preserved c = (

@@ -1,9 +1,10 @@
-use Rattle.std.proofs.lemmas.List.Elements.{all_zip_more}
-use Rattle.virtiofs_findings.specs.Narrower.{SameRest}
+use Rattle.std.proofs.Common.{◌<◌, subst, sym}
+use Rattle.virtiofs_findings.proofs.AdviceLemmas.{with_more}
 use Rattle.virtiofs_findings.proofs.advice.options.guests_of.Goals as goal
 
 pub loop-place-preserved : goal.loop-place-preserved
 loop-place-preserved g c =
     rw c.in_ok-push.ensures.items (
-    all_zip_more SameRest c.args.given.now _ c.loop-place.place c.index-given-place.result _ c.loop-place-test.true
-    c.index-given-place.is c.loop-place.invariant c.in_ok-guest_of.ensures)
+    with_more c.args.given.now c.args.others.now _ c.loop-place.place c.index-given-place.result c.index-others-place.result
+    _ c.loop-place-test.true (subst (λ n. c.loop-place.place < n) (sym c.requires.same) c.loop-place-test.true)
+    c.index-given-place.is c.index-others-place.is c.loop-place.invariant c.in_ok-guest_of.ensures)

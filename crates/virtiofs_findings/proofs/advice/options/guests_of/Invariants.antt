@@ -1,8 +1,7 @@
--- the rest of those so far is the same
+-- the guests so far have the options at their places
 use Rattle.std.proofs.Common.{take}
-use Rattle.std.specs.List.{AllZip}
-use Rattle.virtiofs_findings.specs.Narrower.{SameRest}
+use Rattle.virtiofs_findings.specs.Tries.{AreWith}
 use Rattle.virtiofs_findings.proofs.advice.options.guests_of.Given as goal
 
 abbrev pub invariant-loop-place : goal.invariant-loop-place
-invariant-loop-place g l = AllZip SameRest (take l.place l.given) l.guests.items
+invariant-loop-place g l = AreWith (take l.place l.given) (take l.place l.others) l.guests.items

@@ -1,0 +1,31 @@
+use Rattle.std.proofs.Common.{inl, inr}
+use Rattle.std.proofs.lemmas.List.{take_all}
+use Rattle.virtiofs_findings.specs.Advice.{IsPassedOver}
+use Rattle.virtiofs_findings.proofs.AdviceLemmas.{came_to, rests_of}
+use Rattle.virtiofs_findings.proofs.ListLemmas.{all_at}
+use Rattle.virtiofs_findings.proofs.advice.advise.Goals as goal
+
+pub try_others-requires-clause-rest : goal.try_others-requires-clause-rest
+try_others-requires-clause-rest g c = rests_of c.args.given.now _ _ c.in_ok-guests.ensures
+
+pub loop-options-preserved-then-options-given : goal.loop-options-preserved-then-options-given
+loop-options-preserved-then-options-given g c =
+    all_at (IsPassedOver c.args.accepted.now c.args.given.now c.args.all.now.findings.items) c.args.tries.now
+    c.loop-options.options-index c.options-item.result c.options-item.is c.loop-options-test.true c.loop-options.invariant
+    (inl (rw c.as_slice-options.ensures.value at c.if-options-given.true))
+
+pub loop-options-preserved : goal.loop-options-preserved
+loop-options-preserved g c =
+    all_at (IsPassedOver c.args.accepted.now c.args.given.now c.args.all.now.findings.items) c.args.tries.now
+    c.loop-options.options-index c.options-item.result c.options-item.is c.loop-options-test.true c.loop-options.invariant
+    (inr (record {
+      guests = c.in_ok-guests.guests.items;
+      is_with = rw c.as_slice-options.ensures.value at c.in_ok-guests.ensures;
+      why = came_to c.args.accepted.now c.args.given.now c.args.all.now.findings.items c.in_ok-guests.guests.items
+          c.in_ok-advised.field-0 c.in-Refused.is c.in_ok-advised.ensures;
+    }))
+
+pub returns-clause-none : goal.returns-clause-none
+returns-clause-none g c =
+    λ none. rw (take_all c.loop-options.options-index c.args.tries.now c.loop-options-test.false) at
+    c.loop-options.invariant
