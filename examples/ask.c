@@ -12,7 +12,7 @@ int main(void)
     struct virtiofs_fault fault;
     enum virtiofs_code code = virtiofs_uids_make(specs, 2, words, 32, &users.count, &fault);
     if (code == VIRTIOFS_OK)
-        code = virtiofs_uids_guest(users, 1000, &owner);
+        code = virtiofs_uids_to_host(users, 1000, &owner);
     if (code == VIRTIOFS_OK)
         printf("guest user 1000 is host user %u\n", (unsigned)owner);
     return virtiofs_code_errno(code);

@@ -60,6 +60,7 @@ struct node {
     dev_t dev;
     ino_t ino;
     mode_t mode;       /* its type stays what it is; the rest is not looked at */
+    uint64_t generation; /* no other node has this one, though it may have the number of one that is forgotten */
     uint64_t lookups;  /* how often the kernel was told of it, and has not forgotten it */
     int fd;            /* opened with O_PATH: it reads nothing and follows nothing; or -1 */
     struct mount *mount;
@@ -72,11 +73,10 @@ struct share {
     const char *directory;
     int posix_acl, readdirplus;
     double timeout;
-    struct virtiofs_uids users;
-    struct virtiofs_gids groups;
-    struct virtiofs_names names;
+    struct virtiofs_maps maps;
     struct node root;
     pthread_mutex_t lock;
+    uint64_t generations; /* how many nodes there were */
     size_t held, most; /* how many nodes have a descriptor, and how many may, where the others can have a handle */
     struct mount *mounts;
     struct node *buckets[BUCKETS];
@@ -100,12 +100,12 @@ static const uint32_t NO_ID = UINT32_MAX;
 
 static int user_to_host(const struct share *share, uint32_t guest, uint32_t *host)
 {
-    return virtiofs_code_errno(virtiofs_uids_guest(share->users, guest, host));
+    return virtiofs_code_errno(virtiofs_uids_to_host(share->maps.users, guest, host));
 }
 
 static int group_to_host(const struct share *share, uint32_t guest, uint32_t *host)
 {
-    return virtiofs_code_errno(virtiofs_gids_guest(share->groups, guest, host));
+    return virtiofs_code_errno(virtiofs_gids_to_host(share->maps.groups, guest, host));
 }
 
 /* The number of a file in the guest, which sees one device only, and takes files with equal numbers for one. So files
@@ -118,9 +118,9 @@ static ino_t number_to_guest(const struct share *share, dev_t dev, ino_t ino)
 /* Makes what the host tells of a file what the guest is told of it. */
 static int attributes_to_guest(const struct share *share, struct stat *file)
 {
-    uint32_t user, group, code = virtiofs_uids_host(share->users, file->st_uid, &user);
+    uint32_t user, group, code = virtiofs_uids_to_guest(share->maps.users, file->st_uid, &user);
     if (code == VIRTIOFS_OK)
-        code = virtiofs_gids_host(share->groups, file->st_gid, &group);
+        code = virtiofs_gids_to_guest(share->maps.groups, file->st_gid, &group);
     if (code != VIRTIOFS_OK)
         return virtiofs_code_errno(code);
     file->st_uid = user;
@@ -152,14 +152,11 @@ static int name_to_host(const struct share *share, const char *guest, char host[
 {
     if (!may_cross(share, guest, guest))
         return ENOTSUP;
-    uint32_t code = virtiofs_names_host(share->names, guest, host);
-    if (code == VIRTIOFS_NO_ROOM) /* (ERANGE would tell a caller of getxattr that its buffer is too short.) */
-        return ENAMETOOLONG;
+    uint32_t code = virtiofs_name_to_host(share->maps.names, guest, host);
     return code != VIRTIOFS_OK ? virtiofs_code_errno(code) : may_cross(share, guest, host) ? 0 : ENOTSUP;
 }
 
-/* Makes a list of the host, behind which a zero stands, the guest's, in `guest` with room for one byte more. It leaves
-   out empty names, with which a kernel gives up the whole list (EIO): a name that is a prepend alone is listed so. */
+/* Makes a list of the host, behind which a zero stands, the guest's, in `guest` with room for one byte more. */
 static int list_to_guest(const struct share *share, const char *host, size_t host_len, char *guest, size_t *len)
 {
     const char *end = host + host_len;
@@ -169,10 +166,10 @@ static int list_to_guest(const struct share *share, const char *host, size_t hos
         size = strlen(host) + 1;
         if (!may_cross(share, host, host))
             continue;
-        uint32_t code = virtiofs_names_server(share->names, host, size, name, size, &shown);
+        uint32_t code = virtiofs_list_to_guest(share->maps.names, host, size, name, size, &shown);
         if (code != VIRTIOFS_OK)
             return virtiofs_code_errno(code);
-        if (shown > 1 && may_cross(share, name, host))
+        if (shown && may_cross(share, name, host))
             *len += shown;
     }
     return 0;
@@ -271,7 +268,8 @@ static struct node *found_or_made(struct share *share, const struct stat *file, 
     for (node = *bucket; node && !is_of(node, file, handle); node = node->next) { }
     if (!node && (node = calloc(1, sizeof *node))) {
         struct mount *mount = is_full && handle ? mount_of(share, id, handle, folder, fd) : NULL;
-        *node = (struct node){ *bucket, file->st_dev, file->st_ino, file->st_mode, 0, -1, mount, handle };
+        *node = (struct node){ *bucket, file->st_dev, file->st_ino, file->st_mode, ++share->generations, 0, -1, mount,
+                               handle };
         *bucket = node;
         if (mount) {
             mount->nodes++;
@@ -355,8 +353,10 @@ static int entry_of(fuse_req_t req, int folder, int fd, struct fuse_entry_param 
     if (!error)
         error = attributes_to_guest(share, &entry->attr);
     if (!error) {
-        entry->ino = (uintptr_t)found_or_made(share, &file, folder, fd);
-        return entry->ino ? 0 : ENOMEM;
+        const struct node *node = found_or_made(share, &file, folder, fd);
+        entry->ino = (uintptr_t)node;
+        entry->generation = node ? node->generation : 0;
+        return node ? 0 : ENOMEM;
     }
     close_any(fd);
     return error;
@@ -847,7 +847,8 @@ static uint32_t list_across(const struct share *share, bool to_host, uint8_t *va
     struct virtiofs_entry_room *entries = calloc(room, sizeof *entries);
     if (!entries)
         return VIRTIOFS_NO_MEMORY;
-    uint32_t code = (to_host ? virtiofs_acl_to_host : virtiofs_acl_to_guest)(share->users, share->groups, value, len,
+    const struct virtiofs_maps *maps = &share->maps;
+    uint32_t code = (to_host ? virtiofs_acl_to_host : virtiofs_acl_to_guest)(maps->users, maps->groups, value, len,
                                                                              entries, room, &fault);
     free(entries);
     return code;
@@ -858,12 +859,12 @@ static uint32_t capability_across(const struct share *share, bool to_host, uint8
 {
     struct virtiofs_fault fault;
     uint8_t written[CAPABILITY_ROOM];
-    uint32_t code = (to_host ? virtiofs_capability_to_host : virtiofs_capability_to_guest)(share->users, value, *len,
-                                                                                           &fault);
+    const struct virtiofs_uids users = share->maps.users;
+    uint32_t code = (to_host ? virtiofs_capability_to_host : virtiofs_capability_to_guest)(users, value, *len, &fault);
     if (code != VIRTIOFS_ROOT_MOVES)
         return code;
     code = (to_host ? virtiofs_capability_to_host_in_revision_3 : virtiofs_capability_to_guest_in_revision_3)(
-        share->users, value, *len, written, &fault);
+        users, value, *len, written, &fault);
     if (code == VIRTIOFS_OK)
         memcpy(value, written, *len = sizeof written);
     return code;
@@ -1064,49 +1065,19 @@ static int on_option(void *data, const char *word, int key, struct fuse_args *ot
 
 /* ---- making the maps ---- */
 
-/* What the library tells of a setting that it refuses. */
-static struct virtiofs_fault FAULT = { .kind = VIRTIOFS_FAULT_MEMORY };
-static uint8_t QUOTED[64];
-
-/* Whether a map is made. If not, it says why, by the library's own sentence. */
-static bool is_made(const char *option, uint32_t code)
+/* Makes the maps, in memory that is kept until the end. Where it cannot, it says why. The last rules that are given
+   count. */
+static bool made_maps(struct virtiofs_maps *maps)
 {
-    uint8_t text[512];
-    size_t len;
-    if (code == VIRTIOFS_OK)
+    static const char *const names[] = { "start", "translate_uid", "translate_gid", "xattrmap" };
+    const struct fuse_args *users = &VALUES[USERS], *groups = &VALUES[GROUPS], *rules = &VALUES[RULES];
+    const struct virtiofs_options options = { users->argv, (size_t)users->argc, groups->argv, (size_t)groups->argc,
+                                              rules->argc ? rules->argv[rules->argc - 1] : NULL };
+    struct virtiofs_refusal refusal;
+    if (virtiofs_maps_make(&options, maps, &refusal) == VIRTIOFS_OK)
         return true;
-    if (virtiofs_fault_text(&FAULT, QUOTED, sizeof QUOTED, text, sizeof text, &len) != VIRTIOFS_OK)
-        len = sizeof text;
-    fprintf(stderr, "mapped_fs: %s: %.*s\n", option, (int)len, (const char *)text);
+    fprintf(stderr, "mapped_fs: %s: %s\n", names[refusal.option], refusal.sentence);
     return false;
-}
-
-/* Makes a map of ids, in memory that is kept until the end. */
-static bool made_ids(const char *option, const struct fuse_args *values, uint32_t **words, size_t *count)
-{
-    size_t len = (size_t)values->argc, room = virtiofs_uids_bound(len);
-    struct virtiofs_text *texts = calloc(len + 1, sizeof *texts);
-    uint32_t *made = calloc(room, sizeof *made), code = VIRTIOFS_NO_MEMORY;
-    for (size_t i = 0; i < len && texts; i++)
-        texts[i] = (struct virtiofs_text){ (const uint8_t *)values->argv[i], strlen(values->argv[i]) };
-    if (made && texts)
-        code = virtiofs_ids_make_texts(texts, len, made, room, count, &FAULT, QUOTED, sizeof QUOTED);
-    *words = made;
-    free(texts);
-    return is_made(option, code);
-}
-
-/* The last rules that are given count. */
-static bool made_names(const struct fuse_args *values, struct virtiofs_names *names)
-{
-    const char *rules = values->argc ? values->argv[values->argc - 1] : ":ok:all:::";
-    size_t len = strlen(rules), room = virtiofs_names_bound(len);
-    uint8_t *made = malloc(room);
-    uint32_t code = VIRTIOFS_NO_MEMORY;
-    if (made)
-        code = virtiofs_names_make((const uint8_t *)rules, len, made, room, &names->len, &FAULT, QUOTED, sizeof QUOTED);
-    names->bytes = made;
-    return is_made("xattrmap", code);
 }
 
 /* Whether a name is the same on both sides. */
@@ -1122,9 +1093,7 @@ static bool stays(const struct share *share, const char *name)
 static bool is_ready(struct share *share)
 {
     struct stat file;
-    if (!made_ids("translate_uid", &VALUES[USERS], &share->users.words, &share->users.count)
-        || !made_ids("translate_gid", &VALUES[GROUPS], &share->groups.words, &share->groups.count)
-        || !made_names(&VALUES[RULES], &share->names))
+    if (!made_maps(&share->maps))
         return false;
     for (int i = 0; i < 2; i++) {
         if (share->posix_acl && !stays(share, ACCESS_LISTS[i])) {

@@ -56,7 +56,7 @@ impl Maps {
 
     /// Which names the guest gets to see, where the host lists these.
     fn show_list(&self, list: &[u8]) -> Result<(), Box<dyn Error>> {
-        let seen = self.names.map_server_xattrlist(list.to_vec())?;
+        let seen = self.names.list_to_guest(list)?;
         println!("the guest sees {}", String::from_utf8_lossy(&seen).trim_end_matches('\0').replace('\0', " "));
         Ok(())
     }

@@ -15,11 +15,12 @@ import tempfile
 from pathlib import Path
 
 sys.dont_write_bytecode = True
-from compiling import C_FLAGS, TOP, compiler, see_example, see_run
+from compiling import ARCHIVE, C_FLAGS, TOP, compiler, see_example, see_run
 from pages import forms_of_page, options_of_page
 from tally import Tally, left_out, run
 
 PREFIX = "/opt/virtiofs"
+VERSION = re.search(r'^version = "(.+)"$', (TOP / "bindings/rust/Cargo.toml").read_text("utf-8"), re.M)[1]
 # What each program is asked, and what it answers.
 ASKED = {
     "virtiofs_mapcheck": ("ids map:0:1000:10 ask guest=5 host=1005", "1005\n5\n"),
@@ -92,6 +93,13 @@ def in_rust(tally, room, below, pkg_config):
     see_run(tally, "cargo check with no archive", [cargo, "check", "--offline"], cwd=daemon, env=by_nothing)
     is_right = lambda status, said: status and "VIRTIOFS_MAP_LIB may name" in said
     see_run(tally, "a build with no archive says why", build, is_right, cwd=daemon, env=by_nothing)
+    # (the archive of a build tree lacks the kit's memory, and that of another version calls that the crate makes)
+    for what, archive in (("of a build tree", Path(ARCHIVE).read_bytes()), ("of no version", b"!<arch>\n")):
+        (wrong := Path(room, f"wrong {what}")).mkdir()
+        (wrong / "libvirtiofs_map.a").write_bytes(archive)
+        is_right = lambda status, said: status and "./install puts there" in said and VERSION in said
+        see_run(tally, f"a build with an archive {what} says which one it wants", build, is_right, cwd=daemon,
+                env={**by_nothing, "VIRTIOFS_MAP_LIB": str(wrong)})
 
 
 def virtiofsd(tally, room):
@@ -142,6 +150,14 @@ def main():
         shutil.copytree(TOP, f"{room}/bare", ignore=shutil.ignore_patterns(".git", "out"))
         status, said = install(f"{room}/none", by=f"{room}/bare")
         tally.see("what is not built is said", status != 1 or said.count("there is no ") != 3, said)
+        status, said = install(f"{room}/none", "--lib", by=f"{room}/bare")
+        tally.see("an archive that is not built is said", status != 1 or "./build lib makes it" not in said, said)
+        (Path(room, "bare") / "crates/virtiofs_map_c/out").mkdir()
+        shutil.copy(ARCHIVE, f"{room}/bare/crates/virtiofs_map_c/out")
+        tally.see("the library alone", *install(f"{room}/lib", "--lib", by=f"{room}/bare"))
+        found = {it.name for it in Path(f"{room}/lib").rglob("*") if it.is_file()}
+        wanted = {"libvirtiofs_map.a", "virtiofs_map.h", "virtiofs_map.pc", "lib.rs", "C.md", "LICENSE"}
+        tally.see("it has no program", [*wanted - found, *found & {*ASKED, *(f"{it}.1" for it in ASKED)}])
     return tally.end()
 
 

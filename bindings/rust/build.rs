@@ -3,8 +3,10 @@
 //! none, a warning says so: `cargo check` and `cargo doc` do without, and a build fails.
 
 use std::env;
+use std::fs;
 use std::path::Path;
 use std::process::Command;
+use std::str;
 
 /// What this asks of the environment. A change of one of them runs it again.
 const ASKED: [&str; 5] =
@@ -20,9 +22,27 @@ fn main() {
         Ok(folder) => {
             println!("cargo:rerun-if-changed={folder}/libvirtiofs_map.a");
             println!("cargo:rustc-link-search=native={folder}");
+            if let Some(symbol) = lacking(&Path::new(&folder).join("libvirtiofs_map.a")) {
+                let version = env!("CARGO_PKG_VERSION");
+                println!("cargo:warning={folder}/libvirtiofs_map.a lacks {symbol}: it is not the archive of version {version} \
+                    that ./install puts there, which has the kit's liblibc_c.a in it");
+            }
         }
         Err(why) => println!("cargo:warning={}", why.replace('\n', " ")),
     }
+}
+
+/// What the archive has to define: the kit's memory, and the last of the calls that this version came to.
+const DEFINED: [&str; 2] = ["rattle_alloc", "virtiofs_map_ids_to_host"];
+
+/// The first of these that the archive does not define, by the table of symbols with which an archive begins.
+fn lacking(archive: &Path) -> Option<&'static str> {
+    let bytes = fs::read(archive).unwrap_or_default();
+    // (eight bytes, then a header of sixty with the size of the table in ten of them)
+    let size = bytes.get(56..66).and_then(|it| str::from_utf8(it).ok()?.trim().parse::<usize>().ok());
+    let table = size.and_then(|size| bytes.get(68..68 + size)).unwrap_or_default();
+    let is_defined = |symbol: &&str| table.split(|it| *it == 0).any(|name| name.ends_with(symbol.as_bytes()));
+    DEFINED.into_iter().find(|symbol| !is_defined(symbol))
 }
 
 /// The folder in which the archive stands, or a sentence that says why there is none.

@@ -31,13 +31,13 @@
 //! | sets a file's owner, or acts as the caller | [`checked_map_guest`](soft_idmap::IdMap::checked_map_guest) |
 //! | tells a file's owner | [`checked_map_host`](soft_idmap::IdMap::checked_map_host) |
 //! | gets, sets or removes an attribute | [`map_client_xattr`](xattrmap::XattrMap::map_client_xattr) |
-//! | lists attributes | [`map_server_xattrlist`](xattrmap::XattrMap::map_server_xattrlist) |
+//! | lists attributes | [`list_to_guest`](xattrmap::XattrMap::list_to_guest) |
 //! | lets the guest set ACLs or capabilities | [`carries_ids`](acl::carries_ids) about the host's name, then [`acl`] |
 //! | starts, before a share goes live | [`id_audit`], [`keeps_apart`](xattrmap::XattrMap::keeps_apart) and the like |
 //!
-//! An id that no specification covers passes through unchanged, root's too. Errors become an `io::Error`, of which a
-//! daemon answers the kind (`raw_os_error` has no number): `PermissionDenied` is EPERM, and `InvalidInput` EINVAL.
-//! `AppliedRule::Deny` is EPERM, and `AppliedRule::Unsupported` ENOTSUP.
+//! An id that no specification covers passes through unchanged, root's too. Errors become an `io::Error`, of which
+//! [`errno_of`](start::errno_of) has the errno for the guest. [`Maps::from_options`](start::Maps::from_options) makes all
+//! maps of a share, and says which option is at fault.
 //!
 //! `build.rs` looks for the archive `libvirtiofs_map.a` in the folder that the variable `VIRTIOFS_MAP_LIB` names, or
 //! where it is not set, where `pkg-config` finds `virtiofs_map`. The variable `PKG_CONFIG` may name that program. The
@@ -50,5 +50,7 @@ mod virtiofs_map;
 pub mod acl;
 #[path = "virtiofs_map_audits.rs"]
 pub mod id_audit;
+#[path = "virtiofs_map_start.rs"]
+pub mod start;
 
 pub use self::virtiofs_map::*;

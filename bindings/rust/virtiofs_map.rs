@@ -36,7 +36,7 @@ pub(super) mod ffi {
     }
 
     pub const OK: u32 = 0; pub const AS_IT_IS: u32 = 1; pub const DENIED: u32 = 3; pub const UNSUPPORTED: u32 = 4;
-    pub const NO_ROOM: u32 = 7; pub const NO_ID: u32 = 13; pub const GUEST_TO_HOST: u32 = 0;
+    pub const NO_ROOM: u32 = 7; pub const HIDDEN: u32 = 10; pub const NO_ID: u32 = 13; pub const GUEST_TO_HOST: u32 = 0;
     pub const GUEST: u32 = 0; pub const HOST: u32 = 1; pub const SQUASH_GUEST: u32 = 2;
     pub const SQUASH_HOST: u32 = 3; pub const MAP: u32 = 4; pub const FORBID_GUEST: u32 = 5;
 
@@ -51,8 +51,8 @@ pub(super) mod ffi {
         pub safe fn virtiofs_map_ids_bound(count: usize) -> usize;
         pub fn virtiofs_map_ids_make(specs: *const Spec, count: usize, words: *mut u32, room: usize,
             wanted: &mut usize, fault: &mut Fault) -> u32;
-        pub fn virtiofs_map_ids_guest(words: *const u32, count: usize, guest: u32, host: &mut u32) -> u32;
-        pub fn virtiofs_map_ids_host(words: *const u32, count: usize, host: u32, guest: &mut u32) -> u32;
+        pub fn virtiofs_map_ids_to_host(words: *const u32, count: usize, guest: u32, host: &mut u32) -> u32;
+        pub fn virtiofs_map_ids_to_guest(words: *const u32, count: usize, host: u32, guest: &mut u32) -> u32;
         pub fn virtiofs_map_spec_read(text: *const u8, text_len: usize, spec: &mut Spec, fault: &mut Fault,
             quoted: *mut u8, quoted_room: usize) -> u32;
         pub fn virtiofs_map_fault_text(fault: &Fault, quoted: *const u8, quoted_len: usize, out: *mut u8, room: usize,
@@ -61,9 +61,13 @@ pub(super) mod ffi {
         pub safe fn virtiofs_map_names_bound(text_len: usize) -> usize;
         pub fn virtiofs_map_names_make(text: *const u8, text_len: usize, bytes: *mut u8, room: usize,
             wanted: &mut usize, fault: &mut Fault, quoted: *mut u8, quoted_room: usize) -> u32;
-        pub fn virtiofs_map_names_client(bytes: *const u8, map_len: usize, name: *const u8, name_len: usize,
+        pub fn virtiofs_map_name_to_host_bytes(bytes: *const u8, map_len: usize, name: *const u8, name_len: usize,
             out: *mut u8, room: usize, len: *mut usize) -> u32;
-        pub fn virtiofs_map_names_server(bytes: *const u8, map_len: usize, list: *const u8, list_len: usize,
+        pub fn virtiofs_map_name_to_guest(bytes: *const u8, map_len: usize, name: *const u8, name_len: usize,
+            out: *mut u8, room: usize, len: &mut usize) -> u32;
+        pub fn virtiofs_map_list_to_guest(bytes: *const u8, map_len: usize, list: *const u8, list_len: usize,
+            out: *mut u8, room: usize, len: &mut usize) -> u32;
+        pub fn virtiofs_map_server_xattrlist(bytes: *const u8, map_len: usize, list: *const u8, list_len: usize,
             out: *mut u8, room: usize, len: &mut usize) -> u32;
         pub fn virtiofs_map_names_is_terminated(bytes: *const u8, map_len: usize, yes: &mut bool) -> u32;
         pub fn virtiofs_map_names_audit(bytes: *const u8, map_len: usize, yes: &mut bool,
@@ -535,7 +539,7 @@ pub mod soft_idmap {
         /// [`checked_map_guest`](IdMap::checked_map_guest), or tests for 4294967295 itself.
         #[inline(always)]
         pub fn map_guest(&self, guest_id: Guest) -> Result<Host, MapError<Guest>> {
-            match self.asked(ffi::virtiofs_map_ids_guest, guest_id.into_inner().into()) {
+            match self.asked(ffi::virtiofs_map_ids_to_host, guest_id.into_inner().into()) {
                 (ffi::OK | ffi::NO_ID, host) => Ok(Host::from(host.into())),
                 _ => Err(MapError::ExplicitFailMapping { id: guest_id }),
             }
@@ -547,7 +551,7 @@ pub mod soft_idmap {
         /// of such an owner reads it so too; [`checked_map_host`](IdMap::checked_map_host) never answers it.
         #[inline(always)]
         pub fn map_host(&self, host_id: Host) -> Result<Guest, MapError<Host>> {
-            match self.asked(ffi::virtiofs_map_ids_host, host_id.into_inner().into()) {
+            match self.asked(ffi::virtiofs_map_ids_to_guest, host_id.into_inner().into()) {
                 (ffi::OK | ffi::NO_ID, guest) => Ok(Guest::from(guest.into())),
                 _ => Err(MapError::ExplicitFailMapping { id: host_id }),
             }
@@ -556,7 +560,7 @@ pub mod soft_idmap {
         /// The host's id for a guest's, with which a daemon may act: never 4294967295.
         #[inline(always)]
         pub fn checked_map_guest(&self, guest_id: Guest) -> Result<Host, CheckedMapError<Guest>> {
-            match self.asked(ffi::virtiofs_map_ids_guest, guest_id.into_inner().into()) {
+            match self.asked(ffi::virtiofs_map_ids_to_host, guest_id.into_inner().into()) {
                 (ffi::OK, host) => Ok(Host::from(host.into())),
                 (ffi::NO_ID, _) => Err(CheckedMapError::NoId { id: guest_id }),
                 _ => Err(CheckedMapError::Forbidden { id: guest_id }),
@@ -566,7 +570,7 @@ pub mod soft_idmap {
         /// The guest's id for a host's: never 4294967295. No id of the host is forbidden.
         #[inline(always)]
         pub fn checked_map_host(&self, host_id: Host) -> Result<Guest, CheckedMapError<Host>> {
-            match self.asked(ffi::virtiofs_map_ids_host, host_id.into_inner().into()) {
+            match self.asked(ffi::virtiofs_map_ids_to_guest, host_id.into_inner().into()) {
                 (ffi::OK, guest) => Ok(Guest::from(guest.into())),
                 (ffi::NO_ID, _) => Err(CheckedMapError::NoId { id: host_id }),
                 _ => Err(CheckedMapError::Forbidden { id: host_id }),
@@ -919,25 +923,46 @@ pub mod xattrmap {
             let (bytes, map_len, name) = (self.bytes.as_ptr(), self.bytes.len(), name.to_bytes());
             let (to, room, len) = (out.as_mut_ptr() as *mut u8, out.len(), len.as_mut_ptr());
             // Sound: map and name are lent for the call, which writes to `len` and to `out` alone.
-            unsafe { ffi::virtiofs_map_names_client(bytes, map_len, name.as_ptr(), name.len(), to, room, len) }
+            unsafe { ffi::virtiofs_map_name_to_host_bytes(bytes, map_len, name.as_ptr(), name.len(), to, room, len) }
         }
 
-        /// The list that the guest gets for the host's: each name with a zero after it, one zero where none is left.
+        /// The list that the guest gets for the host's, as virtiofsd makes it: each name with a zero after it, one zero
+        /// where none is left. A name that is only its rule's prepend becomes the empty name. With one of these Linux
+        /// answers EIO; [`list_to_guest`](XattrMap::list_to_guest) leaves them out.
         pub fn map_server_xattrlist(&self, xattr_names: Vec<u8>) -> Result<Vec<u8>, Error> {
-            let (bytes, map_len, mut len) = (self.bytes.as_ptr(), self.bytes.len(), 0);
-            let (list, list_len) = (xattr_names.as_ptr(), xattr_names.len());
-            // (an answer is at most one byte longer)
-            let room = list_len + 1;
-            let mut out = Vec::with_capacity(room);
-            let to = out.as_mut_ptr();
-            // Sound: map and list are lent for the call, which writes to `len` and to the room of `out` alone.
-            let code = unsafe { ffi::virtiofs_map_names_server(bytes, map_len, list, list_len, to, room, &mut len) };
-            if code != ffi::OK {
-                return Err(ErrorKind::UnterminatedMapping.into());
+            let (code, out) = self.seen(ffi::virtiofs_map_server_xattrlist, &xattr_names);
+            if code == ffi::OK { Ok(out) } else { Err(ErrorKind::UnterminatedMapping.into()) }
+        }
+
+        /// The list that a daemon hands on to its guest for the host's: each name for which
+        /// [`name_to_guest`](XattrMap::name_to_guest) has one, with a zero after it; empty where none is left. virtiofsd
+        /// has no such call.
+        pub fn list_to_guest(&self, xattr_names: &[u8]) -> Result<Vec<u8>, Error> {
+            let (code, out) = self.seen(ffi::virtiofs_map_list_to_guest, xattr_names);
+            if code == ffi::OK { Ok(out) } else { Err(ErrorKind::UnterminatedMapping.into()) }
+        }
+
+        /// The guest's name for one of the host's; `None` where the guest does not see it, or would see it as the empty
+        /// name. virtiofsd has no such call.
+        pub fn name_to_guest(&self, xattr_name: &CStr) -> Result<Option<CString>, Error> {
+            match self.seen(ffi::virtiofs_map_name_to_guest, xattr_name.to_bytes()) {
+                (ffi::OK, name) => Ok(Some(c_string(name))),
+                (ffi::HIDDEN, _) => Ok(None),
+                _ => Err(ErrorKind::UnterminatedMapping.into()),
             }
-            // Sound: the call wrote so many bytes.
-            unsafe { out.set_len(len) };
-            Ok(out)
+        }
+
+        /// The code of a call on names of the host, and what it wrote, which is at most one byte longer.
+        fn seen(&self, call: OfHost, names: &[u8]) -> (u32, Vec<u8>) {
+            let (bytes, map_len, mut len, room) = (self.bytes.as_ptr(), self.bytes.len(), 0, names.len() + 1);
+            let mut out = Vec::with_capacity(room);
+            // Sound: map and names are lent for the call, which writes to `len` and to the room of `out` alone.
+            let code = unsafe { call(bytes, map_len, names.as_ptr(), names.len(), out.as_mut_ptr(), room, &mut len) };
+            if code == ffi::OK {
+                // Sound: the call wrote so many bytes.
+                unsafe { out.set_len(len) };
+            }
+            (code, out)
         }
 
         /// Whether no name and no list is ever answered as `UnterminatedMapping`.
@@ -984,6 +1009,7 @@ pub mod xattrmap {
         }
     }
 
+    type OfHost = unsafe extern "C" fn(*const u8, usize, *const u8, usize, *mut u8, usize, &mut usize) -> u32;
     type Decision = unsafe extern "C" fn(*const u8, usize, &mut bool, *mut u8, usize, &mut usize) -> u32;
     type Comparison =
         unsafe extern "C" fn(*const u8, usize, *const u8, usize, &mut bool, *mut u8, usize, &mut usize) -> u32;

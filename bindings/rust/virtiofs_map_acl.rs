@@ -79,7 +79,7 @@ pub enum EntryFault {
     UnknownTag,
     /// Its permissions are a number above 7.
     Permission,
-    /// Its id is 4294967295, which is no id to Linux.
+    /// Its id is 4294967295, or becomes it, which is no id to Linux.
     NoId,
     /// A specification forbids its id.
     Forbidden,
@@ -111,7 +111,7 @@ pub enum CapabilityError {
     Revision { revision: u8 },
     /// The value is not as long as its revision asks: 12 bytes, 20 or 24.
     Length,
-    /// The id of root is 4294967295, which is no id to Linux.
+    /// The id of root is 4294967295, or becomes it, which is no id to Linux.
     NoId,
     /// A specification forbids the id of root.
     Forbidden,

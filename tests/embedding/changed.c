@@ -42,10 +42,10 @@ static int ask_ids(uint8_t *bytes, size_t len)
     const uint32_t id = number % 8 ? numbers[number % COUNT(numbers)] : (uint32_t)(number >> 32);
     struct virtiofs_entry_room entries[2];
     struct virtiofs_fault fault;
-    uint32_t *to = lent(outs, 4), code = virtiofs_uids_host(users, id, to);
+    uint32_t *to = lent(outs, 4), code = virtiofs_uids_to_guest(users, id, to);
     int all = is_well(code, OF_VALUES | CODE(NO_ID), 0, 4) && (code ? is_untouched(to, 4) : *to != UINT32_MAX);
     to = lent(outs, 4);
-    code = virtiofs_gids_guest(groups, id, to);
+    code = virtiofs_gids_to_host(groups, id, to);
     all &= is_well(code, OF_VALUES | CODE(NO_ID), 0, 4) && (code ? is_untouched(to, 4) : *to != UINT32_MAX);
     uint8_t *value = memcpy(lent(outs, sizeof list), list, sizeof list);
     code = virtiofs_acl_to_host(users, groups, value, sizeof list, entries, 2, &fault);
@@ -63,9 +63,9 @@ static int ask_names(uint8_t *bytes, size_t map_len)
     const char *name = names[number % COUNT(names)];
     size_t len = 77, room = number % 5 ? sizeof list : 3;
     bool yes = true;
-    uint32_t code = virtiofs_names_server(map, list, sizeof list - 1, lent(outs, room), room, &len);
+    uint32_t code = virtiofs_list_to_guest(map, list, sizeof list - 1, lent(outs, room), room, &len);
     int all = is_well(code, OF_NAMES, len, room);
-    code = virtiofs_names_client(map, name, strlen(name), lent(outs, room), room, &len);
+    code = virtiofs_name_to_host_bytes(map, name, strlen(name), lent(outs, room), room, &len);
     all &= is_well(code, OF_NAMES | CODE(AS_IT_IS) | CODE(DENIED) | CODE(UNSUPPORTED), len, room);
     code = virtiofs_names_is_terminated(map, &yes);
     all &= is_well(code, CODE(OK) | CODE(NO_MAP), 0, room) && (!code || !yes);

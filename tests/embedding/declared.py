@@ -70,7 +70,9 @@ def compared(top):
     crate = text_of([*top.glob("crates/virtiofs_map_c/src/**/*.rt"), top / "crates/virtiofs_acl/src/merges.rt"])
     declared = functions(header, IN_C, lambda it: [of_c(it)])
     codes = dict(re.findall(r"\bVIRTIOFS_(\w+)\s*=\s*(\d+)", header))
-    uncalled = [it for it in declared if len(re.findall(rf"\b{it}\(", header)) < 2 and it != "virtiofs_map_version"]
+    # (what a caller asks himself, and what only the Rust file asks)
+    of_others = ("virtiofs_map_version", "virtiofs_map_server_xattrlist")
+    uncalled = [it for it in declared if len(re.findall(rf"\b{it}\(", header)) < 2 and it not in of_others]
     yield "the header has functions and constants", [] if declared and codes else ["it has not"]
     yield "the header calls all that it declares", uncalled
     for who, text, before in (("the crate", crate, 'extern "C" '), ("the Rust file", rust, r"\b")):

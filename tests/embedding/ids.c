@@ -134,10 +134,17 @@ static void see_lookup(struct virtiofs_uids users, int to_host, struct lookup it
 {
     const struct virtiofs_gids groups = { users.words, users.count };
     uint32_t to[] = { 17, 17 };
-    uint32_t code = to_host ? virtiofs_uids_guest(users, it.id, &to[0]) : virtiofs_uids_host(users, it.id, &to[0]);
+    uint32_t code = to_host ? virtiofs_uids_to_host(users, it.id, &to[0]) : virtiofs_uids_to_guest(users, it.id, &to[0]);
     SEE_ROW(code == it.code && to[0] == it.to, row);
-    code = to_host ? virtiofs_gids_guest(groups, it.id, &to[1]) : virtiofs_gids_host(groups, it.id, &to[1]);
+    code = to_host ? virtiofs_gids_to_host(groups, it.id, &to[1]) : virtiofs_gids_to_guest(groups, it.id, &to[1]);
     SEE_ROW(code == it.code && to[1] == it.to, row);
+}
+
+/* Whether nothing was written but so many of the words, the first of which is 0 if the code is not OK. */
+static int is_left(size_t room, size_t written, uint32_t code)
+{
+    const uint32_t *first = (const uint32_t *)(const void *)words - room;
+    return is_kept(words, 4 * room, room ? 4 * written : 0) && (!room || !code == !!*first);
 }
 
 /* First the room that the bound says, which tells what is needed, and then each room up to that. */
@@ -149,7 +156,7 @@ static void see_made(const struct made_row *row, enum call call)
         uint32_t code = ask(call, row->specs, row->texts, row->count, room, &wanted, &fault, 0);
         needed = next ? needed : wanted;
         SEE_ROW(code == (room < needed ? VIRTIOFS_NO_ROOM : VIRTIOFS_OK) && needed && wanted == needed, row->texts[0]);
-        SEE_ROW(is_fault(fault, no_fault) && is_kept(words, 4 * room, code ? 0 : 4 * needed), row->texts[0]);
+        SEE_ROW(is_fault(fault, no_fault) && is_left(room, code ? 1 : needed, code), row->texts[0]);
     }
     const struct virtiofs_uids map = { (uint32_t *)(void *)words - needed, needed };
     see_lookup(map, 1, row->guest, row->texts[0]);
@@ -176,7 +183,7 @@ static void see_refused(const struct refused_row *row, enum call call)
     size_t wanted;
     for (size_t room = 0; room <= WORDS; room += WORDS) {
         SEE_ROW(ask(call, row->specs, NULL, row->count, room, &wanted, &fault, 0) == VIRTIOFS_REFUSED, row->row);
-        SEE_ROW(!wanted && is_fault(fault, row->fault) && is_kept(words, 4 * room, 0), row->row);
+        SEE_ROW(!wanted && is_fault(fault, row->fault) && is_left(room, 1, VIRTIOFS_REFUSED), row->row);
     }
 }
 
@@ -199,7 +206,7 @@ static void see_texts(const struct texts_row *row, enum call call)
     for (size_t room = 0; room <= strlen(row->quoted) + 1; room++) {
         uint32_t code = ask(call, NULL, row->texts, row->count, of_words, &wanted, &fault, room);
         SEE_ROW(code == (is_read ? VIRTIOFS_OK : VIRTIOFS_REFUSED), row->texts[0]);
-        SEE_ROW((call >= READ || !wanted) && is_kept(words, 4 * of_words, 0), row->texts[0]);
+        SEE_ROW(call >= READ ? is_kept(words, 4 * of_words, 0) : !wanted && is_left(of_words, 1, code), row->texts[0]);
         SEE_ROW(is_quoted(fault, is_read ? no_fault : told, row->quoted, room), row->texts[0]);
     }
 }
@@ -215,16 +222,18 @@ static void see_range(const struct range_row *row)
             && range.count == row->range.count, row->text);
 }
 
-/* What is no map: nothing, zeros, words of another version, and a map of names. */
+/* What is no map: nothing, zeros, words of another version, a map of names, and a map with another count than its own. */
 static void test_no_map(void)
 {
     static uint32_t zeros[8];
-    uint32_t other[WORDS], of_names[WORDS];
+    uint32_t other[WORDS], whole[WORDS], of_names[WORDS];
     size_t count = 0, len = names_of(":ok:all:::", of_names, sizeof of_names).len;
     struct virtiofs_fault fault;
     SEE(virtiofs_uids_make(made_rows[1].specs, 1, other, WORDS, &count, &fault) == VIRTIOFS_OK && len > 4);
+    memcpy(whole, other, sizeof whole);
     other[0]++;
-    const struct virtiofs_uids rows[] = { { NULL, 0 }, { zeros, 8 }, { other, count }, { of_names, len / 4 } };
+    const struct virtiofs_uids rows[] = { { NULL, 0 }, { zeros, 8 }, { other, count }, { of_names, len / 4 },
+                                          { whole, count - 1 }, { whole, count + 1 }, { whole, WORDS } };
     for (size_t i = 0; i < COUNT(rows); i++)
         for (int to_host = 0; to_host < 2; to_host++)
             see_lookup(rows[i], to_host, (struct lookup)FAILS(1, NO_MAP), "no map");

@@ -65,17 +65,19 @@ static void test_large_texts(void)
 static int is_client(struct virtiofs_names map, const char *name, uint32_t wanted, const char *answer)
 {
     size_t len;
-    uint32_t code = virtiofs_names_client(map, name, strlen(name), out, sizeof out, &len);
+    uint32_t code = virtiofs_name_to_host_bytes(map, name, strlen(name), out, sizeof out, &len);
     return code == wanted && len == strlen(answer) && !memcmp(out, answer, len);
 }
 
-/* The map of so much text, in a buffer that the bound says is enough. */
+/* The map of so much text, in a buffer that the bound says is enough, at `bytes`. */
+static void *bytes;
+
 static struct virtiofs_names map_of_text(size_t len)
 {
     size_t room = virtiofs_names_bound(len);
-    struct virtiofs_names map = { malloc(room), 0 };
+    struct virtiofs_names map = { bytes = malloc(room), 0 };
     struct virtiofs_fault fault;
-    SEE(map.bytes && virtiofs_names_make(text, len, map.bytes, room, &map.len, &fault, NULL, 0) == VIRTIOFS_OK);
+    SEE(bytes && virtiofs_names_make(text, len, bytes, room, &map.len, &fault, NULL, 0) == VIRTIOFS_OK);
     return map;
 }
 
@@ -89,14 +91,14 @@ static void test_many_rules(void)
     SEE(is_client(map, "key0.a", VIRTIOFS_OK, "host0.key0.a"));
     SEE(is_client(map, "key199999.a", VIRTIOFS_OK, "host199999.key199999.a"));
     SEE(is_client(map, "key200000.a", VIRTIOFS_UNTERMINATED, ""));
-    SEE(virtiofs_names_server(map, "host99999.a", 11, out, 12, &told) == VIRTIOFS_OK);
+    SEE(virtiofs_list_to_guest(map, "host99999.a", 11, out, 12, &told) == VIRTIOFS_OK);
     SEE(told == 2 && !memcmp(out, "a", 2) && virtiofs_names_is_terminated(map, &yes) == VIRTIOFS_OK && !yes);
-    free(map.bytes);
+    free(bytes);
     for (int i = 0; i < MANY; i++)
         memcpy(text + 11 * i, ":bad:all:::", 11);
     map = map_of_text(11 * MANY);
     SEE(is_client(map, "a", VIRTIOFS_DENIED, "") && virtiofs_names_is_terminated(map, &yes) == VIRTIOFS_OK && yes);
-    free(map.bytes);
+    free(bytes);
 }
 
 /* A key of 16 MiB, and the name that it fits. */
@@ -104,9 +106,9 @@ static void test_large_key(void)
 {
     struct virtiofs_names map = map_of_text(write_text(":bad:client:", 'a', ":: :ok:all:::"));
     size_t len;
-    SEE(virtiofs_names_client(map, text + 12, MIB_16, out, 0, &len) == VIRTIOFS_DENIED);
-    SEE(virtiofs_names_client(map, text + 12, MIB_16 - 1, out, 0, &len) == VIRTIOFS_AS_IT_IS);
-    free(map.bytes);
+    SEE(virtiofs_name_to_host_bytes(map, text + 12, MIB_16, out, 0, &len) == VIRTIOFS_DENIED);
+    SEE(virtiofs_name_to_host_bytes(map, text + 12, MIB_16 - 1, out, 0, &len) == VIRTIOFS_AS_IT_IS);
+    free(bytes);
 }
 
 /* ---- many specifications ---- */
@@ -121,8 +123,8 @@ static void test_many_specifications(void)
     struct virtiofs_fault fault;
     SEE(words && virtiofs_uids_make(specs, MANY, words, room, &count, &fault) == VIRTIOFS_OK);
     const struct virtiofs_uids users = { words, count };
-    SEE(virtiofs_uids_guest(users, 1999994, &host) == VIRTIOFS_OK && host == 6999994);
-    SEE(virtiofs_uids_host(users, 6999994, &guest) == VIRTIOFS_OK && guest == 1999994);
+    SEE(virtiofs_uids_to_host(users, 1999994, &host) == VIRTIOFS_OK && host == 6999994);
+    SEE(virtiofs_uids_to_guest(users, 6999994, &guest) == VIRTIOFS_OK && guest == 1999994);
     free(words);
 }
 

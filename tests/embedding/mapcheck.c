@@ -93,7 +93,7 @@ static int answer_query(struct virtiofs_uids map, const char *word)
     bool is_guest;
     uint32_t number, to;
     read_query(word, &is_guest, &number);
-    uint32_t code = is_guest ? virtiofs_uids_guest(map, number, &to) : virtiofs_uids_host(map, number, &to);
+    uint32_t code = is_guest ? virtiofs_uids_to_host(map, number, &to) : virtiofs_uids_to_guest(map, number, &to);
     if (code == VIRTIOFS_OK || code == VIRTIOFS_NO_ID)
         printf("%lu\n", code == VIRTIOFS_OK ? (unsigned long)to : 4294967295ul);
     else if (code == VIRTIOFS_FORBIDDEN)
@@ -144,8 +144,9 @@ static struct virtiofs_names read_rules(const char *which, const char *word)
 {
     struct virtiofs_fault fault;
     size_t room = virtiofs_names_bound(strlen(word));
-    struct virtiofs_names map = { room_for(room), 0 };
-    uint32_t code = virtiofs_names_make(word, strlen(word), map.bytes, room, &map.len, &fault, quoted, LARGE);
+    void *bytes = room_for(room);
+    struct virtiofs_names map = { bytes, 0 };
+    uint32_t code = virtiofs_names_make(word, strlen(word), bytes, room, &map.len, &fault, quoted, LARGE);
     if (code != VIRTIOFS_OK)
         exit(refuse(which, code, fault));
     return map;
@@ -155,7 +156,7 @@ static int answer_client(char **words)
 {
     struct virtiofs_text name = text_of(words[1]);
     size_t len;
-    uint32_t code = virtiofs_names_client(read_rules("", words[0]), name.at, name.len, out, LARGE, &len);
+    uint32_t code = virtiofs_name_to_host_bytes(read_rules("", words[0]), name.at, name.len, out, LARGE, &len);
     if (code == VIRTIOFS_OK || code == VIRTIOFS_AS_IT_IS)
         write_bytes("pass ", code == VIRTIOFS_OK ? out : name.at, code == VIRTIOFS_OK ? len : name.len, "\n");
     else
@@ -169,7 +170,8 @@ static int answer_server(char **words)
     size_t list_len = 0, len;
     for (size_t i = 1; words[i]; list_len += strlen(words[i++]) + 1)
         strcpy(list + list_len, words[i]);
-    uint32_t code = virtiofs_names_server(map, list, list_len, out, LARGE, &len);
+    uint32_t code = virtiofs_map_server_xattrlist(map.bytes, map.len, (const uint8_t *)list, list_len, (uint8_t *)out,
+                                                  LARGE, &len);
     if (code == VIRTIOFS_UNTERMINATED)
         puts(UNDECIDED);
     if (code != VIRTIOFS_OK)

@@ -33,8 +33,10 @@ static const struct row {
     SAID(CLIENT, ":map:a:u.:", "a\0b", OK, "u.a"),
     SAID(CLIENT, ":prefix:all::p.:", "\0b\0", OK, "p."),
     SAID(CLIENT, ":prefix:all::p.:", "ab\0", OK, "p.ab"),
-    SAID(SERVER, ":map:trusted.:user.virtiofs.:", "user.virtiofs.a\0trusted.b\0c\0user.virtiofs.", OK, "a\0c\0\0"),
-    SAID(SERVER, ":map::user.virtiofs.:", "", OK, "\0"),
+    SAID(SERVER, ":map:trusted.:user.virtiofs.:", "user.virtiofs.a\0trusted.b\0c\0user.virtiofs.", OK, "a\0c\0"),
+    SAID(SERVER, ":map::user.virtiofs.:", "", OK, ""),
+    SAID(SERVER, ":map::user.virtiofs.:", "user.virtiofs.\0x\0\0", OK, ""),
+    SAID(SERVER, ":map::u.:", "\0u.a\0\0u.\0u.b", OK, "a\0b\0"),
     SAID(SERVER, ":ok:all:::", "\xff\xc3\0b", OK, "\xff\xc3\0b\0"),
     SAID(SERVER, ":ok:server::a:", "a1\0b\0a2\0", UNTERMINATED, ""),
     YES(TERMINATED, ":map:a:b:", ""),
@@ -63,13 +65,26 @@ static const struct { const char *rules, *name; uint32_t code; const char *host;
     HOST(":map:trusted.:user.virtiofs.:", "trusted.a", "user.virtiofs.trusted.a"),
     HOST(":ok:all:::", "", ""),
     HOST(":ok:all:::", BYTES_250 "12345", BYTES_250 "12345"),
-    NO_HOST(":ok:all:::", BYTES_250 "123456", NO_ROOM),
+    NO_HOST(":ok:all:::", BYTES_250 "123456", TOO_LONG),
     HOST(":prefix:all::a.:", BYTES_250 "123", "a." BYTES_250 "123"),
-    NO_HOST(":prefix:all::a.:", BYTES_250 "1234", NO_ROOM),
-    NO_HOST(":prefix:all::a.:", BYTES_250 BYTES_250, NO_ROOM),
+    NO_HOST(":prefix:all::a.:", BYTES_250 "1234", TOO_LONG),
+    NO_HOST(":prefix:all::a.:", BYTES_250 BYTES_250, TOO_LONG),
     NO_HOST(":map:trusted.:user.virtiofs.:", "user.virtiofs.a", DENIED),
     NO_HOST(":unsupported:client:a:: :ok:all:::", "ab", UNSUPPORTED),
     NO_HOST(":ok:server::a:", "a1", UNTERMINATED),
+};
+
+/* The same of a name of the host and the guest's. */
+static const struct { const char *rules, *name; uint32_t code; const char *guest; } guest_rows[] = {
+    HOST(":map:trusted.:user.virtiofs.:", "security.x", "security.x"),
+    HOST(":map:trusted.:user.virtiofs.:", "user.virtiofs.trusted.a", "trusted.a"),
+    HOST(":ok:all:::", BYTES_250 "12345", BYTES_250 "12345"),
+    NO_HOST(":ok:all:::", BYTES_250 "123456", TOO_LONG),
+    NO_HOST(":ok:all:::", "", HIDDEN),
+    NO_HOST(":map:trusted.:user.virtiofs.:", "trusted.a", HIDDEN),
+    NO_HOST(":map:trusted.:user.virtiofs.:", "user.virtiofs.", HIDDEN),
+    NO_HOST(":unsupported:server::a: :ok:all:::", "ab", HIDDEN),
+    NO_HOST(":ok:client:::", "a", UNTERMINATED),
 };
 
 /* Texts of which no map is made: what is quoted, and the fault. */
@@ -107,8 +122,8 @@ static uint32_t ask(enum form form, struct virtiofs_names map, struct virtiofs_n
     map.bytes = handed(firsts, map.bytes, map.len);
     second.bytes = handed(seconds, second.bytes, second.len);
     switch (form) {
-    case CLIENT: return virtiofs_names_client(map, in, asked_len, out, room, len);
-    case SERVER: return virtiofs_names_server(map, in, asked_len, out, room, len);
+    case CLIENT: return virtiofs_name_to_host_bytes(map, in, asked_len, out, room, len);
+    case SERVER: return virtiofs_list_to_guest(map, in, asked_len, out, room, len);
     case AUDIT: return virtiofs_names_audit(map, yes, out, room, len);
     case AUDIT_LISTED: return virtiofs_names_audit_listed(map, yes, out, room, len);
     case APART: return virtiofs_names_keeps_apart(map, second, yes, out, room, len);
@@ -144,18 +159,19 @@ static void see_made(const char *rules, struct virtiofs_names map)
         uint8_t *bytes = lent(firsts, room);
         uint32_t code = virtiofs_names_make(handed(given, rules, len), len, bytes, room, &wanted, &fault, NULL, 0);
         SEE_ROW(code == (room < map.len ? VIRTIOFS_NO_ROOM : VIRTIOFS_OK) && wanted == map.len, rules);
-        SEE_ROW(is_fault(fault, no_fault) && is_kept(firsts, room, code ? 0 : map.len), rules);
-        SEE_ROW(code || !memcmp(bytes, map.bytes, map.len), rules);
+        SEE_ROW(is_fault(fault, no_fault) && is_kept(firsts, room, code ? room > 0 : map.len), rules);
+        SEE_ROW(!room || (code ? !bytes[0] : !memcmp(bytes, map.bytes, map.len)), rules);
     }
 }
 
-static void see_host(struct virtiofs_names map, const char *name, uint32_t code, const char *host)
+static void see_name(struct virtiofs_names map, bool to_host, const char *name, uint32_t code, const char *wanted)
 {
     const size_t len = strlen(name) + 1;
+    char *out = lent(outs, VIRTIOFS_NAME_ROOM);
+    const char *in = handed(given, name, len);
     map.bytes = handed(firsts, map.bytes, map.len);
-    SEE_ROW(virtiofs_names_host(map, handed(given, name, len), lent(outs, VIRTIOFS_NAME_ROOM)) == code, name);
-    SEE_ROW(is_kept(outs, VIRTIOFS_NAME_ROOM, VIRTIOFS_NAME_ROOM), name);
-    SEE_ROW(!memcmp(outs - VIRTIOFS_NAME_ROOM, host, strlen(host) + 1), name);
+    SEE_ROW((to_host ? virtiofs_name_to_host(map, in, out) : virtiofs_name_to_guest(map, in, out)) == code, name);
+    SEE_ROW(is_kept(outs, VIRTIOFS_NAME_ROOM, VIRTIOFS_NAME_ROOM) && !strcmp(out, wanted), name);
 }
 
 static void see_refused(const struct refused_row *row)
@@ -169,7 +185,7 @@ static void see_refused(const struct refused_row *row)
         memset(&fault, UNTOUCHED, sizeof fault);
         SEE_ROW(virtiofs_names_make(handed(given, row->text, row->len), row->len, bytes, of_map, &wanted, &fault, out,
                                     room) == VIRTIOFS_REFUSED && !wanted, row->text);
-        SEE_ROW(is_fault(fault, told) && is_kept(firsts, of_map, 0), row->text);
+        SEE_ROW(is_fault(fault, told) && is_kept(firsts, of_map, of_map > 0) && (!of_map || !bytes[0]), row->text);
         SEE_ROW(is_kept(outs, room, quoted) && !memcmp(outs - room, row->quoted, quoted), row->text);
     }
 }
@@ -182,7 +198,7 @@ static void see_no_map(enum form form, struct virtiofs_names map, struct virtiof
     SEE(is_kept(outs, 3, form == SERVER ? 3 : 0));
 }
 
-/* What is no map: nothing, zeros, bytes of another version, and a map of ids. */
+/* What is no map: nothing, zeros, bytes of another version, a map of ids, and a map with another length than its own. */
 static void test_no_map(void)
 {
     static uint8_t zeros[64], other[PAGE], bytes[PAGE];
@@ -193,9 +209,11 @@ static void test_no_map(void)
     memcpy(other, bytes, PAGE);
     other[0]++;
     of_ids.len *= 4;
-    const struct virtiofs_names rows[] = { { NULL, 0 }, { zeros, 64 }, { other, map.len }, of_ids };
+    const struct virtiofs_names rows[] = { { NULL, 0 }, { zeros, 64 }, { other, map.len }, of_ids,
+                                           { bytes, map.len - 1 }, { bytes, map.len + 1 }, { bytes, PAGE } };
     for (size_t i = 0; i < COUNT(rows); i++) {
-        see_host(rows[i], "ab", VIRTIOFS_NO_MAP, "");
+        see_name(rows[i], true, "ab", VIRTIOFS_NO_MAP, "");
+        see_name(rows[i], false, "ab", VIRTIOFS_NO_MAP, "");
         for (enum form form = CLIENT; form <= SHARE_NONE; form++) {
             see_no_map(form, rows[i], map);
             if (form >= APART)
@@ -220,7 +238,11 @@ int main(void)
         see_row(&rows[i], map, second);
     }
     for (size_t i = 0; i < COUNT(host_rows); i++)
-        see_host(names_of(host_rows[i].rules, bytes[0], PAGE), host_rows[i].name, host_rows[i].code, host_rows[i].host);
+        see_name(names_of(host_rows[i].rules, bytes[0], PAGE), true, host_rows[i].name, host_rows[i].code,
+                 host_rows[i].host);
+    for (size_t i = 0; i < COUNT(guest_rows); i++)
+        see_name(names_of(guest_rows[i].rules, bytes[0], PAGE), false, guest_rows[i].name, guest_rows[i].code,
+                 guest_rows[i].guest);
     for (size_t i = 0; i < COUNT(refused_rows); i++)
         see_refused(&refused_rows[i]);
     test_no_map();

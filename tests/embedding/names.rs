@@ -32,6 +32,28 @@ fn names_and_lists_are_answered() {
     }
 }
 
+/// What a daemon hands on has no empty name, and its names are those that the guest sees.
+#[test]
+fn names_of_the_host_are_handed_on() {
+    let no_rule = || Error::from(ErrorKind::UnterminatedMapping);
+    for (text, list, handed_on) in [
+        (MAP, &b"user.virtiofs.a\0trusted.b\0c\0user.virtiofs."[..], Ok(&b"a\0c\0"[..])),
+        (MAP, b"user.virtiofs.\0\0", Ok(b"")),
+        (MAP, b"", Ok(b"")),
+        (":ok:client:a:: :ok:server::a:", b"a\0b\0", Err(no_rule())),
+    ] {
+        assert_eq!(rules(text).list_to_guest(list), handed_on.map(Vec::from), "{text}");
+    }
+    for (host, guest) in [
+        (&b"user.virtiofs.a"[..], Some(&b"a"[..])), (b"c", Some(b"c")), (b"trusted.b", None), (b"user.virtiofs.", None),
+    ] {
+        assert_eq!(rules(MAP).name_to_guest(&name(host)), Ok(guest.map(name)));
+    }
+    assert_eq!(rules(":ok:client:::").name_to_guest(&name(b"a")), Err(no_rule()));
+    let long = b"a".repeat(5000);
+    assert_eq!(rules(":ok:all:::").name_to_guest(&name(&long)), Ok(Some(name(&long))));
+}
+
 #[test]
 fn texts_of_which_no_map_is_made() {
     use ErrorKind::{IncompleteRule, InvalidScope, InvalidType, MapRuleViolation, NoRulesProvided, NulInPattern};

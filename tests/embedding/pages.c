@@ -36,8 +36,8 @@ static int are_ids_right(struct virtiofs_uids users, uint32_t id)
     uint8_t value[] = { 2, 0, 0, 0, 2, 0, 7, 0, (uint8_t)id, (uint8_t)(id >> 8), (uint8_t)(id >> 16), 0 };
     struct virtiofs_entry_room entry[1];
     struct virtiofs_fault fault;
-    return virtiofs_uids_guest(users, id, &to) == VIRTIOFS_OK && to == wanted
-           && virtiofs_gids_host(groups, to, &back) == VIRTIOFS_OK && back == id
+    return virtiofs_uids_to_host(users, id, &to) == VIRTIOFS_OK && to == wanted
+           && virtiofs_gids_to_guest(groups, to, &back) == VIRTIOFS_OK && back == id
            && virtiofs_acl_to_host(users, groups, value, sizeof value, entry, 1, &fault) == VIRTIOFS_OK
            && value[8] + 256u * value[9] + 65536u * value[10] == wanted;
 }
@@ -48,11 +48,11 @@ static int are_names_right(struct virtiofs_names names, int i)
     uint8_t out[64];
     size_t len = (size_t)sprintf(name, "user.%d.x", i), wanted_len = (size_t)sprintf(wanted, "host.%d.%s", i, name);
     size_t told = 0;
-    uint32_t code = virtiofs_names_client(names, name, len, out, sizeof out, &told);
+    uint32_t code = virtiofs_name_to_host_bytes(names, name, len, out, sizeof out, &told);
     if (i >= RULES)
         return code == VIRTIOFS_DENIED;
     return code == VIRTIOFS_OK && told == wanted_len && !memcmp(out, wanted, told)
-           && virtiofs_names_server(names, out, told, out + 32, 32, &told) == VIRTIOFS_OK && told == len + 1
+           && virtiofs_list_to_guest(names, out, told, out + 32, 32, &told) == VIRTIOFS_OK && told == len + 1
            && !memcmp(out + 32, name, told);
 }
 

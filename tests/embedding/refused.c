@@ -23,6 +23,7 @@
     ROW(names_make, OK, 1, virtiofs_names_make(BYTES(RULES), to.bytes, PAGE, &to.len, &fault, to.quoted, 9)) \
     ROW(names_in_no_room, NO_ROOM, 1, virtiofs_names_make(BYTES(RULES), to.bytes, 3, &to.len, &fault, NULL, 0)) \
     ROW(wrong_rules, REFUSED, 1, virtiofs_names_make(BYTES(":x:y:z:"), to.bytes, 9, &to.len, &fault, to.quoted, 9)) \
+    ROW(maps_make, OK, 1, make_maps()) \
     ROW(audit, OK, 1, virtiofs_names_audit(names, &to.yes, to.out, 64, &to.len)) \
     ROW(audit_listed, OK, 1, virtiofs_names_audit_listed(names, &to.yes, to.out, 64, &to.len)) \
     ROW(apart, OK, 1, virtiofs_names_keeps_apart(names, other, &to.yes, to.out, 64, &to.len)) \
@@ -32,12 +33,12 @@
     ROW(reach, OK, 1, virtiofs_ids_reaches(specs, 3, 7, 7, &to.yes, &to.found, &fault)) \
     ROW(ids_apart, OK, 1, virtiofs_ids_apart(specs, 3, specs, 2, &to.yes, &to.found, &fault)) \
     ROW(ids_that_meet, REFUSED, 1, virtiofs_ids_apart(specs, 3, met, 2, &to.yes, &to.found, &fault)) \
-    ROW(guest, OK, 0, virtiofs_uids_guest(users, 5, &to.number)) \
-    ROW(host, OK, 0, virtiofs_gids_host(groups, 1005, &to.number)) \
-    ROW(client, OK, 0, virtiofs_names_client(names, BYTES("trusted.a"), to.out, 64, &to.len)) \
-    ROW(client_denied, DENIED, 0, virtiofs_names_client(names, BYTES("user.virtiofs.x"), to.out, 64, &to.len)) \
-    ROW(names_host, OK, 0, virtiofs_names_host(names, "trusted.a", to.host)) \
-    ROW(server, OK, 0, virtiofs_names_server(names, BYTES("user.virtiofs.a\0b"), to.out, 64, &to.len)) \
+    ROW(guest, OK, 0, virtiofs_uids_to_host(users, 5, &to.number)) \
+    ROW(host, OK, 0, virtiofs_gids_to_guest(groups, 1005, &to.number)) \
+    ROW(client, OK, 0, virtiofs_name_to_host_bytes(names, BYTES("trusted.a"), to.out, 64, &to.len)) \
+    ROW(client_denied, DENIED, 0, virtiofs_name_to_host_bytes(names, BYTES("user.virtiofs.x"), to.out, 64, &to.len)) \
+    ROW(name_to_host, OK, 0, virtiofs_name_to_host(names, "trusted.a", to.host)) \
+    ROW(server, OK, 0, virtiofs_list_to_guest(names, BYTES("user.virtiofs.a\0b"), to.out, 64, &to.len)) \
     ROW(terminated, OK, 0, virtiofs_names_is_terminated(names, &to.yes)) \
     ROW(acl, OK, 0, virtiofs_acl_to_host(users, groups, to.value, 20, to.entries, 2, &fault)) \
     ROW(root, ROOT_MOVES, 0, virtiofs_capability_to_host(users, to.root, 20, &fault)) \
@@ -99,6 +100,19 @@ static struct virtiofs_fault fault;
 #define ENTRY(name, code, takes_memory, call) { #name, VIRTIOFS_##code, takes_memory },
 enum row { ROWS(NAME) NO_ROW };
 static const struct { const char *name; uint32_t code; int takes_memory; } rows[] = { ROWS(ENTRY) };
+
+/* Makes all maps of a share, of which it keeps none. Where memory ran out, no option is to blame. */
+static uint32_t make_maps(void)
+{
+    char *values[] = { "map:0:1000:10" };
+    const struct virtiofs_options options = { values, 1, values, 1, RULES };
+    struct virtiofs_refusal refusal;
+    struct virtiofs_maps maps;
+    const uint32_t code = virtiofs_maps_make(&options, &maps, &refusal);
+    to.len = code == VIRTIOFS_OK ? maps.names.len : maps.memory || refusal.option;
+    free(maps.memory);
+    return code;
+}
 
 static uint32_t call(enum row row)
 {

@@ -35,15 +35,15 @@ def answers_tables(tally, name, words):
 
 
 # What the run of each file has to do.
-TESTS_C = dict.fromkeys(("ids.c", "names.c", "values.c", "ids_audits.c", "sentences.c"), counts)
-TESTS_RS = dict.fromkeys(("ids.rs", "names.rs", "values.rs", "ids_audits.rs"), counts)
+TESTS_C = dict.fromkeys(("ids.c", "names.c", "values.c", "ids_audits.c", "sentences.c", "start.c"), counts)
+TESTS_RS = dict.fromkeys(("ids.rs", "names.rs", "values.rs", "ids_audits.rs", "start.rs"), counts)
 IN_C = {**TESTS_C, **dict.fromkeys(("refused.c", "pages.c", "changed.c", "large.c"), counts),
         "mapcheck.c": answers_tables, "../../examples/owners.c": see_example}
 # (a leak on purpose: if it were not found out, the other runs under the sanitizer would show nothing of leaks)
 SANITIZED_C = {**TESTS_C, "leak.c": lambda *it: see_run(*it, lambda status, said: status and "detected memory leaks" in said)}
 IN_RUST = {**TESTS_RS, "refused.rs": counts, "calls.rs": see_run, "../../examples/owners.rs": see_example,
            "../../examples/ask.rs": see_run, "../../examples/build.rs": see_run}
-TOLD = (0, "a text, a list or a value is wrong: rule 1: invalid scope 'all\\x1b', expected one of: all, client, server\n")
+TOLD = (0, "xattrmap 0: rule 1: invalid scope 'all\\x1b', expected one of: all, client, server\n")
 ASKED = (0, "guest user 1000 is host user 101000\n")
 DAEMON = {"daemon.c": lambda *it: see_run(*it, lambda *ended: ended == TOLD),
           "../../examples/ask.c": lambda *it: see_run(*it, lambda *ended: ended == ASKED)}
@@ -65,7 +65,7 @@ def over_archive(tally, room):
         ("", DAEMON, [c, "-std=c99", *STRICT], end, c),
         *((f" in C++{it}", DAEMON, [cxx, f"-std=c++{it}", *STRICT, "-x", "c++"], ["-x", "none", *end], cxx)
           for it in (11, 17)),
-        *((f" in edition {it}", dict.fromkeys(("values.rs", "ids_audits.rs"), counts),
+        *((f" in edition {it}", dict.fromkeys(("values.rs", "ids_audits.rs", "start.rs"), counts),
            [*in_rust, f"--edition={it}"], [], rust) for it in (2015, 2018, 2024)),
         ("", IN_RUST, [*in_rust, "--edition=2021"], [], rust),
         (" under AddressSanitizer", SANITIZED_C, [sanitizing, *flags, *SANITIZED, *NO_NULL], end, sanitizing),

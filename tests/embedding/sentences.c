@@ -118,11 +118,12 @@ static const struct { uint32_t code; int number; const char *text; } code_rows[]
     CODE(UNTERMINATED, EPERM, "no rule decides this name"),
     CODE(REFUSED, EINVAL, "a text, a list or a value is wrong"), CODE(NO_ROOM, ERANGE, "the buffer is too short"),
     CODE(NO_MEMORY, ENOMEM, "out of memory"), CODE(NO_MAP, EINVAL, "the numbers are no map"),
-    CODE(NO_NAME, EINVAL, "the name contains a zero"),
     CODE(MERGES, EPERM, "two ids of the value would become the same id"),
     CODE(ROOT_MOVES, EPERM, "the capability has no field for the new id of root"),
     CODE(NO_ID, EINVAL, "4294967295 is no id"),
-    { 14, EINVAL, "there is no such code" },
+    CODE(TOO_LONG, ENAMETOOLONG, "the host's name has more than 255 bytes"),
+    CODE(HIDDEN, ENODATA, "the guest does not see this name"),
+    { 99, EINVAL, "there is no such code" },
     { UINT32_MAX, EINVAL, "there is no such code" },
 };
 

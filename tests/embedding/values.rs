@@ -35,6 +35,8 @@ fn lists_are_refused() {
         ("02000000 0100000000000000 0100080000000000", entry(1, EntryFault::Permission),
             "entry 2: the permissions are above 7", InvalidInput),
         ("02000000 02000700ffffffff", entry(0, EntryFault::NoId), "entry 1: 4294967295 is no id", InvalidInput),
+        ("02000000 0100070000000000 02000700905f0100", entry(1, EntryFault::NoId), "entry 2: 4294967295 is no id",
+            InvalidInput),
         ("02000000 0100070000000000 0200070070110100", entry(1, EntryFault::Forbidden),
             "entry 2: use of the id has been configured to fail", PermissionDenied),
         ("02000000 0200070080380100 0200070081380100", entry(1, EntryFault::Merges),
@@ -57,6 +59,8 @@ fn capabilities_are_refused() {
         ("030000ff", CapabilityError::Revision { revision: 255 }, "the revision is 255", InvalidInput),
         ("01000003 00000000", CapabilityError::Length, "the length is not that of the revision", InvalidInput),
         ("01000003 00000000 00000000 00000000 00000000 ffffffff", CapabilityError::NoId,
+            "4294967295 is no id", InvalidInput),
+        ("01000003 00000000 00000000 00000000 00000000 905f0100", CapabilityError::NoId,
             "4294967295 is no id", InvalidInput),
         ("01000003 00000000 00000000 00000000 00000000 70110100", CapabilityError::Forbidden,
             "use of the id has been configured to fail", PermissionDenied),
@@ -107,7 +111,8 @@ fn specs(texts: &[&str]) -> Vec<Spec> {
 }
 
 fn users() -> Users {
-    let texts = ["map:0:100000:65536", "forbid-guest:70000:10", "squash-guest:80000:65534:10"];
+    let texts =
+        ["map:0:100000:65536", "forbid-guest:70000:10", "squash-guest:80000:65534:10", "guest:90000:4294967295:1"];
     IdMap::try_from(specs(&texts)).expect("an accepted list")
 }
 

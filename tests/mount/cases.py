@@ -1,14 +1,15 @@
 """Single cases on mounts. Each yields what it looks at, what came of it, and what has to come of it."""
+import ctypes
 import os
 import shutil
 import stat
 import struct
 from pathlib import Path
 
-from mounts import OWN_NAMES, SHIFTED, Configuration, outcome, read_into
+from mounts import LIBC, OWN_NAMES, SHIFTED, Configuration, outcome, read_into
 from tally import left_out, run, waited
 
-PREPEND, NAME_MAX, FILES_HELD = "user.virtiofs.", 255, 300
+PREPEND, NAME_MAX, FILES_HELD, STALE, HANDLE_MOST = "user.virtiofs.", 255, 300, 300, 128
 ACCESS, DEFAULT, CAPABILITY = "system.posix_acl_access", "system.posix_acl_default", "security.capability"
 USER, GROUP, NO_ID = 2, 8, 0xFFFFFFFF
 # The host's id for the guest's 0; an id that the guest may not use; an id of the host that the guest sees as 5.
@@ -171,7 +172,23 @@ def lists(mounted):
     yield "what docs/TRYING.md shows of setfacl and getfacl", found, ((0, ""), "user:1000:rw-", "user:101000:rw-")
 
 
-CASES = ((Configuration("plain", (), (), ":prefix:all:posix_acl_:system.: :ok:all:::"), plain, full_list),
+def stale(mounted):
+    """Handles of files that are gone open none of the files that came after them."""
+    handles, (mount_id, folder) = [], (ctypes.c_int(), os.open(mounted.guest, os.O_RDONLY))
+    for number in range(STALE):
+        (path := Path(mounted.guest, f"gone{number}")).touch()
+        handle = struct.pack("Ii", HANDLE_MOST, 0) + bytes(HANDLE_MOST)
+        told = LIBC.name_to_handle_at(folder, os.fsencode(path), handle, ctypes.byref(mount_id), 0)
+        handles += [handle] * (not told)
+        path.unlink()
+        Path(mounted.guest, f"new{number}").touch()
+    yield "files with handles", len(handles), STALE
+    opened = [LIBC.open_by_handle_at(folder, it, os.O_RDONLY) for it in handles]
+    yield "handles that open another file", len([os.close(it) for it in opened if it >= 0]), 0
+    os.close(folder)
+
+
+CASES = ((Configuration("plain", (), (), ":prefix:all:posix_acl_:system.: :ok:all:::"), plain, full_list, stale),
          (Configuration("own names", (), (), OWN_NAMES), long_names),
          (Configuration("prepended", (), (), ":map::trusted.of.:"), lambda mounted: full_list(mounted, "trusted.of.")),
          (Configuration("lists", SPECS, SPECS, ":prefix:client:posix_acl_:system.: :prefix:server::user.o.: :ok:all:::",

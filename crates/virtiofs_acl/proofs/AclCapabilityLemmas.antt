@@ -1,5 +1,5 @@
 -- Capabilities: their first fault is one, one that goes across has none, and under `map` specifications it comes back.
-use Rattle.std.proofs.Common.{◌≡◌, ◌≢◌, inl, inr, ℕ, ◌+◌, ◌<◌, ◌≤◌, List, length, get_or, Some, refl, sym, ap, ◌∙◌}
+use Rattle.std.proofs.Common.{◌≡◌, ◌≢◌, ◌⊎◌, inl, inr, ℕ, ◌+◌, ◌<◌, ◌≤◌, List, length, get_or, Some, refl, sym, ap, ◌∙◌}
 use Rattle.std.proofs.Common.{arith}
 use Rattle.std.proofs.lemmas.Bool.{cases_lt}
 use Rattle.std.proofs.lemmas.List.{ext_get_or, get_or_past}
@@ -97,6 +97,30 @@ forbidden_moves users direction value accepted forbidden moves =
     let none : root_of value ≡ 0 = root_of-zero value forbidden.0.sized moves.1 in
     Becomes-forbidden users direction 0 moves.2.0 accepted moves.2.1 (rw none at forbidden.1)
 
+-- root that is no id, or becomes none
+abbrev NoRoot : List IdMap → Direction → List ℕ → Type 0
+NoRoot users direction value =
+    (root_of value ≡ 4294967295) ⊎ Becomes users direction (root_of value) (Some 4294967295)
+
+no_root_forbidden : (users : List IdMap) (direction : Direction) (value : List ℕ) → Accepted users
+    → NoRoot users direction value → ¬ HasCapabilityFault users direction value Forbidden
+no_root_forbidden users direction value accepted (inl is) forbidden = forbidden.0.is_id is
+no_root_forbidden users direction value accepted (inr becomes) forbidden =
+    Becomes-forbidden users direction (root_of value) 4294967295 accepted becomes forbidden.1
+
+no_root_moves : (users : List IdMap) (direction : Direction) (value : List ℕ) → Accepted users
+    → NoRoot users direction value → ¬ HasCapabilityFault users direction value RootMoves
+no_root_moves users direction value accepted (inl is) moves = moves.0.is_id is
+no_root_moves users direction value accepted (inr becomes) moves =
+    let zero : root_of value ≡ 0 = root_of-zero value moves.0.sized moves.1 in
+    moves.2.3 (Becomes-one users direction 0 moves.2.0 4294967295 accepted moves.2.1 (rw zero at becomes))
+
+-- a number becomes one number
+pub to_id : (users : List IdMap) (direction : Direction) (n root : ℕ) → Accepted users
+    → Becomes users direction n (Some root) → root ≢ 4294967295 → ¬ Becomes users direction n (Some 4294967295)
+to_id users direction n root accepted becomes is_id none =
+    is_id (Becomes-one users direction n root 4294967295 accepted becomes none)
+
 pub HasCapabilityFault-one : (users : List IdMap) (direction : Direction) (value : List ℕ)
     (error other : CapabilityError) → Accepted users → HasCapabilityFault users direction value error
     → HasCapabilityFault users direction value other → error ≡ other
@@ -135,15 +159,18 @@ HasCapabilityFault-one users direction value NoId (Revision found) accepted firs
     absurd (second.2 (rw second.1 (HasSize-revision _ _ first.0.sized)))
 HasCapabilityFault-one users direction value NoId Length accepted first second = absurd (second.2 first.0.sized)
 HasCapabilityFault-one users direction value NoId NoId accepted first second = refl
-HasCapabilityFault-one users direction value NoId Forbidden accepted first second = absurd (second.0.is_id first.1)
-HasCapabilityFault-one users direction value NoId RootMoves accepted first second = absurd (second.0.is_id first.1)
+HasCapabilityFault-one users direction value NoId Forbidden accepted first second =
+    absurd (no_root_forbidden users direction value accepted first.1 second)
+HasCapabilityFault-one users direction value NoId RootMoves accepted first second =
+    absurd (no_root_moves users direction value accepted first.1 second)
 HasCapabilityFault-one users direction value Forbidden TooShort accepted first second =
     absurd (omega (arith, first.0.sized.word))
 HasCapabilityFault-one users direction value Forbidden (Revision found) accepted first second =
     absurd (second.2 (rw second.1 (HasSize-revision _ _ first.0.sized.sized)))
 HasCapabilityFault-one users direction value Forbidden Length accepted first second =
     absurd (second.2 first.0.sized.sized)
-HasCapabilityFault-one users direction value Forbidden NoId accepted first second = absurd (first.0.is_id second.1)
+HasCapabilityFault-one users direction value Forbidden NoId accepted first second =
+    absurd (no_root_forbidden users direction value accepted second.1 first)
 HasCapabilityFault-one users direction value Forbidden Forbidden accepted first second = refl
 HasCapabilityFault-one users direction value Forbidden RootMoves accepted first second =
     absurd (forbidden_moves users direction value accepted first second)
@@ -153,7 +180,8 @@ HasCapabilityFault-one users direction value RootMoves (Revision found) accepted
     absurd (second.2 (rw second.1 (HasSize-revision _ _ first.0.sized.sized)))
 HasCapabilityFault-one users direction value RootMoves Length accepted first second =
     absurd (second.2 first.0.sized.sized)
-HasCapabilityFault-one users direction value RootMoves NoId accepted first second = absurd (first.0.is_id second.1)
+HasCapabilityFault-one users direction value RootMoves NoId accepted first second =
+    absurd (no_root_moves users direction value accepted second.1 first)
 HasCapabilityFault-one users direction value RootMoves Forbidden accepted first second =
     absurd (forbidden_moves users direction value accepted second first)
 HasCapabilityFault-one users direction value RootMoves RootMoves accepted first second = refl
@@ -172,7 +200,11 @@ HasRoot-no_fault users direction value TooShort accepted has fault = omega (arit
 HasRoot-no_fault users direction value (Revision revision) accepted has fault =
     fault.2 (rw fault.1 (HasSize-revision _ _ has.capability.sized.sized))
 HasRoot-no_fault users direction value Length accepted has fault = fault.2 has.capability.sized.sized
-HasRoot-no_fault users direction value NoId accepted has fault = has.capability.is_id fault.1
+HasRoot-no_fault users direction value NoId accepted has fault =
+    elim fault.1 [
+      | inl is ↦ has.capability.is_id is
+      | inr becomes ↦ has.to_id becomes
+    ]
 HasRoot-no_fault users direction value Forbidden accepted has fault =
     Becomes-forbidden users direction (root_of value) has.root accepted has.becomes fault.1
 HasRoot-no_fault users direction value RootMoves accepted has fault = fault
@@ -226,6 +258,8 @@ goes_back users direction old new accepted becomes front goes mapped =
         };
         root = root_of old;
         becomes = back;
+        to_id = λ becomes. goes.has_root.capability.is_id
+            (Becomes-one users (opposite direction) (root_of new) (root_of old) 4294967295 accepted back becomes);
       };
       stays = λ other.
           let new_zero : root_of new ≡ 0 = root_of-zero new sized other in

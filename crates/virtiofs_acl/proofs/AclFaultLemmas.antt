@@ -59,38 +59,55 @@ IsSound-no_fault users groups direction value k UnknownTag users_accepted groups
 IsSound-no_fault users groups direction value k Permission users_accepted groups_accepted sound wrong =
     omega (arith, wrong.1, sound.permitted)
 IsSound-no_fault users groups direction value k NoId users_accepted groups_accepted sound wrong =
-    sound.is_id wrong.0 wrong.2
+    elim wrong.2 [
+      | inl is ↦ sound.is_id wrong.0 is
+      | inr becomes ↦ sound.to_id wrong.0 becomes
+    ]
 IsSound-no_fault users groups direction value k Forbidden users_accepted groups_accepted sound wrong =
     Becomes-forbidden _ direction (id_of value k) (sound.goes wrong.0).0
     (Accepted-for users groups (tag_of value k) users_accepted groups_accepted) (sound.goes wrong.0).1 wrong.3
 IsSound-no_fault users groups direction value k Merges users_accepted groups_accepted sound wrong = wrong
 
+-- an id that is none, or becomes none, is not forbidden
+no_id_forbidden : (users groups : List IdMap) (direction : Direction) (value : List ℕ) (k : ℕ) → Accepted users
+    → Accepted groups → IsEntryFault users groups direction value k NoId
+    → ¬ IsEntryFault users groups direction value k Forbidden
+no_id_forbidden users groups direction value k users_accepted groups_accepted none forbidden =
+    elim none.2 [
+      | inl is ↦ forbidden.2 is
+      | inr becomes ↦ Becomes-forbidden _ direction (id_of value k) 4294967295
+          (Accepted-for users groups (tag_of value k) users_accepted groups_accepted) becomes forbidden.3
+    ]
+
 -- an entry has one fault by itself at most
 IsEntryFault-one : (users groups : List IdMap) (direction : Direction) (value : List ℕ) (k : ℕ)
-    (fault other : EntryFault) → IsEntryFault users groups direction value k fault
+    (fault other : EntryFault) → Accepted users → Accepted groups
+    → IsEntryFault users groups direction value k fault
     → IsEntryFault users groups direction value k other → fault ≡ other
-IsEntryFault-one users groups direction value k UnknownTag UnknownTag first second = refl
-IsEntryFault-one users groups direction value k UnknownTag Permission first second = absurd (first second.0)
-IsEntryFault-one users groups direction value k UnknownTag NoId first second = absurd (first (HasId-tag _ second.0))
-IsEntryFault-one users groups direction value k UnknownTag Forbidden first second =
+IsEntryFault-one users groups direction value k UnknownTag UnknownTag ua ga first second = refl
+IsEntryFault-one users groups direction value k UnknownTag Permission ua ga first second = absurd (first second.0)
+IsEntryFault-one users groups direction value k UnknownTag NoId ua ga first second = absurd (first (HasId-tag _ second.0))
+IsEntryFault-one users groups direction value k UnknownTag Forbidden ua ga first second =
     absurd (first (HasId-tag _ second.0))
-IsEntryFault-one users groups direction value k Permission UnknownTag first second = absurd (second first.0)
-IsEntryFault-one users groups direction value k Permission Permission first second = refl
-IsEntryFault-one users groups direction value k Permission NoId first second = absurd (omega (arith, first.1, second.1))
-IsEntryFault-one users groups direction value k Permission Forbidden first second =
+IsEntryFault-one users groups direction value k Permission UnknownTag ua ga first second = absurd (second first.0)
+IsEntryFault-one users groups direction value k Permission Permission ua ga first second = refl
+IsEntryFault-one users groups direction value k Permission NoId ua ga first second = absurd (omega (arith, first.1, second.1))
+IsEntryFault-one users groups direction value k Permission Forbidden ua ga first second =
     absurd (omega (arith, first.1, second.1))
-IsEntryFault-one users groups direction value k NoId UnknownTag first second = absurd (second (HasId-tag _ first.0))
-IsEntryFault-one users groups direction value k NoId Permission first second = absurd (omega (arith, first.1, second.1))
-IsEntryFault-one users groups direction value k NoId NoId first second = refl
-IsEntryFault-one users groups direction value k NoId Forbidden first second = absurd (second.2 first.2)
-IsEntryFault-one users groups direction value k Forbidden UnknownTag first second =
+IsEntryFault-one users groups direction value k NoId UnknownTag ua ga first second = absurd (second (HasId-tag _ first.0))
+IsEntryFault-one users groups direction value k NoId Permission ua ga first second = absurd (omega (arith, first.1, second.1))
+IsEntryFault-one users groups direction value k NoId NoId ua ga first second = refl
+IsEntryFault-one users groups direction value k NoId Forbidden ua ga first second =
+    absurd (no_id_forbidden users groups direction value k ua ga first second)
+IsEntryFault-one users groups direction value k Forbidden UnknownTag ua ga first second =
     absurd (second (HasId-tag _ first.0))
-IsEntryFault-one users groups direction value k Forbidden Permission first second =
+IsEntryFault-one users groups direction value k Forbidden Permission ua ga first second =
     absurd (omega (arith, first.1, second.1))
-IsEntryFault-one users groups direction value k Forbidden NoId first second = absurd (first.2 second.2)
-IsEntryFault-one users groups direction value k Forbidden Forbidden first second = refl
-IsEntryFault-one users groups direction value k Merges other first second = absurd first
-IsEntryFault-one users groups direction value k fault Merges first second = absurd second
+IsEntryFault-one users groups direction value k Forbidden NoId ua ga first second =
+    absurd (no_id_forbidden users groups direction value k ua ga second first)
+IsEntryFault-one users groups direction value k Forbidden Forbidden ua ga first second = refl
+IsEntryFault-one users groups direction value k Merges other ua ga first second = absurd first
+IsEntryFault-one users groups direction value k fault Merges ua ga first second = absurd second
 
 -- ---- of a list
 
@@ -155,7 +172,8 @@ first_unsound_one users groups direction room value j k fault other users_accept
       | inl same ↦
           let here : IsEntryFault users groups direction value k fault =
           subst (λ (n : ℕ). IsEntryFault users groups direction value n fault) same first.wrong in
-          let is : fault ≡ other = IsEntryFault-one users groups direction value k fault other here second.wrong in
+          let is : fault ≡ other =
+          IsEntryFault-one users groups direction value k fault other users_accepted groups_accepted here second.wrong in
           cc
       | inr (inl before) ↦ absurd
           (IsSound-no_fault users groups direction value j fault users_accepted groups_accepted (second.before j before)

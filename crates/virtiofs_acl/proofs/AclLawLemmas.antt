@@ -73,6 +73,13 @@ sound_back users groups direction old new k users_accepted groups_accepted trans
     rw tag (leads_back users groups direction old new k users_accepted groups_accepted translated mapped below
         (rw tag at has_id)),
   );
+  to_id = λ has_id becomes.
+      let specs = specs_for users groups (tag_of old k) in
+      sound.is_id (rw tag at has_id)
+      (Becomes-one specs (opposite direction) (id_of new k) (id_of old k) 4294967295
+      (Accepted-for users groups (tag_of old k) users_accepted groups_accepted)
+      (leads_back users groups direction old new k users_accepted groups_accepted translated mapped below
+      (rw tag at has_id)) (rw tag at becomes));
 } where
   tag : tag_of new k ≡ tag_of old k
   tag = IsTranslated-tag users groups direction old new k translated

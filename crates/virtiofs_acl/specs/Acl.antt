@@ -69,13 +69,15 @@ pub record IsWhole (value : List ℕ) : Type 0 where
   pub version : four_bytes value 0 ≡ 2
   pub whole : length value ≡ 4 + 8 * entry_count value
 
--- the entry is well made, and its id, if it has one, is an id and goes across
+-- the entry is well made, and its id, if it has one, is an id, goes across, and becomes one
 pub record IsSound (users groups : List IdMap) (direction : Direction) (value : List ℕ) (k : ℕ) : Type 0 where
   pub known : IsTag (tag_of value k)
   pub permitted : permissions_of value k ≤ 7
   pub is_id : HasId (tag_of value k) → id_of value k ≢ 4294967295
   pub goes : HasId (tag_of value k)
       → (n : ℕ) × Becomes (specs_for users groups (tag_of value k)) direction (id_of value k) (Some n)
+  pub to_id : HasId (tag_of value k)
+      → ¬ Becomes (specs_for users groups (tag_of value k)) direction (id_of value k) (Some 4294967295)
 
 -- an earlier entry with the same tag has another id, and both ids would become the same id
 pub record MergesEarlier (users groups : List IdMap) (direction : Direction) (value : List ℕ) (k : ℕ) : Type 0 where
@@ -106,7 +108,9 @@ abbrev pub IsEntryFault : List IdMap → List IdMap → Direction → List ℕ �
 IsEntryFault users groups direction value k UnknownTag = ¬ IsTag (tag_of value k)
 IsEntryFault users groups direction value k Permission = IsTag (tag_of value k) × (7 < permissions_of value k)
 IsEntryFault users groups direction value k NoId =
-    HasId (tag_of value k) × (permissions_of value k ≤ 7) × (id_of value k ≡ 4294967295)
+    HasId (tag_of value k) × (permissions_of value k ≤ 7)
+    × ((id_of value k ≡ 4294967295)
+    ⊎ Becomes (specs_for users groups (tag_of value k)) direction (id_of value k) (Some 4294967295))
 IsEntryFault users groups direction value k Forbidden =
     HasId (tag_of value k) × (permissions_of value k ≤ 7) × (id_of value k ≢ 4294967295)
     × Becomes (specs_for users groups (tag_of value k)) direction (id_of value k) None

@@ -60,11 +60,12 @@ pub record IsInRevision3 (value written : List ℕ) : Type 0 where
 
 -- ---- which values go across
 
--- the value is a capability, and the specifications do not forbid its id of root
+-- the value is a capability, and the specifications do not forbid its id of root, which becomes an id
 pub record HasRoot (users : List IdMap) (direction : Direction) (value : List ℕ) : Type 0 where
   pub capability : IsCapability value
   pub root : ℕ
   pub becomes : Becomes users direction (root_of value) (Some root)
+  pub to_id : ¬ Becomes users direction (root_of value) (Some 4294967295)
 
 -- the value is a capability, the specifications do not forbid its id of root, and, if the value has no field for the
 -- id of root, 0 is mapped to 0
@@ -81,14 +82,17 @@ HasRootFault users direction value (Revision revision) =
     (4 ≤ length value) × (revision ≡ revision_of value) × (¬ IsRevision revision)
 HasRootFault users direction value Length =
     (4 ≤ length value) × IsRevision (revision_of value) × (¬ HasSize (revision_of value) (length value))
-HasRootFault users direction value NoId = IsSized value × (root_of value ≡ 4294967295)
+HasRootFault users direction value NoId =
+    IsSized value
+    × ((root_of value ≡ 4294967295) ⊎ Becomes users direction (root_of value) (Some 4294967295))
 HasRootFault users direction value Forbidden = IsCapability value × Becomes users direction (root_of value) None
 HasRootFault users direction value RootMoves = ⊥
 
 -- the first fault of a value that is to be changed in place
 abbrev pub HasCapabilityFault : List IdMap → Direction → List ℕ → CapabilityError → Type 0
 HasCapabilityFault users direction value RootMoves =
-    IsCapability value × (revision_of value ≢ 3) × ((root : ℕ) × Becomes users direction 0 (Some root) × (root ≢ 0))
+    IsCapability value × (revision_of value ≢ 3)
+    × ((root : ℕ) × Becomes users direction 0 (Some root) × (root ≢ 0) × (root ≢ 4294967295))
 HasCapabilityFault users direction value fault = HasRootFault users direction value fault
 
 -- ---- and back

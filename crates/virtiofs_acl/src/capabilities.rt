@@ -62,6 +62,7 @@ fn new_root(
 ) -> Result<u32, CapabilityError>
     ensures root { (specs : List Specification) → IsImage specs users.now
         → IfOk result (λ root. Becomes specs direction (root_of value.now) (Some root)) }
+    ensures id { IfOk result (λ root. root ≢ 4294967295) }
     ensures capability { OnOk result (IsCapability value.now) }
     ensures refused { (specs : List Specification) → IsImage specs users.now
         → IfErr result (HasRootFault specs direction value.now) }
@@ -69,10 +70,13 @@ fn new_root(
     ensures bytes { AreBytes value.now }
 {
     let root = root_of(value)?;
-    match users.becomes(direction, root) {
-        Some(new_root) => Ok(new_root),
-        None => Err(CapabilityError::Forbidden),
+    let Some(new_root) = users.becomes(direction, root) else {
+        return Err(CapabilityError::Forbidden);
+    };
+    if new_root == u32::MAX {
+        return Err(CapabilityError::NoId);
     }
+    Ok(new_root)
 }
 
 /// Changes a capability as [`capability_to_host`](crate::capability_to_host) and

@@ -93,10 +93,13 @@ fn fault_at(ways: &Ways<'_>, value: &[u8], k: usize) -> Option<EntryFault>
     if entry.id == u32::MAX {
         return Some(EntryFault::NoId);
     }
-    match ways.becomes(entry.tag, entry.id) {
-        Some(_) => None,
-        None => Some(EntryFault::Forbidden),
+    let Some(id) = ways.becomes(entry.tag, entry.id) else {
+        return Some(EntryFault::Forbidden);
+    };
+    if id == u32::MAX {
+        return Some(EntryFault::NoId);
     }
+    None
 }
 
 /// Tests each entry by itself, in order.

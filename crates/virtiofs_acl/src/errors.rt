@@ -12,7 +12,7 @@ pub enum EntryFault {
     UnknownTag,
     /// The permissions are a number above 7.
     Permission,
-    /// The id is 4294967295, which is no id to Linux.
+    /// The id is 4294967295, or becomes it, which is no id to Linux.
     NoId,
     /// A specification forbids the id.
     Forbidden,
@@ -59,7 +59,7 @@ pub enum CapabilityError {
     },
     /// The value is not as long as its revision asks: 12 bytes, 20 or 24.
     Length,
-    /// The id of root is 4294967295, which is no id to Linux.
+    /// The id of root is 4294967295, or becomes it, which is no id to Linux.
     NoId,
     /// A specification forbids the id of root.
     Forbidden,

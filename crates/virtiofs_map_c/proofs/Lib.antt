@@ -10,6 +10,8 @@ mod NamesLemmas
 mod QuoteLemmas
 mod RangesLemmas
 mod RulesLemmas
+mod ShownLemmas
 mod TextsLemmas
 mod ValuesLemmas
+mod WholesLemmas
 mod ZeroLemmas

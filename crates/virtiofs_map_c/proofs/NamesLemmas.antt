@@ -14,7 +14,7 @@ use Rattle.virtiofs_map.specs.declared.xattrmap.image.Decision.{Decision}
 use Rattle.virtiofs_map.specs.declared.xattrmap.image.Decision.TheVariants as decisions
 use Rattle.virtiofs_map.specs.declared.xattrmap.image.ListWritten.TheVariants as lists
 use Rattle.virtiofs_map.specs.declared.xattrmap.scopes.Side.TheVariants.{Client}
-use Rattle.virtiofs_map_c.specs.Codes.{ok, as_it_is, no_map, no_memory, no_room}
+use Rattle.virtiofs_map_c.specs.Codes.{ok, as_it_is, no_map, no_memory, no_room, unterminated}
 use Rattle.virtiofs_map_c.specs.Names.{IsClientCode, TellsClient, TellsDecision, TellsFound, TellsLeast, TellsNo, TellsServer}
 use Rattle.virtiofs_map_c.specs.Replies.{TellsBytes}
 
@@ -131,6 +131,10 @@ pub list_told : (answer : Option (List ℕ)) (old : List ℕ) (count : ℕ) (new
     → WritesList answer old new (lists.Written count) → TellsServer answer old ok count new
 list_told answer old count new (list, is, same, now) =
     rw is (same, inl (refl, now ∙ ap (λ (n : ℕ). list ++ drop n old) same))
+
+pub undecided_told : (answer : Option (List ℕ)) (old new : List ℕ) → answer ≡ None
+    → TellsServer answer old unterminated 0 new
+undecided_told answer old new is = rw is (refl, refl)
 
 pub no_room_told : (answer : Option (List ℕ)) (old : List ℕ) (count : ℕ) (new : List ℕ)
     → WritesList answer old new (lists.NoRoom count) → TellsServer answer old no_room count new

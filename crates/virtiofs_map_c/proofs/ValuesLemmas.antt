@@ -1,5 +1,5 @@
 -- What is told of a value is what the library answers of it.
-use Rattle.std.proofs.Common.{◌≡◌, ◌≢◌, ◌⊎◌, inl, inr, ℕ, List, Result, Ok, Err, refl, subst, arith}
+use Rattle.std.proofs.Common.{◌≡◌, ◌≢◌, ◌⊎◌, inl, inr, ℕ, List, Some, Result, Ok, Err, refl, subst, arith}
 use Rattle.std.specs.Prelude.{IfErr, OnErr}
 use Rattle.std.proofs.lemmas.Bool.{false≢true}
 use Rattle.virtiofs_acl.specs.ValueChanges.{ChangesList, ChangesRoot, WritesRevision3}
@@ -15,7 +15,10 @@ use Rattle.virtiofs_map_c.specs.Codes.{ok, no_map}
 use Rattle.virtiofs_map_c.specs.Faults.{no_fault}
 use Rattle.virtiofs_map_c.specs.Values.{acl_code, capability_code, IsAclTold, IsCapabilityTold, IsAnswerTold}
 use Rattle.virtiofs_map_c.specs.Values.{ChangesAcl, ChangesCapability, WritesCapability, IsAclCode, IsRootCode}
-use Rattle.virtiofs_map_c.specs.Values.{IsCapabilityCode}
+use Rattle.virtiofs_map_c.specs.Values.{IsCapabilityCode, AreIds}
+use Rattle.virtiofs_acl.specs.Acl.{IdsBecome, GoesAcross, id_of}
+use Rattle.virtiofs_acl.specs.Capability.{HasRoot, RootBecomes, root_of}
+use Rattle.virtiofs_map.specs.Mapping.{Becomes}
 use Rattle.virtiofs_map_c.specs.declared.fault.Fault.{Fault}
 
 -- ---- whatever the maps are
@@ -48,9 +51,9 @@ acl_error_code lists.Length = (inr (inr (inl refl)), (λ e. omega arith), (λ e.
 acl_error_code (lists.Room needed) = (inr (inr (inr (inl refl))), (λ e. omega arith), (λ e. omega arith))
 acl_error_code (lists.Entry k UnknownTag) = (inr (inr (inl refl)), (λ e. omega arith), (λ e. omega arith))
 acl_error_code (lists.Entry k Permission) = (inr (inr (inl refl)), (λ e. omega arith), (λ e. omega arith))
-acl_error_code (lists.Entry k NoId) = (inr (inr (inl refl)), (λ e. omega arith), (λ e. omega arith))
+acl_error_code (lists.Entry k NoId) = (inr (inr (inr (inr (inr (inr refl))))), (λ e. omega arith), (λ e. omega arith))
 acl_error_code (lists.Entry k Forbidden) = (inr (inl refl), (λ e. omega arith), (λ e. omega arith))
-acl_error_code (lists.Entry k Merges) = (inr (inr (inr (inr (inr refl)))), (λ e. omega arith), (λ e. omega arith))
+acl_error_code (lists.Entry k Merges) = (inr (inr (inr (inr (inr (inl refl))))), (λ e. omega arith), (λ e. omega arith))
 
 capability_error_code : (error : CapabilityError)
     → IsCapabilityCode (capability_code error) × (capability_code error ≢ ok) × (capability_code error ≢ no_map)
@@ -58,7 +61,7 @@ capability_error_code capabilities.TooShort = (inl (inr (inr (inl refl))), (λ e
 capability_error_code (capabilities.Revision revision) =
     (inl (inr (inr (inl refl))), (λ e. omega arith), (λ e. omega arith))
 capability_error_code capabilities.Length = (inl (inr (inr (inl refl))), (λ e. omega arith), (λ e. omega arith))
-capability_error_code capabilities.NoId = (inl (inr (inr (inl refl))), (λ e. omega arith), (λ e. omega arith))
+capability_error_code capabilities.NoId = (inl (inr (inr (inr (inr refl)))), (λ e. omega arith), (λ e. omega arith))
 capability_error_code capabilities.Forbidden = (inl (inr (inl refl)), (λ e. omega arith), (λ e. omega arith))
 capability_error_code capabilities.RootMoves = (inr refl, (λ e. omega arith), (λ e. omega arith))
 
@@ -66,7 +69,7 @@ root_error_code : (error : CapabilityError) → error ≢ capabilities.RootMoves
 root_error_code capabilities.TooShort other = inr (inr (inl refl))
 root_error_code (capabilities.Revision revision) other = inr (inr (inl refl))
 root_error_code capabilities.Length other = inr (inr (inl refl))
-root_error_code capabilities.NoId other = inr (inr (inl refl))
+root_error_code capabilities.NoId other = inr (inr (inr (inr refl)))
 root_error_code capabilities.Forbidden other = inr (inl refl)
 root_error_code capabilities.RootMoves other = absurd (other refl)
 
@@ -95,6 +98,21 @@ tells_root_code (Err error) code told is stays = rw is.code_told (root_error_cod
 
 -- ---- where the maps are images
 
+ids_written : (users groups : List Specification) (direction : Direction) (room : ℕ) (old new : List ℕ)
+    → IdsBecome 2 users direction old new → IdsBecome 8 groups direction old new
+    → GoesAcross users groups direction room old → AreIds old new
+ids_written users groups direction room old new user_ids group_ids goes k below (inl user) greatest =
+    (goes.all_sound.sound k below).to_id (inl user)
+    (rw user (subst (λ (n : ℕ). Becomes users direction (id_of old k) (Some n)) greatest (user_ids k below user)))
+ids_written users groups direction room old new user_ids group_ids goes k below (inr group) greatest =
+    (goes.all_sound.sound k below).to_id (inr group)
+    (rw group (subst (λ (n : ℕ). Becomes groups direction (id_of old k) (Some n)) greatest (group_ids k below group)))
+
+root_written : (users : List Specification) (direction : Direction) (old new : List ℕ)
+    → RootBecomes users direction old new → HasRoot users direction old → root_of new ≢ 4294967295
+root_written users direction old new root has greatest =
+    has.to_id (subst (λ (n : ℕ). Becomes users direction (root_of old) (Some n)) greatest root)
+
 pub tells_acl : (users groups : List Specification) (direction : Direction) (room : ℕ) (old new : List ℕ)
     (answer : Result (Unit {0}) AclError) (code : ℕ) (told : Fault)
     → IsAnswerTold (IsAclTold room) answer code told
@@ -102,6 +120,7 @@ pub tells_acl : (users groups : List Specification) (direction : Direction) (roo
     → ChangesAcl users groups direction room old new code told
 tells_acl users groups direction room old new (Ok done) code told is change = record {
   done = λ _. record { user_ids = change.user_ids; group_ids = change.group_ids; rest = change.rest };
+  ids = λ _. ids_written users groups direction room old new change.user_ids change.group_ids change.accepted;
   accepted = λ _. change.accepted;
   complete = λ _. is.0;
   refused = λ failed. absurd (failed is.0);
@@ -112,6 +131,7 @@ tells_acl users groups direction room old new (Err error) code told is change =
     let failed : code ≢ ok = rw is.code_told (acl_error_code error).1 in
     record {
       done = λ answered. absurd (failed answered);
+      ids = λ answered. absurd (failed answered);
       accepted = λ answered. absurd (failed answered);
       complete = λ goes. absurd (false≢true (change.complete goes));
       refused = λ _. (error, change.refused, is);
@@ -125,6 +145,7 @@ pub tells_capability : (users : List Specification) (direction : Direction) (old
     → ChangesCapability users direction old new code told
 tells_capability users direction old new (Ok done) code told is change = record {
   root = λ _. change.root;
+  id = λ _. root_written users direction old new change.root change.accepted.has_root;
   front = λ _. change.front;
   accepted = λ _. change.accepted;
   complete = λ _. is.0;
@@ -136,6 +157,7 @@ tells_capability users direction old new (Err error) code told is change =
     let failed : code ≢ ok = rw is.code_told (capability_error_code error).1 in
     record {
       root = λ answered. absurd (failed answered);
+      id = λ answered. absurd (failed answered);
       front = λ answered. absurd (failed answered);
       accepted = λ answered. absurd (failed answered);
       complete = λ goes. absurd (false≢true (change.complete goes));
@@ -150,6 +172,7 @@ pub tells_written : (users : List Specification) (direction : Direction) (value 
     → WritesCapability users direction value written code told
 tells_written users direction value written (Ok done) code told is change = record {
   root = λ _. change.root;
+  id = λ _. root_written users direction value written change.root change.accepted;
   same = λ _. change.same;
   accepted = λ _. change.accepted;
   complete = λ _. is.0;
@@ -160,6 +183,7 @@ tells_written users direction value written (Err error) code told is change =
     let failed : code ≢ ok = rw is.code_told (capability_error_code error).1 in
     record {
       root = λ answered. absurd (failed answered);
+      id = λ answered. absurd (failed answered);
       same = λ answered. absurd (failed answered);
       accepted = λ answered. absurd (failed answered);
       complete = λ has. absurd (false≢true (change.complete has));

@@ -31,6 +31,9 @@ no_memory = 8
 abbrev pub no_map : ℕ
 no_map = 9
 
+abbrev pub hidden : ℕ
+hidden = 10
+
 abbrev pub merges : ℕ
 merges = 11
 

@@ -11,5 +11,7 @@ pub mod Names
 pub mod Ranges
 pub mod Replies
 pub mod Rules
+pub mod Shown
 pub mod Texts
 pub mod Values
+pub mod Wholes

@@ -1,12 +1,13 @@
 -- What a call tells that reads or makes something.
 use Rattle.std.specs.Prelude.{◌≡◌, ◌⊎◌, ℕ, ◌<◌, ◌≤◌, List, length, take, drop, Option, Some, None}
 use Rattle.virtiofs_map.specs.Build.{Accepted}
-use Rattle.virtiofs_map.specs.Image.{IsImage, image_length}
+use Rattle.virtiofs_map.specs.Image.{image_length}
 use Rattle.virtiofs_map.specs.Refusal.{OutOfMemoryOr}
 use Rattle.virtiofs_map.specs.declared.cmdline.IdMap.{IdMap as Specification}
 use Rattle.virtiofs_map_c.specs.Arrays.{ArrayFault, AreSaid}
 use Rattle.virtiofs_map_c.specs.Codes.{ok, no_room}
 use Rattle.virtiofs_map_c.specs.Faults.{array_told, failure_code}
+use Rattle.virtiofs_map_c.specs.Wholes.{IsIdMap, cleared}
 use Rattle.virtiofs_map_c.specs.declared.arrays.spec.Spec.{Spec}
 use Rattle.virtiofs_map_c.specs.declared.fault.Fault.{Fault}
 
@@ -31,14 +32,14 @@ pub record IsArrayTold (code : ℕ) (told : Fault) (fault : Option ArrayFault) :
 abbrev pub IsAnswered : ℕ → Type 0
 IsAnswered code = (code ≡ ok) ⊎ (code ≡ no_room)
 
--- The length of the image of the specifications is told. Where the image fits it is the beginning of the words, and the
--- rest of them is as it was; else all of them are as they were.
+-- The length of the map of the specifications is told. Where the map fits it is the beginning of the words, and the rest
+-- of them is as it was; else the first of them is 0.
 pub record TellsImage (specs : List Specification) (old : List ℕ) (code wanted : ℕ) (new : List ℕ) : Type 0 where
   pub accepted : Accepted specs
   pub length_told : wanted ≡ image_length specs
   pub fits : image_length specs ≤ length old
-      → (code ≡ ok) × IsImage specs (take wanted new) × (drop wanted new ≡ drop wanted old)
-  pub does_not_fit : length old < image_length specs → (code ≡ no_room) × (new ≡ old)
+      → (code ≡ ok) × IsIdMap specs (take wanted new) × (drop wanted new ≡ drop wanted old)
+  pub does_not_fit : length old < image_length specs → (code ≡ no_room) × (new ≡ cleared old)
 
 -- the array says an accepted list
 pub record IsAccepted (specs : List Spec) : Type 0 where

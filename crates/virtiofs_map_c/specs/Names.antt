@@ -5,7 +5,7 @@ use Rattle.std.specs.List.{before_first}
 use Rattle.std.specs.Global.{Global}
 use Rattle.virtiofs_map.specs.Audit.{AnswersLeast}
 use Rattle.virtiofs_map.specs.Names.{ClientAnswer, Passes, IsDenied, IsUnsupported, IsUnterminated, client_answer}
-use Rattle.virtiofs_map.specs.NamesImage.{IsImage, HasImage, image_length}
+use Rattle.virtiofs_map.specs.NamesImage.{HasImage, image_length}
 use Rattle.virtiofs_map.specs.Rule.{MappingRule}
 use Rattle.virtiofs_map.specs.declared.audit.answer.Audit.{Audit}
 use Rattle.virtiofs_map.specs.declared.audit.answer.Audit.TheVariants.{Yes, No}
@@ -13,16 +13,17 @@ use Rattle.virtiofs_map.specs.declared.xattrmap.image.Decision.{Decision}
 use Rattle.virtiofs_map.specs.declared.xattrmap.image.Decision.TheVariants as decisions
 use Rattle.virtiofs_map_c.specs.Codes.{ok, as_it_is, denied, unsupported, unterminated, no_room, no_memory, no_map}
 use Rattle.virtiofs_map_c.specs.Replies.{TellsBytes, TellsCode}
+use Rattle.virtiofs_map_c.specs.Wholes.{IsNameMap, cleared}
 
 -- ---- making
 
--- The image of the rules has so many bytes. It is the beginning of the bytes, and the rest of them is as it was; or it
--- has more bytes than there are, and all of them are as they were.
+-- The map of the rules has so many bytes. It is the beginning of the bytes, and the rest of them is as it was; or it has
+-- more bytes than there are, and the first of them is 0.
 abbrev pub TellsNames : List MappingRule → List ℕ → ℕ → ℕ → List ℕ → Type 0
 TellsNames rules old code wanted new =
-    ((code ≡ ok) × (wanted ≡ image_length rules) × (wanted ≤ length old) × IsImage rules (take wanted new)
+    ((code ≡ ok) × (wanted ≡ image_length rules) × (wanted ≤ length old) × IsNameMap rules (take wanted new)
     × (drop wanted new ≡ drop wanted old))
-    ⊎ ((code ≡ no_room) × (length old < wanted) × HasImage rules wanted × (new ≡ old))
+    ⊎ ((code ≡ no_room) × (length old < wanted) × HasImage rules wanted × (new ≡ cleared old))
 
 -- ---- a name from the guest
 

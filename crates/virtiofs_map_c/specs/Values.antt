@@ -1,6 +1,6 @@
 -- What the calls tell that change the ids in a value.
-use Rattle.std.specs.Prelude.{◌≡◌, ◌≢◌, ◌⊎◌, ℕ, List, Result, Ok, Err}
-use Rattle.virtiofs_acl.specs.Acl.{GoesAcross, HasAclFault}
+use Rattle.std.specs.Prelude.{◌≡◌, ◌≢◌, ◌⊎◌, ℕ, ◌<◌, List, Result, Ok, Err}
+use Rattle.virtiofs_acl.specs.Acl.{entry_count, tag_of, id_of, HasId, GoesAcross, HasAclFault}
 use Rattle.virtiofs_acl.specs.AclLaws.{IsTranslated, AllMapped, ComesBack}
 use Rattle.virtiofs_acl.specs.Capability.{root_of, RootBecomes, KeepsFront, IsInRevision3, HasRoot, RootGoesAcross}
 use Rattle.virtiofs_acl.specs.Capability.{HasRootFault, HasCapabilityFault, RootComesBack}
@@ -15,7 +15,7 @@ use Rattle.virtiofs_acl.specs.declared.errors.EntryFault.TheVariants.{Merges}
 use Rattle.virtiofs_map.specs.declared.cmdline.IdMap.{IdMap as Specification}
 use Rattle.virtiofs_map.specs.declared.soft_idmap.entry.Direction.{Direction}
 use Rattle.virtiofs_map_c.specs.Codes.{ok, forbidden, refused, no_room, no_map, merges, root_moves, acl_value}
-use Rattle.virtiofs_map_c.specs.Codes.{acl_entry, capability_value}
+use Rattle.virtiofs_map_c.specs.Codes.{acl_entry, capability_value, no_id}
 use Rattle.virtiofs_map_c.specs.Faults.{no_fault, told_at}
 use Rattle.virtiofs_map_c.specs.declared.fault.Fault.{Fault}
 
@@ -48,6 +48,7 @@ acl_told room (lists.Entry k fault) = told_at (entry_kind fault) acl_entry k 0 0
 -- its code
 abbrev pub acl_code : AclError → ℕ
 acl_code (lists.Room needed) = no_room
+acl_code (lists.Entry k NoId) = no_id
 acl_code (lists.Entry k Forbidden) = forbidden
 acl_code (lists.Entry k Merges) = merges
 acl_code error = refused
@@ -63,6 +64,7 @@ capability_told capabilities.RootMoves = value_told 28 capability_value
 
 -- its code
 abbrev pub capability_code : CapabilityError → ℕ
+capability_code capabilities.NoId = no_id
 capability_code capabilities.Forbidden = forbidden
 capability_code capabilities.RootMoves = root_moves
 capability_code error = refused
@@ -87,11 +89,16 @@ IsAnswerTold is_told (Err error) code told = is_told code told error
 
 -- ---- what the calls answer
 
+-- no id of a user or of a group is 4294967295 in the value that was written
+abbrev pub AreIds : List ℕ → List ℕ → Type 0
+AreIds old new = (k : ℕ) → k < entry_count old → HasId (tag_of old k) → id_of new k ≢ 4294967295
+
 -- a list that goes across has each id changed and nothing else, and comes back where `map` covers its ids; of any other
 -- the first fault is told
 pub record ChangesAcl (users groups : List Specification) (direction : Direction) (room : ℕ) (old new : List ℕ)
     (code : ℕ) (told : Fault) : Type 0 where
   pub done : code ≡ ok → IsTranslated users groups direction old new
+  pub ids : code ≡ ok → AreIds old new
   pub accepted : code ≡ ok → GoesAcross users groups direction room old
   pub complete : GoesAcross users groups direction room old → code ≡ ok
   pub refused : code ≢ ok
@@ -104,6 +111,7 @@ pub record ChangesAcl (users groups : List Specification) (direction : Direction
 pub record ChangesCapability (users : List Specification) (direction : Direction) (old new : List ℕ) (code : ℕ)
     (told : Fault) : Type 0 where
   pub root : code ≡ ok → RootBecomes users direction old new
+  pub id : code ≡ ok → root_of new ≢ 4294967295
   pub front : code ≡ ok → KeepsFront old new
   pub accepted : code ≡ ok → RootGoesAcross users direction old
   pub complete : RootGoesAcross users direction old → code ≡ ok
@@ -118,6 +126,7 @@ pub record ChangesCapability (users : List Specification) (direction : Direction
 pub record WritesCapability (users : List Specification) (direction : Direction) (value written : List ℕ) (code : ℕ)
     (told : Fault) : Type 0 where
   pub root : code ≡ ok → RootBecomes users direction value written
+  pub id : code ≡ ok → root_of written ≢ 4294967295
   pub same : code ≡ ok → IsInRevision3 value written
   pub accepted : code ≡ ok → HasRoot users direction value
   pub complete : HasRoot users direction value → code ≡ ok
@@ -129,10 +138,13 @@ pub record WritesCapability (users : List Specification) (direction : Direction)
 
 abbrev pub IsAclCode : ℕ → Type 0
 IsAclCode code =
-    (code ≡ ok) ⊎ ((code ≡ forbidden) ⊎ ((code ≡ refused) ⊎ ((code ≡ no_room) ⊎ ((code ≡ no_map) ⊎ (code ≡ merges)))))
+    (code ≡ ok)
+    ⊎ ((code ≡ forbidden)
+    ⊎ ((code ≡ refused) ⊎ ((code ≡ no_room) ⊎ ((code ≡ no_map) ⊎ ((code ≡ merges) ⊎ (code ≡ no_id))))))
 
 abbrev pub IsRootCode : ℕ → Type 0
-IsRootCode code = (code ≡ ok) ⊎ ((code ≡ forbidden) ⊎ ((code ≡ refused) ⊎ (code ≡ no_map)))
+IsRootCode code =
+    (code ≡ ok) ⊎ ((code ≡ forbidden) ⊎ ((code ≡ refused) ⊎ ((code ≡ no_map) ⊎ (code ≡ no_id))))
 
 abbrev pub IsCapabilityCode : ℕ → Type 0
 IsCapabilityCode code = IsRootCode code ⊎ (code ≡ root_moves)

@@ -1,6 +1,10 @@
 //! Bytes, as C lends them.
-ghost use Rattle.std.specs.List.{before_first};
-ghost use Rattle.std.specs.Prelude.{◌≡◌, ◌==◌, position};
+ghost use Rattle.std.specs.List.{before_first, after_first};
+ghost use Rattle.std.specs.Prelude.{◌≡◌, ◌==◌, ◌+◌, ◌<◌, ◌≤◌, List, length, position, IsTrue};
+ghost use Rattle.virtiofs_map.specs.LeU64Parts.{le_u64_at};
+ghost use Rattle.virtiofs_map.specs.NamesImage.{IsImage, IsNoImage};
+ghost use Rattle.virtiofs_map.specs.Rule.{MappingRule};
+ghost use Rattle.virtiofs_map_c.specs.Wholes.{AreAllBytes, IsNameMap, IsNoNameMap, cleared};
 
 /// Bytes that C lends for reading, and how many they are: two arguments of C.
 ///
@@ -22,6 +26,46 @@ pub struct Room<'b> {
     pub lent: &'b mut [u8],
 }
 
+/// The number of eight bytes, the lowest first, that begins there.
+#[tactic(auto, unfolding(virtiofs_map::specs::LeU64Parts::le_u64_at))]
+#[inline(always)]
+fn le_u64_at(bytes: &[u8], from: usize) -> u64
+    requires { from + 8 ≤ length bytes.now }
+    ensures { result ≡ le_u64_at bytes.now from }
+{
+    let (numbers, _) = bytes[from..].as_chunks::<8>();
+    u64::from_le_bytes(numbers[0])
+}
+
+/// Whether there are as many bytes as they say.
+// (that there are as many as the shortest map has is tested anyway)
+#[inline(always)]
+pub fn are_all(bytes: &[u8]) -> bool
+    ensures yes { IsTrue result → AreAllBytes bytes.now }
+    ensures all { 72 ≤ length bytes.now → AreAllBytes bytes.now → IsTrue result }
+{
+    bytes.len() >= 72 && le_u64_at(bytes, 40) == bytes.len() as u64
+}
+
+/// The bytes, where they are as many as they say, and else none: then no call takes them for a map.
+#[inline(always)]
+pub fn all_of(bytes: &[u8]) -> &[u8]
+    ensures map { (rules : List MappingRule) → IsNameMap rules bytes.now
+        → IsImage rules result.now }
+    ensures no_map { IsNoNameMap bytes.now → IsNoImage result.now }
+{
+    if are_all(bytes) { bytes } else { &[] }
+}
+
+/// Leaves bytes that are no map.
+pub fn clear(bytes: &mut [u8])
+    ensures { bytes.new ≡ cleared bytes.old }
+{
+    if !bytes.is_empty() {
+        bytes[0] = 0;
+    }
+}
+
 /// Where the first zero stands.
 fn first_zero(bytes: &[u8]) -> Option<usize>
     ensures { result ≡ position (λ byte. byte == 0) bytes.now }
@@ -40,5 +84,20 @@ pub fn before_zero(bytes: &[u8]) -> &[u8]
     match first_zero(bytes) {
         Some(end) => &bytes[..end],
         None => bytes,
+    }
+}
+
+/// The first name of a list, up to a zero or to the end, and the rest of the list after that zero.
+pub fn cut_name(list: &[u8]) -> (&[u8], &[u8])
+    ensures name { result.0.now ≡ before_first (λ byte. byte == 0) list.now }
+    ensures rest { result.1.now ≡ after_first (λ byte. byte == 0) list.now }
+    ensures shorter { 0 < length list.now → length result.1.now < length list.now }
+    ensures within { length result.0.now + length result.1.now ≤ length list.now }
+    ensures zero { 0 < length result.1.now
+        → length result.0.now + length result.1.now < length list.now }
+{
+    match first_zero(list) {
+        Some(end) => (&list[..end], &list[end + 1..]),
+        None => (list, &[]),
     }
 }

@@ -30,6 +30,9 @@ pub const NO_MEMORY: u32 = 8;
 /// The numbers are no map.
 pub const NO_MAP: u32 = 9;
 
+/// The guest does not see the name.
+pub const HIDDEN: u32 = 10;
+
 /// Two ids of a value would become one.
 pub const MERGES: u32 = 11;
 

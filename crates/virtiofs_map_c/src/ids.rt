@@ -1,7 +1,6 @@
 //! Maps of ids, in the caller's words.
 ghost use Rattle.std.specs.Prelude.{◌≡◌, ◌≢◌, ℕ, ◌+◌, ◌*◌, ◌≤◌, length, min, List, Option, IfOk, IfErr, OnErr};
 ghost use Rattle.virtiofs_map.specs.Build.{HasFirstFault, build_fault_of};
-ghost use Rattle.virtiofs_map.specs.Image.{HasKind, IsImage};
 ghost use Rattle.virtiofs_map.specs.Mapping.{Becomes};
 ghost use Rattle.virtiofs_map.specs.Refusal.{OutOfMemoryOr};
 ghost use Rattle.virtiofs_map.specs.declared.cmdline.IdMap.{IdMap as Specification};
@@ -12,6 +11,7 @@ ghost use Rattle.virtiofs_map_c.specs.Faults.{no_fault};
 ghost use Rattle.virtiofs_map_c.specs.Ids.{AnswersId, TellsId, LeadsBackIfMapped, IsIdCode, IsAnswerTold};
 ghost use Rattle.virtiofs_map_c.specs.Makes.{TellsFault, MakesOrTells, TellsThis, IsArrayTold, IsAnswered, TellsImage, IsAccepted};
 ghost use Rattle.virtiofs_map_c.specs.Texts.{AllSaySpecs, AreAccepted, TextsFault, HasTextsFault, texts_fault_of, texts_number_error_of, IsNumberErrorIn, AreTextsTold};
+ghost use Rattle.virtiofs_map_c.specs.Wholes.{IsIdMap, IsNoIdMap, cleared};
 
 mod audits;
 mod decided;
@@ -21,7 +21,7 @@ use crate::arrays::{ArrayError, Spec, read_all, tell};
 use crate::codes::{FORBIDDEN, NO_ID, NO_MAP, NO_ROOM, OK};
 use crate::fault::Fault;
 use crate::texts::{TextsError, read_all as read_texts, tell_of_texts};
-use crate::words::Words;
+use crate::words::{Words, are_all, clear};
 use std::alloc::Global;
 use virtiofs_map::cmdline;
 use virtiofs_map::soft_idmap::image::{Answer, look_up, most_words, write_image};
@@ -51,6 +51,7 @@ fn make(
     let len = write_image(alloc, list, words)?;
     *wanted = len;
     if words.len() < len {
+        clear(words);
         Ok(NO_ROOM)
     } else {
         Ok(OK)
@@ -89,7 +90,7 @@ pub extern "C" fn virtiofs_map_ids_make(
         × TellsImage list words.old result wanted.new words.new }
     ensures no_fault { IsAnswered result → fault.new ≡ no_fault }
     ensures bound { wanted.new ≤ 3 + 8 * length specs.now }
-    ensures keeps { (¬ IsAnswered result) → (wanted.new ≡ 0) × (words.new ≡ words.old) }
+    ensures keeps { (¬ IsAnswered result) → (wanted.new ≡ 0) × (words.new ≡ cleared words.old) }
     ensures refused { (¬ IsAnswered result) →
         TellsFault (HasArrayFault specs.now) (IsArrayTold result fault.new) }
     ensures complete { IsAccepted specs.now
@@ -104,6 +105,7 @@ pub extern "C" fn virtiofs_map_ids_make(
         }
         Err(error) => {
             *wanted = 0;
+            clear(words);
             tell(&error, fault)
         }
     }
@@ -145,7 +147,7 @@ pub extern "C" fn virtiofs_map_ids_make_texts(
     ensures no_fault { IsAnswered result → fault.new ≡ no_fault }
     ensures unquoted { IsAnswered result → quoted.new ≡ quoted.old }
     ensures bound { wanted.new ≤ 3 + 8 * length texts.now }
-    ensures keeps { (¬ IsAnswered result) → (wanted.new ≡ 0) × (words.new ≡ words.old) }
+    ensures keeps { (¬ IsAnswered result) → (wanted.new ≡ 0) × (words.new ≡ cleared words.old) }
     ensures refused { (¬ IsAnswered result) →
         TellsFault (HasTextsFault texts.now)
         (AreTextsTold result fault.new quoted.old quoted.new) }
@@ -161,6 +163,7 @@ pub extern "C" fn virtiofs_map_ids_make_texts(
         }
         Err(error) => {
             *wanted = 0;
+            clear(words);
             tell_of_texts(&error, fault, quoted)
         }
     }
@@ -185,18 +188,22 @@ fn tell_answer(answer: Answer, id: u32, place: &mut u32) -> u32
 
 /// The host's id for a guest's.
 #[unsafe(no_mangle)]
-pub extern "C" fn virtiofs_map_ids_guest(words: Words<'_>, guest: u32, host: &mut u32) -> u32
-    ensures answer { (specs : List Specification) → IsImage specs words.entry.lent.now
+pub extern "C" fn virtiofs_map_ids_to_host(words: Words<'_>, guest: u32, host: &mut u32) -> u32
+    ensures answer { (specs : List Specification) → IsIdMap specs words.entry.lent.now
         → AnswersId specs GuestToHost guest host.old result host.new }
     ensures exact { (specs : List Specification) (value : Option ℕ)
-        → IsImage specs words.entry.lent.now
+        → IsIdMap specs words.entry.lent.now
         → Becomes specs GuestToHost guest value → TellsId guest value host.old result host.new }
-    ensures leads_back { (specs : List Specification) → IsImage specs words.entry.lent.now
+    ensures leads_back { (specs : List Specification) → IsIdMap specs words.entry.lent.now
         → LeadsBackIfMapped specs GuestToHost guest result host.new }
     ensures no_id { guest ≡ 4294967295 → result ≢ ok }
     ensures code { IsIdCode host.old result host.new }
-    ensures no_map { (¬ HasKind words.entry.lent.now) → result ≡ no_map }
+    ensures no_map { IsNoIdMap words.entry.lent.now → result ≡ no_map }
 {
+    // (where this is passed, the test of the lookup itself is none)
+    if !are_all(words.lent) {
+        return NO_MAP;
+    }
     tell_answer(
         look_up(words.lent, Direction::GuestToHost, guest),
         guest,
@@ -206,18 +213,21 @@ pub extern "C" fn virtiofs_map_ids_guest(words: Words<'_>, guest: u32, host: &mu
 
 /// The guest's id for a host's.
 #[unsafe(no_mangle)]
-pub extern "C" fn virtiofs_map_ids_host(words: Words<'_>, host: u32, guest: &mut u32) -> u32
-    ensures answer { (specs : List Specification) → IsImage specs words.entry.lent.now
+pub extern "C" fn virtiofs_map_ids_to_guest(words: Words<'_>, host: u32, guest: &mut u32) -> u32
+    ensures answer { (specs : List Specification) → IsIdMap specs words.entry.lent.now
         → AnswersId specs HostToGuest host guest.old result guest.new }
     ensures exact { (specs : List Specification) (value : Option ℕ)
-        → IsImage specs words.entry.lent.now
+        → IsIdMap specs words.entry.lent.now
         → Becomes specs HostToGuest host value → TellsId host value guest.old result guest.new }
-    ensures leads_back { (specs : List Specification) → IsImage specs words.entry.lent.now
+    ensures leads_back { (specs : List Specification) → IsIdMap specs words.entry.lent.now
         → LeadsBackIfMapped specs HostToGuest host result guest.new }
     ensures no_id { host ≡ 4294967295 → result ≢ ok }
     ensures code { IsIdCode guest.old result guest.new }
-    ensures no_map { (¬ HasKind words.entry.lent.now) → result ≡ no_map }
+    ensures no_map { IsNoIdMap words.entry.lent.now → result ≡ no_map }
 {
+    if !are_all(words.lent) {
+        return NO_MAP;
+    }
     tell_answer(
         look_up(words.lent, Direction::HostToGuest, host),
         host,

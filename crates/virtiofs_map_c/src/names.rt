@@ -1,31 +1,34 @@
 //! Maps of attribute names, in the caller's bytes.
-ghost use Rattle.std.specs.Prelude.{◌≡◌, ◌≢◌, ◌↔◌, ◌≤◌, ◌+◌, ◌*◌, ℕ, List, length, IsTrue, false, min};
+ghost use Rattle.std.specs.List.{before_first};
+ghost use Rattle.std.specs.Prelude.{◌≡◌, ◌≢◌, ◌==◌, ◌↔◌, ◌≤◌, ◌+◌, ◌*◌, ℕ, List, length, IsTrue, false, min};
 ghost use Rattle.virtiofs_map.specs.Audit.{IsLost, IsStray, IsSeen, IsShared, Terminated};
 ghost use Rattle.virtiofs_map.specs.LookupAnswers.{IsDecidedBy};
 ghost use Rattle.virtiofs_map.specs.Names.{server_answer};
-ghost use Rattle.virtiofs_map.specs.NamesImage.{IsImage, IsNoImage, image_length};
+ghost use Rattle.virtiofs_map.specs.NamesImage.{image_length};
 ghost use Rattle.virtiofs_map.specs.Rule.{MappingRule, Okay, Prefix};
 ghost use Rattle.virtiofs_map_c.specs.Codes.{ok, as_it_is, no_map};
 ghost use Rattle.virtiofs_map_c.specs.Faults.{no_fault};
 ghost use Rattle.virtiofs_map_c.specs.Makes.{IsAnswered, TellsFault, MakesOrTells, TellsThis};
 ghost use Rattle.virtiofs_map_c.specs.Names.{AnswersClient, IsClientCode, TellsNames, TellsServer, TellsLeast, TellsNo};
 ghost use Rattle.virtiofs_map_c.specs.Rules.{BytesSayRules, BytesFault, HasBytesFault, IsBytesTold};
+ghost use Rattle.virtiofs_map_c.specs.Shown.{IsShownCode, TellsShown, shown_as, shown_list};
+ghost use Rattle.virtiofs_map_c.specs.Wholes.{IsNameMap, IsNoNameMap, cleared};
 
 mod lookups;
 mod made;
 mod reading;
+mod shown;
 
-use crate::buffer::nothing;
-use crate::bytes::{Bytes, Room};
-use crate::codes::{NO_MAP, NO_ROOM, OK, UNTERMINATED};
+use crate::buffer::{nothing, write};
+use crate::bytes::{Bytes, Room, all_of, are_all, before_zero, clear};
+use crate::codes::{HIDDEN, NO_MAP, OK, UNTERMINATED};
 use crate::fault::Fault;
-use lookups::{tell, tell_client, tell_none};
+use lookups::{tell, tell_client, tell_list, tell_none};
 use made::{made, tell_of_rules};
+use shown::{Shown, seen, write_shown};
 use std::alloc::Global;
 use virtiofs_map::audit::lent::{audit, audit_listed, keeps_apart, shares_no_name};
-use virtiofs_map::xattrmap::image::{
-    Decision, ListWritten, decide, is_terminated, most_bytes, write_list,
-};
+use virtiofs_map::xattrmap::image::{decide, is_terminated, most_bytes, write_list};
 use virtiofs_map::xattrmap::{Side, XattrMapRef};
 
 /// How many bytes the map of a text of that length has at most.
@@ -52,7 +55,7 @@ pub extern "C" fn virtiofs_map_names_make(
         × TellsNames rules bytes.old result wanted.new bytes.new }
     ensures no_fault { IsAnswered result → fault.new ≡ no_fault }
     ensures unquoted { IsAnswered result → quoted.new ≡ quoted.old }
-    ensures keeps { (¬ IsAnswered result) → (wanted.new ≡ 0) × (bytes.new ≡ bytes.old) }
+    ensures keeps { (¬ IsAnswered result) → (wanted.new ≡ 0) × (bytes.new ≡ cleared bytes.old) }
     ensures refused { (¬ IsAnswered result) →
         TellsFault (HasBytesFault text.now) (IsBytesTold result fault.new quoted.old quoted.new) }
     ensures complete { (rules : List MappingRule) → BytesSayRules text.now rules
@@ -67,6 +70,7 @@ pub extern "C" fn virtiofs_map_names_make(
         }
         Err(error) => {
             *wanted = 0;
+            clear(bytes);
             tell_of_rules(&error, fault, quoted)
         }
     }
@@ -74,64 +78,96 @@ pub extern "C" fn virtiofs_map_names_make(
 
 /// The host's name for a name that the guest asks for, which stands before the first zero.
 #[unsafe(no_mangle)]
-pub extern "C" fn virtiofs_map_names_client(
+pub extern "C" fn virtiofs_map_name_to_host_bytes(
     bytes: Bytes<'_>,
     name: Bytes<'_>,
     out: Room<'_>,
     len: &mut usize,
 ) -> u32
-    ensures answer { (rules : List MappingRule) → IsImage rules bytes.entry.lent.now
+    ensures answer { (rules : List MappingRule) → IsNameMap rules bytes.entry.lent.now
         → AnswersClient rules name.entry.lent.now out.entry.lent.now result len.new out.exit.0.now }
-    ensures okay { (rules : List MappingRule) → IsImage rules bytes.entry.lent.now
+    ensures okay { (rules : List MappingRule) → IsNameMap rules bytes.entry.lent.now
         → IsDecidedBy Okay rules name.entry.lent.now → result ≡ as_it_is }
-    ensures prefix { (rules : List MappingRule) → IsImage rules bytes.entry.lent.now
+    ensures prefix { (rules : List MappingRule) → IsNameMap rules bytes.entry.lent.now
         → IsDecidedBy Prefix rules name.entry.lent.now → result ≢ as_it_is }
     ensures code { IsClientCode result }
-    ensures no_map { IsNoImage bytes.entry.lent.now → result ≡ no_map }
+    ensures no_map { IsNoNameMap bytes.entry.lent.now → result ≡ no_map }
 {
     // (written first, since after that only a prepend needs its place)
     *len = 0;
+    if !are_all(bytes.lent) {
+        return NO_MAP;
+    }
     let decision = decide(bytes.lent, Side::Client, name.lent);
     tell_client(decision, name.lent, out.lent, len)
 }
 
-/// The list that the guest gets for the host's list.
+/// The list that a daemon hands on to its guest for the host's list: each name that the guest sees,
+/// with a zero behind it, and no empty name.
 #[unsafe(no_mangle)]
-pub extern "C" fn virtiofs_map_names_server(
+pub extern "C" fn virtiofs_map_list_to_guest(
     bytes: Bytes<'_>,
     list: Bytes<'_>,
     out: Room<'_>,
     len: &mut usize,
 ) -> u32
-    ensures answer { (rules : List MappingRule) → IsImage rules bytes.entry.lent.now
+    ensures answer { (rules : List MappingRule) → IsNameMap rules bytes.entry.lent.now
+        → TellsServer (shown_list rules list.entry.lent.now)
+        out.entry.lent.now result len.new out.exit.0.now }
+    ensures no_map { IsNoNameMap bytes.entry.lent.now → result ≡ no_map }
+{
+    tell_list(write_shown(all_of(bytes.lent), list.lent, out.lent), len)
+}
+
+/// The guest's name for a name of the host, which stands before the first zero.
+#[unsafe(no_mangle)]
+pub extern "C" fn virtiofs_map_name_to_guest(
+    bytes: Bytes<'_>,
+    name: Bytes<'_>,
+    out: Room<'_>,
+    len: &mut usize,
+) -> u32
+    ensures answer { (rules : List MappingRule) → IsNameMap rules bytes.entry.lent.now
+        → TellsShown (shown_as rules (before_first (λ byte. byte == 0) name.entry.lent.now))
+        out.entry.lent.now result len.new out.exit.0.now }
+    ensures code { IsShownCode result }
+    ensures no_map { IsNoNameMap bytes.entry.lent.now → result ≡ no_map }
+{
+    match seen(all_of(bytes.lent), before_zero(name.lent)) {
+        Shown::NoMap => nothing(NO_MAP, len),
+        Shown::Undecided => nothing(UNTERMINATED, len),
+        Shown::Hidden => nothing(HIDDEN, len),
+        Shown::Name(name) => write(name, OK, out.lent, len),
+    }
+}
+
+/// The list that virtiofsd makes for the guest of the host's list: empty names stay in it, and it is
+/// one zero where no name is left.
+#[unsafe(no_mangle)]
+pub extern "C" fn virtiofs_map_server_xattrlist(
+    bytes: Bytes<'_>,
+    list: Bytes<'_>,
+    out: Room<'_>,
+    len: &mut usize,
+) -> u32
+    ensures answer { (rules : List MappingRule) → IsNameMap rules bytes.entry.lent.now
         → TellsServer (server_answer rules list.entry.lent.now)
         out.entry.lent.now result len.new out.exit.0.now }
-    ensures no_map { IsNoImage bytes.entry.lent.now → result ≡ no_map }
+    ensures no_map { IsNoNameMap bytes.entry.lent.now → result ≡ no_map }
 {
-    match write_list(bytes.lent, list.lent, out.lent) {
-        ListWritten::NoMap => nothing(NO_MAP, len),
-        ListWritten::Undecided => nothing(UNTERMINATED, len),
-        ListWritten::Written(count) => {
-            *len = count;
-            OK
-        }
-        ListWritten::NoRoom(count) => {
-            *len = count;
-            NO_ROOM
-        }
-    }
+    tell_list(write_list(all_of(bytes.lent), list.lent, out.lent), len)
 }
 
 /// Whether no name is ever left without a rule.
 #[unsafe(no_mangle)]
 pub extern "C" fn virtiofs_map_names_is_terminated(bytes: &[u8], all: &mut bool) -> u32
-    ensures done { (rules : List MappingRule) → IsImage rules bytes.now → result ≡ ok }
-    ensures answer { (rules : List MappingRule) → IsImage rules bytes.now
+    ensures done { (rules : List MappingRule) → IsNameMap rules bytes.now → result ≡ ok }
+    ensures answer { (rules : List MappingRule) → IsNameMap rules bytes.now
         → IsTrue all.new ↔ Terminated rules }
-    ensures no_map { IsNoImage bytes.now → result ≡ no_map }
+    ensures no_map { IsNoNameMap bytes.now → result ≡ no_map }
     ensures none { result ≡ no_map → all.new ≡ false }
 {
-    match is_terminated(bytes) {
+    match is_terminated(all_of(bytes)) {
         Some(terminated) => {
             *all = terminated;
             OK
@@ -152,11 +188,11 @@ pub extern "C" fn virtiofs_map_names_audit(
     out: &mut [u8],
     len: &mut usize,
 ) -> u32
-    ensures answer { (rules : List MappingRule) → IsImage rules bytes.now
+    ensures answer { (rules : List MappingRule) → IsNameMap rules bytes.now
         → TellsLeast (IsLost rules) out.old result all.new len.new out.new }
-    ensures no_map { IsNoImage bytes.now → TellsNo no_map out.old result all.new len.new out.new }
+    ensures no_map { IsNoNameMap bytes.now → TellsNo no_map out.old result all.new len.new out.new }
 {
-    match XattrMapRef::of(bytes) {
+    match XattrMapRef::of(all_of(bytes)) {
         Some(map) => tell(audit(alloc, map), all, out, len),
         None => tell_none(NO_MAP, all, len),
     }
@@ -171,11 +207,11 @@ pub extern "C" fn virtiofs_map_names_audit_listed(
     out: &mut [u8],
     len: &mut usize,
 ) -> u32
-    ensures answer { (rules : List MappingRule) → IsImage rules bytes.now
+    ensures answer { (rules : List MappingRule) → IsNameMap rules bytes.now
         → TellsLeast (IsStray rules) out.old result all.new len.new out.new }
-    ensures no_map { IsNoImage bytes.now → TellsNo no_map out.old result all.new len.new out.new }
+    ensures no_map { IsNoNameMap bytes.now → TellsNo no_map out.old result all.new len.new out.new }
 {
-    match XattrMapRef::of(bytes) {
+    match XattrMapRef::of(all_of(bytes)) {
         Some(map) => tell(audit_listed(alloc, map), all, out, len),
         None => tell_none(NO_MAP, all, len),
     }
@@ -191,14 +227,17 @@ pub extern "C" fn virtiofs_map_names_keeps_apart(
     out: &mut [u8],
     len: &mut usize,
 ) -> u32
-    ensures answer { (rules others : List MappingRule) → IsImage rules first.now
-        → IsImage others second.now
+    ensures answer { (rules others : List MappingRule) → IsNameMap rules first.now
+        → IsNameMap others second.now
         → TellsLeast (IsSeen rules others) out.old result all.new len.new out.new }
-    ensures no_map { IsNoImage first.now → TellsNo no_map out.old result all.new len.new out.new }
-    ensures no_other { IsNoImage second.now
+    ensures no_map { IsNoNameMap first.now → TellsNo no_map out.old result all.new len.new out.new }
+    ensures no_other { IsNoNameMap second.now
         → TellsNo no_map out.old result all.new len.new out.new }
 {
-    match (XattrMapRef::of(first), XattrMapRef::of(second)) {
+    match (
+        XattrMapRef::of(all_of(first)),
+        XattrMapRef::of(all_of(second)),
+    ) {
         (Some(one), Some(other)) => tell(keeps_apart(alloc, one, other), all, out, len),
         _ => tell_none(NO_MAP, all, len),
     }
@@ -214,14 +253,17 @@ pub extern "C" fn virtiofs_map_names_shares_no_name(
     out: &mut [u8],
     len: &mut usize,
 ) -> u32
-    ensures answer { (rules others : List MappingRule) → IsImage rules first.now
-        → IsImage others second.now
+    ensures answer { (rules others : List MappingRule) → IsNameMap rules first.now
+        → IsNameMap others second.now
         → TellsLeast (IsShared rules others) out.old result all.new len.new out.new }
-    ensures no_map { IsNoImage first.now → TellsNo no_map out.old result all.new len.new out.new }
-    ensures no_other { IsNoImage second.now
+    ensures no_map { IsNoNameMap first.now → TellsNo no_map out.old result all.new len.new out.new }
+    ensures no_other { IsNoNameMap second.now
         → TellsNo no_map out.old result all.new len.new out.new }
 {
-    match (XattrMapRef::of(first), XattrMapRef::of(second)) {
+    match (
+        XattrMapRef::of(all_of(first)),
+        XattrMapRef::of(all_of(second)),
+    ) {
         (Some(one), Some(other)) => tell(shares_no_name(alloc, one, other), all, out, len),
         _ => tell_none(NO_MAP, all, len),
     }

@@ -1,19 +1,20 @@
 //! Ids inside the caller's values, changed by the caller's maps.
 ghost use Rattle.std.specs.List.{before_first};
 ghost use Rattle.std.specs.Prelude.{◌≡◌, ◌≢◌, ◌==◌, ◌⊎◌, ◌↔◌, ◌≤◌, List, length, position};
-ghost use Rattle.virtiofs_map.specs.Image.{HasKind, IsImage};
 ghost use Rattle.virtiofs_acl.specs.ValueKinds.{HasLists, HasCapability};
 ghost use Rattle.virtiofs_map.specs.declared.cmdline.IdMap.{IdMap as Specification};
 ghost use Rattle.virtiofs_map.specs.declared.soft_idmap.entry.Direction.TheVariants.{GuestToHost, HostToGuest};
 ghost use Rattle.virtiofs_map_c.specs.Codes.{ok, no_map, acl, capability};
 ghost use Rattle.virtiofs_map_c.specs.Faults.{no_fault};
 ghost use Rattle.virtiofs_map_c.specs.Values.{ChangesAcl, ChangesCapability, WritesCapability, IsAclCode, IsCapabilityCode, IsRootCode};
+ghost use Rattle.virtiofs_map_c.specs.Wholes.{IsIdMap, IsNoIdMap};
 
 mod told;
 
 use crate::bytes::before_zero;
 use crate::codes::{ACL, CAPABILITY, NO_IDS};
 use crate::fault::Fault;
+use crate::words::all_of;
 use told::{tell_acl, tell_capability, tell_no_map};
 use virtiofs_acl::{
     EntryRoom, ValueKind, carries_ids, translate_acl, translate_capability, write_revision_3,
@@ -48,18 +49,18 @@ fn change_acl(
     room: &mut [EntryRoom],
     fault: &mut Fault,
 ) -> u32
-    ensures answer { (specs others : List Specification) → IsImage specs users.now
-        → IsImage others groups.now → ChangesAcl specs others direction
+    ensures answer { (specs others : List Specification) → IsIdMap specs users.now
+        → IsIdMap others groups.now → ChangesAcl specs others direction
         (length room.old) value.old value.new result fault.new }
     ensures unchanged { result ≢ ok → value.new ≡ value.old }
-    ensures no_map { (¬ HasKind users.now) ⊎ (¬ HasKind groups.now) → result ≡ no_map }
+    ensures no_map { IsNoIdMap users.now ⊎ IsNoIdMap groups.now → result ≡ no_map }
     ensures no_fault { (result ≡ ok) ⊎ (result ≡ no_map) → fault.new ≡ no_fault }
     ensures code { IsAclCode result }
 {
-    let Some(users) = IdMapRef::of(users) else {
+    let Some(users) = IdMapRef::of(all_of(users)) else {
         return tell_no_map(fault);
     };
-    let Some(groups) = IdMapRef::of(groups) else {
+    let Some(groups) = IdMapRef::of(all_of(groups)) else {
         return tell_no_map(fault);
     };
     let lent = room.len();
@@ -76,11 +77,11 @@ pub extern "C" fn virtiofs_map_acl_to_host(
     room: &mut [EntryRoom],
     fault: &mut Fault,
 ) -> u32
-    ensures answer { (specs others : List Specification) → IsImage specs users.now
-        → IsImage others groups.now → ChangesAcl specs others GuestToHost
+    ensures answer { (specs others : List Specification) → IsIdMap specs users.now
+        → IsIdMap others groups.now → ChangesAcl specs others GuestToHost
         (length room.old) value.old value.new result fault.new }
     ensures unchanged { result ≢ ok → value.new ≡ value.old }
-    ensures no_map { (¬ HasKind users.now) ⊎ (¬ HasKind groups.now) → result ≡ no_map }
+    ensures no_map { IsNoIdMap users.now ⊎ IsNoIdMap groups.now → result ≡ no_map }
     ensures no_fault { (result ≡ ok) ⊎ (result ≡ no_map) → fault.new ≡ no_fault }
     ensures code { IsAclCode result }
 {
@@ -96,11 +97,11 @@ pub extern "C" fn virtiofs_map_acl_to_guest(
     room: &mut [EntryRoom],
     fault: &mut Fault,
 ) -> u32
-    ensures answer { (specs others : List Specification) → IsImage specs users.now
-        → IsImage others groups.now → ChangesAcl specs others HostToGuest
+    ensures answer { (specs others : List Specification) → IsIdMap specs users.now
+        → IsIdMap others groups.now → ChangesAcl specs others HostToGuest
         (length room.old) value.old value.new result fault.new }
     ensures unchanged { result ≢ ok → value.new ≡ value.old }
-    ensures no_map { (¬ HasKind users.now) ⊎ (¬ HasKind groups.now) → result ≡ no_map }
+    ensures no_map { IsNoIdMap users.now ⊎ IsNoIdMap groups.now → result ≡ no_map }
     ensures no_fault { (result ≡ ok) ⊎ (result ≡ no_map) → fault.new ≡ no_fault }
     ensures code { IsAclCode result }
 {
@@ -114,14 +115,14 @@ fn change_capability(
     value: &mut [u8],
     fault: &mut Fault,
 ) -> u32
-    ensures answer { (specs : List Specification) → IsImage specs users.now
+    ensures answer { (specs : List Specification) → IsIdMap specs users.now
         → ChangesCapability specs direction value.old value.new result fault.new }
     ensures unchanged { result ≢ ok → value.new ≡ value.old }
-    ensures no_map { (¬ HasKind users.now) → result ≡ no_map }
+    ensures no_map { IsNoIdMap users.now → result ≡ no_map }
     ensures no_fault { (result ≡ ok) ⊎ (result ≡ no_map) → fault.new ≡ no_fault }
     ensures code { IsCapabilityCode result }
 {
-    let Some(users) = IdMapRef::of(users) else {
+    let Some(users) = IdMapRef::of(all_of(users)) else {
         return tell_no_map(fault);
     };
     let answer = translate_capability(&users, direction, value);
@@ -135,10 +136,10 @@ pub extern "C" fn virtiofs_map_capability_to_host(
     value: &mut [u8],
     fault: &mut Fault,
 ) -> u32
-    ensures answer { (specs : List Specification) → IsImage specs users.now
+    ensures answer { (specs : List Specification) → IsIdMap specs users.now
         → ChangesCapability specs GuestToHost value.old value.new result fault.new }
     ensures unchanged { result ≢ ok → value.new ≡ value.old }
-    ensures no_map { (¬ HasKind users.now) → result ≡ no_map }
+    ensures no_map { IsNoIdMap users.now → result ≡ no_map }
     ensures no_fault { (result ≡ ok) ⊎ (result ≡ no_map) → fault.new ≡ no_fault }
     ensures code { IsCapabilityCode result }
 {
@@ -152,10 +153,10 @@ pub extern "C" fn virtiofs_map_capability_to_guest(
     value: &mut [u8],
     fault: &mut Fault,
 ) -> u32
-    ensures answer { (specs : List Specification) → IsImage specs users.now
+    ensures answer { (specs : List Specification) → IsIdMap specs users.now
         → ChangesCapability specs HostToGuest value.old value.new result fault.new }
     ensures unchanged { result ≢ ok → value.new ≡ value.old }
-    ensures no_map { (¬ HasKind users.now) → result ≡ no_map }
+    ensures no_map { IsNoIdMap users.now → result ≡ no_map }
     ensures no_fault { (result ≡ ok) ⊎ (result ≡ no_map) → fault.new ≡ no_fault }
     ensures code { IsCapabilityCode result }
 {
@@ -170,14 +171,14 @@ fn write_capability(
     written: &mut [u8; 24],
     fault: &mut Fault,
 ) -> u32
-    ensures answer { (specs : List Specification) → IsImage specs users.now
+    ensures answer { (specs : List Specification) → IsIdMap specs users.now
         → WritesCapability specs direction value.now written.new result fault.new }
     ensures unchanged { result ≢ ok → written.new ≡ written.old }
-    ensures no_map { (¬ HasKind users.now) → result ≡ no_map }
+    ensures no_map { IsNoIdMap users.now → result ≡ no_map }
     ensures no_fault { (result ≡ ok) ⊎ (result ≡ no_map) → fault.new ≡ no_fault }
     ensures code { IsRootCode result }
 {
-    let Some(users) = IdMapRef::of(users) else {
+    let Some(users) = IdMapRef::of(all_of(users)) else {
         return tell_no_map(fault);
     };
     let answer = write_revision_3(&users, direction, value, written);
@@ -192,10 +193,10 @@ pub extern "C" fn virtiofs_map_capability_to_host_in_revision_3(
     written: &mut [u8; 24],
     fault: &mut Fault,
 ) -> u32
-    ensures answer { (specs : List Specification) → IsImage specs users.now
+    ensures answer { (specs : List Specification) → IsIdMap specs users.now
         → WritesCapability specs GuestToHost value.now written.new result fault.new }
     ensures unchanged { result ≢ ok → written.new ≡ written.old }
-    ensures no_map { (¬ HasKind users.now) → result ≡ no_map }
+    ensures no_map { IsNoIdMap users.now → result ≡ no_map }
     ensures no_fault { (result ≡ ok) ⊎ (result ≡ no_map) → fault.new ≡ no_fault }
     ensures code { IsRootCode result }
 {
@@ -210,10 +211,10 @@ pub extern "C" fn virtiofs_map_capability_to_guest_in_revision_3(
     written: &mut [u8; 24],
     fault: &mut Fault,
 ) -> u32
-    ensures answer { (specs : List Specification) → IsImage specs users.now
+    ensures answer { (specs : List Specification) → IsIdMap specs users.now
         → WritesCapability specs HostToGuest value.now written.new result fault.new }
     ensures unchanged { result ≢ ok → written.new ≡ written.old }
-    ensures no_map { (¬ HasKind users.now) → result ≡ no_map }
+    ensures no_map { IsNoIdMap users.now → result ≡ no_map }
     ensures no_fault { (result ≡ ok) ⊎ (result ≡ no_map) → fault.new ≡ no_fault }
     ensures code { IsRootCode result }
 {

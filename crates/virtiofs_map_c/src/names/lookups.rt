@@ -1,16 +1,17 @@
 //! What lookups of names and audits tell C.
 ghost use Rattle.std.specs.List.{before_first};
-ghost use Rattle.std.specs.Prelude.{◌≡◌, ◌==◌, ◌++◌, false, MatchResult};
-ghost use Rattle.virtiofs_map_c.specs.Codes.{no_memory, ok};
-ghost use Rattle.virtiofs_map_c.specs.Names.{TellsDecision, TellsFound, TellsNo};
+ghost use Rattle.std.specs.Prelude.{◌≡◌, ◌==◌, ◌++◌, ℕ, List, Option, false, MatchResult};
+ghost use Rattle.virtiofs_map.specs.NamesImage.{WritesList};
+ghost use Rattle.virtiofs_map_c.specs.Codes.{no_map, no_memory, ok};
+ghost use Rattle.virtiofs_map_c.specs.Names.{TellsDecision, TellsFound, TellsNo, TellsServer};
 ghost use Rattle.virtiofs_map_c.specs.Replies.{TellsBytes};
 
 use crate::buffer::{nothing, write, write_joined};
 use crate::bytes::before_zero;
-use crate::codes::{AS_IT_IS, DENIED, NO_MAP, NO_MEMORY, OK, UNSUPPORTED, UNTERMINATED};
+use crate::codes::{AS_IT_IS, DENIED, NO_MAP, NO_MEMORY, NO_ROOM, OK, UNSUPPORTED, UNTERMINATED};
 use std::alloc::AllocError;
 use virtiofs_map::audit::Audit;
-use virtiofs_map::xattrmap::image::Decision;
+use virtiofs_map::xattrmap::image::{Decision, ListWritten};
 
 /// Tells a name with a prepend before it. The name stands before the first zero.
 // (a call of its own, so that what other names wait for stays short)
@@ -35,6 +36,26 @@ pub fn tell_client(decision: Decision<'_>, name: &[u8], out: &mut [u8], len: &mu
         Decision::Prefix(prepend) => tell_prepended(prepend, name, out, len),
         Decision::Bad => nothing(DENIED, len),
         Decision::Unsupported => nothing(UNSUPPORTED, len),
+    }
+}
+
+/// Tells what came of writing a list.
+pub fn tell_list(written: ListWritten, len: &mut usize) -> u32
+    ensures told { (answer : Option (List ℕ)) (old new : List ℕ) → WritesList answer old new written
+        → TellsServer answer old result len.new new }
+    ensures no_map { written ≡ ListWritten.NoMap → result ≡ no_map }
+{
+    match written {
+        ListWritten::NoMap => nothing(NO_MAP, len),
+        ListWritten::Undecided => nothing(UNTERMINATED, len),
+        ListWritten::Written(count) => {
+            *len = count;
+            OK
+        }
+        ListWritten::NoRoom(count) => {
+            *len = count;
+            NO_ROOM
+        }
     }
 }
 

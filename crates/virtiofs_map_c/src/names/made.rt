@@ -12,6 +12,7 @@ ghost use Rattle.std.specs.Option.{option_map};
 
 use super::reading::ReadError;
 use crate::buffer::{Quoted, quote};
+use crate::bytes::clear;
 use crate::codes::{NO_MEMORY, NO_PART, NO_ROOM, OK, REFUSED, RULE};
 use crate::fault::Fault;
 use std::alloc::Global;
@@ -54,6 +55,7 @@ pub fn made(
             Ok(OK)
         }
         ImageWritten::NoRoom(count) => {
+            clear(bytes);
             *wanted = count;
             Ok(NO_ROOM)
         }

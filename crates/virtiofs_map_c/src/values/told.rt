@@ -5,7 +5,7 @@ ghost use Rattle.virtiofs_map_c.specs.Values.{value_told, version_told, acl_told
 
 use crate::buffer::Quoted;
 use crate::codes::{
-    ACL_ENTRY, ACL_VALUE, CAPABILITY_VALUE, FORBIDDEN, MERGES, NO_MAP, NO_ROOM, OK, REFUSED,
+    ACL_ENTRY, ACL_VALUE, CAPABILITY_VALUE, FORBIDDEN, MERGES, NO_ID, NO_MAP, NO_ROOM, OK, REFUSED,
     ROOT_MOVES,
 };
 use crate::fault::Fault;
@@ -104,7 +104,8 @@ fn code_of_acl(error: AclError) -> u32
         AclError::TooShort | AclError::Version { .. } | AclError::Length => REFUSED,
         AclError::Room { .. } => NO_ROOM,
         AclError::Entry { fault, .. } => match fault {
-            EntryFault::UnknownTag | EntryFault::Permission | EntryFault::NoId => REFUSED,
+            EntryFault::UnknownTag | EntryFault::Permission => REFUSED,
+            EntryFault::NoId => NO_ID,
             EntryFault::Forbidden => FORBIDDEN,
             EntryFault::Merges => MERGES,
         },
@@ -134,9 +135,8 @@ fn code_of_capability(error: CapabilityError) -> u32
     match error {
         CapabilityError::Forbidden => FORBIDDEN,
         CapabilityError::RootMoves => ROOT_MOVES,
-        CapabilityError::TooShort
-        | CapabilityError::Revision { .. }
-        | CapabilityError::Length
-        | CapabilityError::NoId => REFUSED,
+        CapabilityError::NoId => NO_ID,
+        CapabilityError::TooShort | CapabilityError::Revision { .. } | CapabilityError::Length =>
+            REFUSED,
     }
 }

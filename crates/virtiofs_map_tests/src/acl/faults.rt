@@ -7,10 +7,11 @@ use std::test::Fail;
 use virtiofs_acl::{AclError, CapabilityError as RootFault, EntryFault};
 use virtiofs_map::soft_idmap::Direction::GuestToHost;
 
-/// Users 70000 to 70009 may not be used, and users 80000 to 80009 become one.
+/// Users 70000 to 70009 may not be used, users 80000 to 80009 become one, and user 90000 and group
+/// 90000 become 4294967295.
 const MAPS: Maps = Maps {
-    users: "map:0:100000:65536|forbid-guest:70000:10|squash-guest:80000:65534:10",
-    groups: "map:0:200000:65536",
+    users: "map:0:100000:65536|forbid-guest:70000:10|squash-guest:80000:65534:10|guest:90000:4294967295:1",
+    groups: "map:0:200000:65536|guest:90000:4294967295:1",
 };
 
 /// A list of the guest, how many bytes of it there are, and its first fault.
@@ -21,10 +22,12 @@ static LISTS: [(&[u32], usize, AclError); 3] = [
 ];
 
 /// The entries of a list, and the first one that is at fault, with its fault.
-static ENTRIES: [(&[u32], usize, EntryFault); 5] = [
+static ENTRIES: [(&[u32], usize, EntryFault); 7] = [
     (&[0x03000800, 0x00000000], 0, UnknownTag),
     (&[0x02000800, 0xffffffff], 0, Permission),
     (&[0x08000700, 0xffffffff], 0, NoId),
+    (&[0x08000700, 0x905f0100], 0, NoId),
+    (&[0x01000700, 0xffffffff, 0x02000700, 0x905f0100], 1, NoId),
     (
         &[0x01000700, 0xffffffff, 0x02000700, 0x70110100],
         1,
@@ -35,11 +38,12 @@ static ENTRIES: [(&[u32], usize, EntryFault); 5] = [
 ];
 
 /// A capability of the guest, how many bytes of it there are, and its first fault.
-static CAPABILITIES: [(&[u32], usize, RootFault); 5] = [
+static CAPABILITIES: [(&[u32], usize, RootFault); 6] = [
     (&[0x01000001], 3, RootFault::TooShort),
     (&[0x01000004], 4, RootFault::Revision { revision: 4 }),
     (&[0x01000003, 0, 0, 0, 0, 0], 23, RootFault::Length),
     (&[0x01000003, 0, 0, 0, 0, 0xffffffff], 24, RootFault::NoId),
+    (&[0x01000003, 0, 0, 0, 0, 0x905f0100], 24, RootFault::NoId),
     (
         &[0x01000003, 0, 0, 0, 0, 0x70110100],
         24,

@@ -3,7 +3,7 @@ use Rattle.std.proofs.lemmas.Result.{err_from_is_err_and}
 use Rattle.virtiofs_acl.specs.Capability.{root_of}
 use Rattle.virtiofs_map.specs.Mapping.{Becomes}
 use Rattle.virtiofs_acl.proofs.AclCapabilityLemmas.{with_field, without_field, root_of-none, root_of-zero}
-use Rattle.virtiofs_acl.proofs.AclCapabilityLemmas.{other_revision, HasCapabilityFault-root}
+use Rattle.virtiofs_acl.proofs.AclCapabilityLemmas.{other_revision, HasCapabilityFault-root, to_id}
 use Rattle.virtiofs_acl.proofs.AclChangeLemmas.{ChangesRoot-done, ChangesRoot-refused}
 use Rattle.virtiofs_acl.proofs.capabilities.translate_capability.Goals as goal
 
@@ -22,7 +22,12 @@ returns-then-value-eq24-clause-change c = λ specs image.
       size = c.write_four.auto.value;
       front = λ place below. c.write_four.ensures.rest place (inl below);
     }) (record {
-      has_root = record { capability = c.in_ok-root.ensures.capability; root = c.in_ok-root.root; becomes = root };
+      has_root = record {
+        capability = c.in_ok-root.ensures.capability;
+        root = c.in_ok-root.root;
+        becomes = root;
+        to_id = to_id specs _ _ _ image.accepted root c.in_ok-root.ensures.id;
+      };
       stays = λ other. absurd (other (with_field _ _ c.in_ok-root.ensures.capability.sized.sized c.if-value-eq24.true));
     })
 
@@ -35,7 +40,7 @@ returns-then-root-ne0-clause-change c = λ specs image.
     ChangesRoot-refused specs _ _ _ image.accepted (
       capability,
       other_revision _ _ capability.sized.sized c.if-value-eq24.false,
-      (c.in_ok-root.root, root, c.if-root-ne0.true),
+      (c.in_ok-root.root, root, c.if-root-ne0.true, c.in_ok-root.ensures.id),
     )
 
 pub returns-else-root-ne0-clause-change : goal.returns-else-root-ne0-clause-change
@@ -47,7 +52,12 @@ returns-else-root-ne0-clause-change c = λ specs image.
     ChangesRoot-done specs _ _ _ image.accepted c.in_ok-root.ensures.bytes
     (subst (λ (n : ℕ). Becomes specs c.args.direction (root_of c.args.value.now) (Some n)) (c.if-root-ne0.false ∙ sym none)
     root) (record { size = refl; front = λ place below. refl }) (record {
-      has_root = record { capability = capability; root = c.in_ok-root.root; becomes = root };
+      has_root = record {
+        capability = capability;
+        root = c.in_ok-root.root;
+        becomes = root;
+        to_id = to_id specs _ _ _ image.accepted root c.in_ok-root.ensures.id;
+      };
       stays = λ other.
           let zero : root_of c.args.value.now ≡ 0 = root_of-zero c.args.value.now capability.sized other in
           rw c.if-root-ne0.false at (rw zero at root);

@@ -1,5 +1,6 @@
 use Rattle.std.proofs.lemmas.Result.{err_from_is_err_and}
 use Rattle.virtiofs_acl.proofs.AclChangeLemmas.{WritesRevision3-done, WritesRevision3-refused}
+use Rattle.virtiofs_acl.proofs.AclCapabilityLemmas.{to_id}
 use Rattle.virtiofs_acl.proofs.capabilities.write_revision_3.Goals as goal
 
 pub returns-in_err-root-clause-change : goal.returns-in_err-root-clause-change
@@ -14,4 +15,9 @@ returns-clause-change c = λ specs image.
     let root = c.in_ok-root.ensures.root specs image in
     WritesRevision3-done specs _ _ _ image.accepted (rw c.write_with_root.ensures.root root)
     c.write_with_root.ensures.same
-    (record { capability = c.in_ok-root.ensures.capability; root = c.in_ok-root.root; becomes = root })
+    (record {
+      capability = c.in_ok-root.ensures.capability;
+      root = c.in_ok-root.root;
+      becomes = root;
+      to_id = to_id specs _ _ _ image.accepted root c.in_ok-root.ensures.id;
+    })

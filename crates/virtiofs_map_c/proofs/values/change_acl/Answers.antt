@@ -6,8 +6,8 @@ use Rattle.virtiofs_map_c.proofs.values.change_acl.Goals as goal
 pub returns-clause-answer : goal.returns-clause-answer
 returns-clause-answer c = λ specs others users groups.
     tells_acl specs others _ _ _ _ _ _ _ c.tell_acl.ensures
-    (c.translate_acl-answer.ensures.change specs others (rw c.in-Some.ensures.words users)
-    (rw c.in-Some-of.ensures.words groups))
+    (c.translate_acl-answer.ensures.change specs others (rw c.in-Some.ensures.words (c.all_of.ensures.map specs users))
+    (rw c.in-Some-of.ensures.words (c.all_of-2.ensures.map others groups)))
 
 pub returns-clause-unchanged : goal.returns-clause-unchanged
 returns-clause-unchanged c =

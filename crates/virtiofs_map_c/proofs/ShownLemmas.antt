@@ -1,0 +1,228 @@
+-- The list that a daemon hands on, name by name.
+use Rattle.std.proofs.Common.{◌≡◌, ℕ, zero, suc, ◌+◌, ◌<◌, ◌≤◌, Bool, true, false, not, eqb, ◌&&◌, if◌then◌else◌}
+use Rattle.std.proofs.Common.{List, [], ◌∷◌, ◌++◌, length, drop, Some, None, inl, inr, refl, sym, ap}
+use Rattle.std.proofs.Common.{◌∙◌, arith, append-nil, length-append, filter}
+use Rattle.std.specs.List.{slice_split, position_or_len, before_first, after_first, list_all, flat_map}
+use Rattle.std.specs.Borrow.{Bor}
+use Rattle.std.proofs.lemmas.Bool.{cases_lt}
+use Rattle.std.proofs.lemmas.Bool.Decides.{nat_tests}
+use Rattle.std.proofs.lemmas.List.{take_all, drop_all, append_assoc}
+use Rattle.std.proofs.lemmas.List.Splits.{slice_split_first, slice_split_none}
+use Rattle.std.proofs.lemmas.List.Sums.{fails_before_first}
+use Rattle.std.proofs.lemmas.List.Elements.{All-from_get_or, filter-append}
+use Rattle.virtiofs_map.specs.Names.{HostAnswer, IsListed, IsHidden, IsUndecided, is_decided, names}
+use Rattle.virtiofs_map.specs.Rule.{MappingRule}
+use Rattle.virtiofs_map_c.specs.Shown.{Holds, IsFirstShown, IsShownAs, part_of, shown_as, shown_list}
+use Rattle.virtiofs_map_c.specs.declared.names.shown.Shown.{Shown}
+use Rattle.virtiofs_map_c.specs.declared.names.shown.Shown.TheVariants as seen
+
+abbrev is_zero : ℕ → Bool
+is_zero byte = eqb byte 0
+
+abbrev is_name : List ℕ → Bool
+is_name part = not (eqb (length part) 0)
+
+-- ---- the names of a list
+
+parts_none : (list : List ℕ) → length list ≤ position_or_len is_zero list → slice_split is_zero list ≡ list ∷ []
+parts_none list l =
+    slice_split_none is_zero list
+    (All-from_get_or (λ x. is_zero x ≡ false) list 0 (λ i h. fails_before_first is_zero list i 0 (omega arith)))
+
+-- the first name of a list, if it is one, and then the names of the rest
+names_step : (list : List ℕ)
+    → names list ≡ filter is_name (before_first is_zero list ∷ []) ++ names (after_first is_zero list)
+names_step list =
+    elim (cases_lt (position_or_len is_zero list) (length list)) [
+      | inl l ↦ ap (filter is_name) (slice_split_first is_zero list 0 l)
+          ∙ filter-append is_name (before_first is_zero list ∷ []) (slice_split is_zero (after_first is_zero list))
+      | inr l ↦ ap (filter is_name) (parts_none list l) ∙ alone list l
+    ] where
+      alone : (list : List ℕ) → length list ≤ position_or_len is_zero list
+          → filter is_name (list ∷ []) ≡ filter is_name (before_first is_zero list ∷ [])
+          ++ names (after_first is_zero list)
+      alone list l =
+          rw (
+            take_all (position_or_len is_zero list) list l,
+            drop_all (position_or_len is_zero list + 1) list (omega arith),
+          )
+          (sym (append-nil (filter is_name (list ∷ []))))
+
+is_some : (name : List ℕ) → 0 < length name → is_name name ≡ true
+is_some name some = grind (arith, nat_tests, some)
+
+is_none : (name : List ℕ) → length name ≡ 0 → is_name name ≡ false
+is_none name none = grind (arith, nat_tests, none)
+
+module _ (rules : List MappingRule) (list name rest : List ℕ) (before : name ≡ before_first is_zero list)
+    (after : rest ≡ after_first is_zero list) where
+  step : names list ≡ filter is_name (name ∷ []) ++ names rest
+  step = names_step list ∙ rw (← before, ← after) refl
+
+  pub no_name : length name ≡ 0 → IsFirstShown rules list seen.Hidden rest
+  no_name none = inl (step ∙ rw (is_none name none) refl, refl)
+
+  pub first_name : (shown : Shown) → 0 < length name → IsShownAs (shown_as rules name) shown
+      → IsFirstShown rules list shown rest
+  first_name shown some is = inr (name, step ∙ rw (is_some name some) refl, is)
+
+-- ---- what becomes of them
+
+abbrev has_rule : List MappingRule → List ℕ → Bool
+has_rule rules name = is_decided (shown_as rules name)
+
+abbrev all_decided : List MappingRule → List ℕ → Bool
+all_decided rules list = list_all (has_rule rules) (names list)
+
+abbrev all_parts : List MappingRule → List ℕ → List ℕ
+all_parts rules list = flat_map (λ name. part_of (shown_as rules name)) (names list)
+
+-- what is seen, but that the map is none
+abbrev told : Shown → HostAnswer
+told seen.NoMap = IsHidden
+told seen.Undecided = IsUndecided
+told seen.Hidden = IsHidden
+told (seen.Name shown) = IsListed shown.now
+
+told_is : (answer : HostAnswer) (shown : Shown) → IsShownAs answer shown → answer ≡ told shown
+told_is answer seen.NoMap is = absurd is
+told_is answer seen.Undecided is = is
+told_is answer seen.Hidden is = is
+told_is answer (seen.Name shown) is = is
+
+decided_step : (rules : List MappingRule) (list rest : List ℕ) (shown : Shown) → IsFirstShown rules list shown rest
+    → all_decided rules list ≡ is_decided (told shown) && all_decided rules rest
+decided_step rules list rest shown (inl none) =
+    ap (list_all (has_rule rules)) none.0
+    ∙ ap (λ s. is_decided (told s) && all_decided rules rest) (sym none.1)
+decided_step rules list rest shown (inr one) =
+    ap (list_all (has_rule rules)) one.1
+    ∙ ap (λ answer. is_decided answer && all_decided rules rest) (told_is (shown_as rules one.0) shown one.2)
+
+parts_step : (rules : List MappingRule) (list rest : List ℕ) (shown : Shown) → IsFirstShown rules list shown rest
+    → all_parts rules list ≡ part_of (told shown) ++ all_parts rules rest
+parts_step rules list rest shown (inl none) =
+    ap (flat_map (λ name. part_of (shown_as rules name))) none.0
+    ∙ ap (λ s. part_of (told s) ++ all_parts rules rest) (sym none.1)
+parts_step rules list rest shown (inr one) =
+    ap (flat_map (λ name. part_of (shown_as rules name))) one.1
+    ∙ ap (λ answer. part_of answer ++ all_parts rules rest) (told_is (shown_as rules one.0) shown one.2)
+
+pub no_map_unseen : (rules : List MappingRule) (list rest : List ℕ) → ¬ IsFirstShown rules list seen.NoMap rest
+no_map_unseen rules list rest (inl none) = absurd (cc)
+no_map_unseen rules list rest (inr one) = one.2
+
+-- ---- a list that is written name by name
+
+-- so many bytes were written, and are held as far as there is room; with what is left they are the whole list
+pub record IsSoFar (rules : List MappingRule) (list rest : List ℕ) (count : ℕ) (old new : List ℕ) : Type 0 where
+  pub so_far : List ℕ
+  pub counted : count ≡ length so_far
+  pub holds : Holds so_far old new
+  pub decided : all_decided rules rest ≡ all_decided rules list
+  pub parts : so_far ++ all_parts rules rest ≡ all_parts rules list
+
+pub at_first : (rules : List MappingRule) (list old : List ℕ) → IsSoFar rules list list 0 old old
+at_first rules list old = record {
+  so_far = [];
+  counted = refl;
+  holds = record { same = refl; are = λ _. refl };
+  decided = refl;
+  parts = refl;
+}
+
+module _ (rules : List MappingRule) (list rest left : List ℕ) (count : ℕ) (old new : List ℕ)
+    (so_far : IsSoFar rules list rest count old new) where
+  pub then_hidden : IsFirstShown rules rest seen.Hidden left → IsSoFar rules list left count old new
+  then_hidden first = record {
+    so_far = so_far.so_far;
+    counted = so_far.counted;
+    holds = so_far.holds;
+    decided = sym (decided_step rules rest left seen.Hidden first) ∙ so_far.decided;
+    parts = ap (λ parts. so_far.so_far ++ parts) (sym (parts_step rules rest left seen.Hidden first)) ∙ so_far.parts;
+  }
+
+  pub then_named : (name : Bor (List ℕ)) (next : ℕ) (after : List ℕ) → IsFirstShown rules rest (seen.Name name) left
+      → next ≡ count + length name.now + 1
+      → ((written first : List ℕ) → Holds written first new → count ≡ length written
+      → Holds (written ++ name.now ++ 0 ∷ []) first after)
+      → IsSoFar rules list left next old after
+  then_named name next after first behind put =
+      let a = length-append so_far.so_far name.now in
+      let b = length-append (so_far.so_far ++ name.now) (0 ∷ []) in
+      record {
+        so_far = so_far.so_far ++ name.now ++ 0 ∷ [];
+        counted = omega (arith, behind, so_far.counted, a, b);
+        holds = put so_far.so_far old so_far.holds so_far.counted;
+        decided = sym (decided_step rules rest left (seen.Name name) first) ∙ so_far.decided;
+        parts = rejoined so_far.so_far name.now (all_parts rules left)
+            ∙ ap (λ parts. so_far.so_far ++ parts) (sym (parts_step rules rest left (seen.Name name) first))
+            ∙ so_far.parts;
+      } where
+        rejoined : (front name rest : List ℕ)
+            → (front ++ name ++ 0 ∷ []) ++ rest ≡ front ++ ((name ++ 0 ∷ []) ++ rest)
+        rejoined front name rest =
+            ap (λ s. s ++ rest) (append_assoc front name (0 ∷ []))
+            ∙ append_assoc front (name ++ 0 ∷ []) rest
+
+  pub then_undecided : IsFirstShown rules rest seen.Undecided left → shown_list rules list ≡ None
+  then_undecided first =
+      let none : all_decided rules list ≡ false =
+      sym so_far.decided ∙ decided_step rules rest left seen.Undecided first in
+      ap (λ b. if b then Some (all_parts rules list) else None) none
+
+-- ---- the end
+
+nil_from : (l : List ℕ) → length l ≡ 0 → l ≡ []
+nil_from [] e = refl
+nil_from (x ∷ l) e = absurd (omega (arith, e))
+
+module _ (rules : List MappingRule) (list rest : List ℕ) (count : ℕ) (old new : List ℕ)
+    (so_far : IsSoFar rules list rest count old new) (none_left : length rest ≡ 0) where
+  whole : so_far.so_far ≡ all_parts rules list
+  whole =
+      sym (append-nil so_far.so_far)
+      ∙ ap (λ r. so_far.so_far ++ all_parts rules r) (sym (nil_from rest none_left))
+      ∙ so_far.parts
+
+  answer : shown_list rules list ≡ Some so_far.so_far
+  answer =
+      let all : all_decided rules list ≡ true =
+      sym so_far.decided ∙ ap (all_decided rules) (nil_from rest none_left) in
+      ap (λ b. if b then Some (all_parts rules list) else None) all ∙ ap (λ l. Some l) (sym whole)
+
+  pub fits : count ≤ length new
+      → (told : List ℕ) × (shown_list rules list ≡ Some told) × (count ≡ length told)
+      × (new ≡ told ++ drop count old)
+  fits room =
+      let stands = so_far.holds.are (omega (arith, so_far.counted, room, so_far.holds.same)) in (
+        so_far.so_far,
+        answer,
+        so_far.counted,
+        stands ∙ ap (λ (n : ℕ). so_far.so_far ++ drop n old) (sym so_far.counted),
+      )
+
+  pub too_long : length new < count
+      → (told : List ℕ) × (shown_list rules list ≡ Some told) × (count ≡ length told) × (length old < count)
+  too_long long =
+      (so_far.so_far, answer, so_far.counted, omega (arith, long, so_far.holds.same))
+
+-- ---- how long it is
+
+-- a name more, of a list with so many bytes left
+pub short_more : (count left rest list shown next : ℕ) → next ≡ count + shown + 1 → 0 < rest
+    → (0 < rest → count + rest ≤ list) → shown + left ≤ rest → (0 < left → shown + left < rest)
+    → next + left ≤ list + 1
+short_more count zero rest list shown next is some room within apart =
+    let b = room some in omega (arith, is, within, b)
+short_more count (suc left) rest list shown next is some room within apart =
+    let a = apart (omega arith) in
+    let b = room some in
+    omega (arith, is, a, b)
+
+pub shorter_more : (count left rest list shown next : ℕ) → next ≡ count + shown + 1 → 0 < rest
+    → (0 < rest → count + rest ≤ list) → (0 < left → shown + left < rest) → 0 < left → next + left ≤ list
+shorter_more count left rest list shown next is some room apart more =
+    let a = apart more in
+    let b = room some in
+    omega (arith, is, a, b)
