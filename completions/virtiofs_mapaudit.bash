@@ -16,7 +16,7 @@ _virtiofs_mapaudit()
         --show) words="ids names" ;;
         --explain) words="user= host-user= group= host-group= name= host-name=" ;;
         *)
-            words="--translate-uid --translate-gid --uid-map --gid-map --xattrmap --posix-acl"
+            words="--translate-uid --translate-gid --uid-map --gid-map --xattrmap --xattr --posix-acl"
             words+=" --show --accept --explain --pid --run-as --subuid --subgid --svg --json --quiet --mend"
             words+=" --help --version"
             for before in "${COMP_WORDS[@]:1:COMP_CWORD-1}"; do

@@ -367,7 +367,8 @@ struct virtiofs_entry_room {
  * length of 0, and each must be aligned for its type. All else is as for the inline function whose
  * name lacks `map_`; ids of users and of groups have one symbol. virtiofs_code_errno,
  * virtiofs_code_text, virtiofs_sentence, virtiofs_specs_read, virtiofs_name_to_host and
- * virtiofs_maps_make have no symbol.
+ * virtiofs_maps_make have no symbol. virtiofs_map_name_to_guest takes lengths, writes no zero at the
+ * end, and returns NO_ROOM where virtiofs_name_to_guest returns TOO_LONG.
  */
 
 /* The version of the archive, which is VIRTIOFS_MAP_VERSION of its own header. */
@@ -1162,9 +1163,9 @@ static inline enum virtiofs_code virtiofs_acl_to_guest(struct virtiofs_uids user
 /* Converts a capability of the guest, in place, into one for the host: the id of root, which is
    the last word of revision 3, is mapped by `users`. Revisions 1 and 2 have no such word; the id
    of root counts as 0, and the value is accepted unchanged if 0 is mapped to 0. OK. REFUSED:
-   SHORT, VERSION, SIZE or NO_ID. FORBIDDEN: a specification forbids the id of root. ROOT_MOVES:
-   the revision is 1 or 2, and 0 is mapped to another id; then
-   virtiofs_capability_to_host_in_revision_3 can write the value. NO_MAP. */
+   SHORT, VERSION or SIZE. NO_ID: the id of root is 4294967295, or becomes it. FORBIDDEN: a
+   specification forbids it. ROOT_MOVES: the revision is 1 or 2, and 0 is mapped to another id;
+   then virtiofs_capability_to_host_in_revision_3 can write the value. NO_MAP. */
 VIRTIOFS_CHECKED((4))
 static inline enum virtiofs_code virtiofs_capability_to_host(struct virtiofs_uids users,
                                                              void *value, size_t len,
@@ -1187,8 +1188,8 @@ static inline enum virtiofs_code virtiofs_capability_to_guest(struct virtiofs_ui
 
 /* Reads a capability of the guest, of any revision, and writes the same for the host in
    revision 3, to the 24 bytes of `written`: with the same flags and sets, and with what the id
-   of root is mapped to. OK. REFUSED; FORBIDDEN; NO_MAP, as virtiofs_capability_to_host has
-   them. If the code is not OK, `written` is unchanged. `value` is never changed. */
+   of root is mapped to. OK. REFUSED; NO_ID; FORBIDDEN; NO_MAP, as
+   virtiofs_capability_to_host has them. If the code is not OK, `written` is unchanged. `value` is never changed. */
 VIRTIOFS_CHECKED((4, 5))
 static inline enum virtiofs_code virtiofs_capability_to_host_in_revision_3(
     struct virtiofs_uids users, const void *value, size_t len, void *written,

@@ -53,7 +53,7 @@ def guest(random):
     if random.random() < 0.5:
         last = random.choice((["/map//user.g./"], ["/map/system./user.v./"], ["/map/user./v./"], [rule(random)], ["/bad/all///"], ["/ok/all///"]))
         yield from ("--xattrmap", " ".join([rule(random) for _ in range(random.choice((0, 1, 2, 3)))] + last))
-    yield from random.choice(([],) * 8 + (["--posix-acl"], ["--posix-acl"], ["-o", "posix_acl"]))
+    yield from random.choice(([],) * 5 + (["--xattr"], ["--xattr"], ["-o", "xattr"], ["--posix-acl"], ["--posix-acl"], ["-o", "posix_acl"]))
 
 
 def command_lines(guests):
@@ -160,6 +160,10 @@ def has_acl(words):
     return "--posix-acl" in words or "posix_acl" in values("-o", words)
 
 
+def has_xattrs(words):
+    return has_acl(words) or "--xattr" in words or "xattr" in values("-o", words) or "--xattrmap" in words
+
+
 def opened(given, other):
     """What other options of a guest allow that the given ones do not, by a reading of both."""
     for option in ("--uid-map", "--gid-map"):
@@ -167,6 +171,8 @@ def opened(given, other):
             return f"other values of {option}"
     if has_acl(other) and not has_acl(given):
         return "ACLs"
+    if has_xattrs(other) and not has_xattrs(given):
+        return "xattrs"
     for option in ("--translate-uid", "--translate-gid"):
         before, after = values(option, given), values(option, other)
         for it in edges([*before, *after]):

@@ -46,7 +46,7 @@ OLDER = (
 ).split() + ["", " xattr", "xattr ", "-xattr", "-", "=", "=x"]
 FORMS = [it.split(" ") for it in (
     "-fd|-df|-fdf|-fo xattr|-dfo xattrmap=:ok:all:::|-foxattr|-foxattrmap=x|-do=posix_acl|-doposix_acl|-oxattr|-o=xattr|-o=xattrmap=:ok:all:::|-oxattrmap=x|-o=|-do=|-o==xattr|-o|-fo|-do -f|-o -f|-oo xattr|-oo|-of"
-    "|--o xattr|-o xattr -o bad|-oxattr -o no_xattr|-xattr|-x|-fx|-fdx|-d=1|-d=|-f1|-df=x|-f-d|-d--xattr|-hf|-fV|-h=x|-fh=x|-Vx|-h|-V|--help|--version|--help=x|--version=x|-|-- |---xattr|word|word --xattr|--xattr word|-f word"
+    "|--o xattr|-o xattr -o bad|-oxattr -o no_xattr|-xattr|-x|-fx|-fdx|-d=1|-d=|-f1|-df=x|-f-d|-d--xattr|-hf|-fV|-h=x|-fh=x|-Vx|-h|-V|--help|--version|--help=x|--version=x|-o-x|-o=-x|-fo-x|-fo-xattr,xattr|-h --nosuch|-h -x|-hxyz|-hV|--help -o|-V word|--version --tag=|--nosuch -h|word -h|-f -h=x|-|-- |---xattr|word|word --xattr|--xattr word|-f word"
     "|--sandbox none word|-o xattr word|--xattr -|--xatt|--XATTR|--posix_acl|--Translate-uid map:0:100000:1|--translate_uid map:0:100000:1|--tag -x|--tag=-x|--tag --xattr|--tag=--xattr|--tag -- |--modcaps -chown|--modcaps=-chown"
     "|--fd -3|--thread-pool-size -1|--thread-pool-size=-1|--thread-pool-size=+1|--inode-file-handles never|--log-level --xattr|--translate-uid map:0:100000:1 map:1:100001:1|--translate-uid map:0:100000:1,map:1:100001:1"
     "|--translate-uid map:0:100000:1 --translate-uid map:1:100001:1|--translate-uid map:0:100000:1 --translate-uid x|--translate-uid x --translate-uid map:0:100000:1|--posix-acl --translate-gid map:0:100000:1"

@@ -1,15 +1,17 @@
 #!/usr/bin/env python3
-"""Audits daemons that run, and those of users to whom files give ids.
+"""Audits daemons that run, and those of users to whom files give ids; compares what it says of these with newuidmap and newgidmap.
 
 usage: host.py PROGRAM..
 
 The daemons are stand-ins: a program named virtiofsd that only waits, started in user namespaces of its own. It needs
-root, a C compiler (CC may name it) and user namespaces. Where one is missing, a line that begins with LEFT OUT says so,
-and only the files are tried. The last line is 'N passed, N failed'.
+root, a C compiler (CC may name it) and user namespaces; the last part root, user namespaces and both tools (Debian's package
+uidmap). Where one is missing, a line that begins with LEFT OUT says so. The last line is 'N passed, N failed'.
 """
 import contextlib
 import os
 import pwd
+import re
+import shutil
 import subprocess
 import sys
 import tempfile
@@ -22,6 +24,15 @@ from tally import Tally, left_out, run, waited
 STAND_IN = "#include <unistd.h>\nint main(void) { for (;;) pause(); }\n"
 HOST = "0 0 4294967295"
 MAPPED, MAPPED_GROUPS = "--uid-map=:0:100000:65536:", "--gid-map=:0:100000:65536:"
+TOOLS = {"uid": "newuidmap", "gid": "newgidmap"}
+# Runs a tool as a user, whose files of subordinate ids are this one, on a process of that user in a namespace of its own.
+ASKED = """
+mount --make-rprivate / && for it in subuid subgid; do mount --bind "$1" /etc/$it || exit 9; done
+exec setpriv --reuid="$2" --regid="$3" --clear-groups sh -c '
+    unshare --user sleep 60 & here=$(readlink /proc/self/ns/user)
+    while [ "$(readlink /proc/$!/ns/user)" = "$here" ]; do sleep 0.01; done
+    "$0" $! "$@"; status=$?; kill $!; exit $status' "$4" $5
+"""
 FORBIDDEN = [f"--translate-{it}=forbid-guest:65536:4294901759" for it in ("uid", "gid")]
 
 
@@ -48,6 +59,8 @@ def processes(room, stand_in):
     """What is audited, the words, the status, and a part of what is written to standard output or error."""
     ranges = [MAPPED, MAPPED_GROUPS, *FORBIDDEN]
     kernels = ("0 100000 65536\n",) * 2
+    with daemon(stand_in, ["--xattr"], user=65534) as pid:
+        yield "a daemon of another user than root, in the host's namespace", ["--pid", pid], 5, "its 65534 is 65534 on the host"
     with daemon(stand_in, ranges, kernels) as pid:
         yield "a namespace as its options say", ["--pid", pid], 0, "its 0 to 65535 are 100000 to 165535 on the host"
         yield "an id of it, explained", ["--explain", "user=5", "--pid", pid], 0, f"guest 1, process {pid}\n  user 5 of the guest\n"
@@ -89,12 +102,19 @@ def files(room, _):
                                       f"--translate-gid=forbid-guest:{count}:{4294967295 - count}"]
     yield "ids given by number", ["--run-as", "4321:4321", *both(given), *daemon_of(100000, 65536)], 0, "nothing found"
     yield "one id more", ["--run-as", "4321:4321", *both(given), *daemon_of(100000, 65537)], 5, "the daemon does not start"
+    crlf = Path(room, "crlf")
+    crlf.write_bytes(b"4321:100000:65536\r\n")
+    yield "a file whose lines end in CR LF", ["--run-as", "4321:4321", *both(crlf), *daemon_of(100000, 65536)], 2, "has a carriage return"
     yield "ids given by name", ["--run-as", str(user.pw_uid), *both(given), *daemon_of(200000, 1000)], 0, "nothing found"
     apart = ["--run-as", "4321:4321", "--subuid", str(given), "--subgid", str(given_groups)]
     yield "a file for users and one for groups", [*apart, *daemon_of(100000, 65536)], 5, "the first --gid-map has ids that the user may not"
     yield "the same, with those of each", [*apart, *(it.replace("--gid-map=:0:1", "--gid-map=:0:3") for it in daemon_of(100000, 65536))], 0, "nothing found"
     yield "the last file counts", ["--run-as", "4321:4321", *both(none), *both(given), *daemon_of(100000, 65536)], 0, "nothing found"
     yield "a user in root's group", ["--run-as", "4321:0", *both(none), *daemon_of(100000, 65536)], 5, "the first --uid-map has ids that the user may not"
+    yield "a group that is not the user's", ["--run-as", f"{user.pw_uid}:{user.pw_gid + 1}", *both(given), *daemon_of(200000, 1000)], 5, "the first --uid-map has ids that the user may not"
+    yield "root, to whom no line gives ids", ["--run-as", "0:0", *both(given), *daemon_of(100000, 65536)], 5, "the first --uid-map has ids that the user may not"
+    yield "a number that is no user's", ["--run-as", "4294967295:5", *both(given), *daemon_of(1, 1)], 2, "'4294967295:5' is no user"
+    yield "a number that is no group's", ["--run-as", "5:4294967295", *both(given), *daemon_of(1, 1)], 2, "'5:4294967295' is no user"
     yield "files for no user", [*both(given), *daemon_of(1, 1)], 2, "'--subuid' and '--subgid' are for '--run-as'"
     yield "a folder", ["--run-as", "4321:4321", *both(room), *daemon_of(1, 1)], 2, "is no regular file"
     yield "a file that never ends", ["--run-as", "4321:4321", *both("/dev/zero"), *daemon_of(1, 1)], 2, "/dev/zero is no regular file"
@@ -105,6 +125,60 @@ def files(room, _):
     with long.open("wb") as it:
         it.truncate(16 * 1024 * 1024 + 1)
     yield "a file of more than 16 MiB", ["--run-as", "4321:4321", *both(long), *daemon_of(1, 1)], 2, "has more than 16 MiB"
+
+
+def asked_of_tools():
+    """What is tried, the user and the group, what the file says of {name} and {uid}, and the ranges: inside, outside, count.
+    OWN is the user's own id, and for groups that of the group."""
+    nobody = pwd.getpwnam("nobody")
+    own, other, root = (nobody.pw_uid, nobody.pw_gid), (nobody.pw_uid, nobody.pw_gid - 1), (0, 0)
+    line, ten = "{name}:100000:65536\n", ["0 100000 10"]
+    yield "by name", *own, line, ["0 100000 65536"]
+    yield "by number", *own, "{uid}:100000:65536\n", ["5 100001 65535"]
+    yield "one id more", *own, line, ["0 100000 65537"]
+    yield "one id before", *own, line, ["0 99999 2"]
+    yield "no line", *own, "", ten
+    yield "the line of another", *own, "root:100000:65536\n", ten
+    yield "two lines that adjoin", *own, "{name}:100000:10\n{name}:100010:10\n", ["0 100000 20"]
+    yield "two lines with one id between", *own, "{name}:100000:10\n{name}:100011:10\n", ["0 100000 20"]
+    yield "two ranges", *own, line, ["0 100000 10", "10 100500 10"]
+    yield "the second range is not given", *own, line, ["0 100000 10", "10 99000 10"]
+    yield "the own id and given ones", *own, line, ["0 OWN 1", "1 100000 65535"]
+    yield "the own id twice", *own, line, ["0 OWN 2", "2 100000 10"]
+    yield "no line feed at the end", *own, line[:-1], ten
+    yield "a comment and other lines", *own, f"# {line}\n:1:1\n{line}", ten
+    yield "a blank at the end", *own, line[:-1] + " \n", ten
+    yield "a carriage return at the end", *own, line[:-1] + "\r\n", ten
+    yield "no count", *own, "{name}:100000\n", ten
+    yield "the last id that there is", *own, "{name}:4294967290:5\n", ["0 4294967290 5"]
+    yield "an id more than there are", *own, "{name}:4294967290:6\n", ["0 4294967290 6"]
+    yield "in another group", *other, line, ten
+    yield "in another group, the own id too", *other, line, ["0 OWN 1", "1 100000 10"]
+    yield "root without a line", *root, "", ten
+    yield "root with a line", *root, line, ten
+    yield "root with the line of another", *root, "nobody:100000:65536\n", ten
+
+
+def tool_differs(program, file, uid, gid, text, ranges):
+    """How a tool and the program differ on ranges; nothing where they do not."""
+    name = pwd.getpwuid(uid).pw_name
+    file.write_bytes(text.format(name=name, uid=uid).encode("ascii"))
+    of = {"uid": [it.replace("OWN", str(uid)) for it in ranges], "gid": [it.replace("OWN", str(gid)) for it in ranges]}
+    options = [f"--{kind}-map=:{it.replace(' ', ':')}:" for kind in of for it in of[kind]]
+    said = run([program, "--run-as", f"{uid}:{gid}", "--subuid", str(file), "--subgid", str(file), "--", "virtiofsd", *options])[1]
+    for kind, tool in TOOLS.items():
+        status, wrote = run(["unshare", "-m", "sh", "-c", ASKED, "sh", str(file), str(uid), str(gid), tool, " ".join(of[kind])])
+        refused = re.search(rf"--{kind}-map has ids that the user may not give|--{kind}-map reaches past the greatest id|carriage return", said)
+        if status not in (0, 1) or bool(refused) != (status == 1):
+            return f"{tool} ends with {status}, {wrote!r}, and here {said!r}"
+    return ""
+
+
+def try_tools(tally, program, room):
+    file = Path(room, "ids_of_tools")
+    file.touch()
+    for what, *case in asked_of_tools():
+        tally.see(f"as the tools: {what}", tool_differs(program, file, *case))
 
 
 def try_on(tally, program, cases):
@@ -125,7 +199,12 @@ def main(words):
         is_made = os.getuid() == 0 and can and cc and run([cc, str(source), "-o", stand_in])[0] == 0
         if not is_made:
             left_out("the daemons that run", "that needs root, user namespaces and a C compiler")
+        has_tools = os.getuid() == 0 and can and all(map(shutil.which, (*TOOLS.values(), "setpriv")))
+        if not has_tools:
+            left_out("newuidmap and newgidmap", "that needs root, user namespaces and both tools, Debian's uidmap")
         for program in map(os.path.abspath, words):
+            if has_tools:
+                try_tools(tally, program, room)
             for part in (processes, files) if is_made else (files,):
                 try_on(tally, program, part(room, stand_in))
     return tally.end()

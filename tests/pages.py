@@ -79,7 +79,7 @@ def daemon_differs(command, environment, room):
     wanted = run(["virtiofs_mapaudit", "--", *OF_DAEMON], env=environment)[1]
     Path(room, "virtiofsd").write_text("read -r line\n")
     with subprocess.Popen(["sh", "virtiofsd", *OF_DAEMON], cwd=room, stdin=subprocess.PIPE) as daemon:
-        of_process = wanted.replace("guest 1\n", f"guest 1, process {daemon.pid}\n", 1)
+        of_process = wanted.replace("taken as started by root (--run-as USER)", f"process {daemon.pid} of user {os.getuid()}", 1)
         found = differs(command.replace("PID", str(daemon.pid)), of_process, environment)
     return found or "users 100000 to 165535 do not round-trip" not in wanted and wanted
 

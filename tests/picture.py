@@ -91,6 +91,13 @@ def ends_of(guest):
     return {str(min(it[end], LAST)) for it in pieces for end in ("first", "last") if it["first"] <= LAST}
 
 
+def numbers_in(titles, most=None):
+    """The numbers of guests that each title names, or the first of them."""
+    for title in titles:
+        runs = re.findall(r"(\d+)(?: to (\d+))?", re.match(r"guests? ((?:\d+(?: to \d+)?(?:, | and )?)+)", title)[1])
+        yield from [number for first, last in runs for number in range(int(first), int(last or first) + 1)][:most]
+
+
 def wrong(text, words, guests, status):
     """What is wrong with a drawing."""
     root = ElementTree.fromstring(text)
@@ -99,15 +106,16 @@ def wrong(text, words, guests, status):
     texts = sorted((it for it in drawn if it[4]), key=lambda it: it[1])
     shown, titles = [it[4] for it in texts], [it.findtext(f"{SVG}title") for it in root.findall(f"{SVG}g")]
     ends, given = {end for it in shown for end in it.split("–")}, " ".join(words).replace("=", " ").split()
-    named = [*(f"guest {at + 1}" for at in range(len(guests))), *(f"process {given[1]}" for it in given if it == "--pid")]
+    named = [*numbers_in(titles)]
     yield from (f"tag {it.tag}" for it in root.iter() if it.tag not in TAGS)
     yield from (f"outside: {it}" for it in drawn if min(it[:2]) < 0 or it[2] > width or it[3] > height)
     for at, one in enumerate(texts):
         yield from (f"{one} and {it}" for it in texts[at + 1:at + 40] if it[1] < one[3] and it[0] < one[2] and one[0] < it[2])
     if not any("too many" in it for it in shown):
         yield from (f"no label {end}" for guest in guests for end in ends_of(guest) - ends)
-    is_each = sorted(", ".join(titles).split(", ")) == named and titles == sorted(titles)
-    yield from [] if is_each and {*titles} <= {*shown} else [f"{titles} and not {named}"]
+    is_each = sorted(named) == [at + 1 for at in range(len(guests))] and [*numbers_in(titles, 1)] == sorted(numbers_in(titles, 1))
+    has_process = all(f", process {pid} of user" in titles[-1] for it, pid in zip(given, given[1:]) if it == "--pid")
+    yield from [] if is_each and has_process and {*titles} <= {*shown} else [f"{titles} name {named}"]
     yield from ["nothing found?"] if (status == 0) != any(re.match("nothing (else )?found$", it) for it in shown) else []
     yield from (f"cut: {it}" for it in shown if re.match("--translate[^']*$", it) and not {*it.split()} <= {"..", *given})
     told = str([it.findtext(f"{SVG}desc") for it in root.findall(f"{SVG}g")]) + "--virtiofsd --accept root --pid"

@@ -1,11 +1,12 @@
 -- Guests with the same options.
-use Rattle.std.specs.Prelude.{ℕ, ◌+◌, ◌-◌, Bool, true, false, ◌&&◌, ◌||◌, not, if◌then◌else◌, ◌==◌, nat_lt, List, [], ◌∷◌, ◌++◌, length, map}
+use Rattle.std.specs.Prelude.{ℕ, ◌+◌, ◌-◌, Bool, true, false, ◌&&◌, ◌||◌, not, if◌then◌else◌, ◌==◌, List, [], ◌∷◌, length, map}
 use Rattle.std.specs.Prelude.{Option, Some, None, bytes_eq, slice_get}
 use Rattle.std.specs.Borrow.{Bor}
 use Rattle.std.specs.Cmp.Lexicographic.{pointwise}
 use Rattle.virtiofs_findings.specs.declared.alike.Alike.{Alike}
 use Rattle.virtiofs_findings.specs.declared.guest.Guest.{Guest}
 use Rattle.virtiofs_host.specs.declared.runner.Runner.{Runner}
+use Rattle.virtiofs_options.specs.GuestOptions.{has_xattrs}
 
 -- the texts are the same, one by one
 abbrev pub are_same : List (Bor (List ℕ)) → List (Bor (List ℕ)) → Bool
@@ -28,16 +29,22 @@ is_same_runner None None = true
 is_same_runner (Some runner) (Some other) = runner.now.place == other.now.place
 is_same_runner runner other = false
 
--- the guests have the same options, and one runner
-abbrev pub have_same_options : {A : Type 0} → Guest A → Guest A → Bool
-have_same_options guest other =
+-- the guests have the same specifications, ranges and rules
+abbrev pub have_same_texts : {A : Type 0} → Guest A → Guest A → Bool
+have_same_texts guest other =
     are_same guest.options.translate_uid.items other.options.translate_uid.items
     && are_same guest.options.translate_gid.items other.options.translate_gid.items
     && are_same guest.options.uid_map.items other.options.uid_map.items
     && are_same guest.options.gid_map.items other.options.gid_map.items
     && is_same guest.options.xattrmap other.options.xattrmap
+
+-- the guests have the same options, and one runner
+abbrev pub have_same_options : {A : Type 0} → Guest A → Guest A → Bool
+have_same_options guest other =
+    have_same_texts guest other
     && are_both guest.options.posix_acl other.options.posix_acl
     && are_both guest.options.acl_flag other.options.acl_flag
+    && are_both (has_xattrs guest.options) (has_xattrs other.options)
     && is_same guest.options.sandbox other.options.sandbox
     && is_same_runner guest.runner other.runner
 

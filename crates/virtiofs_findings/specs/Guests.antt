@@ -1,5 +1,5 @@
 -- What the texts of the options of a guest set up.
-use Rattle.std.specs.Prelude.{◌≡◌, ◌≢◌, ◌⊎◌, ◌↔◌, ℕ, Bool, true, false, ◌||◌, ◌&&◌, ◌==◌, if◌then◌else◌, is_some, List, [], Contains, length, nat_lt, IsTrue, IsFalse, Option, Some, None, option_map}
+use Rattle.std.specs.Prelude.{◌≡◌, ◌≢◌, ◌⊎◌, ◌↔◌, ℕ, Bool, true, false, ◌||◌, ◌&&◌, ◌==◌, if◌then◌else◌, is_some, not, List, [], Contains, length, nat_lt, IsTrue, IsFalse, Option, Some, None, option_map}
 use Rattle.std.specs.Borrow.{Bor}
 use Rattle.std.specs.List.{AllZip}
 use Rattle.std.specs.Option.{option_and_then}
@@ -14,7 +14,7 @@ use Rattle.virtiofs_map.specs.declared.idmap.UidMap.{UidMap}
 use Rattle.virtiofs_findings.specs.declared.guest.Guest.{Guest}
 use Rattle.virtiofs_host.specs.declared.runner.Bounds.{Bounds}
 use Rattle.virtiofs_findings.specs.Ranges.{FindsFault, Differ, own_of, ranges_of}
-use Rattle.virtiofs_options.specs.GuestOptions.{sandbox_of, text_in}
+use Rattle.virtiofs_options.specs.GuestOptions.{has_xattrs, sandbox_of, text_in}
 use Rattle.virtiofs_options.specs.declared.guest.Sandbox.{Sandbox}
 use Rattle.virtiofs_options.specs.declared.guest.Sandbox.TheVariants.{Namespace, Chroot, Nothing}
 use Rattle.virtiofs_findings.specs.declared.setup.IdSetUp.{IdSetUp}
@@ -122,6 +122,10 @@ ReadsNames None set = set ≡ None
 ReadsNames (Some text) (Some set) = ReadsText (chars text.now) set
 ReadsNames (Some text) None = RefusesRules (chars text.now)
 
+-- all names of the guest pass as they are: extended attributes are on, and there are no rules
+abbrev pub passes : {A : Type 0} → Guest A → Bool
+passes guest = not (is_some guest.options.xattrmap) && has_xattrs guest.options
+
 -- the daemon translates users or groups
 abbrev pub Translates : {A : Type 0} → Guest A → Type 0
 Translates guest = (guest.options.translate_uid.items ≢ []) ⊎ (guest.options.translate_gid.items ≢ [])
@@ -133,6 +137,7 @@ pub record SetsUp {A : Type 0} (guest : Guest A) (set : SetUp A) : Type 0 where
   pub groups : ReadsIds (groups_of guest) (is_bounded guest) (texts_of guest.options.translate_gid.items)
       (texts_of guest.options.gid_map.items) set.groups
   pub names : ReadsNames guest.options.xattrmap set.names
+  pub passes : set.passes ≡ passes guest
   pub acl : set.posix_acl ≡ guest.options.posix_acl
   pub process : set.process ≡ process_of guest
   pub refused : IsTrue set.acl_refused ↔ (IsTrue guest.options.acl_flag × Translates guest)

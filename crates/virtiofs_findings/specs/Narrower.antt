@@ -64,7 +64,8 @@ pub record SameSet {A : Type 0} (given other : SetUp A) : Type 0 where
   pub names : BothOrNone SameRules given.names other.names
 
 -- what is not about ids or names is as it was: who runs the daemon, its namespace, and how it is kept apart; there are
--- rules where there were, and access control lists are on only where they were
+-- rules where there were, access control lists are on only where they were, and extended attributes and security labels
+-- are asked for where they were
 pub record SameRest {A : Type 0} (given other : Guest A) : Type 0 where
   pub runner : other.runner ≡ given.runner
   pub users : other.options.uid_map.items ≡ given.options.uid_map.items
@@ -73,6 +74,8 @@ pub record SameRest {A : Type 0} (given other : Guest A) : Type 0 where
   pub rules : (given.options.xattrmap ≡ None) ↔ (other.options.xattrmap ≡ None)
   pub lists : IsTrue other.options.posix_acl → IsTrue given.options.posix_acl
   pub flag : IsTrue other.options.acl_flag → IsTrue given.options.acl_flag
+  pub xattr : other.options.xattr ≡ given.options.xattr
+  pub label : other.options.security_label ≡ given.options.security_label
 
 -- under the other options the guest can do no more than under the given ones
 pub record IsNarrower {A : Type 0} (given other : Guest A) : Type 0 where

@@ -1,6 +1,7 @@
 -- What is found between two guests of one directory, which have these numbers.
-use Rattle.std.specs.Prelude.{◌≡◌, ℕ, false, List, [], ◌++◌, Option, Some, None}
+use Rattle.std.specs.Prelude.{◌≡◌, ℕ, Bool, true, false, List, [], ◌∷◌, ◌++◌, Option, Some, None}
 use Rattle.virtiofs_map.specs.Audit.{IsSeen, IsShared}
+use Rattle.virtiofs_map.specs.Rule.{MappingRule, Okay}
 use Rattle.virtiofs_findings.specs.IdFindings.{FindsMeeting}
 use Rattle.virtiofs_findings.specs.Lists.{listed}
 use Rattle.virtiofs_findings.specs.NameFindings.{FindsLeast}
@@ -34,15 +35,33 @@ abbrev pub pair_name_found : {A : Type 0} → ℕ → ℕ → Kind → LeastName
 pair_name_found first second kind it = of_pair first second kind (Name it)
 
 -- names of each that lists of the other show, and names that lead to one name of the host
-pub record FindsNamesBetween {A : Type 0} (number number_2 : ℕ) (one other : NamesSetUp A)
+pub record FindsNamesBetween {A : Type 0} (number number_2 : ℕ) (one other : List MappingRule)
     (found : List (Finding A)) : Type 0 where
   pub of_seen : List (Finding A)
   pub of_seen_back : List (Finding A)
   pub of_shared : List (Finding A)
-  pub seen : FindsLeast (pair_name_found number number_2 ShownToOther) (IsSeen one.map other.map) of_seen
-  pub seen_back : FindsLeast (pair_name_found number_2 number ShownToOther) (IsSeen other.map one.map) of_seen_back
-  pub shared : FindsLeast (pair_name_found number number_2 NameOfBoth) (IsShared one.map other.map) of_shared
+  pub seen : FindsLeast (pair_name_found number number_2 ShownToOther) (IsSeen one other) of_seen
+  pub seen_back : FindsLeast (pair_name_found number_2 number ShownToOther) (IsSeen other one) of_seen_back
+  pub shared : FindsLeast (pair_name_found number number_2 NameOfBoth) (IsShared one other) of_shared
   pub whole : found ≡ of_seen ++ of_seen_back ++ of_shared
+
+-- the rule that passes each name as it is
+abbrev pub passes_all : List MappingRule
+passes_all = record { kind = Okay; client = true; server = true; key = []; prepend = [] } ∷ []
+
+-- the same of two guests: where one has no rules, its names pass as they are, if they do
+abbrev pub FindsNamesOf : {A : Type 0} → ℕ → ℕ → Option (NamesSetUp A) → Bool → Option (NamesSetUp A) → Bool
+    → List (Finding A) → Type 0
+FindsNamesOf number number_2 (Some one) passes (Some other) others_pass found =
+    FindsNamesBetween number number_2 one.map other.map found
+FindsNamesOf number number_2 (Some one) passes None true found = FindsNamesBetween number number_2 one.map passes_all found
+FindsNamesOf number number_2 (Some one) passes None false found = found ≡ []
+FindsNamesOf number number_2 None true (Some other) others_pass found =
+    FindsNamesBetween number number_2 passes_all other.map found
+FindsNamesOf number number_2 None false (Some other) others_pass found = found ≡ []
+FindsNamesOf number number_2 None true None true found = FindsNamesBetween number number_2 passes_all passes_all found
+FindsNamesOf number number_2 None true None false found = found ≡ []
+FindsNamesOf number number_2 None false None others_pass found = found ≡ []
 
 -- what is found between two guests, in order
 pub record FindsPair {A : Type 0} (number number_2 : ℕ) (first second : SetUp A) (found : List (Finding A)) : Type
@@ -52,5 +71,5 @@ pub record FindsPair {A : Type 0} (number number_2 : ℕ) (first second : SetUp 
   pub of_names : List (Finding A)
   pub users : FindsBoth (FindsIdsOfBoth number number_2 Users) first.users second.users of_users
   pub groups : FindsBoth (FindsIdsOfBoth number number_2 Groups) first.groups second.groups of_groups
-  pub names : FindsBoth (FindsNamesBetween number number_2) first.names second.names of_names
+  pub names : FindsNamesOf number number_2 first.names first.passes second.names second.passes of_names
   pub whole : found ≡ of_users ++ of_groups ++ of_names

@@ -1,7 +1,7 @@
 -- The ranges of a daemon's namespace, and what is wrong with those of its options: the daemon gets no namespace with
 -- such a range.
 use Rattle.std.specs.Prelude.{◌≡◌, ◌⊎◌, ℕ, ◌+◌, ◌<◌, ◌≤◌, Bool, true, false, ◌==◌, ◌&&◌, if◌then◌else◌, List, [], ◌∷◌, ◌++◌, All, Contains}
-use Rattle.std.specs.Prelude.{codes, flat_map, length, take, slice_get, Option, Some, None, MatchOption, option_map}
+use Rattle.std.specs.Prelude.{codes, flat_map, length, nat_lt, take, slice_get, Option, Some, None, MatchOption, option_map}
 use Rattle.std.specs.Fmt.{decimal}
 use Rattle.std.specs.Option.{option_and_then, option_map_or}
 use Rattle.virtiofs_map.specs.Mapping.{InRange}
@@ -104,10 +104,12 @@ set_up_ranges true own [] = alone own ∷ []
 set_up_ranges false own [] = []
 set_up_ranges sets_up own (range ∷ written) = range ∷ written
 
--- the ranges of the namespace that the daemon runs in: those that the kernel shows, or else those that it sets up
+-- the ranges of the namespace that the daemon runs in: those that the kernel shows, but of who is not root and in that
+-- of the host the id that it runs as alone; or else those that it sets up
 abbrev pub ranges_of : {A : Type 0} → Option (Bounds A) → Bool → List UidMap → List UidMap
 ranges_of bounds sets_up written =
-    option_map_or but_host (shown_of bounds) (set_up_ranges sets_up (own_of bounds) written)
+    option_map_or (λ shown. set_up_ranges (nat_lt 0 (own_of bounds)) (own_of bounds) (but_host shown)) (shown_of bounds)
+    (set_up_ranges sets_up (own_of bounds) written)
 
 -- as many ranges as those of the options, and no others
 abbrev pub AreSame : List UidMap → List UidMap → Type 0

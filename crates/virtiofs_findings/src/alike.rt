@@ -1,6 +1,6 @@
 //! Guests with the same options. What is said of one of them is true of all, and is said once.
 ghost use Rattle.std.specs.Prelude.{◌≡◌, ◌<◌, ◌++◌, ◌∷◌, [], List, ℕ, IfOk};
-ghost use Rattle.virtiofs_findings.specs.AlikeGuests.{are_both, is_same_runner, have_same_options, alike_of, alike_to, likes_of, is_first, is_second, is_told};
+ghost use Rattle.virtiofs_findings.specs.AlikeGuests.{are_both, is_same_runner, have_same_options, have_same_texts, alike_of, alike_to, likes_of, is_first, is_second, is_told};
 
 use crate::guest::Guest;
 use std::alloc::{AllocError, Allocator};
@@ -35,20 +35,29 @@ fn is_same_runner<A: Allocator>(runner: Option<&Runner<A>>, other: Option<&Runne
     }
 }
 
-/// Whether two guests have the same options, and one runner.
-fn have_same_options<A: Allocator>(guest: &Guest<'_, A>, other: &Guest<'_, A>) -> bool
-    ensures { result ≡ have_same_options guest.now other.now }
+/// Whether two guests have the same specifications, ranges and rules.
+fn have_same_texts<A: Allocator>(guest: &Guest<'_, A>, other: &Guest<'_, A>) -> bool
+    ensures { result ≡ have_same_texts guest.now other.now }
 {
     let users = guest.options.translate_uid.as_slice() == other.options.translate_uid.as_slice();
     let groups = guest.options.translate_gid.as_slice() == other.options.translate_gid.as_slice();
     let of_users = guest.options.uid_map.as_slice() == other.options.uid_map.as_slice();
     let of_groups = guest.options.gid_map.as_slice() == other.options.gid_map.as_slice();
     let rules = guest.options.xattrmap == other.options.xattrmap;
+    users && groups && of_users && of_groups && rules
+}
+
+/// Whether two guests have the same options, and one runner.
+fn have_same_options<A: Allocator>(guest: &Guest<'_, A>, other: &Guest<'_, A>) -> bool
+    ensures { result ≡ have_same_options guest.now other.now }
+{
+    let texts = have_same_texts(guest, other);
     let lists = are_both(guest.options.posix_acl, other.options.posix_acl);
     let flags = are_both(guest.options.acl_flag, other.options.acl_flag);
+    let xattrs = are_both(guest.options.has_xattrs(), other.options.has_xattrs());
     let sandboxes = guest.options.sandbox == other.options.sandbox;
     let runner = is_same_runner(guest.runner, other.runner);
-    users && groups && of_users && of_groups && rules && lists && flags && sandboxes && runner
+    texts && lists && flags && xattrs && sandboxes && runner
 }
 
 /// These guests, and one more of a greater number.

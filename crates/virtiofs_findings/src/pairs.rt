@@ -1,17 +1,17 @@
 //! What is found between two guests of one directory.
-ghost use Rattle.std.specs.Prelude.{◌≡◌, ◌++◌, ◌∷◌, [], OnOk};
+ghost use Rattle.std.specs.Prelude.{◌≡◌, ◌++◌, ◌∷◌, [], IfOk, OnOk};
 ghost use Rattle.virtiofs_findings.specs.Findings.{of_pair};
 ghost use Rattle.virtiofs_findings.specs.Lists.{Adds};
 ghost use Rattle.virtiofs_findings.specs.NameFindings.{FindsLeast};
 ghost use Rattle.virtiofs_findings.specs.NameParts.{HasFault};
-ghost use Rattle.virtiofs_findings.specs.PairFindings.{FindsPair, FindsBoth, FindsIdsOfBoth, FindsNamesBetween, pair_name_found};
+ghost use Rattle.virtiofs_findings.specs.PairFindings.{FindsPair, FindsBoth, FindsIdsOfBoth, FindsNamesBetween, FindsNamesOf, pair_name_found, passes_all};
 
 use crate::finding::{About, Evidence, Finding, Kind};
 use crate::ids::kind::IdKind;
 use crate::ids::meeting::meeting_of;
 use crate::names::audits::least_name;
 use crate::names::found::NameFault;
-use crate::setup::{IdSetUp, NamesSetUp, SetUp};
+use crate::setup::{IdSetUp, SetUp};
 use std::alloc::{AllocError, Allocator};
 use virtiofs_map::xattrmap::XattrMap;
 
@@ -86,28 +86,75 @@ fn push_name<A: Allocator + Copy>(
     push_of_pair(found, first, second, kind, Evidence::Name(least))
 }
 
-/// Adds what is found of the names of two guests, where both have rules.
-fn push_names<A: Allocator + Copy>(
+/// Adds what is found of the names of two guests that meet these rules.
+fn push_between<A: Allocator + Copy>(
     alloc: A,
     found: &mut Vec<Finding<A>, A>,
     first: usize,
     second: usize,
-    one: &Option<NamesSetUp<A>>,
-    other: &Option<NamesSetUp<A>>,
+    one: &XattrMap<A>,
+    other: &XattrMap<A>,
 ) -> Result<(), AllocError>
-    ensures { OnOk result (Adds
-        (FindsBoth (FindsNamesBetween first second) one.now other.now)
+    ensures { OnOk result (Adds (FindsNamesBetween first second one.now other.now)
         found.old.items found.new.items) }
 {
-    let (Some(one), Some(other)) = (one, other) else {
-        return Ok(());
-    };
-    let (one, other) = (&one.map, &other.map);
     let (shown, shared) = (Kind::ShownToOther, Kind::NameOfBoth);
     let (seen, both) = (NameFault::Seen, NameFault::Shared);
     push_name(alloc, found, first, second, shown, seen, one, other)?;
     push_name(alloc, found, second, first, shown, seen, other, one)?;
     push_name(alloc, found, first, second, shared, both, one, other)
+}
+
+/// The rule that passes each name as it is.
+fn passing<A: Allocator + Copy>(alloc: A) -> Result<XattrMap<A>, AllocError>
+    ensures { IfOk result (λ map. map ≡ passes_all) }
+{
+    match XattrMap::try_from(alloc, ":ok:all:::") {
+        Ok(map) => Ok(map),
+        Err(_) => Err(AllocError),
+    }
+}
+
+/// Adds what is found of the names of two guests. Where one has no rules, its names pass as they are, if
+/// they do.
+fn push_names<A: Allocator + Copy>(
+    alloc: A,
+    found: &mut Vec<Finding<A>, A>,
+    first: usize,
+    second: usize,
+    one: &SetUp<A>,
+    other: &SetUp<A>,
+) -> Result<(), AllocError>
+    ensures { OnOk result (Adds
+        (FindsNamesOf first second one.now.names one.now.passes other.now.names other.now.passes)
+        found.old.items found.new.items) }
+{
+    match (&one.names, &other.names) {
+        (Some(one), Some(other)) => {
+            push_between(alloc, found, first, second, &one.map, &other.map)
+        }
+        (Some(one), None) => {
+            if !other.passes {
+                return Ok(());
+            }
+            let all = passing(alloc)?;
+            push_between(alloc, found, first, second, &one.map, &all)
+        }
+        (None, Some(other)) => {
+            if !one.passes {
+                return Ok(());
+            }
+            let all = passing(alloc)?;
+            push_between(alloc, found, first, second, &all, &other.map)
+        }
+        (None, None) => {
+            if !one.passes || !other.passes {
+                return Ok(());
+            }
+            let all = passing(alloc)?;
+            push_between(alloc, found, first, second, &all, &all)
+        }
+    }
 }
 
 /// Adds what is found between the two guests of these numbers, in order.
@@ -133,5 +180,5 @@ pub(crate) fn push_pair<A: Allocator + Copy>(
         &one.groups,
         &other.groups,
     )?;
-    push_names(alloc, found, first, second, &one.names, &other.names)
+    push_names(alloc, found, first, second, one, other)
 }

@@ -6,7 +6,7 @@ ghost use Rattle.virtiofs_map.specs.Build.{BuildFault, build_fault_of};
 ghost use Rattle.virtiofs_map.specs.RulesFault.{RulesFault, HasRulesFault, rules_fault_of};
 ghost use Rattle.virtiofs_map.specs.SpecificationText.{SpecificationFault, specification_fault_of};
 ghost use Rattle.std.specs.Option.{option_map};
-ghost use Rattle.virtiofs_findings.specs.Guests.{ReadsSpecs, ReadsRanges, ReadsIds, RunsIn, users_of, groups_of, process_of, has_ranges, has_namespaces, is_bounded, starter_of, no_start, no_start_of, RefusesRules, ReadsText, ReadsNames, SetsUp, Translates};
+ghost use Rattle.virtiofs_findings.specs.Guests.{ReadsSpecs, ReadsRanges, ReadsIds, RunsIn, users_of, groups_of, process_of, has_ranges, has_namespaces, is_bounded, starter_of, no_start, no_start_of, RefusesRules, ReadsText, ReadsNames, SetsUp, Translates, passes};
 ghost use Rattle.virtiofs_map.specs.Printed.{build_error_text, rules_error_text};
 ghost use Rattle.virtiofs_findings.specs.Lists.{Adds};
 ghost use Rattle.virtiofs_findings.specs.Refusals.{IsAt, TellsPlace, TellsBuildFault, TellsSpecsFault, TellsSpecs, TellsRanges, TellsIds, TellsNames, TellsGuest};
@@ -70,6 +70,8 @@ pub struct SetUp<A: Allocator> {
     pub groups: Option<IdSetUp<A>>,
     /// The rules for names; `None` where there are none, or where they are refused.
     pub names: Option<NamesSetUp<A>>,
+    /// Whether all names pass as they are: extended attributes are on, and there are no rules.
+    pub passes: bool,
     /// Whether access control lists are on.
     pub posix_acl: bool,
     /// Whether `--posix-acl` stands beside a translation of ids, with which the daemon does not start.
@@ -336,6 +338,13 @@ fn read_names<A: Allocator + Copy>(
     }
 }
 
+/// Whether all names of a guest pass as they are.
+fn passes<A: Allocator>(guest: &Guest<'_, A>) -> bool
+    ensures { result ≡ passes guest.now }
+{
+    guest.options.xattrmap.is_none() && guest.options.has_xattrs()
+}
+
 /// Whether the daemon of a guest translates users or groups.
 fn translates<A: Allocator>(guest: &Guest<'_, A>) -> bool
     ensures { IsTrue result ↔ Translates guest.now }
@@ -483,6 +492,7 @@ pub(crate) fn set_up<A: Allocator + Copy>(
         users,
         groups,
         names,
+        passes: passes(guest),
         posix_acl: guest.options.posix_acl,
         acl_refused: acl_refused(guest),
         acl_untranslated: acl_untranslated(guest),

@@ -1,5 +1,5 @@
 -- Who runs a daemon, as the files of a host say.
-use Rattle.std.specs.Prelude.{◌≡◌, ◌≢◌, ◌⊎◌, ⊤, ℕ, List, Option, Some, None, option_map, codes}
+use Rattle.std.specs.Prelude.{◌≡◌, ◌==◌, ◌⊎◌, ⊤, ℕ, List, [], Bool, true, false, Option, Some, None, option_map, codes}
 use Rattle.std.specs.Option.{option_or}
 use Rattle.std.specs.declared.vec.Vec.{Vec}
 use Rattle.virtiofs_map.specs.declared.idmap.UidMap.{UidMap}
@@ -25,18 +25,28 @@ name_of (Some user) = user.name.now
 abbrev pub group_of : RunAs → Option User → Option ℕ
 group_of run_as user = option_or run_as.gid (option_map (λ user. user.gid) user)
 
--- the other ids of the user's namespace are those that the lines of a file give; for root no file is asked
-abbrev pub GivesTo : {A : Type 0} → List ℕ → ℕ → List ℕ → Option (Vec SubIds A) → Type 0
-GivesTo name uid text None = uid ≡ 0
-GivesTo name uid text (Some given) = (uid ≢ 0) × AllSaid (GivesIds name uid) (lines text) given.items
+-- the group is that of the user; one whom `/etc/passwd` does not have is in that group
+abbrev pub is_own_group : ℕ → Option User → Bool
+is_own_group gid None = true
+is_own_group gid (Some user) = gid == user.gid
+
+-- the other ids of the user's namespace: those that the lines of a file give, also to root; none where the user is in
+-- another group, since `newuidmap` and `newgidmap` refuse that user
+abbrev pub GivesTo : Bool → List ℕ → ℕ → List ℕ → List SubIds → Type 0
+GivesTo true name uid text given = AllSaid (GivesIds name uid) (lines text) given
+GivesTo false name uid text given = given ≡ []
 
 -- the runner of a daemon that a user starts
 pub record Starts {A : Type 0} (uid gid : ℕ) (user : Option User) (subuid subgid : List ℕ) (place : ℕ) (runner : Runner A)
     : Type 0 where
   pub runs_as : runner.users.own ≡ uid
   pub in_group : runner.groups.own ≡ gid
-  pub users : GivesTo (name_of user) uid subuid runner.users.given
-  pub groups : GivesTo (name_of user) uid subgid runner.groups.given
+  pub given_users : Vec SubIds A
+  pub given_groups : Vec SubIds A
+  pub users_given : runner.users.given ≡ Some given_users
+  pub groups_given : runner.groups.given ≡ Some given_groups
+  pub users : GivesTo (is_own_group gid user) (name_of user) uid subuid given_users.items
+  pub groups : GivesTo (is_own_group gid user) (name_of user) uid subgid given_groups.items
   pub no_users : runner.users.shown ≡ None
   pub no_groups : runner.groups.shown ≡ None
   pub starts : runner.process ≡ None

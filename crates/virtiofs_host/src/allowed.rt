@@ -39,8 +39,8 @@ fn are_given(given: &[SubIds], first: u32, count: u32) -> bool
 /// group) and those subordinate ids.
 ///
 /// It sets up a range that is the user's own id alone, or that has subordinate ids alone, of one
-/// line of `/etc/subuid` or of several. A range without ids is refused, and so is one with an id
-/// above 4294967294.
+/// line of `/etc/subuid` or of several, and root is no exception. A range without ids is refused, and so
+/// is one with an id above 4294967294. virtiofsd asks for none if the own id alone is the only range.
 pub fn is_allowed(own: u32, given: &[SubIds], range: &UidMap) -> bool
     ensures { IsTrue result ↔ IsAllowed own given.now range.now }
 {

@@ -1,8 +1,8 @@
 //! Who runs a daemon, and what of the host bounds the namespace that it runs in.
-ghost use Rattle.std.specs.Prelude.{◌≡◌, ◌⊎◌, IfSome, IfNone, IfOk, IfErr};
+ghost use Rattle.std.specs.Prelude.{◌≡◌, ◌⊎◌, ℕ, IfSome, IfNone, IfOk, IfErr};
 ghost use Rattle.virtiofs_host.specs.declared.runner.NotShown.TheVariants.{OutOfMemory};
-ghost use Rattle.virtiofs_host.specs.RunAs.{SaysUser};
-ghost use Rattle.virtiofs_host.specs.Runners.{name_of, GivesTo, group_of, Starts, BoundsShown, SaysNoRanges, IsShown, IsNotShown};
+ghost use Rattle.virtiofs_host.specs.RunAs.{IsId, SaysUser};
+ghost use Rattle.virtiofs_host.specs.Runners.{name_of, is_own_group, GivesTo, group_of, Starts, BoundsShown, SaysNoRanges, IsShown, IsNotShown};
 
 use crate::cut::cut;
 use crate::decimal::decimal;
@@ -20,7 +20,7 @@ pub struct Bounds<A: Allocator> {
     /// The user, or the group, that the daemon runs as.
     pub own: u32,
     /// The other ids that `newuidmap` (`newgidmap`) gives to its namespace; `None` where it is not
-    /// asked: for root, and for a daemon that runs already.
+    /// asked, since the daemon runs already.
     pub given: Option<Vec<SubIds, A>>,
     /// The ranges of the namespace that the daemon runs in, where the kernel shows them.
     pub shown: Option<Vec<UidMap, A>>,
@@ -49,13 +49,25 @@ pub struct RunAs {
     pub gid: Option<u32>,
 }
 
+/// Reads an id in decimal. 4294967295 is none.
+fn id_of(text: &[u8]) -> Option<u32>
+    ensures says { IfSome result (IsId text.now) }
+    ensures none { IfNone result ((id : ℕ) → ¬ IsId text.now id) }
+{
+    let id = decimal(text)?;
+    if id == u32::MAX {
+        return None;
+    }
+    Some(id)
+}
+
 /// Reads `UID` or `UID:GID`, both in decimal.
 pub fn read_run_as(text: &str) -> Option<RunAs>
     ensures says { IfSome result (SaysUser text.now) }
     ensures none { IfNone result ((user : RunAs) → ¬ SaysUser text.now user) }
 {
     let (user, rest) = cut(text.as_bytes(), b':');
-    let uid = decimal(user)?;
+    let uid = id_of(user)?;
     let Some(rest) = rest else {
         return Some(RunAs { uid, gid: None });
     };
@@ -63,7 +75,7 @@ pub fn read_run_as(text: &str) -> Option<RunAs>
     if more.is_some() {
         return None;
     }
-    let gid = Some(decimal(group)?);
+    let gid = Some(id_of(group)?);
     Some(RunAs { uid, gid })
 }
 
@@ -78,19 +90,33 @@ fn name_of<'a>(user: Option<User<'a>>) -> &'a [u8]
     }
 }
 
-/// The other ids that a file gives to a user's namespace; `None` for root, for whom it is not asked.
+/// Whether a group is that of a user. One who is not known here is of another host, and in that group
+/// there.
+fn is_own_group(gid: u32, user: Option<User<'_>>) -> bool
+    ensures { result ≡ is_own_group gid user.entry }
+{
+    match user {
+        Some(user) => gid == user.gid,
+        None => true,
+    }
+}
+
+/// The other ids that a file gives to a user's namespace: none where `newuidmap` and `newgidmap` refuse
+/// the user, as they refuse each whose group is not that of `/etc/passwd`. Root has to have lines too.
 fn given_to<A: Allocator + Copy>(
     alloc: A,
+    is_own_group: bool,
     text: &[u8],
     name: &[u8],
     uid: u32,
-) -> Result<Option<Vec<SubIds, A>>, AllocError>
-    ensures { IfOk result (GivesTo name.now uid text.now) }
+) -> Result<Vec<SubIds, A>, AllocError>
+    ensures { IfOk result (λ given.
+        GivesTo is_own_group name.now uid text.now given.items) }
 {
-    if uid == 0 {
-        return Ok(None);
+    if !is_own_group {
+        return Ok(Vec::new(alloc));
     }
-    Ok(Some(read_subordinate(alloc, text, name, uid)?))
+    read_subordinate(alloc, text, name, uid)
 }
 
 /// The group that a daemon runs as which a user starts: the one that is said, or that of the user.
@@ -120,16 +146,16 @@ pub fn starting<A: Allocator + Copy>(
 ) -> Result<Runner<A>, AllocError>
     ensures { IfOk result (Starts uid gid user.entry subuid.now subgid.now place) }
 {
-    let name = name_of(user);
+    let (name, is_own) = (name_of(user), is_own_group(gid, user));
     Ok(Runner {
         users: Bounds {
             own: uid,
-            given: given_to(alloc, subuid, name, uid)?,
+            given: Some(given_to(alloc, is_own, subuid, name, uid)?),
             shown: None,
         },
         groups: Bounds {
             own: gid,
-            given: given_to(alloc, subgid, name, uid)?,
+            given: Some(given_to(alloc, is_own, subgid, name, uid)?),
             shown: None,
         },
         process: None,

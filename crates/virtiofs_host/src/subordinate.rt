@@ -1,5 +1,5 @@
 //! The ids that users may give to namespaces, as `/etc/subuid` and `/etc/subgid` list them.
-ghost use Rattle.std.specs.Prelude.{IfOk, IfSome, IfNone};
+ghost use Rattle.std.specs.Prelude.{◌↔◌, Contains, IsTrue, IfOk, IfSome, IfNone};
 ghost use Rattle.virtiofs_host.specs.Lines.{lines, AllSaid};
 ghost use Rattle.virtiofs_host.specs.SubordinateIds.{GivesIds};
 ghost use Rattle.virtiofs_host.specs.declared.subordinate.SubIds.{SubIds};
@@ -35,6 +35,15 @@ fn ids_of(line: &[u8], name: &[u8], uid: u32) -> Option<SubIds>
         first: decimal(first)?,
         count: decimal(count)?,
     })
+}
+
+/// Whether the content of `/etc/subuid` or `/etc/subgid` has a carriage return, as before each line feed
+/// of a file from another system: `newuidmap` passes over a line that ends in one, and so does
+/// [`read_subordinate`].
+pub fn has_carriage_return(text: &[u8]) -> bool
+    ensures { IsTrue result ↔ Contains text.now 13 }
+{
+    text.contains(&b'\r')
 }
 
 /// Reads which ids the content of `/etc/subuid` or `/etc/subgid` gives to the user with that name

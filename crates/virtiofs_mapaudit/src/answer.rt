@@ -130,7 +130,7 @@ fn advice<'r>(
 }
 
 /// The text of a report, in the form that was asked for.
-fn written(
+fn in_form(
     alloc: Global,
     request: Request<'_>,
     guests: &[Guest<'_, Global>],
@@ -165,7 +165,7 @@ fn text_of(
     if request.front.quiet {
         return Ok(String::new(alloc));
     }
-    written(alloc, request, guests, report)
+    in_form(alloc, request, guests, report)
 }
 
 /// What is answered where that is what an audit found, and these are to be tried.

@@ -3,6 +3,7 @@ ghost use Rattle.std.specs.Prelude.{IfOk, []};
 ghost use Rattle.virtiofs_mapaudit.specs.Answers.{EndsAs, ReportsExplained};
 
 use crate::answer::{Answer, refusal_lines};
+use crate::summary::NO_ID;
 use crate::words::one_of;
 use std::alloc::{AllocError, Global};
 use virtiofs_findings::explain::asking::{Question, QuestionFault};
@@ -77,6 +78,9 @@ fn push_spec(
         return text.push_str(" -> calls fail\n");
     };
     let one = one_of(of.kind);
+    if id == u32::MAX {
+        return write!(text, " -> {keeps}{one} {id}{NO_ID}\n");
+    }
     write!(text, " -> {keeps}{one} {id}{side}\n")
 }
 
@@ -151,6 +155,11 @@ fn push_ways(
     let Some(back) = ways.back else {
         return Ok(());
     };
+    if let (Direction::GuestToHost, Some(id)) = (direction, ways.there.specs.becomes)
+        && id == u32::MAX
+    {
+        return text.push_str("    calls fail\n");
+    }
     push_layers(text, of, back_from(direction), back)?;
     push_round(text, ways.is_round)
 }
@@ -286,6 +295,11 @@ fn translation_of<'g, 'a>(
     }
 }
 
+/// Whether virtiofsd takes a name for one of access control lists: one of these begins with it.
+fn is_of_acls(name: &[u8]) -> bool {
+    b"system.posix_acl_access".starts_with(name) || b"system.posix_acl_default".starts_with(name)
+}
+
 /// Writes the line of a question, and the lines of its explanation.
 fn push_explanation(
     alloc: Global,
@@ -303,7 +317,14 @@ fn push_explanation(
         }
         (Explanation::GuestName(name), _) => push_guest_name(alloc, text, rules, name),
         (Explanation::HostName(name), _) => push_host_name(alloc, text, rules, name),
-        (Explanation::NoRules, _) => text.push_str("    no rules: keeps its name\n"),
+        (Explanation::NoRules, Question::Name(Direction::GuestToHost, name))
+            if set.passes && !set.posix_acl && is_of_acls(name.as_bytes()) => {
+            text.push_str("    ACLs are off: not supported\n")
+        }
+        (Explanation::NoRules, _) if set.passes => {
+            text.push_str("    no rules: keeps its name\n")
+        }
+        (Explanation::NoRules, _) => text.push_str("    xattrs are off: calls fail\n"),
         _ => text.push_str("    refused\n"),
     }
 }

@@ -7,6 +7,7 @@ use virtiofs_host::decimal::decimal;
 use virtiofs_host::runner::{
     NotShown, RunAs, Runner, Shown, group_of, read_run_as, running, starting,
 };
+use virtiofs_host::subordinate::has_carriage_return;
 use virtiofs_host::users::find_user;
 use virtiofs_options::fault::shown;
 use virtiofs_options::values::Values;
@@ -131,6 +132,9 @@ fn runner_of(rt: &HostRuntime, pid: u32, place: usize) -> Result<Runner<Global>,
 fn subordinate(rt: &HostRuntime, files: &[&str], usual: &str) -> Result<Vec<u8>, HostFault> {
     let path = files.last().copied().unwrap_or(usual);
     match content(rt, path)? {
+        Some(text) if has_carriage_return(text.as_slice()) => Err(told(format!(in rt.alloc();
+            "{path} has a carriage return: newuidmap passes over a line that ends in one\n"
+        ))),
         Some(text) => Ok(text),
         None if files.is_empty() => Ok(Vec::new(rt.alloc())),
         None => Err(told(format!(in rt.alloc(); "there is no file {path}\n"))),
@@ -140,7 +144,7 @@ fn subordinate(rt: &HostRuntime, files: &[&str], usual: &str) -> Result<Vec<u8>,
 /// That a value of `--run-as` names no user.
 fn no_user(alloc: Global, text: &str) -> Result<String, AllocError> {
     let word = shown(alloc, text)?;
-    format!(in alloc; "{word} is no user: --run-as takes UID or UID:GID\n")
+    format!(in alloc; "{word} is no user: --run-as takes UID or UID:GID, such as $(id -u NAME)\n")
 }
 
 /// A user who starts a daemon, where `/etc/passwd` has this text.

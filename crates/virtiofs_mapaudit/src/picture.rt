@@ -8,9 +8,9 @@ mod faulty;
 mod panel;
 mod text;
 
-use crate::options::push_options;
 use crate::refusal::refusal_line;
-use crate::summary::push_summary;
+use crate::shell::push_options;
+use crate::summary::{push_numbers, push_runner, push_summary};
 use crate::text::{are_of_same, found_of, guests_of, is_of_one, push_found};
 use crate::words::one_of;
 use bands::{LOOKS, bands_of};
@@ -155,22 +155,14 @@ impl Drawing<'_> {
         set: &SetUp<Global>,
     ) -> Done {
         let (mut numbers, mut options) = (String::new(self.alloc), String::new(self.alloc));
-        for (place, other) in likes.iter().enumerate() {
-            if other.first == alike.first {
-                let number = place.saturating_add(1);
-                let before = only_if(number > alike.first, ", ");
-                write!(numbers, "{before}guest {number}")?;
-            }
-        }
-        if let Some(pid) = set.process {
-            write!(numbers, ", process {pid}")?;
-        }
+        push_numbers(self.alloc, &mut numbers, likes, alike)?;
+        push_runner(&mut numbers, guest)?;
         push_options(self.alloc, &mut options, "", "\n", &guest.options)?;
         options.push_str(only_if(options.is_empty(), "no option for ids or names"))?;
         self.push_lines(BOLD, numbers.as_str())?;
         self.push_lines(GREY, options.as_str())?;
         write!(self.text, "<title>{numbers}</title>\n<desc>")?;
-        push_summary(&mut self.text, alike, guest, set)?;
+        push_summary(self.alloc, &mut self.text, likes, alike, guest, set)?;
         push_first(&mut self.text, options.as_str().as_bytes(), 6000)?;
         self.text.push_str("</desc>\n")
     }

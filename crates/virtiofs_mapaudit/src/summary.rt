@@ -8,22 +8,52 @@ use virtiofs_findings::ids::Ids;
 use virtiofs_findings::setup::{IdSetUp, NamesSetUp, SetUp};
 use virtiofs_map::idmap::UidMap;
 use virtiofs_map::soft_idmap::{Direction, Outcome, Piece};
+use virtiofs_options::guest::Guest as GuestOptions;
 
-/// Writes the numbers of guests at the end of a text: the first two, and how many more there are.
-pub(crate) fn push_numbers(text: &mut String, alike: Alike) -> Result<(), AllocError> {
-    let Alike {
-        first,
-        second,
-        count,
-    } = alike;
-    match count {
-        0 | 1 => write!(text, "guest {first}"),
-        2 => write!(text, "guests {first} and {second}"),
-        _ => {
-            let more = count - 2;
-            write!(text, "guests {first}, {second} and {more} more")
+/// The numbers of the guests that have the options of one, where these are the likes of each: runs of
+/// them, from one to another.
+fn runs_of(
+    alloc: Global,
+    likes: &[Alike],
+    alike: Alike,
+) -> Result<Vec<(usize, usize)>, AllocError> {
+    let mut runs: Vec<(usize, usize)> = Vec::new(alloc);
+    for (place, it) in likes.iter().enumerate() {
+        if it.first != alike.first {
+            continue;
+        }
+        let number = place.saturating_add(1);
+        match runs.last_mut() {
+            Some(run) if run.1 == place => run.1 = number,
+            _ => runs.push((number, number))?,
         }
     }
+    Ok(runs)
+}
+
+/// Writes the numbers of the guests that have the options of one at the end of a text.
+pub(crate) fn push_numbers(
+    alloc: Global,
+    text: &mut String,
+    likes: &[Alike],
+    alike: Alike,
+) -> Result<(), AllocError> {
+    text.push_str(if alike.count > 1 { "guests " } else { "guest " })?;
+    let runs = runs_of(alloc, likes, alike)?;
+    for place in 0..runs.len() {
+        text.push_str(match runs.len() - place {
+            _ if place == 0 => "",
+            1 => " and ",
+            _ => ", ",
+        })?;
+        let (from, to) = runs[place];
+        match to.saturating_sub(from) {
+            0 => write!(text, "{from}")?,
+            1 if runs.len() == 1 => write!(text, "{from} and {to}")?,
+            _ => write!(text, "{from} to {to}")?,
+        }
+    }
+    Ok(())
 }
 
 /// What the ids of a piece become; `None` where their use fails.
@@ -70,10 +100,46 @@ fn of_ids(piece: Piece) -> Option<Piece> {
     })
 }
 
+/// A piece without 4294967295, which is no id. Where the last of its ids becomes that, it is a piece of
+/// its own.
+pub(crate) fn parts_of(piece: Piece) -> [Option<Piece>; 2] {
+    let Some(piece) = of_ids(piece) else {
+        return [None, None];
+    };
+    let Outcome::OneToOne { to } = piece.becomes else {
+        return [Some(piece), None];
+    };
+    let (first, last, becomes) = (piece.first, piece.last, piece.becomes);
+    let more = u64::from(last.saturating_sub(first));
+    if first == last || u64::from(to) + more < u64::from(u32::MAX) {
+        return [Some(piece), None];
+    }
+    let front = Piece {
+        first,
+        last: last.saturating_sub(1),
+        becomes,
+    };
+    let end = Piece {
+        first: last,
+        last,
+        becomes: Outcome::AllToOne { to: u32::MAX },
+    };
+    [Some(front), Some(end)]
+}
+
+/// What follows the ids that pieces become, where that is 4294967295.
+pub(crate) const NO_ID: &str = ", which is no id";
+
+/// Whether ids become 4294967295.
+pub(crate) fn is_no_id(images: Span) -> bool {
+    images.first == u64::from(u32::MAX)
+}
+
 /// Writes the ids of a piece, and what they become, at the end of a text.
 fn push_clause(text: &mut String, place: &str, piece: Piece) -> Result<(), AllocError> {
     push_subject(text, span_of(piece))?;
     match images_of(piece) {
+        Some(images) if is_no_id(images) => write!(text, "{images}{NO_ID}"),
         Some(images) => write!(text, "{images} {place}"),
         None => text.push_str("forbidden"),
     }
@@ -88,10 +154,12 @@ fn push_map(text: &mut String, map: &Ids<Global>, ranges: &[UidMap]) -> Result<(
     };
     let (mut moved, mut has_kept) = (0u64, false);
     for piece in map.pieces(Direction::GuestToHost) {
-        match of_ids(piece) {
-            Some(it) if it.becomes == Outcome::Kept => has_kept = true,
-            Some(_) => moved = moved.saturating_add(1),
-            None => {}
+        for part in parts_of(piece) {
+            match part {
+                Some(it) if it.becomes == Outcome::Kept => has_kept = true,
+                Some(_) => moved = moved.saturating_add(1),
+                None => {}
+            }
         }
     }
     if moved > MOST as u64 {
@@ -99,14 +167,14 @@ fn push_map(text: &mut String, map: &Ids<Global>, ranges: &[UidMap]) -> Result<(
     } else {
         let mut is_first = true;
         for piece in map.pieces(Direction::GuestToHost) {
-            if let Some(it) = of_ids(piece)
-                && it.becomes != Outcome::Kept
-            {
-                if !is_first {
-                    text.push_str(", ")?;
+            for part in parts_of(piece) {
+                if let Some(it) = part
+                    && it.becomes != Outcome::Kept
+                {
+                    text.push_str(if is_first { "" } else { ", " })?;
+                    push_clause(text, place, it)?;
+                    is_first = false;
                 }
-                push_clause(text, place, it)?;
-                is_first = false;
             }
         }
     }
@@ -150,7 +218,7 @@ fn push_namespace(text: &mut String, ranges: &[UidMap]) -> Result<(), AllocError
 }
 
 /// Writes what ids of one kind become at the end of a text.
-fn push_ids(text: &mut String, set: &Option<IdSetUp<Global>>) -> Result<(), AllocError> {
+fn push_ids_line(text: &mut String, set: &Option<IdSetUp<Global>>) -> Result<(), AllocError> {
     let Some(set) = set else {
         return text.push_str("refused");
     };
@@ -158,14 +226,17 @@ fn push_ids(text: &mut String, set: &Option<IdSetUp<Global>>) -> Result<(), Allo
     push_namespace(text, set.ranges.as_slice())
 }
 
-/// Writes what is set up for names at the end of a text.
-fn push_names(
+/// Writes what is set up for names at the end of a text. Without rules those of access control lists pass
+/// only where these are on.
+fn push_names_line(
     text: &mut String,
-    rules: Option<&str>,
+    options: &GuestOptions<'_, Global>,
     names: &Option<NamesSetUp<Global>>,
 ) -> Result<(), AllocError> {
-    match (rules, names) {
-        (None, _) => text.push_str("all pass as they are"),
+    match (options.xattrmap, names) {
+        (None, _) if !options.has_xattrs() => text.push_str("none, xattrs are off"),
+        (None, _) if options.posix_acl => text.push_str("all pass as they are"),
+        (None, _) => text.push_str("all pass as they are, but those of ACLs"),
         (Some(_), None) => text.push_str("refused"),
         (Some(_), Some(names)) => match names.written {
             1 => text.push_str("1 rule"),
@@ -183,28 +254,52 @@ pub(crate) fn push_set_up(
     set: &SetUp<Global>,
 ) -> Result<(), AllocError> {
     write!(text, "{space}users: ")?;
-    push_ids(text, &set.users)?;
+    push_ids_line(text, &set.users)?;
     write!(text, "\n{space}groups: ")?;
-    push_ids(text, &set.groups)?;
+    push_ids_line(text, &set.groups)?;
     write!(text, "\n{space}names: ")?;
-    push_names(text, guest.options.xattrmap, &set.names)?;
+    push_names_line(text, &guest.options, &set.names)?;
     if guest.options.posix_acl {
         write!(text, "\n{space}ACLs: on")?;
     }
     text.push_str("\n")
 }
 
+/// Whether the daemon of a guest runs as root of the host, or is taken to do so: root gives no ranges of
+/// both kinds.
+pub(crate) fn is_of_root(guest: &Guest<'_, Global>) -> bool {
+    match guest.runner {
+        Some(runner) => runner.users.own == 0,
+        None => guest.options.uid_map.is_empty() || guest.options.gid_map.is_empty(),
+    }
+}
+
+/// Writes who runs the daemon of a guest at the end of a text.
+pub(crate) fn push_runner(text: &mut String, guest: &Guest<'_, Global>) -> Result<(), AllocError> {
+    let Some(runner) = guest.runner else {
+        return text.push_str(match is_of_root(guest) {
+            true => ", taken as started by root (--run-as USER)",
+            false => ", taken as started by another user than root (--run-as USER)",
+        });
+    };
+    let own = runner.users.own;
+    match runner.process {
+        Some(pid) => write!(text, ", process {pid} of user {own}"),
+        None => write!(text, ", started by user {own}"),
+    }
+}
+
 /// Writes what the options of guests set up that have the same at the end of a text, with their heading.
 pub(crate) fn push_summary(
+    alloc: Global,
     text: &mut String,
+    likes: &[Alike],
     alike: Alike,
     guest: &Guest<'_, Global>,
     set: &SetUp<Global>,
 ) -> Result<(), AllocError> {
-    push_numbers(text, alike)?;
-    if let Some(pid) = set.process {
-        write!(text, ", process {pid}")?;
-    }
+    push_numbers(alloc, text, likes, alike)?;
+    push_runner(text, guest)?;
     text.push_str("\n")?;
     push_set_up(text, "  ", guest, set)
 }

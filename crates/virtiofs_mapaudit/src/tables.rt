@@ -1,6 +1,6 @@
 //! What becomes of all ids, span by span, and of some names: the tables of `--show`.
 
-use crate::summary::{images_of, span_of};
+use crate::summary::{NO_ID, images_of, is_no_id, parts_of, span_of};
 use crate::words::{Ids as Span, one_of};
 use std::alloc::{AllocError, Global};
 use virtiofs_findings::ids::kind::IdKind;
@@ -29,6 +29,9 @@ fn push_piece(text: &mut String, from: &str, to: &str, piece: Piece) -> Result<(
     let ids = span_of(piece);
     match (piece.becomes, images_of(piece)) {
         (Outcome::Kept, _) => write!(text, "  {from} {ids} -> itself\n"),
+        (_, Some(images)) if is_no_id(images) => {
+            write!(text, "  {from} {ids} -> {to} {images}{NO_ID}\n")
+        }
         (_, Some(images)) => write!(text, "  {from} {ids} -> {to} {images}\n"),
         (_, None) => write!(text, "  {from} {ids} -> forbidden\n"),
     }
@@ -54,21 +57,35 @@ fn push_outside(text: &mut String, range: &UidMap, ids: Span) -> Result<(), Allo
     write!(text, "    in the namespace {ids} -> outside {images}\n")
 }
 
+/// Writes what becomes of the ids of a piece of the guest at the end of a text.
+fn push_host(text: &mut String, ranges: &[UidMap], piece: Piece) -> Result<(), AllocError> {
+    push_piece(text, "guest", "host", piece)?;
+    if let Some(images) = images_of(piece) {
+        for range in ranges {
+            push_outside(text, range, images)?;
+        }
+    }
+    Ok(())
+}
+
 /// Writes what becomes of all ids of one kind at the end of a text.
-fn push_ids(text: &mut String, kind: IdKind, set: &IdSetUp<Global>) -> Result<(), AllocError> {
+fn push_id_table(text: &mut String, kind: IdKind, set: &IdSetUp<Global>) -> Result<(), AllocError> {
     let one = one_of(kind);
     write!(text, "{one}s from the guest:\n")?;
     for piece in set.map.pieces(Direction::GuestToHost) {
-        push_piece(text, "guest", "host", piece)?;
-        if let Some(images) = images_of(piece) {
-            for range in set.ranges.as_slice() {
-                push_outside(text, range, images)?;
+        for part in parts_of(piece) {
+            if let Some(it) = part {
+                push_host(text, set.ranges.as_slice(), it)?;
             }
         }
     }
     write!(text, "{one}s from the host:\n")?;
     for piece in set.map.pieces(Direction::HostToGuest) {
-        push_piece(text, "host", "guest", piece)?;
+        for part in parts_of(piece) {
+            if let Some(it) = part {
+                push_piece(text, "host", "guest", it)?;
+            }
+        }
     }
     Ok(())
 }
@@ -138,7 +155,11 @@ fn push_side(
 }
 
 /// Writes what becomes of some names at the end of a text, and which are too long then.
-fn push_names(alloc: Global, text: &mut String, map: &XattrMap<Global>) -> Result<(), AllocError> {
+fn push_name_table(
+    alloc: Global,
+    text: &mut String,
+    map: &XattrMap<Global>,
+) -> Result<(), AllocError> {
     text.push_str("names from the guest:\n")?;
     push_side(alloc, text, map, Side::Client, "guest", "host")?;
     let most = map.most_added();
@@ -165,12 +186,12 @@ pub(crate) fn push_tables(
     if ids {
         for (kind, set) in [(IdKind::Users, &set.users), (IdKind::Groups, &set.groups)] {
             if let Some(set) = set {
-                push_ids(text, kind, set)?;
+                push_id_table(text, kind, set)?;
             }
         }
     }
     if names && let Some(set) = &set.names {
-        push_names(alloc, text, &set.map)?;
+        push_name_table(alloc, text, &set.map)?;
     }
     Ok(())
 }

@@ -4,12 +4,12 @@ use crate::answer::{Reported, Request};
 use crate::fields::push_finding;
 use crate::kinds::{KERNEL, RECIPES, row_of};
 use crate::losses::losses_of;
-use crate::options::push_options;
-use crate::summary::{push_numbers, push_set_up, push_summary};
+use crate::shell::push_options;
+use crate::summary::{is_of_root, push_numbers, push_set_up, push_summary};
 use crate::tables::push_tables;
 use std::alloc::{AllocError, Global};
 use virtiofs_findings::advice::Advised;
-use virtiofs_findings::alike::{Alike, alike_to, is_first, is_told, likes_of};
+use virtiofs_findings::alike::{Alike, is_first, is_told, likes_of};
 use virtiofs_findings::audit::{has_accepted, has_found, is_accepted};
 use virtiofs_findings::finding::{About, Finding, Kind};
 use virtiofs_findings::guest::Guest;
@@ -79,18 +79,19 @@ fn push_guests(
     text: &mut String,
     request: Request<'_>,
     guests: &[Guest<'_, Global>],
+    likes: &[Alike],
     report: &Reported<'_>,
 ) -> Result<(), AllocError> {
     for (place, guest) in guests.iter().enumerate() {
-        let alike = alike_to(guests, guest);
         let number = place.saturating_add(1);
-        if !is_first(alike, number) {
-            continue;
-        }
-        let Some(set) = report.all.sets.as_slice().get(place) else {
+        let (Some(alike), Some(set)) = (likes.get(place), report.all.sets.as_slice().get(place))
+        else {
             continue;
         };
-        push_summary(text, alike, guest, set)?;
+        if !is_first(*alike, number) {
+            continue;
+        }
+        push_summary(alloc, text, likes, *alike, guest, set)?;
         push_tables(alloc, text, request.front.ids, request.front.names, set)?;
         let found = found_of(report.all.findings.as_slice(), number);
         push_found(alloc, text, request.accepted, found)?;
@@ -198,19 +199,22 @@ fn push_other(
     text: &mut String,
     before: &[SetUp<Global>],
     advised: &Advised<'_, Global>,
+    likes: &[Alike],
     place: usize,
     guest: &Guest<'_, Global>,
 ) -> Result<(), AllocError> {
-    let guests = advised.guests.as_slice();
-    let alike = alike_to(guests, guest);
-    let (Some(set), Some(other)) = (before.get(place), advised.sets.as_slice().get(place)) else {
+    let (Some(set), Some(other), Some(alike)) = (
+        before.get(place),
+        advised.sets.as_slice().get(place),
+        likes.get(place),
+    ) else {
         return Ok(());
     };
-    if !is_first(alike, place.saturating_add(1)) {
+    if !is_first(*alike, place.saturating_add(1)) {
         return Ok(());
     }
     text.push_str("  ")?;
-    push_numbers(text, alike)?;
+    push_numbers(alloc, text, likes, *alike)?;
     text.push_str(":")?;
     push_options(alloc, text, " ", "", &guest.options)?;
     text.push_str("\n")?;
@@ -239,10 +243,10 @@ fn push_advised(
             (false, false) => "with these options nothing is found:\n",
         },
     )?;
-    for (place, guest) in guests.iter().enumerate() {
-        push_other(alloc, text, before, advised, place, guest)?;
-    }
     let likes = likes_of(alloc, guests)?;
+    for (place, guest) in guests.iter().enumerate() {
+        push_other(alloc, text, before, advised, likes.as_slice(), place, guest)?;
+    }
     push_left(alloc, text, accepted, likes.as_slice(), found)?;
     if has_found(accepted, found) {
         push_recipes(text, accepted, advised.sets.as_slice(), found)?;
@@ -278,6 +282,16 @@ fn push_closing(
     })
 }
 
+/// Writes at the end of a text what a daemon of root does whatever is mapped, if one is.
+fn push_root(text: &mut String, guests: &[Guest<'_, Global>]) -> Result<(), AllocError> {
+    if guests.iter().any(|guest| is_of_root(guest)) {
+        text.push_str(
+            "a daemon of root opens every file of its directory for the guest's root, whatever is mapped\n",
+        )?;
+    }
+    Ok(())
+}
+
 /// What is said of the guests.
 pub(crate) fn report_as_text(
     alloc: Global,
@@ -286,9 +300,10 @@ pub(crate) fn report_as_text(
     report: &Reported<'_>,
 ) -> Result<String, AllocError> {
     let mut text = String::new(alloc);
-    push_guests(alloc, &mut text, request, guests, report)?;
     let (likes, found) = (likes_of(alloc, guests)?, report.all.findings.as_slice());
+    push_guests(alloc, &mut text, request, guests, likes.as_slice(), report)?;
     push_pairs(alloc, &mut text, request.accepted, likes.as_slice(), found)?;
+    push_root(&mut text, guests)?;
     push_closing(alloc, &mut text, request.accepted, report)?;
     Ok(text)
 }

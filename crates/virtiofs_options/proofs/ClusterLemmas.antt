@@ -1,7 +1,8 @@
 -- Short options in one word, one letter after another.
 use Rattle.std.proofs.Common.{◌≡◌, ℕ, List, [], ◌∷◌, ◌++◌, Bool, true, false, not, if◌then◌else◌, Option, Some, None, option_map, find, bytes_eq, slice_get, drop, refl, sym, ap, subst, ◌∙◌, append_assoc}
 use Rattle.std.proofs.lemmas.Slice.Eq.{bytes_eq-Decides}
-use Rattle.virtiofs_options.specs.Clusters.{after_letter, cluster, is_bare, is_last, joined, short_of, stripped, value_words}
+use Rattle.virtiofs_options.specs.Clusters.{after_letter, cluster, is_bare, joined, short_of, stripped, value_words}
+use Rattle.virtiofs_options.specs.Parts.{is_last}
 use Rattle.virtiofs_options.specs.declared.options.Known.{Known}
 use Rattle.virtiofs_options.specs.declared.options.Options.{Options}
 
@@ -38,53 +39,53 @@ pub after-short : (options : Options) (letter : ℕ) (rest : List ℕ) (row : Kn
 after-short options letter rest row found =
     ap (λ name. after_letter name (letter ∷ rest)) (short-name options letter row found) ∙ strip-letter letter rest
 
-first-then : (so_far : List (List ℕ)) (name : List ℕ) (more : Option (List (List ℕ)))
+first-then : (so_far : List (List ℕ × Bool)) (name : List ℕ × Bool) (more : Option (List (List ℕ × Bool)))
     → option_map (λ it. so_far ++ it) (option_map (λ it. name ∷ it) more)
     ≡ option_map (λ it. (so_far ++ name ∷ []) ++ it) more
 first-then so_far name None = refl
 first-then so_far name (Some words) = ap Some (sym (append_assoc so_far (name ∷ []) words))
 
 -- an option without a value, and letters after it
-pub cluster-bare : (options : Options) (letters rest : List ℕ) (letter : ℕ) (row : Known) (so_far : List (List ℕ))
+pub cluster-bare : (options : Options) (letters rest : List ℕ) (letter : ℕ) (row : Known) (so_far : List (List ℕ × Bool))
     → cluster options letters ≡ option_map (λ more. so_far ++ more) (cluster options (letter ∷ rest))
     → short_of options letter ≡ Some row → is_bare row.takes ≡ true → is_last row.sets ≡ false
-    → cluster options letters ≡ option_map (λ more. (so_far ++ row.name.now ∷ []) ++ more) (cluster options rest)
+    → cluster options letters ≡ option_map (λ more. (so_far ++ (row.name.now, false) ∷ []) ++ more) (cluster options rest)
 cluster-bare options letters rest letter row so_far before found bare last =
     before
     ∙ ap (λ o. option_map (λ more. so_far ++ more) (joined o rest (cluster options rest))) found
-    ∙ ap (λ b. option_map (λ more. so_far ++ more) (if b then Some (row.name.now ∷ value_words rest)
-    else (if is_last row.sets then Some (row.name.now ∷ []) else option_map (λ words. row.name.now ∷ words) (cluster options rest)))) (ap not bare)
-    ∙ ap (λ b. option_map (λ more. so_far ++ more) (if b then Some (row.name.now ∷ [])
-    else option_map (λ words. row.name.now ∷ words) (cluster options rest))) last
-    ∙ first-then so_far row.name.now (cluster options rest)
+    ∙ ap (λ b. option_map (λ more. so_far ++ more) (if b then Some ((row.name.now, false) ∷ value_words rest)
+    else (if is_last row.sets then Some ((row.name.now, false) ∷ []) else option_map (λ words. (row.name.now, false) ∷ words) (cluster options rest)))) (ap not bare)
+    ∙ ap (λ b. option_map (λ more. so_far ++ more) (if b then Some ((row.name.now, false) ∷ [])
+    else option_map (λ words. (row.name.now, false) ∷ words) (cluster options rest))) last
+    ∙ first-then so_far (row.name.now, false) (cluster options rest)
 
 -- an option after which nothing is read
-pub cluster-last : (options : Options) (letters rest : List ℕ) (letter : ℕ) (row : Known) (so_far : List (List ℕ))
+pub cluster-last : (options : Options) (letters rest : List ℕ) (letter : ℕ) (row : Known) (so_far : List (List ℕ × Bool))
     → cluster options letters ≡ option_map (λ more. so_far ++ more) (cluster options (letter ∷ rest))
     → short_of options letter ≡ Some row → is_bare row.takes ≡ true → is_last row.sets ≡ true
-    → cluster options letters ≡ Some (so_far ++ row.name.now ∷ [])
+    → cluster options letters ≡ Some (so_far ++ (row.name.now, false) ∷ [])
 cluster-last options letters rest letter row so_far before found bare last =
     before
     ∙ ap (λ o. option_map (λ more. so_far ++ more) (joined o rest (cluster options rest))) found
-    ∙ ap (λ b. option_map (λ more. so_far ++ more) (if b then Some (row.name.now ∷ value_words rest)
-    else (if is_last row.sets then Some (row.name.now ∷ []) else option_map (λ words. row.name.now ∷ words) (cluster options rest)))) (ap not bare)
-    ∙ ap (λ b. option_map (λ more. so_far ++ more) (if b then Some (row.name.now ∷ [])
-    else option_map (λ words. row.name.now ∷ words) (cluster options rest))) last
+    ∙ ap (λ b. option_map (λ more. so_far ++ more) (if b then Some ((row.name.now, false) ∷ value_words rest)
+    else (if is_last row.sets then Some ((row.name.now, false) ∷ []) else option_map (λ words. (row.name.now, false) ∷ words) (cluster options rest)))) (ap not bare)
+    ∙ ap (λ b. option_map (λ more. so_far ++ more) (if b then Some ((row.name.now, false) ∷ [])
+    else option_map (λ words. (row.name.now, false) ∷ words) (cluster options rest))) last
 
 -- an option with a value
-pub cluster-valued : (options : Options) (letters rest : List ℕ) (letter : ℕ) (row : Known) (so_far : List (List ℕ))
+pub cluster-valued : (options : Options) (letters rest : List ℕ) (letter : ℕ) (row : Known) (so_far : List (List ℕ × Bool))
     → cluster options letters ≡ option_map (λ more. so_far ++ more) (cluster options (letter ∷ rest))
     → short_of options letter ≡ Some row → is_bare row.takes ≡ false
-    → cluster options letters ≡ Some ((so_far ++ row.name.now ∷ []) ++ value_words rest)
+    → cluster options letters ≡ Some ((so_far ++ (row.name.now, false) ∷ []) ++ value_words rest)
 cluster-valued options letters rest letter row so_far before found bare =
     before
     ∙ ap (λ o. option_map (λ more. so_far ++ more) (joined o rest (cluster options rest))) found
-    ∙ ap (λ b. option_map (λ more. so_far ++ more) (if b then Some (row.name.now ∷ value_words rest)
-    else (if is_last row.sets then Some (row.name.now ∷ []) else option_map (λ words. row.name.now ∷ words) (cluster options rest)))) (ap not bare)
-    ∙ ap Some (sym (append_assoc so_far (row.name.now ∷ []) (value_words rest)))
+    ∙ ap (λ b. option_map (λ more. so_far ++ more) (if b then Some ((row.name.now, false) ∷ value_words rest)
+    else (if is_last row.sets then Some ((row.name.now, false) ∷ []) else option_map (λ words. (row.name.now, false) ∷ words) (cluster options rest)))) (ap not bare)
+    ∙ ap Some (sym (append_assoc so_far ((row.name.now, false) ∷ []) (value_words rest)))
 
 -- a letter of no option
-pub cluster-unknown : (options : Options) (letters rest : List ℕ) (letter : ℕ) (so_far : List (List ℕ))
+pub cluster-unknown : (options : Options) (letters rest : List ℕ) (letter : ℕ) (so_far : List (List ℕ × Bool))
     → cluster options letters ≡ option_map (λ more. so_far ++ more) (cluster options (letter ∷ rest))
     → short_of options letter ≡ None → cluster options letters ≡ None
 cluster-unknown options letters rest letter so_far before found =
@@ -115,7 +116,7 @@ pub left-is : (left : List ℕ) (letter : ℕ) → Some letter ≡ slice_get lef
 left-is [] letter first = absurd (none-some letter (sym first))
 left-is (x ∷ tail) letter first = ap (λ y. y ∷ tail) (sym (some-same x letter first))
 
-pub before-at : (options : Options) (letters left rest : List ℕ) (letter : ℕ) (so_far : List (List ℕ)) → left ≡ letter ∷ rest
+pub before-at : (options : Options) (letters left rest : List ℕ) (letter : ℕ) (so_far : List (List ℕ × Bool)) → left ≡ letter ∷ rest
     → cluster options letters ≡ option_map (λ more. so_far ++ more) (cluster options left)
     → cluster options letters ≡ option_map (λ more. so_far ++ more) (cluster options (letter ∷ rest))
 before-at options letters left rest letter so_far is before =

@@ -8,7 +8,7 @@ use Rattle.std.proofs.lemmas.List.Folds.{list_any-append}
 use Rattle.std.specs.List.{last_or}
 use Rattle.std.specs.Option.{option_or}
 use Rattle.virtiofs_options.proofs.OlderLemmas.{last_in}
-use Rattle.virtiofs_options.specs.GuestOptions.{Adds, TakesIn, settings, setting_in, has_setting, is_setting, is_users, is_groups, is_user_ranges, is_group_ranges, is_rules, is_acl, is_sandbox, older_options, older_setting, lists_in, text_in}
+use Rattle.virtiofs_options.specs.GuestOptions.{Adds, TakesIn, settings, setting_in, has_setting, is_setting, is_users, is_groups, is_user_ranges, is_group_ranges, is_rules, is_acl, is_xattr, is_label, is_sandbox, older_options, older_setting, acl, xattr, label, flag_in, text_in}
 use Rattle.virtiofs_options.specs.declared.command.Part.{Part}
 use Rattle.virtiofs_options.specs.declared.guest.Guest.{Guest}
 use Rattle.virtiofs_options.specs.declared.older.Older.{Older}
@@ -38,6 +38,8 @@ Adds-then a b c xs ys first second = record {
   rules = last_in (setting_in is_rules) _ _ _ xs ys first.rules second.rules;
   lists = flags-then is_acl _ _ _ xs ys first.lists second.lists;
   flag = flags-then is_acl _ _ _ xs ys first.flag second.flag;
+  xattr = flags-then is_xattr _ _ _ xs ys first.xattr second.xattr;
+  label = flags-then is_label _ _ _ xs ys first.label second.label;
   sandbox = last_in (setting_in is_sandbox) _ _ _ xs ys first.sandbox second.sandbox;
 }
 
@@ -59,6 +61,8 @@ pub record IsChanged {A : Type 0} (old new : Guest A) (older : Older) : Type 0 w
   pub user_ranges : new.uid_map ≡ old.uid_map
   pub group_ranges : new.gid_map ≡ old.gid_map
   pub flag : new.acl_flag ≡ old.acl_flag
+  pub xattr : new.xattr ≡ unwrap_or older.xattr old.xattr
+  pub label : new.security_label ≡ unwrap_or older.security_label old.security_label
   pub sandbox : new.sandbox ≡ option_or older.sandbox old.sandbox
 
 -- a text that options of the older form say, or else the others
@@ -69,19 +73,28 @@ text-last older text before set said changed is added =
     ap text_in changed ∙ text-or older before ∙ ap (λ o. option_or o (text_in before)) is
     ∙ ap (λ it. option_or said (text_in it)) added
 
+-- what options of the older form have on or off, or else the others
+flag-last : (flag before : Bool) (older said : Option Bool) (set : Bool) → flag ≡ unwrap_or older before → older ≡ said
+    → before ≡ set → flag ≡ unwrap_or said set
+flag-last flag before older said set changed is added =
+    changed ∙ ap (λ o. unwrap_or o before) is ∙ ap (unwrap_or said) added
+
 pub TakesIn-end : {A : Type 0} (options : Options) (a b c : Guest A) (older : Older) (parts : List Part) → Adds a b parts
     → text_in older.xattrmap ≡ last_or None (filter_map (older_setting is_rules options) (older_options parts))
-    → older.posix_acl ≡ last_or None (filter_map (lists_in options) (older_options parts))
+    → older.posix_acl ≡ last_or None (filter_map (flag_in acl options) (older_options parts))
+    → older.xattr ≡ last_or None (filter_map (flag_in xattr options) (older_options parts))
+    → older.security_label ≡ last_or None (filter_map (flag_in label options) (older_options parts))
     → text_in older.sandbox ≡ last_or None (filter_map (older_setting is_sandbox options) (older_options parts))
     → IsChanged b c older → TakesIn options a c parts
-TakesIn-end options a b c older parts added rules lists sandbox changed = record {
+TakesIn-end options a b c older parts added rules lists xattrs labels sandbox changed = record {
   users = ap (λ it. it.items) changed.users ∙ added.users;
   groups = ap (λ it. it.items) changed.groups ∙ added.groups;
   user_ranges = ap (λ it. it.items) changed.user_ranges ∙ added.user_ranges;
   group_ranges = ap (λ it. it.items) changed.group_ranges ∙ added.group_ranges;
   rules = text-last older.xattrmap c.xattrmap b.xattrmap _ _ changed.rules rules added.rules;
-  lists = changed.lists ∙ ap (λ o. unwrap_or o b.posix_acl) lists
-      ∙ ap (unwrap_or (last_or None (filter_map (lists_in options) (older_options parts)))) added.lists;
+  lists = flag-last _ _ _ _ _ changed.lists lists added.lists;
   flag = changed.flag ∙ added.flag;
+  xattr = flag-last _ _ _ _ _ changed.xattr xattrs added.xattr;
+  label = flag-last _ _ _ _ _ changed.label labels added.label;
   sandbox = text-last older.sandbox c.sandbox b.sandbox _ _ changed.sandbox sandbox added.sandbox;
 }

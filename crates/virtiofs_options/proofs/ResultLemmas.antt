@@ -9,11 +9,12 @@ use Rattle.virtiofs_options.specs.declared.front.Asked.{Asked}
 use Rattle.virtiofs_options.specs.declared.guest.Guest.{Guest}
 use Rattle.virtiofs_options.specs.declared.options.Options.{Options}
 use Rattle.virtiofs_options.specs.declared.values.Values.{Values}
+use Rattle.virtiofs_options.specs.declared.word.Word.{Word}
 use Rattle.virtiofs_options.specs.declared.words.Front.TheVariants.{Audit}
 use Rattle.virtiofs_options.specs.declared.words.Words.{Words}
 use Rattle.virtiofs_options.specs.declared.words.Words.TheVariants as words_are
 
-audit-right : (own of_daemon : Options) (words front : List (Bor (List ℕ))) (asked : Asked) (values : Values)
+audit-right : (own of_daemon : Options) (words : List (Bor (List ℕ))) (front : List Word) (asked : Asked) (values : Values)
     (first : Guest Global) (it : Words) → AreFrontWords of_daemon words front → IsFront own front (Audit asked values first)
     → IsAudit of_daemon asked values first (rest_of words) it → AreWords own of_daemon words it
 audit-right own of_daemon words front asked values first (words_are.Tell telling) are is audit = absurd audit
@@ -21,7 +22,7 @@ audit-right own of_daemon words front asked values first (words_are.Audit asked_
     (front, asked, values, first, are, is, (same, these, guests))
 
 -- an audit of what stands after the first `--`
-pub audit-words : (own of_daemon : Options) (words front rest : List (Bor (List ℕ))) (asked : Asked) (values : Values)
+pub audit-words : (own of_daemon : Options) (words : List (Bor (List ℕ))) (front : List Word) (rest : List (Bor (List ℕ))) (asked : Asked) (values : Values)
     (first : Guest Global) (r : Result Words ReadError) → AreFrontWords of_daemon words front
     → IsFront own front (Audit asked values first) → rest ≡ rest_of words
     → IfOk r (IsAudit of_daemon asked values first rest) → IfOk r (AreWords own of_daemon words)
@@ -31,7 +32,7 @@ audit-words own of_daemon words front rest asked values first (Ok it) are is res
 audit-words own of_daemon words front rest asked values first (Err error) are is rest_is audit = tt
 
 -- what is wrong with what stands after the first `--`
-pub audit-wrong : (own of_daemon : Options) (words front rest : List (Bor (List ℕ))) (asked : Asked) (values : Values)
+pub audit-wrong : (own of_daemon : Options) (words : List (Bor (List ℕ))) (front : List Word) (rest : List (Bor (List ℕ))) (asked : Asked) (values : Values)
     (first : Guest Global) (r : Result Words ReadError) → AreFrontWords of_daemon words front
     → IsFront own front (Audit asked values first) → rest ≡ rest_of words
     → IfErr r (WrongOnly (IsAuditFault of_daemon values first rest)) → IfErr r (WrongOnly (AreWrongWords own of_daemon words))

@@ -36,12 +36,6 @@ is_flag option _ = false
 abbrev pub has_flag : List ℕ → List Part → Bool
 has_flag option parts = list_any (is_flag option) parts
 
--- what a part sets
-abbrev pub sets_by : Part → Sets
-sets_by (Flag row) = row.sets
-sets_by (Valued row value) = row.sets
-sets_by _ = sets.Other
-
 -- the values of options that set this, in the order of the parts
 abbrev pub setting_in : (Sets → Bool) → Part → Option (Bor (List ℕ))
 setting_in sets (Valued row value) = if sets row.sets then Some value else None
@@ -83,6 +77,14 @@ abbrev pub is_acl : Sets → Bool
 is_acl sets.Acl = true
 is_acl _ = false
 
+abbrev pub is_xattr : Sets → Bool
+is_xattr sets.Xattr = true
+is_xattr _ = false
+
+abbrev pub is_label : Sets → Bool
+is_label sets.Label = true
+is_label _ = false
+
 abbrev pub is_sandbox : Sets → Bool
 is_sandbox sets.Sandbox = true
 is_sandbox _ = false
@@ -100,12 +102,18 @@ pub record HasNoOption {A : Type 0} (guest : Guest A) : Type 0 where
   pub rules : guest.xattrmap ≡ None
   pub lists : guest.posix_acl ≡ false
   pub flag : guest.acl_flag ≡ false
+  pub xattr : guest.xattr ≡ false
+  pub label : guest.security_label ≡ false
   pub sandbox : guest.sandbox ≡ None
+
+-- extended attributes are on: they are asked for, or go with what is
+abbrev pub has_xattrs : {A : Type 0} → Guest A → Bool
+has_xattrs guest = is_some guest.xattrmap || guest.posix_acl || guest.security_label || guest.xattr
 
 -- the daemon of the guest has one of the options for ids or names
 abbrev pub has_any : {A : Type 0} → Guest A → Bool
 has_any guest =
-    is_some guest.xattrmap || guest.posix_acl
+    is_some guest.xattrmap || guest.posix_acl || guest.xattr
     || nat_lt 0 (length guest.translate_uid.items + length guest.uid_map.items)
     || nat_lt 0 (length guest.translate_gid.items + length guest.gid_map.items)
 
@@ -118,6 +126,8 @@ pub record Adds {A : Type 0} (old new : Guest A) (parts : List Part) : Type 0 wh
   pub rules : new.xattrmap ≡ last_or old.xattrmap (settings is_rules parts)
   pub lists : new.posix_acl ≡ (old.posix_acl || has_setting is_acl parts)
   pub flag : new.acl_flag ≡ (old.acl_flag || has_setting is_acl parts)
+  pub xattr : new.xattr ≡ (old.xattr || has_setting is_xattr parts)
+  pub label : new.security_label ≡ (old.security_label || has_setting is_label parts)
   pub sandbox : new.sandbox ≡ last_or old.sandbox (settings is_sandbox parts)
 
 -- the older options in the values of `-o`, with a comma between two, in the order of the words
@@ -142,14 +152,24 @@ older_value sets text row = if sets row.sets then stripped row.name.now text els
 abbrev pub older_setting : (Sets → Bool) → Options → List ℕ → Option (List ℕ)
 older_setting sets options text = option_and_then (older_value sets text) (older_of options text)
 
--- what an older option says of access control lists
-abbrev pub lists_by : Sets → Option Bool
-lists_by sets.Acl = Some true
-lists_by sets.NoAcl = Some false
-lists_by _ = None
+-- whether an older option has on what is on or off: access control lists, extended attributes, security labels
+abbrev pub acl : Sets → Option Bool
+acl sets.Acl = Some true
+acl sets.NoAcl = Some false
+acl _ = None
 
-abbrev pub lists_in : Options → List ℕ → Option Bool
-lists_in options text = option_and_then (λ row. lists_by row.sets) (older_of options text)
+abbrev pub xattr : Sets → Option Bool
+xattr sets.Xattr = Some true
+xattr sets.NoXattr = Some false
+xattr _ = None
+
+abbrev pub label : Sets → Option Bool
+label sets.Label = Some true
+label sets.NoLabel = Some false
+label _ = None
+
+abbrev pub flag_in : (Sets → Option Bool) → Options → List ℕ → Option Bool
+flag_in says options text = option_and_then (λ row. says row.sets) (older_of options text)
 
 -- a text, if there is one
 abbrev pub text_in : Option (Bor (List ℕ)) → Option (List ℕ)
@@ -158,7 +178,9 @@ text_in text = option_map (λ it. it.now) text
 -- what older options add to those before: of each kind the last counts
 pub record AddsOlder (options : Options) (old new : Older) (texts : List (List ℕ)) : Type 0 where
   pub rules : text_in new.xattrmap ≡ last_or (text_in old.xattrmap) (filter_map (older_setting is_rules options) texts)
-  pub lists : new.posix_acl ≡ last_or old.posix_acl (filter_map (lists_in options) texts)
+  pub lists : new.posix_acl ≡ last_or old.posix_acl (filter_map (flag_in acl options) texts)
+  pub xattr : new.xattr ≡ last_or old.xattr (filter_map (flag_in xattr options) texts)
+  pub label : new.security_label ≡ last_or old.security_label (filter_map (flag_in label options) texts)
   pub sandbox : text_in new.sandbox ≡ last_or (text_in old.sandbox) (filter_map (older_setting is_sandbox options) texts)
 
 -- what the parts of a command line make of a guest: older options count more than the others, wherever they stand
@@ -171,9 +193,15 @@ pub record TakesIn {A : Type 0} (options : Options) (old new : Guest A) (parts :
       ≡ option_or (last_or None (filter_map (older_setting is_rules options) (older_options parts)))
       (text_in (last_or old.xattrmap (settings is_rules parts)))
   pub lists : new.posix_acl
-      ≡ unwrap_or (last_or None (filter_map (lists_in options) (older_options parts)))
+      ≡ unwrap_or (last_or None (filter_map (flag_in acl options) (older_options parts)))
       (old.posix_acl || has_setting is_acl parts)
   pub flag : new.acl_flag ≡ (old.acl_flag || has_setting is_acl parts)
+  pub xattr : new.xattr
+      ≡ unwrap_or (last_or None (filter_map (flag_in xattr options) (older_options parts)))
+      (old.xattr || has_setting is_xattr parts)
+  pub label : new.security_label
+      ≡ unwrap_or (last_or None (filter_map (flag_in label options) (older_options parts)))
+      (old.security_label || has_setting is_label parts)
   pub sandbox : text_in new.sandbox
       ≡ option_or (last_or None (filter_map (older_setting is_sandbox options) (older_options parts)))
       (text_in (last_or old.sandbox (settings is_sandbox parts)))

@@ -3,7 +3,7 @@ use Rattle.std.specs.Prelude.{◌≡◌, ◌⊎◌, ◌==◌, ◌+◌, ◌++◌,
 use Rattle.std.specs.Borrow.{Bor}
 use Rattle.std.specs.Global.{Global}
 use Rattle.std.specs.Option.{option_or}
-use Rattle.virtiofs_options.specs.Clusters.{split_words}
+use Rattle.virtiofs_options.specs.Clusters.{plain, split_words}
 use Rattle.virtiofs_options.specs.GuestOptions.{HasNoOption, TakesIn, has_any}
 use Rattle.virtiofs_options.specs.Lines.{beginning, first_daemon, line_of, after_line}
 use Rattle.virtiofs_options.specs.Parts.{AreParts, HasFault}
@@ -17,6 +17,7 @@ use Rattle.virtiofs_options.specs.declared.guests.Guests.{Guests}
 use Rattle.virtiofs_options.specs.declared.guests.Process.{Process}
 use Rattle.virtiofs_options.specs.declared.guests.Process.TheVariants.{OfGuest, NoDaemon}
 use Rattle.virtiofs_options.specs.declared.options.Options.{Options}
+use Rattle.virtiofs_options.specs.declared.word.Word.{Word}
 
 -- what is not known of a command line: the number of the guest, whether it is a part of `-o`, and the text
 abbrev pub Told : Type 0
@@ -35,7 +36,7 @@ lacking_fault options number words =
 -- the words, once joined short options are words of their own, are these parts
 abbrev pub AreSplitParts : Options → List (Bor (List ℕ)) → List Part → Type 0
 AreSplitParts options line parts =
-    (words : List (Bor (List ℕ))) × (map (λ it. it.now) words ≡ split_words options line) × AreParts options words parts
+    (words : List Word) × (map plain words ≡ split_words options line) × AreParts options words parts
 
 -- what the words of one command line make of a guest, and what of them is not known
 abbrev pub IsLine : {A : Type 0} → Options → ℕ → Guest A → List (Bor (List ℕ)) → Guest A → Told → Type 0
@@ -54,7 +55,7 @@ AddsLine options first line old new =
 -- what is wrong with the words of one command line: a word, or a part
 abbrev pub IsLineFault : Options → List (Bor (List ℕ)) → Fault → Type 0
 IsLineFault options line fault =
-    ((words : List (Bor (List ℕ))) × (map (λ it. it.now) words ≡ split_words options line) × HasFault options words fault)
+    ((words : List Word) × (map plain words ≡ split_words options line) × HasFault options words fault)
     ⊎ ((parts : List Part) × AreSplitParts options line parts × IsPartsFault options parts fault)
 
 -- the guest that words begin with; what follows the `--` that ends its command line is left

@@ -6,9 +6,9 @@ use Rattle.std.specs.Option.{option_or}
 use Rattle.strsim.specs.Edits.{levenshtein_row}
 use Rattle.virtiofs_options.specs.Allowed.{allows}
 use Rattle.virtiofs_options.specs.Clusters.{stripped}
-use Rattle.virtiofs_options.specs.GuestOptions.{split_at_commas, is_older_form, sets_by, older_of}
+use Rattle.virtiofs_options.specs.GuestOptions.{split_at_commas, is_older_form, older_of}
 use Rattle.virtiofs_options.specs.Lines.{concerns, is_daemon}
-use Rattle.virtiofs_options.specs.Parts.{key_of}
+use Rattle.virtiofs_options.specs.Parts.{key_of, sets_by}
 use Rattle.virtiofs_options.specs.Whole.{is_line, follows}
 use Rattle.virtiofs_options.specs.declared.command.Part.{Part}
 use Rattle.virtiofs_options.specs.declared.command.Part.TheVariants.{Plain, Flag, Valued, Stray}

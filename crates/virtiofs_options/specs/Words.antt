@@ -3,7 +3,7 @@ use Rattle.std.specs.Prelude.{◌≡◌, ◌⊎◌, ◌==◌, ◌&&◌, ◌+◌,
 use Rattle.std.specs.Borrow.{Bor}
 use Rattle.std.specs.Global.{Global}
 use Rattle.virtiofs_options.specs.AskedOptions.{AreValues, IsAsked, IsAskedWrongly, first_told, not_shown, mixes, is_beside}
-use Rattle.virtiofs_options.specs.Clusters.{split_words}
+use Rattle.virtiofs_options.specs.Clusters.{plain, split_words}
 use Rattle.virtiofs_options.specs.GuestOptions.{HasNoOption, TakesIn, has_any}
 use Rattle.virtiofs_options.specs.Guests.{AreGuests, HasGuestFault, Told}
 use Rattle.virtiofs_options.specs.Lines.{first_daemon, first_end, line_of}
@@ -17,6 +17,7 @@ use Rattle.virtiofs_options.specs.declared.guest.Guest.{Guest}
 use Rattle.virtiofs_options.specs.declared.options.Options.{Options}
 use Rattle.virtiofs_options.specs.declared.front.Asked.{Asked}
 use Rattle.virtiofs_options.specs.declared.values.Values.{Values}
+use Rattle.virtiofs_options.specs.declared.word.Word.{Word}
 use Rattle.virtiofs_options.specs.declared.words.Front.{Front}
 use Rattle.virtiofs_options.specs.declared.words.Front.TheVariants.{Tell, Audit}
 use Rattle.virtiofs_options.specs.declared.words.Words.{Words}
@@ -27,7 +28,7 @@ abbrev pub IsGuestOf : {A : Type 0} → Options → List Part → Guest A → Ty
 IsGuestOf {A} options parts guest = (none : Guest A) × HasNoOption none × TakesIn options none guest parts
 
 -- what the words before the first `--` come to
-abbrev pub IsFront : Options → List (Bor (List ℕ)) → Front → Type 0
+abbrev pub IsFront : Options → List Word → Front → Type 0
 IsFront options words (Tell telling) =
     (parts : List Part) × AreParts options words parts × (first_told parts ≡ Some telling)
 IsFront options words (Audit asked values guest) =
@@ -36,7 +37,7 @@ IsFront options words (Audit asked values guest) =
     × IsGuestOf options parts guest
 
 -- what is wrong with these words: a word, or what they ask for
-abbrev pub HasFrontFault : Options → List (Bor (List ℕ)) → Fault → Type 0
+abbrev pub HasFrontFault : Options → List Word → Fault → Type 0
 HasFrontFault options words fault =
     HasFault options words fault
     ⊎ ((parts : List Part) × AreParts options words parts × (first_told parts ≡ None) × IsAskedWrongly parts fault)
@@ -86,23 +87,23 @@ IsAuditFault of_daemon values first words fault =
     (names_processes values first words ≡ false) × HasGuestFault of_daemon first words fault
 
 -- the words before the first `--`, once joined short options are words of their own
-abbrev pub AreFrontWords : Options → List (Bor (List ℕ)) → List (Bor (List ℕ)) → Type 0
-AreFrontWords of_daemon words front = map (λ it. it.now) front ≡ split_words of_daemon (line_of words)
+abbrev pub AreFrontWords : Options → List (Bor (List ℕ)) → List Word → Type 0
+AreFrontWords of_daemon words front = map plain front ≡ split_words of_daemon (line_of words)
 
 -- what the program's words come to: an audit, or what the program is to tell of itself
 abbrev pub AreWords : Options → Options → List (Bor (List ℕ)) → Words → Type 0
 AreWords own of_daemon words (words_are.Tell telling) =
-    (front : List (Bor (List ℕ))) × AreFrontWords of_daemon words front × IsFront own front (Tell telling)
+    (front : List Word) × AreFrontWords of_daemon words front × IsFront own front (Tell telling)
 AreWords own of_daemon words (words_are.Audit asked_for all read) =
-    (front : List (Bor (List ℕ))) × (asked : Asked) × (values : Values) × (first : Guest Global)
+    (front : List Word) × (asked : Asked) × (values : Values) × (first : Guest Global)
     × AreFrontWords of_daemon words front × IsFront own front (Audit asked values first)
     × IsAudit of_daemon asked values first (rest_of words) (words_are.Audit asked_for all read)
 
 -- what is wrong with the program's words: before the first `--`, or after it
 abbrev pub AreWrongWords : Options → Options → List (Bor (List ℕ)) → Fault → Type 0
 AreWrongWords own of_daemon words fault =
-    ((front : List (Bor (List ℕ))) × (it : Fault) × AreFrontWords of_daemon words front × HasFrontFault own front it
+    ((front : List Word) × (it : Fault) × AreFrontWords of_daemon words front × HasFrontFault own front it
     × (fault ≡ front_fault of_daemon words it))
-    ⊎ ((front : List (Bor (List ℕ))) × (asked : Asked) × (values : Values) × (first : Guest Global)
+    ⊎ ((front : List Word) × (asked : Asked) × (values : Values) × (first : Guest Global)
     × AreFrontWords of_daemon words front × IsFront own front (Audit asked values first)
     × IsAuditFault of_daemon values first (rest_of words) fault)

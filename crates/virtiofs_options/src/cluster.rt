@@ -1,9 +1,10 @@
 //! Short options that are joined in one word, as `-doxattr`, made words of their own.
 ghost use Rattle.std.specs.Prelude.{◌≡◌, ◌++◌, ℕ, List, OnOk, IfOk, map, flat_map, option_map};
-ghost use Rattle.virtiofs_options.specs.Clusters.{after_letter, cluster, is_bare, is_cluster, is_last, joined_in, short_of, split_words, stripped, value_words, words_in};
+ghost use Rattle.virtiofs_options.specs.Clusters.{after_letter, cluster, is_bare, is_cluster, joined_in, plain, short_of, split_words, stripped, value_words, words_in};
 
-use crate::command::is_option;
-use crate::options::{Known, Options, Sets, Takes};
+use crate::command::{is_last, is_option};
+use crate::options::{Known, Options, Takes};
+use crate::word::Word;
 use std::alloc::{AllocError, Global};
 
 /// The option that a letter names, where it is known.
@@ -37,12 +38,16 @@ fn after_letter<'a>(name: &str, left: &'a str) -> Option<&'a str>
 
 /// Adds the value that follows the letter of an option, if there is one: a `=` before it is no part
 /// of it.
-fn push_value<'a>(words: &mut Vec<&'a str, Global>, value: &'a str) -> Result<(), AllocError>
-    ensures { OnOk result (map (λ it. it.now) words.new.items
-        ≡ map (λ it. it.now) words.old.items ++ value_words value.now) }
+fn push_value<'a>(words: &mut Vec<Word<'a>, Global>, value: &'a str) -> Result<(), AllocError>
+    ensures { OnOk result (map plain words.new.items
+        ≡ map plain words.old.items ++ value_words value.now) }
 {
     if !value.is_empty() {
-        words.push(value.strip_prefix("=").unwrap_or(value))?;
+        let text = value.strip_prefix("=").unwrap_or(value);
+        words.push(Word {
+            text,
+            is_joined: true,
+        })?;
     }
     Ok(())
 }
@@ -54,20 +59,13 @@ fn is_bare(takes: Takes) -> bool
     matches!(takes, Takes::Nothing)
 }
 
-/// Whether nothing is read after an option.
-fn is_last(sets: Sets) -> bool
-    ensures { result ≡ is_last sets }
-{
-    matches!(sets, Sets::Tells)
-}
-
 /// The words that letters stand for, if they are those of short options: the last may have a value.
 fn cluster<'a>(
     alloc: Global,
     options: Options,
     letters: &'a str,
-) -> Result<Option<Vec<&'a str, Global>>, AllocError>
-    ensures { IfOk result (λ it. option_map (λ words. map (λ it. it.now) words.items) it
+) -> Result<Option<Vec<Word<'a>, Global>>, AllocError>
+    ensures { IfOk result (λ it. option_map (λ words. map plain words.items) it
         ≡ cluster options letters.now) }
 {
     let mut words = Vec::new(alloc);
@@ -79,7 +77,10 @@ fn cluster<'a>(
         let Some(rest) = after_letter(row.name, left) else {
             return Ok(None);
         };
-        words.push(row.name)?;
+        words.push(Word {
+            text: row.name,
+            is_joined: false,
+        })?;
         if !is_bare(row.takes) {
             push_value(&mut words, rest)?;
             return Ok(Some(words));
@@ -104,8 +105,8 @@ fn joined<'a>(
     alloc: Global,
     options: Options,
     word: &'a str,
-) -> Result<Option<Vec<&'a str, Global>>, AllocError>
-    ensures { IfOk result (λ it. option_map (λ words. map (λ it. it.now) words.items) it
+) -> Result<Option<Vec<Word<'a>, Global>>, AllocError>
+    ensures { IfOk result (λ it. option_map (λ words. map plain words.items) it
         ≡ joined_in options word.now) }
 {
     if !is_cluster(word) {
@@ -122,14 +123,17 @@ fn push_words<'a>(
     alloc: Global,
     options: Options,
     word: &'a str,
-    all: &mut Vec<&'a str, Global>,
+    all: &mut Vec<Word<'a>, Global>,
 ) -> Result<(), AllocError>
-    ensures { OnOk result (map (λ it. it.now) all.new.items
-        ≡ map (λ it. it.now) all.old.items ++ words_in options word.now) }
+    ensures { OnOk result (map plain all.new.items
+        ≡ map plain all.old.items ++ words_in options word.now) }
 {
     match joined(alloc, options, word)? {
         Some(words) => all.extend_from_slice(words.as_slice())?,
-        None => all.push(word)?,
+        None => all.push(Word {
+            text: word,
+            is_joined: false,
+        })?,
     }
     Ok(())
 }
@@ -139,8 +143,8 @@ pub(crate) fn split_words<'a>(
     alloc: Global,
     options: Options,
     words: &[&'a str],
-) -> Result<Vec<&'a str, Global>, AllocError>
-    ensures { IfOk result (λ it. map (λ it. it.now) it.items ≡ split_words options words.now) }
+) -> Result<Vec<Word<'a>, Global>, AllocError>
+    ensures { IfOk result (λ it. map plain it.items ≡ split_words options words.now) }
 {
     let mut all = Vec::new(alloc);
     for word in words {

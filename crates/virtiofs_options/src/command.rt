@@ -1,10 +1,11 @@
 //! Words, part by part, as the options that are known say which have a value.
 ghost use Rattle.std.specs.Prelude.{◌≡◌, ◌↔◌, ℕ, ◌∷◌, List, IsTrue, IsFalse, IfOk, IfErr, MatchOption, option_map};
-ghost use Rattle.virtiofs_options.specs.GuestOptions.{is_flag, sets_by, value_in};
-ghost use Rattle.virtiofs_options.specs.Parts.{known_of, key_of, is_option, IsOption, JoinsLong, Names, StandsFirst, IsWrong};
+ghost use Rattle.virtiofs_options.specs.GuestOptions.{is_flag, value_in};
+ghost use Rattle.virtiofs_options.specs.Parts.{known_of, key_of, is_option, is_last, sets_by, IsOption, JoinsLong, Names, StandsFirst, IsWrong};
 
 use crate::fault::Fault;
 use crate::options::{Known, Options, Sets, Takes};
+use crate::word::Word;
 
 /// What one or two words of a command line are.
 #[derive(Clone, Copy)]
@@ -51,6 +52,13 @@ impl<'a> Part<'a> {
     }
 }
 
+/// Whether nothing is read after an option.
+pub(crate) fn is_last(sets: Sets) -> bool
+    ensures { result ≡ is_last sets }
+{
+    matches!(sets, Sets::Tells)
+}
+
 /// The text before the first `=`, or all of it.
 pub(crate) fn key_of(text: &str) -> &str
     ensures { result.now ≡ key_of text.now }
@@ -68,8 +76,7 @@ pub(crate) fn known_of(options: Options, name: &str) -> Option<Known>
     options.known.iter().find(|it| it.name == name).copied()
 }
 
-/// Whether a word looks like an option: it begins with `-`, and has more than that. Such a word is no
-/// value of the option before it.
+/// Whether a word looks like an option: it begins with `-`, and has more than that.
 pub(crate) fn is_option(word: &str) -> bool
     ensures { result ≡ is_option word.now }
 {
@@ -114,23 +121,23 @@ fn stray<'a>(options: Options, word: &'a str, name: &'a str) -> Result<(Part<'a>
 /// `after` are the words after the first.
 fn apart<'a>(
     options: Options,
-    name: &'a str,
-    after: &[&'a str],
+    word: Word<'a>,
+    after: &[Word<'a>],
 ) -> Result<(Part<'a>, usize), Fault<'a>>
-    requires option { IsOption name.now }
-    requires named { Names name.now name.now None }
-    ensures read { IfOk result (λ p. StandsFirst options name.entry after.now p.0 p.1) }
-    ensures refused { IfErr result (IsWrong options (name.entry ∷ after.now)) }
+    requires option { IsOption word }
+    requires named { Names word.text.now word.text.now None }
+    ensures read { IfOk result (λ p. StandsFirst options word.entry after.now p.0 p.1) }
+    ensures refused { IfErr result (IsWrong options (word.entry ∷ after.now)) }
 {
-    let Some(row) = known_of(options, name) else {
-        return stray(options, name, name);
+    let Some(row) = known_of(options, word.text) else {
+        return stray(options, word.text, word.text);
     };
     match row.takes {
         Takes::Nothing => Ok((Part::Flag(row), 1)),
-        Takes::AfterEquals => Err(Fault::Missing(name)),
+        Takes::AfterEquals => Err(Fault::Missing(word.text)),
         Takes::Value => match after.first() {
-            Some(value) if !is_option(value) => Ok((Part::Valued(row, value), 2)),
-            _ => Err(Fault::Missing(name)),
+            Some(next) if !next.is_option() => Ok((Part::Valued(row, next.text), 2)),
+            _ => Err(Fault::Missing(word.text)),
         },
     }
 }
@@ -138,24 +145,24 @@ fn apart<'a>(
 /// The first part of words, and how many words it has.
 pub(crate) fn first_part<'a>(
     options: Options,
-    word: &'a str,
-    after: &[&'a str],
+    word: Word<'a>,
+    after: &[Word<'a>],
 ) -> Result<(Part<'a>, usize), Fault<'a>>
     ensures read { IfOk result (λ p. StandsFirst options word.entry after.now p.0 p.1) }
     ensures refused { IfErr result (IsWrong options (word.entry ∷ after.now)) }
 {
-    if !is_option(word) {
+    if !word.is_option() {
         if options.plain {
-            return Ok((Part::Plain(word), 1));
+            return Ok((Part::Plain(word.text), 1));
         }
-        return Err(Fault::Unknown(word));
+        return Err(Fault::Unknown(word.text));
     }
-    let (name, joined) = named(word);
+    let (name, joined) = named(word.text);
     let Some(value) = joined else {
         return apart(options, word, after);
     };
     let Some(row) = known_of(options, name) else {
-        return stray(options, word, name);
+        return stray(options, word.text, name);
     };
     match row.takes {
         Takes::Nothing => Err(Fault::Unwanted(name)),

@@ -1,7 +1,7 @@
 //! The options of the daemon of one guest, as texts.
 ghost use Rattle.std.specs.Prelude.{◌≡◌, ◌∷◌, [], OnOk, unwrap_or};
 ghost use Rattle.std.specs.Option.{option_or};
-ghost use Rattle.virtiofs_options.specs.GuestOptions.{Adds, HasNoOption, TakesIn, has_any, sandbox_by, sandbox_of, text_in};
+ghost use Rattle.virtiofs_options.specs.GuestOptions.{Adds, HasNoOption, TakesIn, has_any, has_xattrs, sandbox_by, sandbox_of, text_in};
 
 use crate::command::Part;
 use crate::older::{Older, read_older};
@@ -51,8 +51,22 @@ pub struct Guest<'a, A: Allocator> {
     /// Whether `--posix-acl` stands among the options: beside it the daemon refuses each translation, also
     /// where a later `-o no_posix_acl` has the lists off. Beside `-o posix_acl` alone it refuses none.
     pub acl_flag: bool,
+    /// Whether extended attributes are asked for; `has_xattrs` says whether they are on.
+    pub xattr: bool,
+    /// Whether security labels are on.
+    pub security_label: bool,
     /// How the daemon is kept apart from the host, if that is said; `kept_apart` reads it.
     pub sandbox: Option<&'a str>,
+}
+
+impl<A: Allocator> Guest<'_, A> {
+    /// Whether extended attributes are on: they are asked for, or go with rules, with access control
+    /// lists or with security labels.
+    pub fn has_xattrs(&self) -> bool
+        ensures { result ≡ has_xattrs self.now }
+    {
+        self.xattrmap.is_some() || self.posix_acl || self.security_label || self.xattr
+    }
 }
 
 impl<'a, A: Allocator + Copy> Guest<'a, A> {
@@ -68,6 +82,8 @@ impl<'a, A: Allocator + Copy> Guest<'a, A> {
             xattrmap: None,
             posix_acl: false,
             acl_flag: false,
+            xattr: false,
+            security_label: false,
             sandbox: None,
         }
     }
@@ -86,7 +102,7 @@ impl<'a, A: Allocator + Copy> Guest<'a, A> {
     pub(crate) fn has_any(&self) -> bool
         ensures { result ≡ has_any self.now }
     {
-        if self.xattrmap.is_some() || self.posix_acl {
+        if self.xattrmap.is_some() || self.posix_acl || self.xattr {
             return true;
         }
         let users = self.translate_uid.len() + self.uid_map.len();
@@ -114,9 +130,14 @@ impl<'a, A: Allocator + Copy> Guest<'a, A> {
     fn take_flag(&mut self, row: Known)
         ensures { Adds self.old self.new (Part.Flag row ∷ []) }
     {
-        if matches!(row.sets, Sets::Acl) {
-            self.posix_acl = true;
-            self.acl_flag = true;
+        match row.sets {
+            Sets::Acl => {
+                self.posix_acl = true;
+                self.acl_flag = true;
+            }
+            Sets::Xattr => self.xattr = true,
+            Sets::Label => self.security_label = true,
+            _ => {}
         }
     }
 
@@ -143,10 +164,15 @@ impl<'a, A: Allocator + Copy> Guest<'a, A> {
         ensures user_ranges { self.new.uid_map ≡ self.old.uid_map }
         ensures group_ranges { self.new.gid_map ≡ self.old.gid_map }
         ensures flag { self.new.acl_flag ≡ self.old.acl_flag }
+        ensures xattr { self.new.xattr ≡ unwrap_or older.entry.xattr self.old.xattr }
+        ensures label { self.new.security_label
+            ≡ unwrap_or older.entry.security_label self.old.security_label }
         ensures sandbox { self.new.sandbox ≡ option_or older.entry.sandbox self.old.sandbox }
     {
         self.xattrmap = older.xattrmap.or(self.xattrmap);
         self.posix_acl = older.posix_acl.unwrap_or(self.posix_acl);
+        self.xattr = older.xattr.unwrap_or(self.xattr);
+        self.security_label = older.security_label.unwrap_or(self.security_label);
         self.sandbox = older.sandbox.or(self.sandbox);
     }
 

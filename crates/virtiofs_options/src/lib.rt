@@ -1,9 +1,10 @@
 //! Reads the words of `virtiofs_mapaudit`: its own options, and the options of each guest's virtiofsd.
 //!
-//! Words become parts (`parts`), and parts become what is asked for (`front`) and the options of a
-//! guest (`guest`, `older`). The contracts say what counts: values in the order of the words, of
-//! `--xattrmap` the last, and older options before the others. `read_words` puts all of it together
-//! (`words`), and `read_process` reads the words of a process (`guests`).
+//! Joined short options become words of their own (`cluster`, `word`), words become parts (`parts`),
+//! and parts become what is asked for (`front`) and the options of a guest (`guest`, `older`). The
+//! contracts say what counts: values in the order of the words, of `--xattrmap` the last, and older
+//! options before the others. `read_words` puts all of it together (`words`), and `read_process` reads
+//! the words of a process (`guests`).
 #![tactic(auto)]
 
 mod allowed;
@@ -24,4 +25,5 @@ mod strays;
 pub mod unknown;
 pub mod values;
 mod whole;
+mod word;
 pub mod words;

@@ -3,7 +3,7 @@ ghost use Rattle.std.specs.Prelude.{◌≡◌, ◌∷◌, [], None, Some, filter
 ghost use Rattle.std.specs.List.{last_or};
 ghost use Rattle.std.specs.Option.{option_or};
 ghost use Rattle.virtiofs_options.specs.Clusters.{stripped};
-ghost use Rattle.virtiofs_options.specs.GuestOptions.{AddsOlder, split_at_commas, is_older_with, is_rules, is_sandbox, older_of, older_options, older_setting, lists_in, text_in};
+ghost use Rattle.virtiofs_options.specs.GuestOptions.{AddsOlder, split_at_commas, is_older_with, is_rules, is_sandbox, older_of, older_options, older_setting, acl, xattr, label, flag_in, text_in};
 
 use crate::cluster::stripped;
 use crate::command::Part;
@@ -37,6 +37,10 @@ pub(crate) struct Older<'a> {
     pub(crate) xattrmap: Option<&'a str>,
     /// Whether access control lists are on, if that is said.
     pub(crate) posix_acl: Option<bool>,
+    /// Whether extended attributes are asked for, if that is said.
+    pub(crate) xattr: Option<bool>,
+    /// Whether security labels are on, if that is said.
+    pub(crate) security_label: Option<bool>,
     /// How the daemon is kept apart from the host, if that is said.
     pub(crate) sandbox: Option<&'a str>,
 }
@@ -52,17 +56,6 @@ fn text_after<'a>(name: &str, text: &'a str, other: Option<&'a str>) -> Option<&
 }
 
 impl<'a> Older<'a> {
-    /// The same, with access control lists on or off.
-    fn with_lists(self, are_on: bool) -> Self
-        ensures { result ≡ record self.entry { posix_acl = Some are_on } }
-    {
-        Older {
-            xattrmap: self.xattrmap,
-            posix_acl: Some(are_on),
-            sandbox: self.sandbox,
-        }
-    }
-
     /// The same with one option more.
     fn with(self, options: Options, text: &'a str) -> Self
         ensures { AddsOlder options self.entry result (text.now ∷ []) }
@@ -70,21 +63,19 @@ impl<'a> Older<'a> {
         let Some(row) = older_of(options, text) else {
             return self;
         };
+        let mut older = self;
         match row.sets {
-            Sets::Acl => self.with_lists(true),
-            Sets::NoAcl => self.with_lists(false),
-            Sets::Xattrmap => Older {
-                xattrmap: text_after(row.name, text, self.xattrmap),
-                posix_acl: self.posix_acl,
-                sandbox: self.sandbox,
-            },
-            Sets::Sandbox => Older {
-                xattrmap: self.xattrmap,
-                posix_acl: self.posix_acl,
-                sandbox: text_after(row.name, text, self.sandbox),
-            },
-            _ => self,
+            Sets::Acl => older.posix_acl = Some(true),
+            Sets::NoAcl => older.posix_acl = Some(false),
+            Sets::Xattr => older.xattr = Some(true),
+            Sets::NoXattr => older.xattr = Some(false),
+            Sets::Label => older.security_label = Some(true),
+            Sets::NoLabel => older.security_label = Some(false),
+            Sets::Xattrmap => older.xattrmap = text_after(row.name, text, older.xattrmap),
+            Sets::Sandbox => older.sandbox = text_after(row.name, text, older.sandbox),
+            _ => {}
         }
+        older
     }
 
     /// The same with the options of one `-o`, with a comma between two.
@@ -116,13 +107,19 @@ pub(crate) fn read_older<'a>(options: Options, parts: &[Part<'a>]) -> Older<'a>
     ensures rules { text_in result.xattrmap
         ≡ last_or None (filter_map (older_setting is_rules options) (older_options parts.now)) }
     ensures lists { result.posix_acl
-        ≡ last_or None (filter_map (lists_in options) (older_options parts.now)) }
+        ≡ last_or None (filter_map (flag_in acl options) (older_options parts.now)) }
+    ensures xattr { result.xattr
+        ≡ last_or None (filter_map (flag_in xattr options) (older_options parts.now)) }
+    ensures label { result.security_label
+        ≡ last_or None (filter_map (flag_in label options) (older_options parts.now)) }
     ensures sandbox { text_in result.sandbox
         ≡ last_or None (filter_map (older_setting is_sandbox options) (older_options parts.now)) }
 {
     let mut older = Older {
         xattrmap: None,
         posix_acl: None,
+        xattr: None,
+        security_label: None,
         sandbox: None,
     };
     for part in parts {

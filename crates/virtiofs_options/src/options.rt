@@ -28,7 +28,7 @@ pub(crate) enum Values {
     Tag,
 }
 
-/// What an option of the daemon sets, as far as this counts here.
+/// What an option sets, as far as this counts here.
 #[derive(Clone, Copy)]
 pub(crate) enum Sets {
     /// What is of no concern here.
@@ -47,11 +47,19 @@ pub(crate) enum Sets {
     Acl,
     /// That they are off.
     NoAcl,
+    /// That extended attributes are on.
+    Xattr,
+    /// That they are on only where something else has them on.
+    NoXattr,
+    /// That security labels are on.
+    Label,
+    /// That they are off.
+    NoLabel,
     /// How the daemon is kept apart from the host.
     Sandbox,
     /// What the options of the older form in its value say.
     Older,
-    /// That the daemon says something of itself, and reads no further.
+    /// That the program or the daemon tells of itself, and reads no further.
     Tells,
     /// That the daemon says what it is able to do, and ends.
     Prints,
@@ -70,7 +78,7 @@ pub(crate) struct Known {
     pub(crate) name: &'static str,
     /// Whether it has a value.
     pub(crate) takes: Takes,
-    /// What it sets, if it is the daemon's.
+    /// What it sets.
     pub(crate) sets: Sets,
     /// Which values it takes.
     pub(crate) values: Values,
@@ -131,13 +139,14 @@ macro_rules! table {
 
 /// The options of the program, and those of the daemon that may stand beside them; in the order in
 /// which the help has those of which it says something.
-const OPTIONS: [Known; 21] = table! {
+const OPTIONS: [Known; 22] = table! {
     "--translate-uid": Value, TranslateUid, Any, "SPEC", "Translate users, as the daemon does";
     "--translate-gid": Value, TranslateGid, Any, "SPEC", "Translate groups, as the daemon does";
     "--uid-map": Value, UidMap, Any, "RANGE", "A range of users of the daemon's namespace";
     "--gid-map": Value, GidMap, Any, "RANGE", "A range of groups of the daemon's namespace";
     "--xattrmap": Value, Xattrmap, Any, "RULES", "Map names of attributes";
     "--posix-acl": Nothing, Acl, Any, "", "Access control lists are on";
+    "--xattr": Nothing, Xattr, Any, "", "Extended attributes are on, also without rules";
     "--accept": Value, Other, Any, "KIND",
         "Findings of this kind, named as in JSON, do not count for the status";
     "--explain": Value, Other, Any, "WHAT",
@@ -152,10 +161,10 @@ const OPTIONS: [Known; 21] = table! {
     "--quiet": Nothing, Other, Any, "", "Write nothing: the status tells";
     "--mend": Nothing, Other, Any, "", "Write mended options alone, each on a line";
     "--svg": Nothing, Other, Any, "", "Draw what becomes of all ids, as SVG";
-    "--help": Nothing, Other, Any, "", "";
-    "-h": Nothing, Other, Any, "", "";
-    "--version": Nothing, Other, Any, "", "";
-    "-V": Nothing, Other, Any, "", "";
+    "--help": Nothing, Tells, Any, "", "";
+    "-h": Nothing, Tells, Any, "", "";
+    "--version": Nothing, Tells, Any, "", "";
+    "-V": Nothing, Tells, Any, "", "";
 };
 
 /// The values of some options.
@@ -209,7 +218,7 @@ const OPTIONS_OF_DAEMON: [Known; 45] = table! {
     "--migration-on-error": Value, Other, Of(&ON_ERRORS);
     "--shared-dir": Value, Other, Any;
     "--modcaps": Value, Other, Any;
-    "--xattr": Nothing, Other, Any;
+    "--xattr": Nothing, Xattr, Any;
     "--announce-submounts": Nothing, Other, Any;
     "--no-announce-submounts": Nothing, Other, Any;
     "--allow-mmap": Nothing, Other, Any;
@@ -219,7 +228,7 @@ const OPTIONS_OF_DAEMON: [Known; 45] = table! {
     "--syslog": Nothing, Other, Any;
     "--no-killpriv-v2": Nothing, Other, Any;
     "--killpriv-v2": Nothing, Other, Any;
-    "--security-label": Nothing, Other, Any;
+    "--security-label": Nothing, Label, Any;
     "--preserve-noatime": Nothing, Other, Any;
     "--readonly": Nothing, Other, Any;
     "--migration-verify-handles": Nothing, Other, Any;
@@ -238,8 +247,8 @@ const OLDER_OPTIONS: [Known; 23] = table! {
     "modcaps=": Value, Other, NoEquals;
     "cache=": Value, Other, Of(&OLDER_CACHES);
     "loglevel=": Value, Other, Of(&OLDER_LOG_LEVELS);
-    "xattr": Nothing, Other, Any;
-    "no_xattr": Nothing, Other, Any;
+    "xattr": Nothing, Xattr, Any;
+    "no_xattr": Nothing, NoXattr, Any;
     "readdirplus": Nothing, Other, Any;
     "no_readdirplus": Nothing, Other, Any;
     "writeback": Nothing, Other, Any;
@@ -249,8 +258,8 @@ const OLDER_OPTIONS: [Known; 23] = table! {
     "announce_submounts": Nothing, Other, Any;
     "killpriv_v2": Nothing, Other, Any;
     "no_killpriv_v2": Nothing, Other, Any;
-    "security_label": Nothing, Other, Any;
-    "no_security_label": Nothing, Other, Any;
+    "security_label": Nothing, Label, Any;
+    "no_security_label": Nothing, NoLabel, Any;
     "no_posix_lock": Nothing, Other, Any;
     "no_flock": Nothing, Other, Any;
 };

@@ -1,13 +1,23 @@
 //! All parts of words.
-ghost use Rattle.std.specs.Prelude.{IfOk, IfErr};
-ghost use Rattle.virtiofs_options.specs.Parts.{AreParts, HasFault, WrongOnly};
+ghost use Rattle.std.specs.Prelude.{◌≡◌, ◌≤◌, length, IfOk, IfErr};
+ghost use Rattle.virtiofs_options.specs.Parts.{AreParts, HasFault, WrongOnly, read_after};
 
-use crate::command::{Part, first_part};
+use crate::command::{Part, first_part, is_last};
 use crate::fault::{Fault, ReadError};
 use crate::options::Options;
+use crate::word::Word;
 use std::alloc::Allocator;
 
-/// The parts of words, in their order.
+/// What is read of the words after a part: none where it is an option that tells of the program or the
+/// daemon.
+fn read_after<'w, 'a>(part: Part<'a>, rest: &'w [Word<'a>]) -> &'w [Word<'a>]
+    ensures after { result.now ≡ read_after part.entry rest.now }
+    ensures shorter { length result.now ≤ length rest.now }
+{
+    if is_last(part.sets()) { &[] } else { rest }
+}
+
+/// The parts of words, in their order, up to the first option that tells of the program or the daemon.
 ///
 /// # Errors
 ///
@@ -15,7 +25,7 @@ use std::alloc::Allocator;
 pub(crate) fn read_parts<'a, A: Allocator>(
     alloc: A,
     options: Options,
-    words: &[&'a str],
+    words: &[Word<'a>],
 ) -> Result<Vec<Part<'a>, A>, ReadError<'a>>
     ensures read { IfOk result (λ parts. AreParts options words.now parts.items) }
     ensures refused { IfErr result (WrongOnly (HasFault options words.now)) }
@@ -25,7 +35,7 @@ pub(crate) fn read_parts<'a, A: Allocator>(
     while !rest.is_empty() {
         let (part, count) = first_part(options, rest[0], &rest[1..])?;
         parts.push(part)?;
-        rest = &rest[count..];
+        rest = read_after(part, &rest[count..]);
     }
     Ok(parts)
 }

@@ -17,6 +17,7 @@ use crate::options::Options;
 use crate::parts::read_parts;
 use crate::values::{Values, values_of};
 use crate::whole::is_line;
+use crate::word::Word;
 use std::alloc::Global;
 
 /// What the words before the first `--` come to.
@@ -32,7 +33,7 @@ enum Front<'a> {
 fn read_front<'a>(
     alloc: Global,
     options: Options,
-    words: &[&'a str],
+    words: &[Word<'a>],
 ) -> Result<Front<'a>, ReadError<'a>>
     ensures read { IfOk result (IsFront options words.now) }
     ensures refused { IfErr result (WrongOnly (HasFrontFault options words.now)) }

@@ -73,6 +73,8 @@ fn guest_of<'a, A: Allocator + Copy>(
             xattrmap,
             posix_acl: options.posix_acl && other.keeps_acl,
             acl_flag: options.acl_flag && other.keeps_acl,
+            xattr: options.xattr,
+            security_label: options.security_label,
             sandbox: options.sandbox,
         },
         runner: given.runner,

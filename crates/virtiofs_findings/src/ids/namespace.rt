@@ -90,8 +90,8 @@ fn set_up_ranges<A: Allocator>(
     Ok(ranges)
 }
 
-/// The ranges of the namespace that a daemon runs in: those that the kernel shows, or else those that
-/// it sets up.
+/// The ranges of the namespace that a daemon runs in: those that the kernel shows, but of who is not
+/// root and in that of the host the id that it runs as alone; or else those that it sets up.
 pub(crate) fn ranges_of<A: Allocator>(
     alloc: A,
     bounds: Option<&Bounds<A>>,
@@ -101,9 +101,10 @@ pub(crate) fn ranges_of<A: Allocator>(
     ensures { IfOk result (λ ranges. ranges.items
         ≡ ranges_of (option_map (λ it. it.now) bounds.entry) sets_up written.now) }
 {
+    let own = own_of(bounds);
     match shown_of(bounds) {
-        Some(shown) => copied(alloc, but_host(shown)),
-        None => set_up_ranges(alloc, sets_up, own_of(bounds), written),
+        Some(shown) => set_up_ranges(alloc, own > 0, own, but_host(shown)),
+        None => set_up_ranges(alloc, sets_up, own, written),
     }
 }
 

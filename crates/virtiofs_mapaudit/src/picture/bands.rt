@@ -91,9 +91,13 @@ fn back(set: &IdSetUp<Global>, id: u32) -> Option<u32> {
     Some(set.map.map_host(inside).ok()?.into_inner())
 }
 
-/// The band of ids of the guest that have one fate.
+/// The band of ids of the guest that have one fate. That they keep their number counts least.
 fn band_of(set: &IdSetUp<Global>, faulty: &[Band], guest: Span) -> Band {
-    let fault = faulty.iter().rfind(|band| has(band.guest, guest.first));
+    let is_here = |band: &Band| has(band.guest, guest.first);
+    let worse = faulty
+        .iter()
+        .rfind(|band| is_here(band) && band.look != Look::Uncovered);
+    let fault = worse.or(faulty.iter().rfind(|band| is_here(band)));
     let (look, host) = match (forth(set, guest.first), forth(set, guest.last)) {
         (Ok(first), Ok(last)) => (Look::Moved, Span { first, last }),
         (Err(look), _) | (_, Err(look)) => (look, guest),

@@ -1,4 +1,4 @@
-use Rattle.std.proofs.Common.{◌≡◌, Contains, rules, sym}
+use Rattle.std.proofs.Common.{Contains, rules, sym}
 use Rattle.std.proofs.lemmas.Bool.{true≢false}
 use Rattle.std.proofs.lemmas.List.{take_all}
 use Rattle.virtiofs_findings.proofs.ListLemmas.{AnyHas-at, AnyHas-none}

@@ -9,6 +9,7 @@ returns-clause-sets_up g c = record {
   groups = rw (c.as_slice-3.ensures.value, c.as_slice-4.ensures.value, c.groups_of.ensures, c.is_bounded-2.ensures)
       at c.in_ok-groups.ensures.read;
   names = c.in_ok-names.ensures.read;
+  passes = c.passes.ensures;
   acl = refl;
   process = c.process_of.ensures;
   refused = c.acl_refused.ensures;

@@ -1,8 +1,9 @@
-use Rattle.std.proofs.Common.{◌≡◌, ◌++◌, ℕ, List, Bor, map, refl, subst}
+use Rattle.std.proofs.Common.{◌≡◌, ◌++◌, ℕ, List, map, refl, subst}
 use Rattle.virtiofs_options.specs.GuestOptions.{TakesIn}
 use Rattle.virtiofs_options.specs.Parts.{AreParts}
 use Rattle.virtiofs_options.specs.Unknown.{AreRight, told, unknown_of}
 use Rattle.virtiofs_options.specs.declared.command.Part.{Part}
+use Rattle.virtiofs_options.specs.declared.word.Word.{Word}
 use Rattle.virtiofs_options.proofs.guests.line_guest.Goals as goal
 
 pub returns-clause-read : goal.returns-clause-read
@@ -13,7 +14,7 @@ returns-clause-read c = (
     (
       c.in_ok-words.words.items,
       c.in_ok-words.ensures,
-      subst (λ (it : List (Bor (List ℕ))). AreParts c.args.options it c.in_ok-parts.parts.items) c.as_slice.ensures.value
+      subst (λ (it : List Word). AreParts c.args.options it c.in_ok-parts.parts.items) c.as_slice.ensures.value
           c.in_ok-parts.ensures.read,
     ),
     subst (AreRight c.args.options) c.as_slice-2.ensures.value (c.in_ok-check_line.ensures.right refl),

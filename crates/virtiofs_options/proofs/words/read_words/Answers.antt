@@ -1,7 +1,8 @@
-use Rattle.std.proofs.Common.{◌∙◌, ℕ, List, Bor, ap, drop, subst}
+use Rattle.std.proofs.Common.{◌∙◌, ℕ, List, ap, drop, subst}
 use Rattle.virtiofs_options.proofs.ResultLemmas.{audit-words, audit-wrong}
 use Rattle.virtiofs_options.specs.Clusters.{split_words}
 use Rattle.virtiofs_options.specs.Words.{IsFront}
+use Rattle.virtiofs_options.specs.declared.word.Word.{Word}
 use Rattle.virtiofs_options.specs.declared.words.Front.TheVariants.{Audit}
 use Rattle.virtiofs_options.proofs.words.read_words.Goals as goal
 
@@ -10,7 +11,7 @@ returns-in-Ok-Audit-clause-read c =
     audit-words c.args.own c.args.of_daemon c.args.words.now c.in_ok-front.front.items c.tail_of-rest.result.now
     c.in-Ok-Audit.asked c.in-Ok-Audit.values c.in-Ok-Audit.first c.audit_of.result
     (c.in_ok-front.ensures ∙ ap (split_words c.args.of_daemon) c.line_of.ensures)
-    (subst (λ (l : List (Bor (List ℕ))). IsFront c.args.own l (Audit c.in-Ok-Audit.asked c.in-Ok-Audit.values c.in-Ok-Audit.first))
+    (subst (λ (l : List Word). IsFront c.args.own l (Audit c.in-Ok-Audit.asked c.in-Ok-Audit.values c.in-Ok-Audit.first))
     c.as_slice.ensures.value
     (subst (IsFront c.args.own c.as_slice.result.now) c.in-Ok-Audit.field-0-is c.in-Ok-Audit.ensures.read))
     (c.tail_of-rest.ensures ∙ ap (λ (start : ℕ). drop start c.args.words.now) c.rest_start.ensures.start)
@@ -21,7 +22,7 @@ returns-in-Ok-Audit-clause-refused c =
     audit-wrong c.args.own c.args.of_daemon c.args.words.now c.in_ok-front.front.items c.tail_of-rest.result.now
     c.in-Ok-Audit.asked c.in-Ok-Audit.values c.in-Ok-Audit.first c.audit_of.result
     (c.in_ok-front.ensures ∙ ap (split_words c.args.of_daemon) c.line_of.ensures)
-    (subst (λ (l : List (Bor (List ℕ))). IsFront c.args.own l (Audit c.in-Ok-Audit.asked c.in-Ok-Audit.values c.in-Ok-Audit.first))
+    (subst (λ (l : List Word). IsFront c.args.own l (Audit c.in-Ok-Audit.asked c.in-Ok-Audit.values c.in-Ok-Audit.first))
     c.as_slice.ensures.value
     (subst (IsFront c.args.own c.as_slice.result.now) c.in-Ok-Audit.field-0-is c.in-Ok-Audit.ensures.read))
     (c.tail_of-rest.ensures ∙ ap (λ (start : ℕ). drop start c.args.words.now) c.rest_start.ensures.start)

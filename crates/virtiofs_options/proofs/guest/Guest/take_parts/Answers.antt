@@ -14,7 +14,8 @@ returns g c =
     let then = c.take_older.ensures in
     TakesIn-end c.args.options _ c.loop-part.self _ c.read_older.result _
     (subst (Adds _ c.loop-part.self) (take_all c.loop-part.part-index c.args.parts.now c.loop-part-test.false) c.loop-part.invariant)
-    c.read_older.ensures.rules c.read_older.ensures.lists c.read_older.ensures.sandbox (record {
+    c.read_older.ensures.rules c.read_older.ensures.lists c.read_older.ensures.xattr
+    c.read_older.ensures.label c.read_older.ensures.sandbox (record {
       rules = then.rules;
       lists = then.lists;
       users = then.users;
@@ -22,5 +23,7 @@ returns g c =
       user_ranges = then.user_ranges;
       group_ranges = then.group_ranges;
       flag = then.flag;
+      xattr = then.xattr;
+      label = then.label;
       sandbox = then.sandbox;
     })

@@ -41,7 +41,8 @@ impl fmt::Display for ShellWord<'_> {
 
 /// The options of a guest for ids, names and access control lists, each with its value if it has one,
 /// in the order in which they are written. Lists that are on by `-o posix_acl` stay so: beside
-/// `--posix-acl` virtiofsd takes no translation of ids.
+/// `--posix-acl` virtiofsd takes no translation of ids. `--xattr` stands where neither these lists nor
+/// rules imply it.
 pub(crate) fn words_of<'g>(
     alloc: Global,
     guest: &'g GuestOptions<'_, Global>,
@@ -66,6 +67,9 @@ pub(crate) fn words_of<'g>(
         } else {
             ("-o", Some("posix_acl"))
         })?;
+    }
+    if guest.has_xattrs() && guest.xattrmap.is_none() && !guest.posix_acl {
+        words.push(("--xattr", None))?;
     }
     Ok(words)
 }
