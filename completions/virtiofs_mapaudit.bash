@@ -8,7 +8,7 @@ _virtiofs_mapaudit()
     [[ $option == = ]] && option=${COMP_WORDS[COMP_CWORD-2]}
     case $option in
         --translate-uid | --translate-gid) words="map: guest: host: squash-guest: squash-host: forbid-guest:" ;;
-        --uid-map | --gid-map | --xattrmap | --pid | --run-as | --subuid | --subgid) words="" ;;
+        --uid-map | --gid-map | --xattrmap | --accept-from | --pid | --run-as | --subuid | --subgid) words="" ;;
         --accept)
             words="root not_back lacking kept range other_ranges posix_acl acl_untranslated no_start no_rule not_listed"
             words+=" listed_elsewhere idle_rule acl_renamed id_of_both shown_to_other name_of_both"
@@ -17,7 +17,7 @@ _virtiofs_mapaudit()
         --explain) words="user= host-user= group= host-group= name= host-name=" ;;
         *)
             words="--translate-uid --translate-gid --uid-map --gid-map --xattrmap --xattr --posix-acl"
-            words+=" --show --accept --explain --pid --run-as --subuid --subgid --svg --json --quiet --mend"
+            words+=" --show --accept --accept-from --explain --pid --running --run-as --subuid --subgid --svg --json --quiet --mend"
             words+=" --help --version"
             for before in "${COMP_WORDS[@]:1:COMP_CWORD-1}"; do
                 [[ $before == -- ]] && words=${words%% --show*}

@@ -41,9 +41,9 @@
  * with another `count` or `len` than its own. None of these is ever treated as the map that
  * changes no id. To get that map, make a map from no specifications. A call that is given one of
  * these returns VIRTIOFS_NO_MAP. A `make` whose code is not OK leaves no map in its buffer.
- * If the numbers begin as a map does, but the rest was not written by a `make` or was changed
- * since, the result means nothing: of a copy of a part, with zeros behind it and the length of the
- * whole, a call may make a map that changes no id, or no name. So copy all `count` words, which
+ * Nor is a copy of a part a map, with zeros behind it and the length of the whole: a map ends with
+ * its first number too. If the numbers begin and end as a map does, but others were not written
+ * by a `make` or were changed since, the result means nothing. So copy all `count` words, which
  * are 4 * `count` bytes, or all `len` bytes. Whatever the numbers are, a call returns, reads
  * nothing outside of them, and writes nothing outside of its results. But an audit of
  * names may then take time that grows with the square of the number of rules times the
@@ -102,7 +102,7 @@ extern "C" {
 
 /* The version of this header. A header and an archive of the same version belong together;
    virtiofs_map_version() returns the version of the archive. */
-#define VIRTIOFS_MAP_VERSION 2
+#define VIRTIOFS_MAP_VERSION 3
 
 /* Attributes of a function, for compilers that know them: the caller must use its code, and
    the arguments at these places must not be NULL. */
@@ -329,7 +329,7 @@ struct virtiofs_fault {
        nothing is copied, and this member is 0. */
     size_t quoted;
     size_t wanted;
-    /* OVERFLOW and INTERSECTS: the specification at fault. */
+    /* OVERFLOW and INTERSECTS: the specification at `place`; of two that intersect, the later. */
     struct virtiofs_spec spec;
 };
 
@@ -519,7 +519,6 @@ VIRTIOFS_CHECKED((1, 2, 4, 6))
 uint32_t virtiofs_map_fault_text(const struct virtiofs_fault *fault,
                                  const uint8_t *quoted, size_t quoted_len,
                                  uint8_t *out, size_t room, size_t *len);
-
 
 /* A pointer and its length. If the length is 0, the pointer becomes an aligned address
    that is not NULL. */
@@ -977,7 +976,8 @@ struct virtiofs_refusal {
 
 /* Makes all maps of a share from the values of options. OK: *maps has them. REFUSED: an option is
    at fault, as virtiofs_uids_make_texts and virtiofs_names_make find it. NO_MEMORY. *refusal says
-   of each code what it is; if the code is not OK, no memory is kept, and all of *maps is 0. */
+   of each code what it is; if the code is not OK, no memory is kept, and all of *maps is 0. With OK
+   rules may still leave names undecided: virtiofs_names_is_terminated says whether they do. */
 VIRTIOFS_CHECKED((1, 2, 3))
 static inline enum virtiofs_code virtiofs_maps_make(const struct virtiofs_options *options,
                                                     struct virtiofs_maps *maps,
@@ -1046,7 +1046,7 @@ static inline enum virtiofs_code virtiofs_maps_make(const struct virtiofs_option
  * `map` rule that does not list it.
  *
  * The time of `.._audit`, `.._audit_listed`, `.._keeps_apart` and `.._shares_no_name` grows with
- * the number of rules, for some rules with its square: for 6,400 of these it may take seconds.
+ * the number of rules, for some rules with its cube: for 800 of these it may take minutes.
  * So call these when a map is made, and not while a guest waits.
  */
 
@@ -1130,10 +1130,10 @@ static inline enum virtiofs_value_kind virtiofs_carries_ids(const void *name, si
 /* Converts an access control list of the guest, in place, into one for the host: each id of a
    user (tag 2) is mapped by `users`, and each id of a group (tag 8) by `groups`. `entries` has
    `room` elements, and the call needs one for each entry of the value: len / 8 is enough. OK.
-   REFUSED: SHORT, VERSION or SIZE; or TAG or PERMISSION with the index of the entry. NO_ROOM:
-   ROOM. NO_ID: the id of the entry, or what it becomes, is 4294967295. FORBIDDEN: a specification
-   forbids the id of the entry. MERGES: an earlier entry with the same tag has another id, and both
-   would become the same id. NO_MAP: `users` or `groups` is no map. */
+   REFUSED: SHORT, VERSION or SIZE; or TAG or PERMISSION with the index of the entry. NO_ROOM: ROOM
+   (`expected` entries). NO_ID: the id of the entry, or what it becomes, is 4294967295. FORBIDDEN:
+   a specification forbids the id of the entry. MERGES: an earlier entry with the same tag has
+   another id, and both would become the same id. NO_MAP: `users` or `groups` is no map. */
 VIRTIOFS_CHECKED((7))
 static inline enum virtiofs_code virtiofs_acl_to_host(struct virtiofs_uids users,
                                                       struct virtiofs_gids groups, void *value,

@@ -21,7 +21,17 @@ sys.dont_write_bytecode = True
 from compiling import compiler
 from tally import Tally, left_out, run, waited
 
-STAND_IN = "#include <unistd.h>\nint main(void) { for (;;) pause(); }\n"
+# With FORKS in its environment it has a child, as virtiofsd has, which ends with it.
+STAND_IN = """
+#include <signal.h>
+#include <stdlib.h>
+#include <sys/prctl.h>
+#include <unistd.h>
+int main(void) {
+    if (getenv("FORKS") && !fork()) prctl(PR_SET_PDEATHSIG, SIGKILL);
+    for (;;) pause();
+}
+"""
 HOST = "0 0 4294967295"
 MAPPED, MAPPED_GROUPS = "--uid-map=:0:100000:65536:", "--gid-map=:0:100000:65536:"
 TOOLS = {"uid": "newuidmap", "gid": "newgidmap"}
@@ -37,19 +47,21 @@ FORBIDDEN = [f"--translate-{it}=forbid-guest:65536:4294901759" for it in ("uid",
 
 
 @contextlib.contextmanager
-def daemon(program, options, ranges=None, user=0):
-    """The process id of a stand-in with these options, run by that user and group. With ranges it is in a namespace that
-    has them, for users and for groups."""
-    words = [program, *options]
+def daemon(program, options, ranges=None, user=0, name=None, forks=False):
+    """The process id of a stand-in with these options, run by that user and group, maybe under another name. With ranges it
+    is in a namespace that has them, for users and for groups. Where it forks, it is that of the child."""
+    words = [name or program, *options]
     if ranges:
         words = ["unshare", "--user", "--", *words]
-    started = subprocess.Popen(words, user=user, group=user, extra_groups=[], stdin=subprocess.DEVNULL, stdout=subprocess.DEVNULL)
+    started = subprocess.Popen(words, executable=program if name else None, env={**os.environ, **({"FORKS": "1"} if forks else {})},
+                               user=user, group=user, extra_groups=[], stdin=subprocess.DEVNULL, stdout=subprocess.DEVNULL)
     try:
         there = Path(f"/proc/{started.pid}")
-        waited(lambda: (there / "cmdline").read_bytes().startswith(program.encode()))
+        waited(lambda: (there / "cmdline").read_bytes().startswith((name or program).encode()))
         for name, lines in zip(("uid_map", "gid_map"), ranges or ()):
             (there / name).write_text(lines, encoding="ascii")
-        yield str(started.pid)
+        children = there / "task" / str(started.pid) / "children"
+        yield waited(lambda: children.read_text().strip()) if forks else str(started.pid)
     finally:
         started.kill()
         started.wait()
@@ -88,6 +100,42 @@ def processes(room, stand_in):
     yield "a thread of the kernel, or the first process", ["--pid", "2"], 2, "process 2"
 
 
+def running(room, stand_in):
+    """The same for all daemons that run."""
+    if run(["pgrep", "-x", "virtiofsd"])[0] == 0:
+        left_out("all daemons that run", "a virtiofsd runs here")
+        return
+    yield "no daemon", ["--running"], 0, "no virtiofsd runs here\n"
+    yield "no daemon, as JSON", ["--running", "--json"], 0, "[]\n"
+    for it in ("one", "two"):
+        Path(room, it).mkdir(exist_ok=True)
+    with contextlib.suppress(FileExistsError):
+        Path(room, "link").symlink_to("one")
+    one, two, link = f"{room}/one", f"{room}/two", f"{room}/link"
+    ranges, kernels = [MAPPED, MAPPED_GROUPS, *FORBIDDEN], ("0 100000 65536\n",) * 2
+    with daemon(stand_in, ["--shared-dir", one, "--xattr"], user=65534, forks=True) as pid:
+        yield "of a daemon the child", ["--running"], 5, f"guest 1, process {pid} of user 65534\n"
+        yield "and no other guest", ["--running", "--json"], 5, f'"guests":[{{"groups":null,"guest":1,"names":null,"process":{pid},"users":null}}],'
+        yield "a question", ["--running", "--explain", "user=5"], 0, f"guest 1, process {pid}\n  user 5 of the guest\n"
+    with daemon(stand_in, ["--shared-dir", one, *ranges], kernels) as pid:
+        with daemon(stand_in, [f"--shared-dir={two}", *ranges], kernels) as other:
+            yield "two directories", ["--running"], 0, f"directory '{two}'\nguest 1, process {other} of user 0\n"
+            yield "the first of them", ["--running"], 0, f"directory '{one}'\nguest 1, process {pid} of user 0\n"
+            yield "the same as JSON", ["--running", "--json"], 0, f'"directory":"{two}","report":{{'
+        with daemon(stand_in, ["--shared-dir", two, "-o", f"source={link}", *ranges], kernels) as other:
+            yield "one directory, by a link and the older form", ["--running"], 5, "guests 1 and 2 reach the same users"
+            with daemon(stand_in, [f"--shared-dir={two}", *ranges], kernels):
+                yield "the status is that of the worst directory", ["--running"], 5, f"directory '{two}'\nguest 1"
+        with daemon(stand_in, ["virtiofsd"], name="sudo"):
+            yield "another program that has the daemon's word", ["--running"], 0, "nothing found"
+        with daemon(stand_in, ["--translate-uid", b"\xff"]) as other:
+            yield "a word that is not UTF-8", ["--running"], 2, f"a word of process {other} is not UTF-8"
+        with daemon(stand_in, ["--sandbox=none2"]) as other:
+            yield "a value that virtiofsd refuses", ["--running"], 2, f"process {other}: virtiofsd refuses the value 'none2'"
+        for beside in (["--pid", pid], ["--svg"], ["--mend"], ["--translate-uid=map:0:1:1"], ["--", "virtiofsd"]):
+            yield f"{beside[0]} beside it", ["--running", *beside], 2, "'--running' goes with neither"
+
+
 def files(room, _):
     """The same for users who start daemons, and the files that give them ids."""
     user = next(it for it in pwd.getpwall() if it.pw_uid not in (0, 4321))
@@ -116,6 +164,19 @@ def files(room, _):
     yield "a number that is no user's", ["--run-as", "4294967295:5", *both(given), *daemon_of(1, 1)], 2, "'4294967295:5' is no user"
     yield "a number that is no group's", ["--run-as", "5:4294967295", *both(given), *daemon_of(1, 1)], 2, "'5:4294967295' is no user"
     yield "files for no user", [*both(given), *daemon_of(1, 1)], 2, "'--subuid' and '--subgid' are for '--run-as'"
+    kinds = Path(room, "kinds")
+    kinds.write_text("# what is meant to be so\nkept lacking # two\n\n\troot#\n", encoding="ascii")
+    yield "kinds that a file accepts", ["--accept-from", str(kinds), "--", "virtiofsd"], 0, "accepted: user 0 and group 0 act as root"
+    kinds.write_text("kept", encoding="ascii")
+    kept = ["virtiofsd", "--translate-uid=map:5:5:1", "--translate-gid=map:5:5:1"]
+    yield "kinds of a file, and one more", ["--accept-from", str(kinds), "--accept=root", "--", *kept], 0, "nothing else found"
+    yield "the same without the file", ["--accept=root", "--", *kept], 5, "keep their number"
+    kinds.write_text("root\nrott\n", encoding="ascii")
+    yield "a file with a word that is no kind", ["--accept-from", str(kinds), "--", "virtiofsd"], 2, f"{kinds}: '--accept' has no value 'rott'"
+    kinds.write_bytes(b"root \xff\n")
+    yield "a file of kinds that is not UTF-8", ["--accept-from", str(kinds), "--", "virtiofsd"], 2, f"{kinds} is not UTF-8"
+    yield "no file of kinds", ["--accept-from", f"{room}/nosuch", "--", "virtiofsd"], 2, f"there is no file {room}/nosuch"
+    yield "a folder of kinds", ["--accept-from", room, "--", "virtiofsd"], 2, f"{room} is no regular file"
     yield "a folder", ["--run-as", "4321:4321", *both(room), *daemon_of(1, 1)], 2, "is no regular file"
     yield "a file that never ends", ["--run-as", "4321:4321", *both("/dev/zero"), *daemon_of(1, 1)], 2, "/dev/zero is no regular file"
     with contextlib.suppress(FileExistsError):
@@ -205,7 +266,7 @@ def main(words):
         for program in map(os.path.abspath, words):
             if has_tools:
                 try_tools(tally, program, room)
-            for part in (processes, files) if is_made else (files,):
+            for part in (processes, running, files) if is_made else (files,):
                 try_on(tally, program, part(room, stand_in))
     return tally.end()
 

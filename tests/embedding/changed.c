@@ -1,7 +1,7 @@
 /*
- * Maps whose numbers were changed since they were made, or cut. They stand against the page before and against the page
- * behind, which nobody may read; so does what is written to. Every call returns, reads and writes nothing outside, and
- * answers a code that the header lists for it.
+ * Maps whose numbers were changed since they were made, or that were cut, or of which a part has zeros behind it. They
+ * stand against the page before and against the page behind, which nobody may read; so does what is written to. Every
+ * call returns, reads and writes nothing outside, and answers a code that the header lists for it.
  */
 #include "see.h"
 
@@ -105,6 +105,28 @@ static void see_changed(const struct map *map)
         SEE_ROW(ask(map, map->bytes, len), map->text);
 }
 
+/* Whether the bytes, which are as many as the map, are no map. */
+static int is_no_map(const struct map *map, uint8_t *bytes)
+{
+    const struct virtiofs_uids users = { (uint32_t *)(void *)bytes, map->len / 4 };
+    const struct virtiofs_names names = { bytes, map->len };
+    uint32_t id;
+    size_t len;
+    return map->is_names ? virtiofs_name_to_host_bytes(names, "ab", 2, lent(outs, 9), 9, &len) == VIRTIOFS_NO_MAP
+                         : virtiofs_uids_to_host(users, 7, &id) == VIRTIOFS_NO_MAP;
+}
+
+/* A part of the map with zeros behind it, and the length of the whole, is no map. */
+static void see_parts(const struct map *map)
+{
+    uint8_t *const bytes = page - map->len;
+    for (size_t part = 0; part < map->len; part++) {
+        memset(bytes, 0, map->len);
+        SEE_ROW(is_no_map(map, memcpy(bytes, map->bytes, part)), map->text);
+    }
+    SEE_ROW(!is_no_map(map, memcpy(bytes, map->bytes, map->len)), map->text);
+}
+
 int main(void)
 {
     page = guarded(1);
@@ -119,6 +141,7 @@ int main(void)
             memcpy(map->bytes, words, map->len *= 4);
         SEE_ROW(map->len > 64 && map->len <= MOST - 64, map->text);
         see_changed(map);
+        see_parts(map);
     }
     return counted();
 }

@@ -38,7 +38,7 @@ have_same_texts guest other =
     && are_same guest.options.gid_map.items other.options.gid_map.items
     && is_same guest.options.xattrmap other.options.xattrmap
 
--- the guests have the same options, and one runner
+-- the guests have the same options and one runner, and the words before both say another user or do not
 abbrev pub have_same_options : {A : Type 0} → Guest A → Guest A → Bool
 have_same_options guest other =
     have_same_texts guest other
@@ -46,6 +46,7 @@ have_same_options guest other =
     && are_both guest.options.acl_flag other.options.acl_flag
     && are_both (has_xattrs guest.options) (has_xattrs other.options)
     && is_same guest.options.sandbox other.options.sandbox
+    && are_both guest.options.by_other other.options.by_other
     && is_same_runner guest.runner other.runner
 
 -- the numbers of those guests that have the same options as one; the first guest has that number

@@ -76,6 +76,7 @@ pub record SameRest {A : Type 0} (given other : Guest A) : Type 0 where
   pub flag : IsTrue other.options.acl_flag → IsTrue given.options.acl_flag
   pub xattr : other.options.xattr ≡ given.options.xattr
   pub label : other.options.security_label ≡ given.options.security_label
+  pub starter : other.options.by_other ≡ given.options.by_other
 
 -- under the other options the guest can do no more than under the given ones
 pub record IsNarrower {A : Type 0} (given other : Guest A) : Type 0 where

@@ -1,5 +1,6 @@
 -- What is found between two guests of one directory, which have these numbers.
-use Rattle.std.specs.Prelude.{◌≡◌, ℕ, Bool, true, false, List, [], ◌∷◌, ◌++◌, Option, Some, None}
+use Rattle.std.specs.Prelude.{◌≡◌, ℕ, true, false, if◌then◌else◌, List, [], ◌∷◌, ◌++◌, Option, Some, None, option_map}
+use Rattle.std.specs.Option.{option_or}
 use Rattle.virtiofs_map.specs.Audit.{IsSeen, IsShared}
 use Rattle.virtiofs_map.specs.Rule.{MappingRule, Okay}
 use Rattle.virtiofs_findings.specs.IdFindings.{FindsMeeting}
@@ -15,7 +16,6 @@ use Rattle.virtiofs_findings.specs.declared.ids.found.IdsFound.{IdsFound}
 use Rattle.virtiofs_findings.specs.declared.ids.kind.IdKind.{IdKind}
 use Rattle.virtiofs_findings.specs.declared.ids.kind.IdKind.TheVariants.{Users, Groups}
 use Rattle.virtiofs_findings.specs.declared.setup.IdSetUp.{IdSetUp}
-use Rattle.virtiofs_findings.specs.declared.setup.NamesSetUp.{NamesSetUp}
 use Rattle.virtiofs_findings.specs.declared.setup.SetUp.{SetUp}
 
 -- what is found where both are there; nothing where one of the two is not
@@ -49,19 +49,10 @@ pub record FindsNamesBetween {A : Type 0} (number number_2 : ℕ) (one other : L
 abbrev pub passes_all : List MappingRule
 passes_all = record { kind = Okay; client = true; server = true; key = []; prepend = [] } ∷ []
 
--- the same of two guests: where one has no rules, its names pass as they are, if they do
-abbrev pub FindsNamesOf : {A : Type 0} → ℕ → ℕ → Option (NamesSetUp A) → Bool → Option (NamesSetUp A) → Bool
-    → List (Finding A) → Type 0
-FindsNamesOf number number_2 (Some one) passes (Some other) others_pass found =
-    FindsNamesBetween number number_2 one.map other.map found
-FindsNamesOf number number_2 (Some one) passes None true found = FindsNamesBetween number number_2 one.map passes_all found
-FindsNamesOf number number_2 (Some one) passes None false found = found ≡ []
-FindsNamesOf number number_2 None true (Some other) others_pass found =
-    FindsNamesBetween number number_2 passes_all other.map found
-FindsNamesOf number number_2 None false (Some other) others_pass found = found ≡ []
-FindsNamesOf number number_2 None true None true found = FindsNamesBetween number number_2 passes_all passes_all found
-FindsNamesOf number number_2 None true None false found = found ≡ []
-FindsNamesOf number number_2 None false None others_pass found = found ≡ []
+-- the rules that the names of a guest meet: its own, or else those that pass all names, where all pass
+abbrev pub rules_met : {A : Type 0} → List MappingRule → SetUp A → Option (List MappingRule)
+rules_met all set =
+    option_or (option_map (λ it. it.map) set.names) (if set.passes then Some all else None)
 
 -- what is found between two guests, in order
 pub record FindsPair {A : Type 0} (number number_2 : ℕ) (first second : SetUp A) (found : List (Finding A)) : Type
@@ -71,5 +62,6 @@ pub record FindsPair {A : Type 0} (number number_2 : ℕ) (first second : SetUp 
   pub of_names : List (Finding A)
   pub users : FindsBoth (FindsIdsOfBoth number number_2 Users) first.users second.users of_users
   pub groups : FindsBoth (FindsIdsOfBoth number number_2 Groups) first.groups second.groups of_groups
-  pub names : FindsNamesOf number number_2 first.names first.passes second.names second.passes of_names
+  pub names : FindsBoth (FindsNamesBetween number number_2) (rules_met passes_all first) (rules_met passes_all second)
+      of_names
   pub whole : found ≡ of_users ++ of_groups ++ of_names

@@ -56,8 +56,9 @@ fn have_same_options<A: Allocator>(guest: &Guest<'_, A>, other: &Guest<'_, A>) -
     let flags = are_both(guest.options.acl_flag, other.options.acl_flag);
     let xattrs = are_both(guest.options.has_xattrs(), other.options.has_xattrs());
     let sandboxes = guest.options.sandbox == other.options.sandbox;
+    let starters = are_both(guest.options.by_other, other.options.by_other);
     let runner = is_same_runner(guest.runner, other.runner);
-    texts && lists && flags && xattrs && sandboxes && runner
+    texts && lists && flags && xattrs && sandboxes && starters && runner
 }
 
 /// These guests, and one more of a greater number.

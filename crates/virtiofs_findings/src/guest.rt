@@ -9,6 +9,6 @@ use virtiofs_options::guest::Guest as GuestOptions;
 pub struct Guest<'a, A: Allocator> {
     /// The options.
     pub options: GuestOptions<'a, A>,
-    /// Who runs the daemon. Without, root starts it.
+    /// Who runs the daemon, if that is known. Without, all is as if root started it.
     pub runner: Option<&'a Runner<A>>,
 }

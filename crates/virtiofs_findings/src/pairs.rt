@@ -1,18 +1,18 @@
 //! What is found between two guests of one directory.
-ghost use Rattle.std.specs.Prelude.{◌≡◌, ◌++◌, ◌∷◌, [], IfOk, OnOk};
+ghost use Rattle.std.specs.Prelude.{◌≡◌, ◌++◌, ◌∷◌, [], IfOk, OnOk, option_map};
 ghost use Rattle.virtiofs_findings.specs.Findings.{of_pair};
 ghost use Rattle.virtiofs_findings.specs.Lists.{Adds};
 ghost use Rattle.virtiofs_findings.specs.NameFindings.{FindsLeast};
-ghost use Rattle.virtiofs_findings.specs.NameParts.{HasFault};
-ghost use Rattle.virtiofs_findings.specs.PairFindings.{FindsPair, FindsBoth, FindsIdsOfBoth, FindsNamesBetween, FindsNamesOf, pair_name_found, passes_all};
+ghost use Rattle.virtiofs_map.specs.Audit.{HasFault};
+ghost use Rattle.virtiofs_findings.specs.PairFindings.{FindsPair, FindsBoth, FindsIdsOfBoth, FindsNamesBetween, pair_name_found, passes_all, rules_met};
 
 use crate::finding::{About, Evidence, Finding, Kind};
 use crate::ids::kind::IdKind;
 use crate::ids::meeting::meeting_of;
 use crate::names::audits::least_name;
-use crate::names::found::NameFault;
 use crate::setup::{IdSetUp, SetUp};
 use std::alloc::{AllocError, Allocator};
+use virtiofs_map::audit::NameFault;
 use virtiofs_map::xattrmap::XattrMap;
 
 /// Adds the finding of that kind about the two guests of these numbers.
@@ -115,8 +115,18 @@ fn passing<A: Allocator + Copy>(alloc: A) -> Result<XattrMap<A>, AllocError>
     }
 }
 
-/// Adds what is found of the names of two guests. Where one has no rules, its names pass as they are, if
-/// they do.
+/// The rules that the names of a guest meet: its own, or else `all`, where all names pass.
+fn rules_met<'s, A: Allocator>(all: &'s XattrMap<A>, set: &'s SetUp<A>) -> Option<&'s XattrMap<A>>
+    ensures { option_map (λ it. it.now) result ≡ rules_met all.now set.now }
+{
+    match &set.names {
+        Some(names) => Some(&names.map),
+        None if set.passes => Some(all),
+        None => None,
+    }
+}
+
+/// Adds what is found of the names of two guests, where both have names.
 fn push_names<A: Allocator + Copy>(
     alloc: A,
     found: &mut Vec<Finding<A>, A>,
@@ -125,36 +135,15 @@ fn push_names<A: Allocator + Copy>(
     one: &SetUp<A>,
     other: &SetUp<A>,
 ) -> Result<(), AllocError>
-    ensures { OnOk result (Adds
-        (FindsNamesOf first second one.now.names one.now.passes other.now.names other.now.passes)
+    ensures { OnOk result (Adds (FindsBoth (FindsNamesBetween first second)
+        (rules_met passes_all one.now) (rules_met passes_all other.now))
         found.old.items found.new.items) }
 {
-    match (&one.names, &other.names) {
-        (Some(one), Some(other)) => {
-            push_between(alloc, found, first, second, &one.map, &other.map)
-        }
-        (Some(one), None) => {
-            if !other.passes {
-                return Ok(());
-            }
-            let all = passing(alloc)?;
-            push_between(alloc, found, first, second, &one.map, &all)
-        }
-        (None, Some(other)) => {
-            if !one.passes {
-                return Ok(());
-            }
-            let all = passing(alloc)?;
-            push_between(alloc, found, first, second, &all, &other.map)
-        }
-        (None, None) => {
-            if !one.passes || !other.passes {
-                return Ok(());
-            }
-            let all = passing(alloc)?;
-            push_between(alloc, found, first, second, &all, &all)
-        }
-    }
+    let all = passing(alloc)?;
+    let (Some(one), Some(other)) = (rules_met(&all, one), rules_met(&all, other)) else {
+        return Ok(());
+    };
+    push_between(alloc, found, first, second, one, other)
 }
 
 /// Adds what is found between the two guests of these numbers, in order.

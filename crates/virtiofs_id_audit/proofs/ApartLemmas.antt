@@ -16,17 +16,14 @@ use Rattle.virtiofs_id_audit.proofs.ImageLemmas.{times_hold}
 pub held_or_not : (spans : List Span) (id : ℕ) → Hold spans id ⊎ (¬ Hold spans id)
 held_or_not spans id =
     elim (cases_lt (times spans id) 1) [
-      | inl none ↦ inr (λ held. (let some = (times_hold spans id).1 held in omega (arith, some, none)))
+      | inl none ↦ inr (λ held. omega (arith, (times_hold spans id).1 held, none))
       | inr some ↦ inl ((times_hold spans id).0 some)
     ]
 
 -- ---- spans that are apart
 
 pub AreApart-none : AreApart []
-AreApart-none = record {
-  some = λ k d inside. absurd (omega arith);
-  apart = λ i j d up inside. absurd (omega arith);
-}
+AreApart-none = omega arith
 
 -- one more that is above the others
 pub AreApart-push : (spans : List Span) (next : ℕ) (span : Span) → AreApart spans → All (λ s. s.last < next) spans
@@ -34,30 +31,22 @@ pub AreApart-push : (spans : List Span) (next : ℕ) (span : Span) → AreApart 
 AreApart-push spans next span apart below from is = record {
   some = All-push IsSpan spans span apart.some is;
   apart = all_pairs_push (λ s later. s.last < later.first) spans span apart.apart
-      (λ k d inside. (let under : (get_or spans k d).last < next = below k d inside in omega arith));
+      (λ k d inside. omega (arith, below k d inside));
 }
 
 -- neither their first nor their last ids fall
 pub AreApart-firsts : (spans : List Span) → AreApart spans → IsNonDecreasingBy (λ span. span.first) spans
 AreApart-firsts spans are i j d up inside =
-    elim (cases_order i j) [
-      | inl same ↦ omega (arith, ap (λ (k : ℕ). (get_or spans k d).first) same)
-      | inr (inl before) ↦
-          (let apart : (get_or spans i d).last < (get_or spans j d).first = are.apart i j d before inside in
-          let some : (get_or spans i d).first ≤ (get_or spans i d).last = (are.some i d (omega arith)).0 in
-          omega arith)
-      | inr (inr after) ↦ absurd (omega arith)
+    elim (cases_lt i j) [
+      | inl before ↦ omega (arith, are.apart i j d before inside, are.some i d (omega arith))
+      | inr after ↦ (let same : i ≡ j = omega arith in omega (arith, ap (λ (k : ℕ). (get_or spans k d).first) same))
     ]
 
 pub AreApart-lasts : (spans : List Span) → AreApart spans → IsNonDecreasingBy (λ span. span.last) spans
 AreApart-lasts spans are i j d up inside =
-    elim (cases_order i j) [
-      | inl same ↦ omega (arith, ap (λ (k : ℕ). (get_or spans k d).last) same)
-      | inr (inl before) ↦
-          (let apart : (get_or spans i d).last < (get_or spans j d).first = are.apart i j d before inside in
-          let some : (get_or spans j d).first ≤ (get_or spans j d).last = (are.some j d inside).0 in
-          omega arith)
-      | inr (inr after) ↦ absurd (omega arith)
+    elim (cases_lt i j) [
+      | inl before ↦ omega (arith, are.apart i j d before inside, are.some j d inside)
+      | inr after ↦ (let same : i ≡ j = omega arith in omega (arith, ap (λ (k : ℕ). (get_or spans k d).last) same))
     ]
 
 pub AreInOrder-apart : (spans : List Span) → AreApart spans → AreInOrder spans
@@ -70,10 +59,7 @@ AreInOrder-apart spans are = record {
 -- ---- with an id between each two
 
 pub AreRuns-none : AreRuns []
-AreRuns-none = record {
-  some = λ k d inside. absurd (omega arith);
-  gaps = λ i j d up inside. absurd (omega arith);
-}
+AreRuns-none = omega arith
 
 -- one more, which does not begin next to the others
 pub AreRuns-push : (spans : List Span) (next : ℕ) (span : Span) → AreRuns spans → All (λ s. s.last + 1 < next) spans
@@ -81,7 +67,7 @@ pub AreRuns-push : (spans : List Span) (next : ℕ) (span : Span) → AreRuns sp
 AreRuns-push spans next span runs below from order = record {
   some = All-push (λ s. s.first ≤ s.last) spans span runs.some order;
   gaps = all_pairs_push (λ s later. s.last + 1 < later.first) spans span runs.gaps
-      (λ k d inside. (let under : (get_or spans k d).last + 1 < next = below k d inside in omega arith));
+      (λ k d inside. omega (arith, below k d inside));
 }
 
 pub below_next : (spans : List Span) (next : ℕ) → All (λ s. s.last + 1 < next) spans → All (λ s. s.last < next) spans
@@ -91,26 +77,22 @@ below_next spans next below = All-weaker (λ s. s.last + 1 < next) (λ s. s.last
 pub free_after : (spans : List Span) (span : Span) → AreRuns spans → Contains spans span
     → ¬ Hold spans (span.last + 1)
 free_after spans span runs (i, inside, at) (other, (k, within, here), has) =
+    let at' : get_or spans i other ≡ span = sym (get_or_default spans i span other inside) ∙ at in
+    let here' : get_or spans k span ≡ other = sym (get_or_default spans k other span within) ∙ here in
     elim (cases_order i k) [
-      | inl same ↦
-          (let one : span ≡ other =
-          sym at ∙ get_or_default spans i span other inside ∙ ap (λ (n : ℕ). get_or spans n other) same ∙ here in
-          let high : span.last + 1 ≤ other.last = has.1 in
-          let equal : span.last ≡ other.last = ap (λ (s : Span). s.last) one in
-          omega arith)
+      | inl same ↦ omega (
+        arith,
+        has,
+        ap (λ (s : Span). s.last)
+            (sym at' ∙ ap (λ (n : ℕ). get_or spans n other) same ∙ here),
+      )
       | inr (inl before) ↦
-          (let gap : (get_or spans i other).last + 1 < (get_or spans k other).first = runs.gaps i k other before within in
-          let gap' : span.last + 1 < other.first =
-          rw (here, sym (get_or_default spans i span other inside) ∙ at) at gap in
-          let low : other.first ≤ span.last + 1 = has.0 in
-          omega arith)
+          (let gap : span.last + 1 < other.first = rw (here, at') at (runs.gaps i k other before within) in
+          omega (arith, has))
       | inr (inr after) ↦
-          (let gap : (get_or spans k span).last + 1 < (get_or spans i span).first = runs.gaps k i span after inside in
-          let gap' : other.last + 1 < span.first =
-          rw (at, sym (get_or_default spans k other span within) ∙ here) at gap in
+          (let gap : other.last + 1 < span.first = rw (at, here') at (runs.gaps k i span after inside) in
           let some : span.first ≤ span.last = rw at at (runs.some i span inside) in
-          let high : span.last + 1 ≤ other.last = has.1 in
-          omega arith)
+          omega (arith, has))
     ]
 
 -- ---- cut out twice
@@ -132,8 +114,4 @@ cut_twice whole spans cuts free merged first_is last_is are same once twice id =
       (twice id).1 (within is, λ is_free. ((once id).0 is_free).1 is))),
 ) where
   within : Hold cuts id → Has whole id
-  within (span, listed, has) =
-      let ids : IsSpan span = All-contains IsSpan cuts span are listed in
-      let bound : span.last ≤ 4294967295 = ids.1 in
-      let high : id ≤ span.last = has.1 in
-      (omega arith, omega arith)
+  within (span, listed, has) = omega (arith, has, All-contains IsSpan cuts span are listed)

@@ -1,3 +1,4 @@
 -- What callers may cite of this crate's proofs. All the rest is private and may change.
 -- ids that are moved into a namespace and out of it
-pub use Rattle.virtiofs_id_audit.proofs.OutsideLemmas.{among_moves, hold_one, none_here, some_here}
+pub use Rattle.virtiofs_id_audit.proofs.HeldLemmas.{hold_one}
+pub use Rattle.virtiofs_id_audit.proofs.OutsideLemmas.{among_moves, none_here, some_here}

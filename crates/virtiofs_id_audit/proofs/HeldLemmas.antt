@@ -35,3 +35,8 @@ hold_front span spans id = (
 -- none has no id
 pub hold_none : (id : ℕ) → ¬ Hold [] id
 hold_none id (span, listed, has) = absurd (omega (arith, listed.1))
+
+-- one span has the ids that it has
+pub hold_one : (span : Span) (id : ℕ) → Hold (span ∷ []) id → Has span id
+hold_one span id held =
+    elim ((hold_front span [] id).0 held) [ inl has ↦ has | inr none ↦ absurd (hold_none id none) ]

@@ -1,19 +1,18 @@
 -- The answers of the audits of ids.
-use Rattle.std.proofs.Common.{◌≡◌, ◌≢◌, ◌↔◌, inl, inr, ℕ, ◌+◌, ◌<◌, ◌≤◌, List, [], ◌∷◌, Option, Some, None, refl, sym}
+use Rattle.std.proofs.Common.{◌≡◌, ◌≢◌, ◌↔◌, inl, inr, ℕ, ◌+◌, ◌≤◌, List, [], ◌∷◌, Option, Some, None, refl, sym}
 use Rattle.std.proofs.Common.{arith, Vec, Result, Ok, Err, IfOk}
 use Rattle.std.proofs.lemmas.Bool.{cases_eq, cases_order}
 use Rattle.std.proofs.lemmas.Bool.Decides.{nat_tests}
-use Rattle.std.proofs.lemmas.List.Elements.{All-contains, All-cons, All-nil}
-use Rattle.std.proofs.lemmas.List.Sorted.{IsNonDecreasingBy-short}
 use Rattle.virtiofs_id_audit.specs.IdAudit.{IsLeastId, IsLeastIfAny, AnswersLeastId, GoesTo, ComesBack, IsAstray, IsAlone}
-use Rattle.virtiofs_id_audit.specs.IdAudit.{IsShared, SharedAs, GoesInto, Between, ReachedBy, AreIdsApart}
-use Rattle.virtiofs_id_audit.specs.IdAuditParts.{Hold, AreInOrder, AreImages, times, once_below}
+use Rattle.virtiofs_id_audit.specs.IdAudit.{IsShared, SharesWith, SharedAs, GoesInto, Between, ReachedBy, AreIdsApart}
+use Rattle.virtiofs_id_audit.specs.IdAuditParts.{Hold, AreImages, times, once_below}
 use Rattle.virtiofs_id_audit.specs.declared.answer.IdAudit.{IdAudit}
 use Rattle.virtiofs_id_audit.specs.declared.answer.IdAudit.TheVariants.{Yes, No}
 use Rattle.virtiofs_id_audit.specs.declared.spans.Span.{Span}
 use Rattle.virtiofs_map.specs.Build.{Accepted}
 use Rattle.virtiofs_map.specs.declared.cmdline.IdMap.{IdMap}
 use Rattle.virtiofs_map.specs.declared.soft_idmap.entry.Direction.TheVariants.{GuestToHost}
+use Rattle.virtiofs_id_audit.proofs.HeldLemmas.{hold_one}
 use Rattle.virtiofs_id_audit.proofs.ImageLemmas.{times-bounded}
 use Rattle.virtiofs_map.proofs.ForCallers.{Becomes-one}
 
@@ -71,12 +70,10 @@ module _ (specs : List IdMap) (images again : List Span) (are : AreImages specs 
       (held_twice host).1 ((are.counts host).two.1 (
       elim (cases_order n m) [
         | inl same ↦ absurd (differ same)
-        | inr (inl before) ↦ (n, m, omega arith, before, below m other_goes, goes, other_goes)
-        | inr (inr after) ↦ (m, n, omega arith, after, below n goes, other_goes, goes)
+        | inr (inl before) ↦ (n, m, omega arith, before, omega (arith, other_goes), goes, other_goes)
+        | inr (inr after) ↦ (m, n, omega arith, after, omega (arith, goes), other_goes, goes)
       ]
-      )) where
-        below : (k : ℕ) → GoesTo specs k host → k < 4294967296
-        below k goes' = let is_id : k < 4294967295 = goes'.is_id in omega arith
+      ))
 
   pub IsShared-into : (n : ℕ) → IsShared specs n → (0 ≤ n) × GoesInto specs (Hold again) n
   IsShared-into n (other, shares) = (
@@ -90,23 +87,39 @@ module _ (specs : List IdMap) (images again : List Span) (are : AreImages specs 
   )
 
   pub into-IsShared : (n : ℕ) → (0 ≤ n) × GoesInto specs (Hold again) n → IsShared specs n
-  into-IsShared n (low, goes) = shared ((are.counts goes.host).two.0 ((held_twice goes.host).0 goes.is_one)) where
-    shared : (a b : ℕ) × (0 ≤ a) × (a < b) × (b < 4294967296) × GoesTo specs a goes.host × GoesTo specs b goes.host
-        → IsShared specs n
-    shared (a, b, from, less, below, a_goes, b_goes) =
-        elim (cases_eq a n) [
-          | inl same ↦ (
-            b,
-            record { host = goes.host; differ = λ e. omega arith; goes = goes.goes; other_goes = b_goes },
-          )
-          | inr differ ↦ (a, record { host = goes.host; differ = differ; goes = goes.goes; other_goes = a_goes })
-        ]
+  into-IsShared n (low, goes) =
+      let (a, b, from, less, below, a_goes, b_goes) =
+      (are.counts goes.host).two.0 ((held_twice goes.host).0 goes.is_one) in
+      elim (cases_eq a n) [
+        | inl same ↦ (
+          b,
+          record { host = goes.host; differ = λ e. omega arith; goes = goes.goes; other_goes = b_goes },
+        )
+        | inr differ ↦ (a, record { host = goes.host; differ = differ; goes = goes.goes; other_goes = a_goes })
+      ]
 
   pub IsLeastIfAny-shared : (least : Option ℕ) → IsLeastIfAny (λ n. (0 ≤ n) × GoesInto specs (Hold again) n) least
       → IsLeastIfAny (IsShared specs) least
   IsLeastIfAny-shared least found =
       IsLeastIfAny-same (λ n. (0 ≤ n) × GoesInto specs (Hold again) n) (IsShared specs) least into-IsShared
       IsShared-into found
+
+-- the other one shares with it too, and goes where it goes
+shares_back : (specs : List IdMap) (n m : ℕ) → SharesWith specs n m → SharesWith specs m n
+shares_back specs n m shares = record {
+  host = shares.host;
+  differ = λ e. shares.differ (sym e);
+  goes = shares.other_goes;
+  other_goes = shares.goes;
+}
+
+shares_host : (specs : List IdMap) (n m host : ℕ) → Accepted specs → GoesTo specs n host → SharesWith specs n m
+    → GoesInto specs (λ id. id ≡ host) m
+shares_host specs n m host accepted goes shares = record {
+  host = shares.host;
+  goes = shares.other_goes;
+  is_one = Becomes-one specs GuestToHost n shares.host host accepted shares.goes.becomes goes.becomes;
+}
 
 -- the least id that shares has no lesser one with which it does
 pub SharedAs-next : (specs : List IdMap) (n other host : ℕ) → Accepted specs → IsLeastId (IsShared specs) n
@@ -116,32 +129,15 @@ SharedAs-next specs n other host accepted least goes next = record {
   least = record {
     is_bad = record {
       host = host;
-      differ = λ same. (let later : n + 1 ≤ other = next.is_bad.0 in omega arith);
+      differ = λ same. omega (arith, next.is_bad.0);
       goes = goes;
       other_goes = rw next.is_bad.1.is_one at next.is_bad.1.goes;
     };
     none_before = λ m before shares.
         elim (cases_order m n) [
           | inl same ↦ shares.differ same
-          | inr (inl lesser) ↦ least.none_before m lesser (
-            n,
-            record {
-              host = shares.host;
-              differ = λ e. shares.differ (sym e);
-              goes =
-                  shares.other_goes;
-              other_goes = shares.goes;
-            },
-          )
-          | inr (inr later) ↦ next.none_before m before (
-            omega arith,
-            record {
-              host = shares.host;
-              goes = shares.other_goes;
-              is_one =
-                  Becomes-one specs GuestToHost n shares.host host accepted shares.goes.becomes goes.becomes;
-            },
-          )
+          | inr (inl lesser) ↦ least.none_before m lesser (n, shares_back specs n m shares)
+          | inr (inr later) ↦ next.none_before m before (omega arith, shares_host specs n m host accepted goes shares)
         ];
   };
   goes = goes;
@@ -155,98 +151,54 @@ shares_later specs n host accepted least goes none = later least.is_bad where
   later (m, shares) =
       elim (cases_order m n) [
         | inl same ↦ shares.differ same
-        | inr (inl lesser) ↦ least.none_before m lesser (
-          n,
-          record {
-            host = shares.host;
-            differ = λ e. shares.differ (sym e);
-            goes = shares.other_goes;
-            other_goes =
-                shares.goes;
-          },
-        )
-        | inr (inr after) ↦ none m (
-          omega arith,
-          record {
-            host = shares.host;
-            goes = shares.other_goes;
-            is_one =
-                Becomes-one specs GuestToHost n shares.host host accepted shares.goes.becomes goes.becomes;
-          },
-        )
+        | inr (inl lesser) ↦ least.none_before m lesser (n, shares_back specs n m shares)
+        | inr (inr after) ↦ none m (omega arith, shares_host specs n m host accepted goes shares)
       ]
 
 -- ---- one span
 
 -- the ids of one span alone
 pub Hold-one : (span : Span) (id : ℕ) → Hold (span ∷ []) id ↔ Between span.first span.last id
-Hold-one span id = (held, λ has. (span, (0, omega arith, refl), has)) where
-  held : Hold (span ∷ []) id → Between span.first span.last id
-  held (other, listed, has) =
-      let same : other ≡ span =
-      All-contains (λ s. s ≡ span) (span ∷ []) other
-      (All-cons (λ s. s ≡ span) span [] refl (All-nil (λ s. s ≡ span))) listed in
-      rw same at has
-
-pub AreInOrder-one : (span : Span) → span.first ≤ span.last → AreInOrder (span ∷ [])
-AreInOrder-one span some = record {
-  some = All-cons (λ s. s.first ≤ s.last) span [] some (All-nil (λ s. s.first ≤ s.last));
-  firsts = IsNonDecreasingBy-short (λ s. s.first) (span ∷ []) (omega arith);
-  lasts = IsNonDecreasingBy-short (λ s. s.last) (span ∷ []) (omega arith);
-}
+Hold-one span id = (hold_one span id, λ has. (span, (0, omega arith, refl), has))
 
 -- ids that become one of those of other words
-GoesInto-same : (specs : List IdMap) (hosts others : ℕ → Type 0) (n : ℕ) → ((id : ℕ) → hosts id → others id)
+pub GoesInto-same : (specs : List IdMap) (hosts others : ℕ → Type 0) (n : ℕ) → ((id : ℕ) → hosts id → others id)
     → GoesInto specs hosts n → GoesInto specs others n
 GoesInto-same specs hosts others n to goes =
     record { host = goes.host; goes = goes.goes; is_one = to goes.host goes.is_one }
 
--- the least id that becomes an id of one span
-pub IsLeastIfAny-one : (specs : List IdMap) (from : ℕ) (span : Span) (least : Option ℕ)
-    → IsLeastIfAny (λ n. (from ≤ n) × GoesInto specs (Hold (span ∷ [])) n) least
-    → IsLeastIfAny (λ n. (from ≤ n) × GoesInto specs (Between span.first span.last) n) least
-IsLeastIfAny-one specs from span least found =
-    IsLeastIfAny-same (λ n. (from ≤ n) × GoesInto specs (Hold (span ∷ [])) n)
-    (λ n. (from ≤ n) × GoesInto specs (Between span.first span.last) n) least
-    (λ n (low, goes). (
-      low,
-      GoesInto-same specs (Hold (span ∷ [])) (Between span.first span.last) n (λ id. (Hold-one span id).0)
-          goes,
-    ))
-    (λ n (low, goes). (
-      low,
-      GoesInto-same specs (Between span.first span.last) (Hold (span ∷ [])) n (λ id. (Hold-one span id).1)
-          goes,
-    ))
-    found
+-- the least one that does, by other words for the same ids of the host
+into_like : (specs : List IdMap) (from : ℕ) (hosts others : ℕ → Type 0) (least : Option ℕ)
+    → ((id : ℕ) → hosts id ↔ others id) → IsLeastIfAny (λ n. (from ≤ n) × GoesInto specs hosts n) least
+    → IsLeastIfAny (λ n. (from ≤ n) × GoesInto specs others n) least
+into_like specs from hosts others least same found =
+    IsLeastIfAny-same (λ n. (from ≤ n) × GoesInto specs hosts n) (λ n. (from ≤ n) × GoesInto specs others n) least
+    (λ n (low, goes). (low, GoesInto-same specs hosts others n (λ id. (same id).0) goes))
+    (λ n (low, goes). (low, GoesInto-same specs others hosts n (λ id. (same id).1) goes)) found
+
+-- of all ids of the guest
+pub into_any : (specs : List IdMap) (hosts others : ℕ → Type 0) (least : Option ℕ)
+    → ((id : ℕ) → hosts id ↔ others id) → IsLeastIfAny (λ n. (0 ≤ n) × GoesInto specs hosts n) least
+    → IsLeastIfAny (GoesInto specs others) least
+into_any specs hosts others least same found =
+    IsLeastIfAny-same (λ n. (0 ≤ n) × GoesInto specs hosts n) (GoesInto specs others) least
+    (λ n (low, goes). GoesInto-same specs hosts others n (λ id. (same id).0) goes)
+    (λ n goes. (omega arith, GoesInto-same specs others hosts n (λ id. (same id).1) goes)) found
 
 -- the same of one id
 pub IsLeastIfAny-only : (specs : List IdMap) (from host : ℕ) (span : Span) (least : Option ℕ) → span.first ≡ host
     → span.last ≡ host → IsLeastIfAny (λ n. (from ≤ n) × GoesInto specs (Hold (span ∷ [])) n) least
     → IsLeastIfAny (λ n. (from ≤ n) × GoesInto specs (λ id. id ≡ host) n) least
-IsLeastIfAny-only specs from host span least first_is last_is found =
-    IsLeastIfAny-same (λ n. (from ≤ n) × GoesInto specs (Between span.first span.last) n)
-    (λ n. (from ≤ n) × GoesInto specs (λ id. id ≡ host) n) least
-    (λ n (low, goes). (
-      low,
-      GoesInto-same specs (Between span.first span.last) (λ id. id ≡ host) n (λ id (above, below). omega arith)
-          goes,
-    ))
-    (λ n (low, goes). (
-      low,
-      GoesInto-same specs (λ id. id ≡ host) (Between span.first span.last) n
-          (λ id same. (omega arith, omega arith)) goes,
-    ))
-    (IsLeastIfAny-one specs from span least found)
+IsLeastIfAny-only specs from host span least first_is last_is =
+    into_like specs from (Hold (span ∷ [])) (λ id. id ≡ host) least
+    (λ id. (λ held. omega (arith, hold_one span id held), λ same. (Hold-one span id).1 (omega arith)))
 
 -- the same of all ids of the guest
 pub IsLeastIfAny-range : (specs : List IdMap) (span : Span) (least : Option ℕ)
     → IsLeastIfAny (λ n. (0 ≤ n) × GoesInto specs (Hold (span ∷ [])) n) least
     → IsLeastIfAny (GoesInto specs (Between span.first span.last)) least
-IsLeastIfAny-range specs span least found =
-    IsLeastIfAny-same (λ n. (0 ≤ n) × GoesInto specs (Between span.first span.last) n)
-    (GoesInto specs (Between span.first span.last)) least (λ n (low, goes). goes) (λ n goes. (omega arith, goes))
-    (IsLeastIfAny-one specs 0 span least found)
+IsLeastIfAny-range specs span least =
+    into_any specs (Hold (span ∷ [])) (Between span.first span.last) least (Hold-one span)
 
 -- ---- ids apart
 
@@ -262,14 +214,14 @@ AreIdsApart-none specs others apart n goes = apart n goes.host goes.goes goes.is
 module _ (others : List IdMap) (images again : List Span) (are : AreImages others images)
     (all : (id : ℕ) → Hold again id ↔ (2 ≤ times images id + once_below 4294967296 id)) where
   pub Hold-reached : (id : ℕ) → Hold again id → ReachedBy others id
-  Hold-reached id held = reached ((are.counts id).one.0 (let twice = (all id).0 held in grind (arith, nat_tests))) where
-    reached : (n : ℕ) × (0 ≤ n) × (n < 4294967296) × GoesTo others n id → ReachedBy others id
-    reached (n, from, within, goes) = (n, goes)
+  Hold-reached id held =
+      let twice = (all id).0 held in
+      let (n, from, within, goes) = (are.counts id).one.0 (grind (arith, nat_tests)) in
+      (n, goes)
 
   pub reached-Hold : (id : ℕ) → ReachedBy others id → Hold again id
   reached-Hold id (n, goes) =
-      let is_id : n < 4294967295 = goes.is_id in
-      let once : 1 ≤ times images id = (are.counts id).one.1 (n, omega arith, omega arith, goes) in
+      let once : 1 ≤ times images id = (are.counts id).one.1 (n, omega arith, omega (arith, goes), goes) in
       let bounded : id ≤ 4294967295 = times-bounded images id are.spans once in
       (all id).1 (grind (arith, nat_tests))
 
@@ -277,11 +229,8 @@ module _ (others : List IdMap) (images again : List Span) (are : AreImages other
   pub IsLeastIfAny-reached : (specs : List IdMap) (least : Option ℕ)
       → IsLeastIfAny (λ n. (0 ≤ n) × GoesInto specs (Hold again) n) least
       → IsLeastIfAny (GoesInto specs (ReachedBy others)) least
-  IsLeastIfAny-reached specs least found =
-      IsLeastIfAny-same (λ n. (0 ≤ n) × GoesInto specs (Hold again) n) (GoesInto specs (ReachedBy others)) least
-      (λ n (low, goes). GoesInto-same specs (Hold again) (ReachedBy others) n Hold-reached goes)
-      (λ n goes. (omega arith, GoesInto-same specs (ReachedBy others) (Hold again) n reached-Hold goes))
-      found
+  IsLeastIfAny-reached specs least =
+      into_any specs (Hold again) (ReachedBy others) least (λ id. (Hold-reached id, reached-Hold id))
 
 -- ---- spans of the caller's
 
@@ -293,14 +242,3 @@ pub reached_all : {A E : Type 0} (r : Result (Vec Span A) E) (specs : List IdMap
 reached_all (Ok again) specs images are all =
     λ host. (Hold-reached specs images again.items are all host, reached-Hold specs images again.items are all host)
 reached_all (Err e) specs images are all = tt
-
--- the least id that becomes an id of some spans, by other spans that have the same ids
-pub IsLeastIfAny-spans : (specs : List IdMap) (spans others : List Span) (least : Option ℕ)
-    → ((id : ℕ) → Hold others id ↔ Hold spans id)
-    → IsLeastIfAny (λ n. (0 ≤ n) × GoesInto specs (Hold others) n) least
-    → IsLeastIfAny (GoesInto specs (Hold spans)) least
-IsLeastIfAny-spans specs spans others least same found =
-    IsLeastIfAny-same (λ n. (0 ≤ n) × GoesInto specs (Hold others) n) (GoesInto specs (Hold spans)) least
-    (λ n (low, goes). GoesInto-same specs (Hold others) (Hold spans) n (λ id. (same id).0) goes)
-    (λ n goes. (omega arith, GoesInto-same specs (Hold spans) (Hold others) n (λ id. (same id).1) goes))
-    found

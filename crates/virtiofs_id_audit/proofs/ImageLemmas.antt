@@ -1,10 +1,10 @@
 -- How often the guest reaches an id of the host.
 use Rattle.std.proofs.Common.{◌≡◌, inl, inr, ◌⊎◌, ℕ, ◌+◌, ◌-◌, ◌<◌, ◌≤◌, min, true, false, List, [], ◌∷◌, ◌++◌, Some}
-use Rattle.std.proofs.Common.{None, refl, sym, ap, ◌∙◌, arith}
+use Rattle.std.proofs.Common.{None, sym, ap, ◌∙◌, arith}
 use Rattle.std.proofs.Common.{◌↔◌}
 use Rattle.std.specs.List.{All, AllByRecursion}
 use Rattle.std.specs.List.Sorted.{IsPermutation, IsNonDecreasingBy}
-use Rattle.std.proofs.lemmas.Bool.{cases_order}
+use Rattle.std.proofs.lemmas.Bool.{cases_lt, cases_order}
 use Rattle.std.proofs.lemmas.Bool.Decides.{nat_tests}
 use Rattle.std.proofs.lemmas.List.Elements.{recursion_from_All}
 use Rattle.std.proofs.lemmas.List.Sorted.{All-permutation, sum_by-IsPermutation}
@@ -28,19 +28,13 @@ use Rattle.virtiofs_map.proofs.ForCallers.{lookup_one_value}
 pub has_or_not : (span : Span) (id : ℕ)
     → ((has_times id span ≡ 1) × Has span id) ⊎ ((has_times id span ≡ 0) × (¬ Has span id))
 has_or_not span id =
-    elim (cases_order span.first id) [
-      | inl same ↦ up (omega arith)
-      | inr (inl before) ↦ up (omega arith)
-      | inr (inr after) ↦ inr (grind (arith, nat_tests), λ has. (let low : span.first ≤ id = has.0 in omega arith))
-    ] where
-      up : span.first ≤ id → ((has_times id span ≡ 1) × Has span id) ⊎ ((has_times id span ≡ 0) × (¬ Has span id))
-      up low =
-          elim (cases_order id span.last) [
-            | inl same ↦ inl (grind (arith, nat_tests), (low, omega arith))
-            | inr (inl before) ↦ inl (grind (arith, nat_tests), (low, omega arith))
-            | inr (inr after) ↦ inr
-                (grind (arith, nat_tests), λ has. (let high : id ≤ span.last = has.1 in omega arith))
-          ]
+    elim (cases_lt id span.first) [
+      | inl before ↦ inr (grind (arith, nat_tests), λ has. omega (arith, has))
+      | inr low ↦ elim (cases_lt span.last id) [
+        | inl after ↦ inr (grind (arith, nat_tests), λ has. omega (arith, has))
+        | inr high ↦ inl (grind (arith, nat_tests), (low, high))
+      ]
+    ]
 
 -- ---- counts of two stretches of ids are added
 
@@ -63,18 +57,16 @@ CountsGuests-append specs low mid high host a b up over first second =
 
       one_of : 1 ≤ a + b → One specs low high host
       one_of some =
-          elim (cases_order a 0) [
+          elim (cases_lt a 1) [
             | inl none ↦ in_second (second.one.0 (omega arith))
-            | inr (inl less) ↦ absurd (omega arith)
-            | inr (inr more) ↦ in_first (first.one.0 (omega arith))
+            | inr more ↦ in_first (first.one.0 more)
           ]
 
       of_one : One specs low high host → 1 ≤ a + b
       of_one (n, from, below, goes) =
-          elim (cases_order n mid) [
-            | inl same ↦ (let some : 1 ≤ b = second.one.1 (n, omega arith, below, goes) in omega arith)
-            | inr (inl before) ↦ (let some : 1 ≤ a = first.one.1 (n, from, before, goes) in omega arith)
-            | inr (inr after) ↦ (let some : 1 ≤ b = second.one.1 (n, omega arith, below, goes) in omega arith)
+          elim (cases_lt n mid) [
+            | inl before ↦ omega (arith, first.one.1 (n, from, before, goes))
+            | inr after ↦ omega (arith, second.one.1 (n, after, below, goes))
           ]
 
       both : One specs low mid host → One specs mid high host → Two specs low high host
@@ -96,33 +88,13 @@ CountsGuests-append specs low mid high host a b up over first second =
 
       of_two : Two specs low high host → 2 ≤ a + b
       of_two (n, m, from, less, below, goes, goes') =
-          elim (cases_order n mid) [
-            | inl same ↦ later (omega arith)
-            | inr (inl before) ↦
-                let some : 1 ≤ a = first.one.1 (n, from, before, goes) in
-                elim (cases_order m mid) [
-                  | inl same ↦ (let more : 1 ≤ b = second.one.1 (m, omega arith, below, goes') in omega arith)
-                  | inr (inl early) ↦
-                      (let two : 2 ≤ a = first.two.1 (n, m, from, less, early, goes, goes') in omega arith)
-                  | inr (inr late) ↦ (let more : 1 ≤ b = second.one.1 (m, omega arith, below, goes') in omega arith)
-                ]
-            | inr (inr after) ↦ later (omega arith)
-          ] where
-            later : mid ≤ n → 2 ≤ a + b
-            later from' = let two : 2 ≤ b = second.two.1 (n, m, from', less, below, goes, goes') in omega arith
-
--- ---- the ids of one piece
-
--- the id is one of the piece, and becomes what the piece says
-becomes_in : (specs : List IdMap) (piece : Piece) (n host : ℕ) → Accepted specs → IsPiece specs GuestToHost piece
-    → piece.first ≤ n → n < piece.last + 1 → GoesTo specs n host → value_in piece n ≡ Some host
-becomes_in specs piece n host accepted is from below goes =
-    lookup_one_value specs accepted GuestToHost n _ _ (is.becomes n from (omega arith)) goes.becomes
-
-goes_in : (specs : List IdMap) (piece : Piece) (n host : ℕ) → IsPiece specs GuestToHost piece → piece.first ≤ n
-    → n ≤ piece.last → n < 4294967295 → value_in piece n ≡ Some host → GoesTo specs n host
-goes_in specs piece n host is from to is_id value =
-    record { is_id = is_id; becomes = rw value at (is.becomes n from to) }
+          elim (cases_lt n mid) [
+            | inl before ↦ elim (cases_lt m mid) [
+              | inl early ↦ omega (arith, first.two.1 (n, m, from, less, early, goes, goes'))
+              | inr late ↦ omega (arith, first.one.1 (n, from, before, goes), second.one.1 (m, late, below, goes'))
+            ]
+            | inr after ↦ omega (arith, second.two.1 (n, m, after, less, below, goes, goes'))
+          ]
 
 -- none of them goes to the host
 none_goes : (specs : List IdMap) (low high host : ℕ) → ((n : ℕ) → low ≤ n → n < high → ¬ GoesTo specs n host)
@@ -135,218 +107,131 @@ none_goes specs low high host none = record {
   );
 }
 
-pub CountsGuests-forbidden : (specs : List IdMap) (piece : Piece) (host : ℕ) → Accepted specs
-    → IsPiece specs GuestToHost piece → None ≡ value_in piece piece.first
-    → CountsGuests specs piece.first (piece.last + 1) host 0
-CountsGuests-forbidden specs piece host accepted is none =
-    none_goes specs piece.first (piece.last + 1) host (λ n from below goes.
-    (let both : Some host ≡ None = sym (becomes_in specs piece n host accepted is from below goes)
-    ∙ value-forbidden piece n none in
-    absurd (cc)))
-
--- the piece of 4294967295 alone
-pub CountsGuests-greatest : (specs : List IdMap) (piece : Piece) (host : ℕ) → 4294967295 ≤ piece.first
-    → CountsGuests specs piece.first (piece.last + 1) host 0
-CountsGuests-greatest specs piece host beyond =
-    none_goes specs piece.first (piece.last + 1) host
-    (λ n from below goes. (let is_id : n < 4294967295 = goes.is_id in omega arith))
-
--- they become ids one after the other: last is the last of them but for 4294967295
-pub CountsGuests-each : (specs : List IdMap) (piece : Piece) (to last host : ℕ) (span : Span) → Accepted specs
-    → IsPiece specs GuestToHost piece → is_one_to_one piece.becomes ≡ true → Some to ≡ value_in piece piece.first
-    → last ≤ piece.last → last < 4294967295 → piece.first ≤ last → (last ≡ piece.last) ⊎ (last ≡ 4294967294)
-    → span.first ≡ to → span.last ≡ to + (last - piece.first)
-    → CountsGuests specs piece.first (piece.last + 1) host (has_times host span)
-CountsGuests-each specs piece to last host span accepted is each start within is_id order rest first_is last_is =
-    counted (has_or_not span host) where
-      -- what the id becomes
-      host_of : (n : ℕ) → piece.first ≤ n → n < piece.last + 1 → GoesTo specs n host → host ≡ to + (n - piece.first)
-      host_of n from below goes =
-          same_Some _ _
-          (sym (becomes_in specs piece n host accepted is from below goes) ∙ value-each piece to n each start from)
-
-      inside : (rest : (last ≡ piece.last) ⊎ (last ≡ 4294967294)) (n : ℕ) → n < piece.last + 1 → n < 4294967295
-          → n ≤ last
-      inside (inl same) n below is_id' = omega arith
-      inside (inr same) n below is_id' = omega arith
-
-      same_host : (n m : ℕ) → piece.first ≤ n → n < m → m < piece.last + 1 → GoesTo specs n host → GoesTo specs m host
-          → ⊥
-      same_host n m from less below goes goes' =
-          let one = host_of n from (omega arith) goes in
-          let other = host_of m (omega arith) below goes' in
-          omega arith
-
-      there : Has span host → (n : ℕ) × (piece.first ≤ n) × (n < piece.last + 1) × GoesTo specs n host
-      there (low, high) =
-          let n = piece.first + (host - to) in
-          let value : value_in piece n ≡ Some host = value-each piece to n each start (omega arith)
-          ∙ ap (λ (k : ℕ). Some k) (omega arith) in
-          (n, omega arith, omega arith, goes_in specs piece n host is (omega arith) (omega arith) (omega arith) value)
-
-      has : (n : ℕ) → piece.first ≤ n → n < piece.last + 1 → GoesTo specs n host → Has span host
-      has n from below goes =
-          let becomes = host_of n from below goes in
-          let bound : n ≤ last = inside rest n below goes.is_id in
-          (omega arith, omega arith)
-
-      counted : ((has_times host span ≡ 1) × Has span host) ⊎ ((has_times host span ≡ 0) × (¬ Has span host))
-          → CountsGuests specs piece.first (piece.last + 1) host (has_times host span)
-      counted (inl (once, has')) = rw once (record {
-        one = (λ _. there has', λ _. omega arith);
-        two = (
-          λ some. absurd (omega arith),
-          λ (n, m, from, less, below, goes, goes'). absurd (same_host n m from less below goes goes'),
-        );
-      })
-      counted (inr (never, not)) =
-          rw never
-          (none_goes specs piece.first (piece.last + 1) host (λ n from below goes. not (has n from below goes)))
-
--- they all become one id: the first one, and where there are two, the second too
-pub CountsGuests-one : (specs : List IdMap) (piece : Piece) (to host : ℕ) (span : Span) → Accepted specs
-    → IsPiece specs GuestToHost piece → is_one_to_one piece.becomes ≡ false → Some to ≡ value_in piece piece.first
-    → piece.first ≡ 4294967294 → span.first ≡ to → span.last ≡ to
-    → CountsGuests specs piece.first (piece.last + 1) host (has_times host span)
-CountsGuests-one specs piece to host span accepted is all start first first_is last_is =
-    counted (has_or_not span host) where
-      value : (n : ℕ) → value_in piece n ≡ Some to
-      value n = (value-not_each piece to all start is.named).1 n
-
-      host_is : (n : ℕ) → piece.first ≤ n → n < piece.last + 1 → GoesTo specs n host → host ≡ to
-      host_is n from below goes =
-          same_Some _ _ (sym (becomes_in specs piece n host accepted is from below goes) ∙ value n)
-
-      counted : ((has_times host span ≡ 1) × Has span host) ⊎ ((has_times host span ≡ 0) × (¬ Has span host))
-          → CountsGuests specs piece.first (piece.last + 1) host (has_times host span)
-      counted (inl (once, (low, high))) =
-          let order : piece.first ≤ piece.last = is.order in
-          let same : to ≡ host = omega arith in
-          rw once (record {
-            one = (
-              λ _. (
-                piece.first,
-                omega arith,
-                omega arith,
-                goes_in specs piece piece.first host is (omega arith) order (omega arith)
-                    (value piece.first ∙ ap (λ (k : ℕ). Some k) same),
-              ),
-              λ _. omega arith,
-            );
-            two = (
-              λ some. absurd (omega arith),
-              λ (n, m, from, less, below, goes, goes'). absurd
-                  (let is_id : m < 4294967295 = goes'.is_id in omega arith),
-            );
-          })
-      counted (inr (never, not)) = rw never (none_goes specs piece.first (piece.last + 1) host (λ n from below goes.
-          (let becomes = host_is n from below goes in
-          not (omega arith, omega arith))))
-
-pub CountsGuests-two : (specs : List IdMap) (piece : Piece) (to host : ℕ) (span : Span) → Accepted specs
-    → IsPiece specs GuestToHost piece → is_one_to_one piece.becomes ≡ false → Some to ≡ value_in piece piece.first
-    → piece.first < 4294967294 → span.first ≡ to → span.last ≡ to
-    → CountsGuests specs piece.first (piece.last + 1) host (has_times host span + has_times host span)
-CountsGuests-two specs piece to host span accepted is all start first first_is last_is =
-    counted (has_or_not span host) where
-      value : (n : ℕ) → value_in piece n ≡ Some to
-      value n = (value-not_each piece to all start is.named).1 n
-
-      host_is : (n : ℕ) → piece.first ≤ n → n < piece.last + 1 → GoesTo specs n host → host ≡ to
-      host_is n from below goes =
-          same_Some _ _ (sym (becomes_in specs piece n host accepted is from below goes) ∙ value n)
-
-      counted : ((has_times host span ≡ 1) × Has span host) ⊎ ((has_times host span ≡ 0) × (¬ Has span host))
-          → CountsGuests specs piece.first (piece.last + 1) host (has_times host span + has_times host span)
-      counted (inl (once, (low, high))) =
-          let two : piece.first < piece.last = (value-not_each piece to all start is.named).0 in
-          let same : to ≡ host = omega arith in
-          let goes : GoesTo specs piece.first host =
-          goes_in specs piece piece.first host is (omega arith) (omega arith) (omega arith)
-          (value piece.first ∙ ap (λ (k : ℕ). Some k) same) in
-          let goes' : GoesTo specs (piece.first + 1) host =
-          goes_in specs piece (piece.first + 1) host is (omega arith) (omega arith) (omega arith)
-          (value (piece.first + 1) ∙ ap (λ (k : ℕ). Some k) same) in
-          rw once (record {
-            one = (λ _. (piece.first, omega arith, omega arith, goes), λ _. omega arith);
-            two = (
-              λ _. (piece.first, piece.first + 1, omega arith, omega arith, omega arith, goes, goes'),
-              λ _. omega arith,
-            );
-          })
-      counted (inr (never, not)) = rw never (none_goes specs piece.first (piece.last + 1) host (λ n from below goes.
-          (let becomes = host_is n from below goes in
-          not (omega arith, omega arith))))
-
--- ---- the spans of all pieces
+-- ---- one piece more
 
 pub times-push : (spans : List Span) (span : Span) (host : ℕ)
     → times (spans ++ span ∷ []) host ≡ times spans host + has_times host span
 times-push spans span host = sum_by_push (has_times host) spans span
 
--- a piece more, whose ids were pushed
 module _ (specs : List IdMap) (piece : Piece) (low host : ℕ) (spans : List Span) (accepted : Accepted specs)
     (is : IsPiece specs GuestToHost piece) (up : low ≤ piece.first)
     (before : CountsGuests specs low piece.first host (times spans host)) where
+  -- its ids become what it says
+  becomes_in : (n : ℕ) → piece.first ≤ n → n < piece.last + 1 → GoesTo specs n host → value_in piece n ≡ Some host
+  becomes_in n from below goes =
+      lookup_one_value specs accepted GuestToHost n _ _ (is.becomes n from (omega arith)) goes.becomes
+
+  goes_in : (n : ℕ) → piece.first ≤ n → n ≤ piece.last → n < 4294967295 → value_in piece n ≡ Some host
+      → GoesTo specs n host
+  goes_in n from to is_id value = record { is_id = is_id; becomes = rw value at (is.becomes n from to) }
+
   with_more : (more : List Span) (added : ℕ) → times more host ≡ times spans host + added
       → CountsGuests specs piece.first (piece.last + 1) host added
       → CountsGuests specs low (piece.last + 1) host (times more host)
   with_more more added total counts =
-      let order : piece.first ≤ piece.last = is.order in
       rw total
       (CountsGuests-append specs low piece.first (piece.last + 1) host (times spans host) added up (omega arith)
       before counts)
 
+  none_more : (more : List Span) → times more host ≡ times spans host
+      → ((n : ℕ) → piece.first ≤ n → n < piece.last + 1 → ¬ GoesTo specs n host)
+      → CountsGuests specs low (piece.last + 1) host (times more host)
+  none_more more same none = with_more more 0 (omega arith) (none_goes specs piece.first (piece.last + 1) host none)
+
   pub counts-forbidden : None ≡ value_in piece piece.first
       → CountsGuests specs low (piece.last + 1) host (times spans host)
-  counts-forbidden none = with_more spans 0 (omega arith) (CountsGuests-forbidden specs piece host accepted is none)
+  counts-forbidden none = none_more spans (omega arith) (λ n from below goes.
+      (let both : Some host ≡ None = sym (becomes_in n from below goes) ∙ value-forbidden piece n none in
+      absurd (cc)))
 
+  -- they become ids one after the other
   pub counts-each : (to last : ℕ) (span : Span) → is_one_to_one piece.becomes ≡ true
       → Some to ≡ value_in piece piece.first → last ≡ min piece.last 4294967294 → piece.first ≤ last → span.first ≡ to
       → span.last ≡ to + (last - piece.first)
       → CountsGuests specs low (piece.last + 1) host (times (spans ++ span ∷ []) host)
   counts-each to last span each start least order first_is last_is =
-      with_more (spans ++ span ∷ []) (has_times host span) (times-push spans span host)
-      (CountsGuests-each specs piece to last host span accepted is each start (omega arith) (omega arith) order
-      (ends (cases_order piece.last 4294967294)) first_is last_is) where
-        ends : (piece.last ≡ 4294967294) ⊎ (piece.last < 4294967294) ⊎ (4294967294 < piece.last)
-            → (last ≡ piece.last) ⊎ (last ≡ 4294967294)
-        ends (inl same) = inl (omega arith)
-        ends (inr (inl below)) = inl (omega arith)
-        ends (inr (inr above)) = inr (omega arith)
+      elim (has_or_not span host) [
+        | inl (once, has) ↦
+            let n = piece.first + (host - to) in
+            let value : value_in piece n ≡ Some host = value-each piece to n each start (omega arith)
+            ∙ ap (λ (k : ℕ). Some k) (omega (arith, has)) in
+            let goes = goes_in n (omega arith) (omega (arith, has)) (omega (arith, has)) value in
+            with_more (spans ++ span ∷ []) 1 (omega (arith, times-push spans span host)) (record {
+              one = (λ _. (n, omega arith, omega (arith, has), goes), λ _. omega arith);
+              two = (
+                λ some. absurd (omega arith),
+                λ (n, m, from, less, below, goes, goes').
+                    omega (arith, host_of n from (omega arith) goes, host_of m (omega arith) below goes'),
+              );
+            })
+        | inr (never, not) ↦
+            none_more (spans ++ span ∷ []) (omega (arith, times-push spans span host))
+            (λ n from below goes. not (omega (arith, host_of n from below goes, goes.is_id)))
+      ] where
+        host_of : (n : ℕ) → piece.first ≤ n → n < piece.last + 1 → GoesTo specs n host → host ≡ to + (n - piece.first)
+        host_of n from below goes =
+            same_Some _ _ (sym (becomes_in n from below goes) ∙ value-each piece to n each start from)
 
-  pub counts-one : (to : ℕ) (span : Span) → is_one_to_one piece.becomes ≡ false → Some to ≡ value_in piece piece.first
-      → min piece.last 4294967294 ≤ piece.first → piece.first ≤ min piece.last 4294967294 → span.first ≡ to
-      → span.last ≡ to → CountsGuests specs low (piece.last + 1) host (times (spans ++ span ∷ []) host)
-  counts-one to span all start last order first_is last_is =
-      let two : piece.first < piece.last = (value-not_each piece to all start is.named).0 in
-      with_more (spans ++ span ∷ []) (has_times host span) (times-push spans span host)
-      (CountsGuests-one specs piece to host span accepted is all start (omega arith) first_is last_is)
+  -- they all become one id: the first one, and where there are two, the second too
+  module _ (to : ℕ) (span : Span) (all : is_one_to_one piece.becomes ≡ false)
+      (start : Some to ≡ value_in piece piece.first) (first_is : span.first ≡ to) (last_is : span.last ≡ to) where
+    two : piece.first < piece.last
+    two = (value-not_each piece to all start is.named).0
 
-  pub counts-two : (to : ℕ) (span : Span) → is_one_to_one piece.becomes ≡ false → Some to ≡ value_in piece piece.first
-      → piece.first < min piece.last 4294967294 → span.first ≡ to → span.last ≡ to
-      → CountsGuests specs low (piece.last + 1) host (times ((spans ++ span ∷ []) ++ span ∷ []) host)
-  counts-two to span all start last first_is last_is =
-      let once = times-push spans span host in
-      let twice = times-push (spans ++ span ∷ []) span host in
-      with_more ((spans ++ span ∷ []) ++ span ∷ []) (has_times host span + has_times host span) (omega arith)
-      (CountsGuests-two specs piece to host span accepted is all start (omega arith) first_is last_is)
+    value : (n : ℕ) → value_in piece n ≡ Some to
+    value n = (value-not_each piece to all start is.named).1 n
+
+    goes_there : Has span host → (n : ℕ) → piece.first ≤ n → n ≤ piece.last → n < 4294967295 → GoesTo specs n host
+    goes_there has n from below is_id =
+        goes_in n from below is_id (value n ∙ ap (λ (k : ℕ). Some k) (omega (arith, has)))
+
+    none_there : ¬ Has span host → (n : ℕ) → piece.first ≤ n → n < piece.last + 1 → ¬ GoesTo specs n host
+    none_there not n from below goes =
+        not (omega (arith, same_Some host to (sym (becomes_in n from below goes) ∙ value n)))
+
+    pub counts-one : min piece.last 4294967294 ≤ piece.first → piece.first ≤ min piece.last 4294967294
+        → CountsGuests specs low (piece.last + 1) host (times (spans ++ span ∷ []) host)
+    counts-one last order =
+        let pushed = times-push spans span host in
+        elim (has_or_not span host) [
+          | inl (once, has) ↦
+              let goes = goes_there has piece.first (omega arith) (omega arith) (omega (arith, two)) in
+              with_more (spans ++ span ∷ []) 1 (omega arith) (record {
+                one = (λ _. (piece.first, omega arith, omega (arith, two), goes), λ _. omega arith);
+                two = (
+                  λ some. absurd (omega arith),
+                  λ (n, m, from, less, below, goes, goes'). omega (arith, two, goes'),
+                );
+              })
+          | inr (never, not) ↦ none_more (spans ++ span ∷ []) (omega arith) (none_there not)
+        ]
+
+    pub counts-two : piece.first < min piece.last 4294967294
+        → CountsGuests specs low (piece.last + 1) host (times ((spans ++ span ∷ []) ++ span ∷ []) host)
+    counts-two last =
+        let once_more = times-push spans span host in
+        let twice = times-push (spans ++ span ∷ []) span host in
+        elim (has_or_not span host) [
+          | inl (once, has) ↦
+              let goes = goes_there has piece.first (omega arith) (omega arith) (omega arith) in
+              let goes' = goes_there has (piece.first + 1) (omega arith) (omega arith) (omega arith) in
+              with_more ((spans ++ span ∷ []) ++ span ∷ []) 2 (omega arith) (record {
+                one = (λ _. (piece.first, omega arith, omega arith, goes), λ _. omega arith);
+                two = (
+                  λ _. (piece.first, piece.first + 1, omega arith, omega arith, omega arith, goes, goes'),
+                  λ _. omega arith,
+                );
+              })
+          | inr (never, not) ↦ none_more ((spans ++ span ∷ []) ++ span ∷ []) (omega arith) (none_there not)
+        ]
+
+-- ---- the pieces so far
 
 -- the spans count what the pieces so far become
 pub record CountsSoFar (specs : List IdMap) (spans : List Span) (left : PiecesLeft) : Type 0 where
   pub specs_are : left.specs ≡ specs
   pub direction_is : left.direction ≡ GuestToHost
   pub counts : (host : ℕ) → CountsGuests specs 0 left.next host (times spans host)
-
-pub CountsSoFar-start : (specs : List IdMap) (left : PiecesLeft)
-    → left ≡ record { specs = specs; direction = GuestToHost; next = 0 } → CountsSoFar specs [] left
-CountsSoFar-start specs left is =
-    rw is (record {
-      specs_are = refl;
-      direction_is = refl;
-      counts =
-          λ host. none_goes specs 0 0 host (λ n from below. absurd (omega arith));
-    })
 
 pub piece_given : (specs : List IdMap) (spans : List Span) (left after : PiecesLeft) (piece : Piece)
     → CountsSoFar specs spans left → GivesPiece left (Some piece) after → IsPiece specs GuestToHost piece
@@ -378,8 +263,7 @@ has_bounded [] id each some = absurd (omega arith)
 has_bounded (span ∷ spans) id (is, each) some =
     let all = sum_by-cons (has_times id) span spans in
     elim (has_or_not span id) [
-      | inl (once, has) ↦ (let high : id ≤ span.last = has.1 in let within : span.last ≤ 4294967295 = is.1 in
-          omega arith)
+      | inl (once, has) ↦ omega arith
       | inr (never, not) ↦ has_bounded spans id each (omega arith)
     ]
 

@@ -1,14 +1,13 @@
 -- Which ids the ranges of a namespace have.
 use Rattle.std.proofs.Common.{◌≡◌, ◌≢◌, ◌↔◌, inl, inr, ℕ, ◌+◌, ◌<◌, ◌≤◌, List, [], ◌∷◌, ◌++◌, length, take, get_or}
-use Rattle.std.proofs.Common.{Contains, Vec, Result, Ok, Err, IfOk, subst, refl, sym, arith, rules}
+use Rattle.std.proofs.Common.{Vec, Result, Ok, Err, IfOk, subst, refl, arith}
 use Rattle.std.proofs.lemmas.Bool.{cases_lt}
 use Rattle.std.proofs.lemmas.List.{take_more, take_all}
-use Rattle.std.proofs.lemmas.List.Elements.{Contains-append_left, Contains-get_or, Contains-push, Contains-push_cases}
-use Rattle.virtiofs_id_audit.specs.IdAudit.{Hold, Has as Has_id}
+use Rattle.std.proofs.lemmas.List.Elements.{Contains-get_or, Contains-push_cases}
+use Rattle.virtiofs_id_audit.specs.IdAudit.{Hold}
 use Rattle.virtiofs_id_audit.specs.declared.spans.Span.{Span}
 use Rattle.virtiofs_map.specs.declared.idmap.UidMap.{UidMap}
-use Rattle.virtiofs_id_audit.proofs.OutsideLemmas.{hold_one}
-use Rattle.virtiofs_id_audit.proofs.OutsideLemmas.{hold_push}
+use Rattle.virtiofs_id_audit.proofs.HeldLemmas.{hold_none, hold_one, hold_push, push_hold}
 use Rattle.virtiofs_id_audit.specs.Namespace.{Has, HasSome, HasNone, IsLacking}
 
 -- no range has the id if none of the first ones has, and they are all
@@ -31,13 +30,8 @@ none_more ranges i d n below none not = rw (take_more ranges i d below) last whe
   last : ¬ HasSome (take i ranges ++ get_or ranges i d ∷ []) n
   last some = elim (Contains-push_cases (take i ranges) (get_or ranges i d) some.0 some.1) [
     | inl before ↦ none (some.0, before, some.2)
-    | inr same ↦ not (subst (λ (one : UidMap). Has one n) (sym same) some.2)
+    | inr same ↦ not (rw same some.2)
   ]
-
--- a range that does not have an id of all is none that has it
-pub not_that : (ranges : List UidMap) (i : ℕ) (d : UidMap) (n : ℕ) → i < length ranges → ¬ HasSome ranges n
-    → ¬ Has (get_or ranges i d) n
-not_that ranges i d n below none has = none (get_or ranges i d, Contains-get_or ranges i d below, has)
 
 -- ---- the ids that no range has
 
@@ -47,9 +41,7 @@ LacksBelow ranges next ids =
     (inside : ℕ) → Hold ids inside ↔ ((inside < next) × (inside ≤ 4294967295) × (¬ HasSome ranges inside))
 
 pub lacks_none : (ranges : List UidMap) → LacksBelow ranges 0 []
-lacks_none ranges inside = ((λ (span, listed, has). absurd (not_in_none span listed)), λ (below, is_id, none). absurd (omega (arith, below))) where
-  not_in_none : (span : Span) → ¬ Contains [] span
-  not_in_none span = search rules
+lacks_none ranges inside = ((λ held. absurd (hold_none inside held)), (λ (below, is_id, none). absurd (omega arith)))
 
 -- some range has each id up to the next number
 pub lacks_had : (ranges : List UidMap) (first next : ℕ) (ids : List Span) → first < next
@@ -67,21 +59,19 @@ pub lacks_more : (ranges : List UidMap) (first last : ℕ) (ids : List Span) (sp
     → span.last ≡ last → last ≤ 4294967295 → first ≤ last → ((n : ℕ) → first ≤ n → n ≤ last → ¬ HasSome ranges n)
     → LacksBelow ranges first ids → LacksBelow ranges (last + 1) (ids ++ span ∷ [])
 lacks_more ranges first last ids span is_first is_last bound order none so_far inside = (
-  (λ (one, listed, has). elim (Contains-push_cases ids span one listed) [
-    | inl before ↦ let at = (so_far inside).0 (one, before, has) in (omega (arith, at.0, order), at.1, at.2)
-    | inr same ↦ of_span (subst (λ (s : Span). Has_id s inside) (sym same) has)
+  (λ held. elim (hold_push ids span inside held) [
+    | inl before ↦ let at = (so_far inside).0 before in (omega (arith, at.0, order), at.1, at.2)
+    | inr has ↦ (
+      omega (arith, has, is_last),
+      omega (arith, has, is_last, bound),
+      none inside (omega (arith, has, is_first)) (omega (arith, has, is_last)),
+    )
   ]),
-  (λ (below, is_id, not). elim (cases_lt inside first) [
-    | inl before ↦ let (one, listed, has) = (so_far inside).1 (before, is_id, not) in (one, Contains-append_left ids (span ∷ []) one listed, has)
-    | inr after ↦ (span, Contains-push ids span, (omega (arith, is_first, after), omega (arith, is_last, below)))
-  ]),
-) where
-  of_span : Has_id span inside → (inside < last + 1) × (inside ≤ 4294967295) × (¬ HasSome ranges inside)
-  of_span has = (
-    omega (arith, has.1, is_last),
-    omega (arith, has.1, is_last, bound),
-    none inside (omega (arith, has.0, is_first)) (omega (arith, has.1, is_last)),
-  )
+  (λ (below, is_id, not). push_hold ids span inside (elim (cases_lt inside first) [
+    | inl before ↦ inl ((so_far inside).1 (before, is_id, not))
+    | inr after ↦ inr (omega (arith, is_first, is_last, after, below))
+  ])),
+)
 
 -- all ids were passed
 pub lacks_all : (ranges : List UidMap) (next : ℕ) (ids : List Span) → 4294967295 < next → LacksBelow ranges next ids
@@ -114,11 +104,11 @@ pub lacks_both : (ranges : List UidMap) (ids more : List Span) (span : Span) →
     → (inside : ℕ) → Hold more inside ↔ IsLacking ranges inside
 lacks_both [] ids more span some first last none are inside = absurd (some refl)
 lacks_both (range ∷ ranges) ids more span some first last none are inside = rw are (
-  (λ held. elim ((hold_push ids span inside).0 held) [
+  (λ held. elim (hold_push ids span inside held) [
     | inl old ↦ inr ((none inside).0 old)
     | inr has ↦ inl (omega (arith, first, last, has.0, has.1))
   ]),
-  (λ lacks. (hold_push ids span inside).1 (elim lacks [
+  (λ lacks. push_hold ids span inside (elim lacks [
     | inl same ↦ inr (omega (arith, first, same), omega (arith, last, same))
     | inr no_range ↦ inl ((none inside).1 no_range)
   ])),

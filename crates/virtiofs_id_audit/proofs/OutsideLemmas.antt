@@ -1,9 +1,8 @@
 -- Ids that are moved into a namespace and out of it.
 use Rattle.std.proofs.Common.{◌≡◌, ◌≢◌, ◌⊎◌, ◌↔◌, inl, inr, ℕ, ◌+◌, ◌-◌, ◌<◌, ◌≤◌, min, max, List, [], ◌∷◌, ◌++◌, length}
-use Rattle.std.proofs.Common.{take, get_or, eqb, Contains, Bool, true, false, Option, Some, None, refl, ap, ◌∙◌, subst, sym, arith, rules}
-use Rattle.std.proofs.lemmas.Bool.{cases_eq}
+use Rattle.std.proofs.Common.{take, get_or, eqb, Bool, true, false, Option, Some, None, refl, ap, subst, sym, arith}
 use Rattle.std.proofs.lemmas.Bool.Decides.{nat_tests}
-use Rattle.std.proofs.lemmas.List.{take_more, take_all}
+use Rattle.std.proofs.lemmas.List.{nil_from_length, take_more}
 use Rattle.std.proofs.lemmas.List.Elements.{Contains-push, Contains-push_cases, Contains-append_left}
 use Rattle.virtiofs_id_audit.specs.IdAudit.{Has, Hold}
 use Rattle.virtiofs_id_audit.specs.declared.spans.Span.{Span}
@@ -12,28 +11,16 @@ use Rattle.virtiofs_id_audit.specs.Outside.{MovesBy, MovesTo, HasIf, AreMoved}
 use Rattle.virtiofs_id_audit.specs.OutsideParts.{Moves, MovesAmong, AddsMoved, AddsSpan}
 use Rattle.virtiofs_id_audit.specs.declared.outside.Way.{Way}
 use Rattle.virtiofs_id_audit.specs.declared.outside.Way.TheVariants.{Inwards, Outwards}
+use Rattle.virtiofs_id_audit.proofs.HeldLemmas.{hold_push, push_hold, hold_none}
 
 -- ---- whether there are ranges
 
 pub none_here : (ranges : List UidMap) (r : Bool) → r ≡ eqb (length ranges) 0 → r ≡ true → ranges ≡ []
-none_here [] r e is_true = refl
-none_here (range ∷ ranges) r e is_true =
-    absurd (let f : eqb (length (range ∷ ranges)) 0 ≡ true = sym e ∙ is_true in grind (arith, nat_tests))
+none_here ranges r e is_true = nil_from_length ranges (grind (arith, nat_tests))
 
 pub some_here : (ranges : List UidMap) (r : Bool) → r ≡ eqb (length ranges) 0 → r ≡ false → ranges ≢ []
 some_here ranges r e is_false none =
-    absurd (let f : eqb (length ranges) 0 ≡ false = sym e ∙ is_false in let z : length ranges ≡ 0 = ap length none in
-    grind (arith, nat_tests))
-
--- ---- spans
-
--- one span has the ids that it has
-pub hold_one : (span : Span) (id : ℕ) → Hold (span ∷ []) id → Has span id
-hold_one span id (one, (k, inside, here), has) = elim (cases_eq k 0) [
-  | inl zero ↦ (let same : get_or (span ∷ []) 0 one ≡ one = subst (λ (i : ℕ). get_or (span ∷ []) i one ≡ one) zero here in
-      subst (λ (s : Span). Has s id) (sym same) has)
-  | inr later ↦ absurd (omega (arith, inside, later))
-]
+    absurd (let zero : length ranges ≡ 0 = ap length none in grind (arith, nat_tests))
 
 -- ---- one span, moved
 
@@ -44,21 +31,7 @@ pub moved_none : (span : Span) (from to count begin past : ℕ) → to ≤ 42949
 moved_none span from to count begin past bound begins ends over moved = (
   (λ held. absurd held),
   (λ (id, has, moves).
-      absurd
-      (omega (
-        arith,
-        bound,
-        begins,
-        ends,
-        over,
-        has.0,
-        has.1,
-        moves.has.0,
-        moves.has.1,
-        moves.same,
-        moves.is_id,
-        moves.is_id_moved,
-      ))),
+      absurd (omega (arith, bound, begins, ends, over, has, moves))),
 )
 
 -- those from one to another are
@@ -70,18 +43,10 @@ pub moved_some : (span there : Span) (from to count begin past : ℕ) → to ≤
 moved_some span there from to count begin past bound begins ends some first last moved = (
   (λ (low, high). (
     from + (moved - to),
-    (omega (arith, begins, ends, some, first, last, low, high), omega (arith, begins, ends, some, first, last, low, high)),
-    record {
-      has = (omega arith, omega (arith, begins, ends, some, first, last, low, high));
-      same = omega (arith, begins, first, low);
-      is_id = omega (arith, begins, ends, some, first, last, low, high);
-      is_id_moved = omega (arith, begins, ends, some, last, high, bound);
-    },
+    omega (arith, begins, ends, some, first, last, low, high),
+    omega (arith, begins, ends, some, first, last, low, high, bound),
   )),
-  (λ (id, has, moves). (
-    omega (arith, begins, first, has.0, moves.has.0, moves.same),
-    omega (arith, ends, last, bound, has.1, moves.has.0, moves.has.1, moves.same, moves.is_id, moves.is_id_moved),
-  )),
+  (λ (id, has, moves). omega (arith, begins, ends, first, last, bound, has, moves)),
 )
 
 -- the same of another way to say how ids are moved
@@ -101,10 +66,7 @@ pub moved_out : (r : Option Span) (range : UidMap) (span : Span)
     → (moved : ℕ) → HasIf r moved ↔ ((id : ℕ) × Has span id × MovesBy Outwards range id moved)
 moved_out r range span =
     same_moved r span (Moves range.inside_uid range.outside_uid range.count) (MovesBy Outwards range)
-    (λ id moved moves.
-    record { has = moves.has; same = moves.same; is_id = moves.is_id; is_id_outside = moves.is_id_moved })
-    (λ id moved stands.
-    record { has = stands.has; same = stands.same; is_id = stands.is_id; is_id_moved = stands.is_id_outside })
+    (λ id moved moves. omega (arith, moves)) (λ id moved stands. omega (arith, stands))
 
 -- into it
 pub moved_in : (r : Option Span) (range : UidMap) (span : Span)
@@ -113,20 +75,7 @@ pub moved_in : (r : Option Span) (range : UidMap) (span : Span)
     → (moved : ℕ) → HasIf r moved ↔ ((id : ℕ) × Has span id × MovesBy Inwards range id moved)
 moved_in r range span =
     same_moved r span (Moves range.outside_uid range.inside_uid range.count) (MovesBy Inwards range)
-    (λ id moved moves.
-    record {
-      has = (omega (arith, moves.same), omega (arith, moves.same, moves.has.0, moves.has.1));
-      same = omega (arith, moves.same, moves.has.0);
-      is_id = moves.is_id_moved;
-      is_id_outside = moves.is_id;
-    })
-    (λ id moved stands.
-    record {
-      has = (omega (arith, stands.same), omega (arith, stands.same, stands.has.0, stands.has.1));
-      same = omega (arith, stands.same, stands.has.0);
-      is_id = stands.is_id_outside;
-      is_id_moved = stands.is_id;
-    })
+    (λ id moved moves. omega (arith, moves)) (λ id moved stands. omega (arith, stands))
 
 -- ---- one id, moved
 
@@ -144,23 +93,10 @@ pub id_goes : (way : Way) (range : UidMap) (one there : Span) (id : ℕ) → one
     → MovesBy way range id there.first
 id_goes way range one there id first last order each =
     let (n, has, moves) = (each there.first).0 (omega arith, order) in
-    let same : n ≡ id = omega (arith, first, last, has.0, has.1) in
-    subst (λ m. MovesBy way range m there.first) same moves
+    let same : n ≡ id = omega (arith, first, last, has) in
+    rw same at moves
 
 -- ---- spans, one by one
-
--- one more span
-pub hold_push : (spans : List Span) (span : Span) (id : ℕ) → Hold (spans ++ span ∷ []) id ↔ (Hold spans id ⊎ Has span id)
-hold_push spans span id = (
-  (λ (other, listed, has). elim (Contains-push_cases spans span other listed) [
-    | inl before ↦ inl (other, before, has)
-    | inr same ↦ inr (subst (λ (s : Span). Has s id) (sym same) has)
-  ]),
-  (λ held. elim held [
-    | inl (other, listed, has) ↦ (other, Contains-append_left spans (span ∷ []) other listed, has)
-    | inr has ↦ (span, Contains-push spans span, has)
-  ]),
-)
 
 -- one more range
 among_push : (way : Way) (ranges : List UidMap) (range : UidMap) (id moved : ℕ)
@@ -168,7 +104,7 @@ among_push : (way : Way) (ranges : List UidMap) (range : UidMap) (id moved : ℕ
 among_push way ranges range id moved = (
   (λ (other, listed, moves). elim (Contains-push_cases ranges range other listed) [
     | inl before ↦ inl (other, before, moves)
-    | inr same ↦ inr (subst (λ (r : UidMap). MovesBy way r id moved) (sym same) moves)
+    | inr same ↦ inr (rw same moves)
   ]),
   (λ some. elim some [
     | inl (other, listed, moves) ↦ (other, Contains-append_left ranges (range ∷ []) other listed, moves)
@@ -182,42 +118,19 @@ pub adds_none : (before : List Span) (way : Way) (ranges : List UidMap) (span : 
 adds_none before way ranges span = record {
   each = λ moved. (
     (λ held. inl held),
-    (λ some. elim some [ inl held ↦ held | inr (id, has, moves) ↦ absurd (not_in_none moves.0 moves.1) ]),
+    (λ some. elim some [ inl held ↦ held | inr (id, has, (range, listed, moves)) ↦ absurd (omega (arith, listed.1)) ]),
   );
-} where
-  not_in_none : (one : UidMap) → ¬ Contains [] one
-  not_in_none one = search rules
+}
 
--- a range that moves none of it
-pub adds_no_more : (before after : List Span) (way : Way) (ranges : List UidMap) (span : Span) (i : ℕ) (d : UidMap)
-    → i < length ranges → AddsMoved before way (take i ranges) span after
-    → ((moved : ℕ) → HasIf None moved ↔ ((id : ℕ) × Has span id × MovesBy way (get_or ranges i d) id moved))
-    → AddsMoved before way (take (i + 1) ranges) span after
-adds_no_more before after way ranges span i d below so_far none = rw (take_more ranges i d below) (record {
+-- a range that moves what the spans have more
+pub adds_more : (before after more : List Span) (way : Way) (ranges : List UidMap) (span : Span) (r : Option Span) (i : ℕ)
+    (d : UidMap) → i < length ranges → AddsMoved before way (take i ranges) span after
+    → ((moved : ℕ) → Hold more moved ↔ (Hold after moved ⊎ HasIf r moved))
+    → ((moved : ℕ) → HasIf r moved ↔ ((id : ℕ) × Has span id × MovesBy way (get_or ranges i d) id moved))
+    → AddsMoved before way (take (i + 1) ranges) span more
+adds_more before after more way ranges span r i d below so_far hold some = rw (take_more ranges i d below) (record {
   each = λ moved. (
-    (λ held. elim ((so_far.each moved).0 held) [
-      | inl old ↦ inl old
-      | inr (id, has, moves) ↦
-          inr (id, has, (among_push way (take i ranges) (get_or ranges i d) id moved).1 (inl moves))
-    ]),
-    (λ some. elim some [
-      | inl old ↦ (so_far.each moved).1 (inl old)
-      | inr (id, has, moves) ↦ elim ((among_push way (take i ranges) (get_or ranges i d) id moved).0 moves) [
-        | inl before ↦ (so_far.each moved).1 (inr (id, has, before))
-        | inr here ↦ absurd ((none moved).1 (id, has, here))
-      ]
-    ]),
-  );
-})
-
--- a range that moves some of it
-pub adds_more : (before after : List Span) (way : Way) (ranges : List UidMap) (span one : Span) (i : ℕ) (d : UidMap)
-    → i < length ranges → AddsMoved before way (take i ranges) span after
-    → ((moved : ℕ) → HasIf (Some one) moved ↔ ((id : ℕ) × Has span id × MovesBy way (get_or ranges i d) id moved))
-    → AddsMoved before way (take (i + 1) ranges) span (after ++ one ∷ [])
-adds_more before after way ranges span one i d below so_far some = rw (take_more ranges i d below) (record {
-  each = λ moved. (
-    (λ held. elim ((hold_push after one moved).0 held) [
+    (λ held. elim ((hold moved).0 held) [
       | inl old ↦ elim ((so_far.each moved).0 old) [
         | inl first ↦ inl first
         | inr (id, has, moves) ↦
@@ -226,7 +139,7 @@ adds_more before after way ranges span one i d below so_far some = rw (take_more
       | inr has_one ↦ (let (id, has, moves) = (some moved).0 has_one in
           inr (id, has, (among_push way (take i ranges) (get_or ranges i d) id moved).1 (inr moves)))
     ]),
-    (λ any. (hold_push after one moved).1 (elim any [
+    (λ any. (hold moved).1 (elim any [
       | inl old ↦ inl ((so_far.each moved).1 (inl old))
       | inr (id, has, moves) ↦ elim ((among_push way (take i ranges) (get_or ranges i d) id moved).0 moves) [
         | inl before ↦ inl ((so_far.each moved).1 (inr (id, has, before)))
@@ -235,12 +148,6 @@ adds_more before after way ranges span one i d below so_far some = rw (take_more
     ])),
   );
 })
-
--- all ranges
-pub adds_all : (before after : List Span) (way : Way) (ranges : List UidMap) (span : Span) (i : ℕ) → length ranges ≤ i
-    → AddsMoved before way (take i ranges) span after → AddsMoved before way ranges span after
-adds_all before after way ranges span i over so_far =
-    subst (λ rs. AddsMoved before way rs span after) (take_all i ranges over) so_far
 
 -- ---- with ranges and without
 
@@ -278,11 +185,11 @@ pub adds_itself : (before : List Span) (way : Way) (ranges : List UidMap) (span 
     → AddsSpan before way ranges span (before ++ span ∷ [])
 adds_itself before way ranges span none = record {
   each = λ moved. (
-    (λ held. elim ((hold_push before span moved).0 held) [
+    (λ held. elim (hold_push before span moved held) [
       | inl old ↦ inl old
       | inr has ↦ inr (moved, has, (stays_moves way ranges moved moved none).0 refl)
     ]),
-    (λ any. (hold_push before span moved).1 (elim any [
+    (λ any. push_hold before span moved (elim any [
       | inl old ↦ inl old
       | inr (id, has, moves) ↦
           inr (subst (λ n. Has span n) ((stays_moves way ranges id moved none).1 moves) has)
@@ -295,12 +202,10 @@ adds_itself before way ranges span none = record {
 pub moved_no_span : (way : Way) (ranges : List UidMap) (spans : List Span) → AreMoved way ranges (take 0 spans) []
 moved_no_span way ranges spans = record {
   each = λ moved. (
-    (λ (span, listed, has). absurd (not_in_none span listed)),
-    (λ (id, (span, listed, has), moves). absurd (not_in_none span listed)),
+    (λ held. absurd (hold_none moved held)),
+    (λ (id, held, moves). absurd (hold_none id held)),
   );
-} where
-  not_in_none : (one : Span) → ¬ Contains [] one
-  not_in_none one = search rules
+}
 
 pub moved_one_more : (way : Way) (ranges : List UidMap) (spans all more : List Span) (i : ℕ) (d : Span)
     → i < length spans → AreMoved way ranges (take i spans) all
@@ -309,17 +214,12 @@ moved_one_more way ranges spans all more i d below so_far adds = rw (take_more s
   each = λ moved. (
     (λ held. elim ((adds.each moved).0 held) [
       | inl old ↦ (let (id, has, moves) = (so_far.each moved).0 old in
-          (id, (hold_push (take i spans) (get_or spans i d) id).1 (inl has), moves))
-      | inr (id, has, moves) ↦ (id, (hold_push (take i spans) (get_or spans i d) id).1 (inr has), moves)
+          (id, push_hold (take i spans) (get_or spans i d) id (inl has), moves))
+      | inr (id, has, moves) ↦ (id, push_hold (take i spans) (get_or spans i d) id (inr has), moves)
     ]),
-    (λ (id, held, moves). (adds.each moved).1 (elim ((hold_push (take i spans) (get_or spans i d) id).0 held) [
+    (λ (id, held, moves). (adds.each moved).1 (elim (hold_push (take i spans) (get_or spans i d) id held) [
       | inl old ↦ inl ((so_far.each moved).1 (id, old, moves))
       | inr has ↦ inr (id, has, moves)
     ])),
   );
 })
-
-pub moved_all_spans : (way : Way) (ranges : List UidMap) (spans all : List Span) (i : ℕ) → length spans ≤ i
-    → AreMoved way ranges (take i spans) all → AreMoved way ranges spans all
-moved_all_spans way ranges spans all i over so_far =
-    subst (λ xs. AreMoved way ranges xs all) (take_all i spans over) so_far

@@ -1,7 +1,7 @@
 -- What ids of the guest come back as.
-use Rattle.std.proofs.Common.{◌≡◌, ◌≢◌, inl, inr, ℕ, ◌+◌, ◌-◌, ◌<◌, ◌≤◌, true, false, List, Option, Some, None}
+use Rattle.std.proofs.Common.{◌≡◌, inl, inr, ℕ, ◌+◌, ◌-◌, ◌<◌, ◌≤◌, true, false, List, Option, Some, None}
 use Rattle.std.proofs.Common.{IsSomeAnd, refl, sym, ap, ◌∙◌, arith}
-use Rattle.std.proofs.lemmas.Bool.{cases_eq, cases_order}
+use Rattle.std.proofs.lemmas.Bool.{cases_eq, cases_lt}
 use Rattle.std.proofs.lemmas.Option.{same_Some}
 use Rattle.virtiofs_id_audit.specs.IdAudit.{IsLeastId, IsLeastIfAny, GoesTo, ComesBack, IsAstray}
 use Rattle.virtiofs_id_audit.specs.IdAuditParts.{ComesBackAs, ReturnsBy, IsMoved, ComeBackBelow}
@@ -15,7 +15,6 @@ use Rattle.virtiofs_map.specs.declared.cmdline.IdMap.TheVariants.{Guest, Host, S
 use Rattle.virtiofs_map.specs.declared.cmdline.IdMap.TheVariants.{ForbidGuest}
 use Rattle.virtiofs_map.specs.declared.soft_idmap.entry.Direction.TheVariants.{GuestToHost, HostToGuest}
 use Rattle.virtiofs_map.specs.declared.soft_idmap.entry.Entry.{Entry}
-use Rattle.virtiofs_map.specs.declared.soft_idmap.piece.Outcome.TheVariants.{Kept, OneToOne, AllToOne, Forbidden}
 use Rattle.virtiofs_map.specs.declared.soft_idmap.piece.Piece.{Piece}
 use Rattle.virtiofs_id_audit.proofs.PieceLemmas.{value-each, value-not_each, value-forbidden}
 use Rattle.virtiofs_map.proofs.ForCallers.{lookup_one_value, KeepsGreatest-accepted}
@@ -133,56 +132,7 @@ IsAstray-moved specs trip n accepted returns is_id moved = astray (returns n mov
         (same_Some _ _ (lookup_one_value specs accepted HostToGuest host _ _ (rw moved.becomes at back) leads));
   }
 
--- ---- the least number that becomes another one
-
-no_moved : (piece : Piece) (n : ℕ) → ((value : ℕ) → value_in piece n ≡ Some value → value ≡ n) → ¬ IsMoved piece n
-no_moved piece n same moved = moved.moved (same moved.value moved.becomes)
-
-pub IsMoved-kept : (piece : Piece) → piece.becomes ≡ Kept → IsLeastIfAny (IsMoved piece) None
-IsMoved-kept piece is n = no_moved piece n (λ value becomes. sym (same_Some _ _ (rw is at becomes)))
-
-pub IsMoved-forbidden : (piece : Piece) → piece.becomes ≡ Forbidden → IsLeastIfAny (IsMoved piece) None
-IsMoved-forbidden piece is n =
-    no_moved piece n (λ value becomes. (let none : None ≡ Some value = rw is at becomes in absurd (cc)))
-
--- the first number is the least
-at_first : (piece : Piece) (value : ℕ) → piece.first ≤ piece.last → value_in piece piece.first ≡ Some value
-    → value ≢ piece.first → IsLeastIfAny (IsMoved piece) (Some piece.first)
-at_first piece value order becomes moved = record {
-  is_bad = record { from = omega arith; to = order; value = value; becomes = becomes; moved = moved };
-  none_before = λ m before other. (let from : piece.first ≤ m = other.from in omega arith);
-}
-
-pub IsMoved-each : (piece : Piece) (to : ℕ) → piece.becomes ≡ OneToOne to → piece.first ≤ piece.last
-    → IsNamed piece.becomes piece.first piece.last → IsLeastIfAny (IsMoved piece) (Some piece.first)
-IsMoved-each piece to is order named =
-    let named' = rw is at named in
-    at_first piece to order (rw is (ap (λ (k : ℕ). Some k) (omega arith))) named'.0
-
-pub IsMoved-all : (piece : Piece) (to : ℕ) → piece.becomes ≡ AllToOne to → piece.first ≤ piece.last → to ≢ piece.first
-    → IsLeastIfAny (IsMoved piece) (Some piece.first)
-IsMoved-all piece to is order moved = at_first piece to order (rw is refl) moved
-
--- where it becomes itself, the second one becomes it
-pub IsMoved-second : (piece : Piece) (to : ℕ) → piece.becomes ≡ AllToOne to
-    → IsNamed piece.becomes piece.first piece.last → to ≡ piece.first
-    → IsLeastIfAny (IsMoved piece) (Some (piece.first + 1))
-IsMoved-second piece to is named same =
-    let two : piece.first < piece.last = rw is at named in
-    record {
-      is_bad =
-          record { from = omega arith; to = omega arith; value = to; becomes = rw is refl; moved = λ e. omega arith };
-      none_before = λ m before other.
-          (let from : piece.first ≤ m = other.from in
-          let value : Some to ≡ Some other.value = rw is at other.becomes in
-          let value' : to ≡ other.value = same_Some _ _ value in
-          other.moved (omega arith));
-    }
-
 -- ---- the loop over the ids
-
-pub ComeBackBelow-start : (specs : List IdMap) → ComeBackBelow specs 0
-ComeBackBelow-start specs n host below goes = absurd (omega arith)
 
 -- where no number of a round trip moves, its ids come back
 pub leads_back : (specs : List IdMap) (trip : Piece) (n host : ℕ) → Accepted specs → ReturnsBy specs trip → trip.first ≤ n
@@ -206,20 +156,18 @@ pub ComeBackBelow-more : (specs : List IdMap) (trip : Piece) (next more : ℕ) �
     → ReturnsBy specs trip → trip.first ≡ next → more ≤ trip.last + 1 → IsLeastIfAny (IsMoved trip) None
     → ComeBackBelow specs more
 ComeBackBelow-more specs trip next more accepted so_far returns first end none n host below goes =
-    elim (cases_order n next) [
-      | inl same ↦ leads_back specs trip n host accepted returns (omega arith) (omega arith) (none n) goes
-      | inr (inl before) ↦ so_far n host before goes
-      | inr (inr after) ↦ leads_back specs trip n host accepted returns (omega arith) (omega arith) (none n) goes
+    elim (cases_lt n next) [
+      | inl before ↦ so_far n host before goes
+      | inr after ↦ leads_back specs trip n host accepted returns (omega arith) (omega arith) (none n) goes
     ]
 
 -- the greatest number does not move
 IsMoved-below : (specs : List IdMap) (trip : Piece) (n : ℕ) → Accepted specs → ReturnsBy specs trip
     → trip.last ≤ 4294967295 → IsMoved trip n → n < 4294967295
 IsMoved-below specs trip n accepted returns within moved =
-    elim (cases_order n 4294967295) [
-      | inl greatest ↦ absurd (stays greatest (returns n moved.from moved.to))
-      | inr (inl below) ↦ below
-      | inr (inr above) ↦ absurd (let to : n ≤ trip.last = moved.to in omega arith)
+    elim (cases_lt n 4294967295) [
+      | inl below ↦ below
+      | inr from ↦ absurd (stays (omega (arith, moved.to)) (returns n moved.from moved.to))
     ] where
       stays : n ≡ 4294967295 → ComesBackAs specs n (value_in trip n) → ⊥
       stays greatest (inl (forbidden, none)) = let both : Some moved.value ≡ None = sym moved.becomes ∙ none in
@@ -244,16 +192,13 @@ IsAstray-least specs trip next n accepted so_far returns first within least = re
       IsAstray-moved specs trip n accepted returns (IsMoved-below specs trip n accepted returns within least.is_bad)
       least.is_bad;
   none_before = λ m before astray.
-      (let to : n ≤ trip.last = least.is_bad.to in
-      elim (cases_order m next) [
-        | inl same ↦ least.none_before m before
-            (IsMoved-astray specs trip m accepted returns (omega arith) (omega arith) astray)
-        | inr (inl below) ↦ astray.not_back (so_far m astray.host below astray.goes)
-        | inr (inr after) ↦ least.none_before m before
-            (IsMoved-astray specs trip m accepted returns (omega arith) (omega arith) astray)
-      ]);
+      elim (cases_lt m next) [
+        | inl below ↦ astray.not_back (so_far m astray.host below astray.goes)
+        | inr after ↦ least.none_before m before (IsMoved-astray specs trip m accepted returns (omega arith)
+            (omega (arith, least.is_bad.to)) astray)
+      ];
 }
 
 pub ComesBack-all : (specs : List IdMap) (next : ℕ) → ComeBackBelow specs next → 4294967295 ≤ next → ComesBack specs
 ComesBack-all specs next so_far end guest host goes =
-    so_far guest host (let is_id : guest < 4294967295 = goes.is_id in omega arith) goes
+    so_far guest host (omega (arith, goes.is_id)) goes

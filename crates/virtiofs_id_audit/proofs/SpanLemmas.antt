@@ -1,8 +1,8 @@
 -- The least id of the guest that becomes an id in one of some spans.
 use Rattle.std.proofs.Common.{◌≡◌, inl, inr, ◌⊎◌, ℕ, ◌+◌, ◌-◌, ◌<◌, ◌≤◌, max, true, false, ltb, List, length, get_or}
-use Rattle.std.proofs.Common.{Some, None, refl, sym, ap, ◌∙◌, arith}
+use Rattle.std.proofs.Common.{Some, None, sym, ◌∙◌, arith}
 use Rattle.std.specs.List.Sorted.{IsPartitionPoint}
-use Rattle.std.proofs.lemmas.Bool.{cases_order}
+use Rattle.std.proofs.lemmas.Bool.{cases_lt}
 use Rattle.std.proofs.lemmas.Bool.Decides.{nat_tests}
 use Rattle.std.proofs.lemmas.List.{get_or_default}
 use Rattle.std.proofs.lemmas.Option.{same_Some}
@@ -10,12 +10,10 @@ use Rattle.virtiofs_id_audit.specs.IdAudit.{IsLeastIfAny, GoesInto, Between}
 use Rattle.virtiofs_id_audit.specs.IdAuditParts.{Hold, AreInOrder, HasImage, ComesInto}
 use Rattle.virtiofs_id_audit.specs.declared.spans.Span.{Span}
 use Rattle.virtiofs_map.specs.Build.{Accepted}
-use Rattle.virtiofs_map.specs.Pieces.{is_one_to_one}
-use Rattle.virtiofs_map.specs.Pieces.{value_in, IsNamed, IsPiece, PiecesLeft, GivesPiece}
+use Rattle.virtiofs_map.specs.Pieces.{value_in, IsPiece, PiecesLeft, GivesPiece}
 use Rattle.virtiofs_map.specs.declared.cmdline.IdMap.{IdMap}
 use Rattle.virtiofs_map.specs.declared.soft_idmap.entry.Direction.TheVariants.{GuestToHost}
 use Rattle.virtiofs_map.specs.declared.soft_idmap.piece.Piece.{Piece}
-use Rattle.virtiofs_id_audit.proofs.PieceLemmas.{value-each, value-not_each, value-forbidden}
 use Rattle.virtiofs_map.proofs.ForCallers.{lookup_one_value}
 
 -- ---- the least id in the spans
@@ -30,32 +28,20 @@ SplitsAt spans first at =
 pub held_after : (spans : List Span) (first at id : ℕ) (d : Span) → AreInOrder spans → SplitsAt spans first at → first ≤ id
     → Hold spans id → (at < length spans) × ((get_or spans at d).first ≤ id)
 held_after spans first at id d order splits from (span, (k, inside, here), has) =
-    elim (cases_order k at) [
-      | inl same ↦ (omega arith, begins (omega arith))
-      | inr (inl before) ↦ absurd (ends_before before)
-      | inr (inr after) ↦ (omega arith, begins (omega arith))
-    ] where
-      here' : get_or spans k d ≡ span
-      here' = get_or_default spans k d span inside ∙ here
-
-      begins : at ≤ k → (get_or spans at d).first ≤ id
-      begins later =
-          let rising : (get_or spans at d).first ≤ span.first = rw here' at (order.firsts at k d later inside) in
-          let low : span.first ≤ id = has.0 in
-          omega arith
-
-      ends_before : k < at → ⊥
-      ends_before before =
-          let ends : ltb span.last first ≡ true = rw here' at (splits.0 k d (omega arith) before) in
+    let here' : get_or spans k d ≡ span = get_or_default spans k d span inside ∙ here in
+    elim (cases_lt k at) [
+      | inl before ↦ absurd
+          (let ends : ltb span.last first ≡ true = rw here' at (splits.0 k d (omega arith) before) in
           let high : id ≤ span.last = has.1 in
-          grind (arith, nat_tests)
+          grind (arith, nat_tests))
+      | inr later ↦ (omega arith, omega (arith, rw here' at (order.firsts at k d later inside), has.0))
+    ]
 
 -- no span is left there
 pub least-none : (spans : List Span) (first last at : ℕ) → AreInOrder spans → SplitsAt spans first at
     → length spans ≤ at → IsLeastIfAny (λ id. Between first last id × Hold spans id) None
 least-none spans first last at order splits out id ((from, to), (span, listed, has)) =
-    let after = held_after spans first at id span order splits from (span, listed, has) in
-    omega (arith, after.0)
+    omega (arith, held_after spans first at id span order splits from (span, listed, has))
 
 -- the span there has an id from first on, unless it begins above last
 pub held_at : (spans : List Span) (first at : ℕ) (d : Span) → AreInOrder spans → SplitsAt spans first at → at < length spans
@@ -71,78 +57,32 @@ pub least-there : (spans : List Span) (first last at least : ℕ) (span : Span) 
 least-there spans first last at least span order splits inside here from begins is within =
     let (some, ends) = rw here at (held_at spans first at span order splits inside) in
     record {
-      is_bad = ((from, within), (span, (at, inside, here), (begins, reaches is some ends)));
-      none_before = λ id before ((from', to'), (other, listed, has)).
-          (let after = held_after spans first at id span order splits from' (other, listed, has) in
-          let begins' : span.first ≤ id = rw here at after.1 in
-          below is from' begins' before);
-    } where
-      reaches : (least ≡ first) ⊎ (least ≡ span.first) → span.first ≤ span.last → first ≤ span.last → least ≤ span.last
-      reaches (inl same) some ends = omega arith
-      reaches (inr same) some ends = omega arith
-
-      below : {id : ℕ} → (least ≡ first) ⊎ (least ≡ span.first) → first ≤ id → span.first ≤ id → id < least → ⊥
-      below (inl same) from' begins' before = omega arith
-      below (inr same) from' begins' before = omega arith
+      is_bad = ((from, within), (span, (at, inside, here), (begins, omega (arith, is))));
+      none_before = λ id before ((from', to'), held).
+          omega (arith, is, rw here at (held_after spans first at id span order splits from' held).1);
+    }
 
 pub least-beyond : (spans : List Span) (first last at least : ℕ) (span : Span) → AreInOrder spans
     → SplitsAt spans first at → at < length spans → get_or spans at span ≡ span → (least ≡ first) ⊎ (least ≡ span.first)
     → last < least → first ≤ least → span.first ≤ least
     → IsLeastIfAny (λ id. Between first last id × Hold spans id) None
 least-beyond spans first last at least span order splits inside here is above from begins id
-    ((from', to'), (other, listed, has)) =
-    let after = held_after spans first at id span order splits from' (other, listed, has) in
-    let begins' : span.first ≤ id = rw here at after.1 in
-    beyond is begins' where
-      beyond : (least ≡ first) ⊎ (least ≡ span.first) → span.first ≤ id → ⊥
-      beyond (inl same) begins' = omega arith
-      beyond (inr same) begins' = omega arith
+    ((from', to'), held) =
+    omega (arith, is, rw here at (held_after spans first at id span order splits from' held).1)
 
 -- the greater of two numbers is one of them
 pub greater_is : (begins first least : ℕ) → least ≡ max begins first → (least ≡ first) ⊎ (least ≡ begins)
 greater_is begins first least is =
-    elim (cases_order begins first) [
-      | inl same ↦ inl (omega arith)
-      | inr (inl before) ↦ inl (omega arith)
-      | inr (inr after) ↦ inr (omega arith)
-    ]
+    elim (cases_lt begins first) [ inl before ↦ inl (omega arith) | inr after ↦ inr (omega arith) ]
 
 -- ---- the least number of a piece
-
-pub HasImage-each : (piece : Piece) (to : ℕ) → is_one_to_one piece.becomes ≡ true → Some to ≡ value_in piece piece.first
-    → piece.first ≤ piece.last → HasImage piece to (piece.last - piece.first)
-HasImage-each piece to each start order = record {
-  each = λ n from within.
-      (to + (n - piece.first), value-each piece to n each start from, omega arith, omega arith, omega arith);
-  some = λ host low high. (
-    omega arith,
-    value-each piece to (piece.first + (host - to)) each start (omega arith)
-        ∙ ap (λ (k : ℕ). Some k) (omega arith),
-  );
-}
-
-pub HasImage-all : (piece : Piece) (to : ℕ) → is_one_to_one piece.becomes ≡ false → Some to ≡ value_in piece piece.first
-    → IsNamed piece.becomes piece.first piece.last → HasImage piece to 0
-HasImage-all piece to all start named =
-    let (two, value) = value-not_each piece to all start named in
-    record {
-      each = λ n from within. (to, value n, omega arith, omega arith, omega arith);
-      some = λ host low high. (omega arith, value (piece.first + (host - to)) ∙ ap (λ (k : ℕ). Some k) (omega arith));
-    }
-
-pub ComesInto-forbidden : (piece : Piece) (hosts : ℕ → Type 0) → None ≡ value_in piece piece.first
-    → IsLeastIfAny (ComesInto piece hosts) None
-ComesInto-forbidden piece hosts none n comes =
-    let both : Some comes.host ≡ None = sym comes.becomes ∙ value-forbidden piece n none in
-    absurd (cc)
 
 -- what a number becomes, and how far above the first it is
 value_of : (piece : Piece) (to above n host : ℕ) → HasImage piece to above → piece.first ≤ n → n ≤ piece.last
     → value_in piece n ≡ Some host → (to ≤ host) × (host ≤ to + above) × (host ≤ to + (n - piece.first))
 value_of piece to above n host image from within becomes =
     let (own, is, low, high, far) = image.each n from within in
-    let same : own ≡ host = same_Some _ _ (sym is ∙ becomes) in
-    (omega arith, omega arith, omega arith)
+    omega (arith, same_Some own host (sym is ∙ becomes))
 
 pub ComesInto-none : (piece : Piece) (spans : List Span) (to above : ℕ) → HasImage piece to above
     → IsLeastIfAny (λ id. Between to (to + above) id × Hold spans id) None
@@ -157,10 +97,7 @@ none_below : (piece : Piece) (spans : List Span) (to above id n : ℕ) → HasIm
     → ¬ ComesInto piece (Hold spans) n
 none_below piece spans to above id n image least before comes =
     let value = value_of piece to above n comes.host image comes.from comes.to comes.becomes in
-    let from : piece.first ≤ n = comes.from in
-    let low : to ≤ id = least.is_bad.0.0 in
-    let far : comes.host ≤ to + (n - piece.first) = value.2 in
-    least.none_before comes.host (omega arith) ((value.0, value.1), comes.is_one)
+    least.none_before comes.host (omega (arith, value, comes.from, least.is_bad.0)) ((value.0, value.1), comes.is_one)
 
 pub ComesInto-least : (piece : Piece) (spans : List Span) (to above id : ℕ) → HasImage piece to above
     → IsLeastIfAny (λ id. Between to (to + above) id × Hold spans id) (Some id) → piece.first + (id - to) < 4294967295
@@ -177,8 +114,7 @@ pub ComesInto-greatest : (piece : Piece) (spans : List Span) (to above id : ℕ)
     → IsLeastIfAny (λ id. Between to (to + above) id × Hold spans id) (Some id) → 4294967295 ≤ piece.first + (id - to)
     → IsLeastIfAny (ComesInto piece (Hold spans)) None
 ComesInto-greatest piece spans to above id image least beyond n comes =
-    let is_id : n < 4294967295 = comes.is_id in
-    none_below piece spans to above id n image least (omega arith) comes
+    none_below piece spans to above id n image least (omega (arith, comes.is_id)) comes
 
 -- ---- the least id of all pieces
 
@@ -205,35 +141,20 @@ piece_is : (specs : List IdMap) (hosts : ℕ → Type 0) (from : ℕ) (left afte
     → NoneSoFar specs hosts from left → GivesPiece left (Some piece) after → IsPiece specs GuestToHost piece
 piece_is specs hosts from left after piece so_far gives = rw (so_far.specs_are, so_far.direction_is) at gives.0
 
-pub NoneSoFar-start : (specs : List IdMap) (hosts : ℕ → Type 0) (from : ℕ) (left : PiecesLeft)
-    → left ≡ record { specs = specs; direction = GuestToHost; next = from } → NoneSoFar specs hosts from left
-NoneSoFar-start specs hosts from left is =
-    rw is (record {
-      specs_are = refl;
-      direction_is = refl;
-      begun = omega arith;
-      none =
-          λ n low high. absurd (omega arith);
-    })
-
 pub NoneSoFar-more : (specs : List IdMap) (spans : List Span) (from : ℕ) (left after : PiecesLeft) (piece : Piece)
     → Accepted specs → NoneSoFar specs (Hold spans) from left → GivesPiece left (Some piece) after
     → IsLeastIfAny (ComesInto piece (Hold spans)) None → NoneSoFar specs (Hold spans) from after
 NoneSoFar-more specs spans from left after piece accepted so_far gives none =
     let is = piece_is specs (Hold spans) from left after piece so_far gives in
-    let order : piece.first ≤ piece.last = is.order in
-    let begins : piece.first ≡ left.next = gives.1 in
-    let begun : from ≤ left.next = so_far.begun in
     rw gives.2 (record {
       specs_are = so_far.specs_are;
       direction_is = so_far.direction_is;
-      begun = omega arith;
+      begun = omega (arith, is.order, gives.1, so_far.begun);
       none = λ n low high goes.
-          elim (cases_order n left.next) [
-            | inl same ↦ none n (GoesInto-piece specs piece (Hold spans) n accepted is (omega arith) (omega arith) goes)
-            | inr (inl before) ↦ so_far.none n low before goes
-            | inr (inr later) ↦ none n
-                (GoesInto-piece specs piece (Hold spans) n accepted is (omega arith) (omega arith) goes)
+          elim (cases_lt n left.next) [
+            | inl before ↦ so_far.none n low before goes
+            | inr later ↦ none n
+                (GoesInto-piece specs piece (Hold spans) n accepted is (omega (arith, gives.1)) (omega arith) goes)
           ];
     })
 
@@ -243,29 +164,22 @@ pub NoneSoFar-found : (specs : List IdMap) (spans : List Span) (from n : ℕ) (l
     → IsLeastIfAny (λ n. (from ≤ n) × GoesInto specs (Hold spans) n) (Some n)
 NoneSoFar-found specs spans from n left after piece accepted so_far gives least =
     let is = piece_is specs (Hold spans) from left after piece so_far gives in
-    let begins : piece.first ≡ left.next = gives.1 in
-    let begun : from ≤ left.next = so_far.begun in
     let bad = least.is_bad in
-    let low : piece.first ≤ n = bad.from in
-    let high : n ≤ piece.last = bad.to in
     record {
       is_bad = (
-        omega arith,
+        omega (arith, gives.1, so_far.begun, bad.from),
         record {
           host = bad.host;
-          goes =
-              record { is_id = bad.is_id; becomes = rw bad.becomes at (is.becomes n bad.from bad.to) };
-          is_one =
-              bad.is_one;
+          goes = record { is_id = bad.is_id; becomes = rw bad.becomes at (is.becomes n bad.from bad.to) };
+          is_one = bad.is_one;
         },
       );
       none_before = λ m before (from', goes).
-          elim (cases_order m left.next) [
-            | inl same ↦ least.none_before m before
-                (GoesInto-piece specs piece (Hold spans) m accepted is (omega arith) (omega arith) goes)
-            | inr (inl earlier) ↦ so_far.none m from' earlier goes
-            | inr (inr later) ↦ least.none_before m before
-                (GoesInto-piece specs piece (Hold spans) m accepted is (omega arith) (omega arith) goes)
+          elim (cases_lt m left.next) [
+            | inl earlier ↦ so_far.none m from' earlier goes
+            | inr later ↦ least.none_before m before
+                (GoesInto-piece specs piece (Hold spans) m accepted is (omega (arith, gives.1))
+                (omega (arith, bad.to)) goes)
           ];
     }
 
@@ -273,6 +187,4 @@ pub NoneSoFar-end : (specs : List IdMap) (hosts : ℕ → Type 0) (from : ℕ) (
     → NoneSoFar specs hosts from left → GivesPiece left None after
     → IsLeastIfAny (λ n. (from ≤ n) × GoesInto specs hosts n) None
 NoneSoFar-end specs hosts from left after so_far gives n (low, goes) =
-    let is_id : n < 4294967295 = goes.goes.is_id in
-    let end : left.next ≡ 4294967296 = gives.0 in
-    so_far.none n low (omega arith) goes
+    so_far.none n low (omega (arith, goes.goes.is_id, gives.0)) goes

@@ -1,5 +1,5 @@
 -- What a map makes of a name, by the prefix that is added to it or cut off it.
-use Rattle.std.proofs.Common.{◌≡◌, zero, suc, get_or, ◌≢◌, ℕ, ◌<◌, Bool, true, false, List, [], ◌∷◌, ◌++◌, length, drop}
+use Rattle.std.proofs.Common.{◌≡◌, get_or, ◌≢◌, ℕ, ◌<◌, Bool, true, false, List, [], ◌∷◌, ◌++◌, length, drop}
 use Rattle.std.proofs.Common.{Option, Some, None, refl, sym, ap, ◌∙◌, subst, arith, cond, ◌&&◌}
 use Rattle.std.specs.List.{All, cons_option, find}
 use Rattle.std.specs.Option.{option_map_or, option_and_then, is_none}
@@ -218,11 +218,6 @@ added_no_zero_by_kind Prefix prepend added all e =
 added_no_zero_by_kind Bad prepend added all e = absurd (cc)
 added_no_zero_by_kind Unsupported prepend added all e = absurd (cc)
 
-pub added_of_no_zero : (rule : MappingRule) (added : List ℕ) → HasNoZero rule → added_prefix_of rule ≡ Some added
-    → All IsNotZero added
-added_of_no_zero rule added no_zero e =
-    added_no_zero_by_kind rule.kind rule.prepend added no_zero.in_prepend e
-
 added_no_zero_by : (o : Option MappingRule) (added : List ℕ) → ((rule : MappingRule) → o ≡ Some rule → HasNoZero rule)
     → option_and_then added_prefix_of o ≡ Some added → All IsNotZero added
 added_no_zero_by None added all e = absurd (cc)
@@ -236,11 +231,7 @@ added_no_zero side rules name added all e =
     (λ rule is. found_is HasNoZero (fits side name) rules all rule (sym (deciding-find side rules name) ∙ is)) e
 
 -- bytes with no zero are a name
-positive : (x : ℕ) → (x ≡ 0 → ⊥) → 0 < x
-positive zero some = absurd (some refl)
-positive (suc x) some = omega arith
-
 pub name_of_bytes : (bytes : List ℕ) → All IsNotZero bytes → ((i : ℕ) → get_or bytes i 0 < 256) → IsName bytes
 name_of_bytes bytes no_zero fits =
     All-from_get_or (λ byte. (0 < byte) × (byte < 256)) bytes 0
-    (λ i l. (positive (get_or bytes i 0) (no_zero i 0 l), fits i))
+    (λ i l. (omega (arith, no_zero i 0 l), fits i))

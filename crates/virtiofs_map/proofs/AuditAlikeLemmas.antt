@@ -1,32 +1,23 @@
 -- Names that fare alike: the longest of some patterns that begins a name is begun by the same patterns as the name.
 use Rattle.std.proofs.Common.{◌≡◌, zero, suc, ◌≢◌, ℕ, ◌+◌, ◌<◌, ◌≤◌, Bool, true, false, ◌&&◌, cond, eqb, List, [], ◌∷◌}
 use Rattle.std.proofs.Common.{◌++◌, map, length, drop, Option, Some, None, ◌⊎◌, inl, inr, refl, sym, ap, ◌∙◌, subst}
-use Rattle.std.proofs.Common.{append-nil, arith}
-use Rattle.std.specs.List.{AllByRecursion, cons_option, flat_map, find, range_with_len}
-use Rattle.std.specs.Option.{option_map_or, option_and_then}
-use Rattle.std.proofs.lemmas.Bool.{and_parts, and_from, cond_both, cases_Bool, cases_lt, false≢true, true≢false}
-use Rattle.std.proofs.lemmas.Bool.{eqb-true, eq-eqb}
-use Rattle.std.proofs.lemmas.List.{append_assoc}
-use Rattle.virtiofs_map.specs.AuditParts.{added_prefix, rest_after, rest_of, rests, guest_names_of}
+use Rattle.std.proofs.Common.{append-nil, arith, flat_map, find, option_and_then, true≢false, eqb-true, eq-eqb}
+use Rattle.std.specs.List.{AllByRecursion, cons_option, range_with_len}
+use Rattle.std.specs.Option.{option_map_or}
+use Rattle.std.proofs.lemmas.Bool.{and_parts, and_from, cond_both, cases_Bool, cases_lt, false≢true}
+use Rattle.virtiofs_map.specs.AuditParts.{added_prefix, rest_after, rest_of, rests, guest_names}
+use Rattle.virtiofs_map.specs.AuditParts.{whole_of, wholes, live_wholes, host_names, is_cut, cuts}
+use Rattle.virtiofs_map.specs.AuditParts.{one_byte, one_byte_names}
 use Rattle.virtiofs_map.specs.GatheredParts.{added_prefix_by, added_prefix_of, host_pattern}
-use Rattle.virtiofs_map.specs.AuditParts.{guest_names, whole_of, wholes, live_wholes, host_names_of, host_names}
-use Rattle.virtiofs_map.specs.AuditParts.{is_cut, cuts, one_byte}
-use Rattle.virtiofs_map.specs.AuditParts.{one_byte_names}
 use Rattle.virtiofs_map.specs.FirstRule.{acts}
 use Rattle.virtiofs_map.specs.Names.{begins, fits, deciding}
 use Rattle.virtiofs_map.specs.Rule.{RuleType, Prefix, Okay, Bad, Unsupported, MappingRule}
 use Rattle.virtiofs_map.specs.declared.xattrmap.scopes.Side.{Side}
 use Rattle.virtiofs_map.specs.declared.xattrmap.scopes.Side.TheVariants.{Client, Server}
-use Rattle.virtiofs_map.proofs.BeginsLemmas.{begins_split, begins_from, begins-append, deciding_fits}
+use Rattle.virtiofs_map.proofs.BeginsLemmas.{begins_trans, begins_split, begins_from, begins-append, deciding_fits}
 use Rattle.virtiofs_map.proofs.FirstRuleLemmas.{deciding-find}
 
 -- ---- added prefixes of a name
-
-pub begins_trans : (p q n : List ℕ) → begins p q ≡ true → begins q n ≡ true → begins p n ≡ true
-begins_trans p q n b d =
-    begins_from p n (drop (length p) q ++ drop (length q) n)
-    (begins_split q n d ∙ ap (λ front. front ++ drop (length q) n) (begins_split p q b)
-    ∙ append_assoc p (drop (length p) q) (drop (length q) n))
 
 -- of two added prefixes of a name the shorter begins the longer
 pub shorter_begins : (p q n : List ℕ) → begins p n ≡ true → begins q n ≡ true → length p ≤ length q → begins p q ≡ true
@@ -179,49 +170,21 @@ cover_all patterns x xs l u b =
     let found = stood patterns x xs l u in
     record { by = found.by; stands = found.stands; front = refl }
 
--- what stands for the name and is as long as these bytes begins with them
-longer_stands : (beginning : List ℕ) (patterns tried : List (List ℕ)) (name c : List ℕ) → Stands patterns tried name c
-    → begins beginning name ≡ true → length beginning ≤ length c → StoodWithin beginning patterns
-    (beginning ∷ tried) name
-longer_stands beginning patterns tried name c stands b l = record {
-  by = c;
-  stands = record {
-    not_empty = stands.not_empty;
-    is_front = stands.is_front;
-    met = stands.met;
-    is_tried = inr stands.is_tried;
-  };
-  front = shorter_begins beginning c name b stands.is_front l;
-}
-
--- where it is shorter, the bytes stand for the name in its place
-bytes_stand : (beginning : List ℕ) (patterns tried : List (List ℕ)) (name c : List ℕ) → Stands patterns tried name c
-    → begins beginning name ≡ true → length c < length beginning → StoodWithin beginning patterns
-    (beginning ∷ tried) name
-bytes_stand beginning patterns tried name c stands b l = record {
-  by = beginning;
-  stands = record {
-    not_empty = λ none. let e = ap length none in absurd (omega arith);
-    is_front = b;
-    met = all_weaker (Meets name c) (Meets name beginning)
-        (λ t met k. begins_trans t c beginning (met k)
-        (shorter_begins c beginning name stands.is_front b (omega arith)))
-        patterns stands.met;
-    is_tried = inl refl;
-  };
-  front = shorter_begins beginning beginning name b b (omega arith);
-}
-
 pub cover_within : (beginning : List ℕ) (patterns : List (List ℕ))
     → Cover beginning patterns (beginning ∷ patterns ++ one_byte_names)
 cover_within beginning patterns x xs l u b =
-    let found = stood patterns x xs l u in
-    elim (cases_lt (length found.by) (length beginning)) [
-      | inl shorter ↦ bytes_stand beginning patterns (patterns ++ one_byte_names)
-          (x ∷ xs) found.by found.stands b shorter
-      | inr longer ↦ longer_stands beginning patterns (patterns ++ one_byte_names)
-          (x ∷ xs) found.by found.stands b longer
-    ]
+    let found = stood (beginning ∷ patterns) x xs l u in
+    let stands = found.stands in
+    record {
+      by = found.by;
+      stands = record {
+        not_empty = stands.not_empty;
+        is_front = stands.is_front;
+        met = stands.met.1;
+        is_tried = stands.is_tried;
+      };
+      front = stands.met.0 b;
+    }
 
 -- ---- a rule that fits a name fits what begins with that name
 
@@ -271,21 +234,21 @@ find_same p q (x ∷ xs) all = rw (all.0, find_same p q xs all.1) refl
 met_same : (name c t : List ℕ) → begins c name ≡ true → Meets name c t → begins t name ≡ begins t c
 met_same name c t f met = same_tests (begins t name) (begins t c) met (λ b. begins_trans t c name b f)
 
--- by the keys of the guest's rules
-keys_same : (side : Side) (others rules : List MappingRule) (name c : List ℕ) → begins c name ≡ true
-    → AllByRecursion (Meets name c) (guest_names side others rules)
-    → AllByRecursion (λ rule. fits Client name rule ≡ fits Client c rule) rules
-keys_same side others [] name c f all = tt
-keys_same side others (rule ∷ rules) name c f all = (
-  key rule.client (all_first (Meets name c) (guest_names_of side others rule) (guest_names side others rules) all),
-  keys_same side others rules name c f
-      (all_second (Meets name c) (guest_names_of side others rule) (guest_names side others rules) all),
-) where
-  key : (b : Bool)
-      → AllByRecursion (Meets name c) (cond b (rule.key ∷ option_map_or (rests side others) (added_prefix_of rule) []) [])
-      → (b && begins rule.key name) ≡ (b && begins rule.key c)
-  key true met = met_same name c rule.key f met.0
-  key false met = refl
+-- by the patterns of the rules, which are among others
+patterns_same : (on : MappingRule → Bool) (pattern : MappingRule → List ℕ) (more : MappingRule → List (List ℕ))
+    (rules : List MappingRule) (name c : List ℕ) → begins c name ≡ true
+    → AllByRecursion (Meets name c) (flat_map (λ rule. cond (on rule) (pattern rule ∷ more rule) []) rules)
+    → AllByRecursion (λ rule. (on rule && begins (pattern rule) name) ≡ (on rule && begins (pattern rule) c)) rules
+patterns_same on pattern more [] name c f all = tt
+patterns_same on pattern more (rule ∷ rules) name c f all =
+    let names : MappingRule → List (List ℕ) = λ rule. cond (on rule) (pattern rule ∷ more rule) [] in (
+      here (on rule) (all_first (Meets name c) (names rule) (flat_map names rules) all),
+      patterns_same on pattern more rules name c f (all_second (Meets name c) (names rule) (flat_map names rules) all),
+    ) where
+      here : (b : Bool) → AllByRecursion (Meets name c) (cond b (pattern rule ∷ more rule) [])
+          → (b && begins (pattern rule) name) ≡ (b && begins (pattern rule) c)
+      here true met = met_same name c (pattern rule) f met.0
+      here false met = refl
 
 -- by the rests of a front
 rest_same : (added pattern name c : List ℕ) → begins c name ≡ true → (b : Bool) → begins added pattern ≡ b
@@ -369,7 +332,8 @@ pub fare_alike : (side : Side) (rules others : List MappingRule) (tried : List (
 fare_alike side rules others tried name c stands = record {
   client = deciding-find Client rules name
       ∙ find_same (fits Client name) (fits Client c) rules
-      (keys_same side others rules name c stands.is_front stands.met) ∙ sym (deciding-find Client rules c);
+      (patterns_same (λ rule. rule.client) (λ rule. rule.key)
+      (λ rule. option_map_or (rests side others) (added_prefix_of rule) []) rules name c stands.is_front stands.met) ∙ sym (deciding-find Client rules c);
   hosts = λ added e.
       (let decides = ap (option_and_then added_prefix_of) (sym (deciding-find Client rules name)) ∙ e in
       let met =
@@ -425,23 +389,6 @@ front_is_cut rules host (x ∷ xs) e =
     prepend_is Bad prepend x xs e = absurd (cc)
     prepend_is Unsupported prepend x xs e = absurd (cc)
 
-prepends_same : (every others rules : List MappingRule) (host c : List ℕ) → begins c host ≡ true
-    → AllByRecursion (Meets host c) (flat_map (host_names_of every others) rules)
-    → AllByRecursion (λ rule. fits Server host rule ≡ fits Server c rule) rules
-prepends_same every others [] host c f all = tt
-prepends_same every others (rule ∷ rules) host c f all = (
-  prepend rule.server
-      (all_first (Meets host c) (host_names_of every others rule) (flat_map (host_names_of every others) rules) all),
-  prepends_same every others rules host c f
-      (all_second (Meets host c) (host_names_of every others rule) (flat_map (host_names_of every others) rules) all),
-) where
-  prepend : (b : Bool)
-      → AllByRecursion (Meets host c)
-      (cond b (rule.prepend ∷ option_map_or (live_wholes every others) (added_prefix_of rule) []) [])
-      → (b && begins rule.prepend host) ≡ (b && begins rule.prepend c)
-  prepend true met = met_same host c rule.prepend f met.0
-  prepend false met = refl
-
 whole_same : (cut key name rest : List ℕ) → begins (cut ++ rest) (cut ++ name) ≡ true
     → Meets (cut ++ name) (cut ++ rest) (cut ++ key) → begins key name ≡ begins key rest
 whole_same cut key name rest f met =
@@ -471,7 +418,8 @@ pub listed_alike : (rules others : List MappingRule) (tried : List (List ℕ)) (
 listed_alike rules others tried host c stands = record {
   server = deciding-find Server rules host
       ∙ find_same (fits Server host) (fits Server c) rules
-      (prepends_same rules others rules host c stands.is_front stands.met) ∙ sym (deciding-find Server rules c);
+      (patterns_same (λ rule. rule.server) (λ rule. rule.prepend)
+      (λ rule. option_map_or (live_wholes rules others) (added_prefix_of rule) []) rules host c stands.is_front stands.met) ∙ sym (deciding-find Server rules c);
   client = λ cut name rest e split other.
       (let decides = ap (option_and_then added_prefix_of) (sym (deciding-find Server rules host)) ∙ e in
       let led =

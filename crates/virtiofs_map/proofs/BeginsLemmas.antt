@@ -1,6 +1,6 @@
 -- A row of bytes that begins a name.
-use Rattle.std.proofs.Common.{◌≡◌, ℕ, ◌≤◌, Bool, true, List, [], ◌∷◌, ◌++◌, length, drop, Some, refl, sym, ◌∙◌}
-use Rattle.std.specs.List.{find}
+use Rattle.std.proofs.Common.{◌≡◌, ℕ, ◌≤◌, Bool, true, List, [], ◌∷◌, ◌++◌, length, drop, Some, refl, sym, ap, ◌∙◌}
+use Rattle.std.proofs.Common.{append_assoc, find}
 use Rattle.std.proofs.lemmas.Bool.Decides.{Decides-eqb}
 use Rattle.std.proofs.lemmas.Slice.Eq.{starts_is}
 use Rattle.std.proofs.lemmas.Bool.{and_parts, cond_both}
@@ -20,6 +20,12 @@ begins_from p n rest e = (starts_is Decides-eqb n p (begins p n) refl).1 rest e
 
 pub begins-append : (p rest : List ℕ) → begins p (p ++ rest) ≡ true
 begins-append p rest = begins_from p (p ++ rest) rest refl
+
+pub begins_trans : (p q n : List ℕ) → begins p q ≡ true → begins q n ≡ true → begins p n ≡ true
+begins_trans p q n b d =
+    begins_from p n (drop (length p) q ++ drop (length q) n)
+    (begins_split q n d ∙ ap (λ front. front ++ drop (length q) n) (begins_split p q b)
+    ∙ append_assoc p (drop (length p) q) (drop (length q) n))
 
 pub begins_length : (p n : List ℕ) → begins p n ≡ true → length p ≤ length n
 begins_length p n b = front_fits n p (drop (length p) n) (begins_split p n b)

@@ -4,7 +4,6 @@ use Rattle.std.proofs.Common.{slice_get, refl, sym, ◌∙◌, subst, arith}
 use Rattle.std.proofs.Math.Seq.{take-length}
 use Rattle.std.proofs.lemmas.Bool.{cases_order}
 use Rattle.std.proofs.lemmas.List.{get_or-take, get_or_default, length-take}
-use Rattle.std.proofs.lemmas.List.Elements.{All-get_or}
 use Rattle.std.proofs.lemmas.Option.{get_or_from_slice_get, slice_get_within, same_Some}
 use Rattle.virtiofs_map.specs.Mapping.{entry_of}
 use Rattle.virtiofs_map.specs.Build.{Accepted, HasSource, HasTarget, MeetsEarlier, Fits, IsReached, BuildFault}
@@ -24,15 +23,9 @@ Fits-accepted specs i j spec direction accepted here before =
     let is : get_or (take j specs) i spec ≡ spec = get_or-take j specs i spec before
     ∙ get_or_from_slice_get specs i spec spec here in
     record {
-      source =
-          subst (λ (s : IdMap). IfSome (entry_of s direction) HasSource) is
-          (All-get_or (λ (s : IdMap). IfSome (entry_of s direction) HasSource) (take j specs) i spec below
-          (accepted.source direction));
+      source = rw is at (accepted.source direction i spec below);
       apart = meets_none below is;
-      target =
-          subst (λ (s : IdMap). IfSome (entry_of s direction) HasTarget) is
-          (All-get_or (λ (s : IdMap). IfSome (entry_of s direction) HasTarget) (take j specs) i spec below
-          (accepted.target direction));
+      target = rw is at (accepted.target direction i spec below);
     } where
       meets_none : i < length (take j specs) → get_or (take j specs) i spec ≡ spec
           → ¬ MeetsEarlier (take i specs) spec direction
@@ -48,19 +41,16 @@ record FaultAt (specs : List IdMap) (spec : IdMap) (index : ℕ) (direction : Di
   reached : IsReached specs spec index direction
   unfit : ¬ Fits (take index specs) spec direction
 
-broken_source : (o : Option Entry) → IfSome o HasSource → ¬ IsSomeAnd o (λ entry. ¬ HasSource entry)
-broken_source None holds broken = broken
-broken_source (Some entry) holds broken = broken holds
-
-broken_target : (o : Option Entry) → IfSome o HasTarget → ¬ IsSomeAnd o (λ entry. ¬ HasTarget entry)
-broken_target None holds broken = broken
-broken_target (Some entry) holds broken = broken holds
+-- what an entry has, it does not lack
+not_broken : (P : Entry → Type 0) (o : Option Entry) → IfSome o P → ¬ IsSomeAnd o (λ entry. ¬ P entry)
+not_broken P None holds broken = broken
+not_broken P (Some entry) holds broken = broken holds
 
 at_source : (specs : List IdMap) (spec : IdMap) (index : ℕ) (direction : Direction)
     → HasFirstFault specs (RangeOverflow spec index direction Source) → FaultAt specs spec index direction
 at_source specs spec index direction (reached, broken) = record {
   reached = reached;
-  unfit = λ fits. broken_source (entry_of spec direction) fits.source broken;
+  unfit = λ fits. not_broken HasSource (entry_of spec direction) fits.source broken;
 }
 
 at_meeting : (specs : List IdMap) (spec : IdMap) (index : ℕ) (direction : Direction)
@@ -74,7 +64,7 @@ at_target : (specs : List IdMap) (spec : IdMap) (index : ℕ) (direction : Direc
     → HasFirstFault specs (RangeOverflow spec index direction Target) → FaultAt specs spec index direction
 at_target specs spec index direction (reached, source, apart, broken) = record {
   reached = reached;
-  unfit = λ fits. broken_target (entry_of spec direction) fits.target broken;
+  unfit = λ fits. not_broken HasTarget (entry_of spec direction) fits.target broken;
 }
 
 accepted_faultless : (specs : List IdMap) (spec : IdMap) (index : ℕ) (direction : Direction) → Accepted specs
@@ -136,8 +126,7 @@ same_place specs spec other i j direction way first second =
     record {
       same_spec = is;
       same_index = index;
-      same_direction =
-          one_direction specs spec i direction way first second'';
+      same_direction = one_direction specs spec i direction way first second'';
     }
 
 -- the tests come in one order, and only the first one that is broken is told
@@ -146,7 +135,7 @@ source_then_meeting : (specs : List IdMap) (spec other : IdMap) (i j : ℕ) (dir
 source_then_meeting specs spec other i j direction way first second =
     let p = same_place specs spec other i j direction way (at_source specs spec i direction first)
     (at_meeting specs other j way second) in
-    broken_source (entry_of other way) second.1 (rw (p.same_spec, p.same_direction) at first.1)
+    not_broken HasSource (entry_of other way) second.1 (rw (p.same_spec, p.same_direction) at first.1)
 
 source_then_target : (specs : List IdMap) (spec other : IdMap) (i j : ℕ) (direction way : Direction)
     → HasFirstFault specs (RangeOverflow spec i direction Source)
@@ -154,7 +143,7 @@ source_then_target : (specs : List IdMap) (spec other : IdMap) (i j : ℕ) (dire
 source_then_target specs spec other i j direction way first second =
     let p = same_place specs spec other i j direction way (at_source specs spec i direction first)
     (at_target specs other j way second) in
-    broken_source (entry_of other way) second.1 (rw (p.same_spec, p.same_direction) at first.1)
+    not_broken HasSource (entry_of other way) second.1 (rw (p.same_spec, p.same_direction) at first.1)
 
 meeting_then_target : (specs : List IdMap) (spec other : IdMap) (i j : ℕ) (direction way : Direction)
     → HasFirstFault specs (Intersects spec i direction) → HasFirstFault specs (RangeOverflow other j way Target) → ⊥

@@ -1,14 +1,13 @@
 -- Where a text is cut at a character, in characters.
 use Rattle.std.proofs.Common.{◌≡◌, ℕ, ◌≤◌, eqb, List, [], ◌∷◌, ◌++◌, length, take, drop, Option, Some, None}
 use Rattle.std.proofs.Common.{MatchOption, Contains, IfSome, IfNone, refl, sym, ap, subst, ◌∙◌, arith, length-append}
-use Rattle.std.proofs.Common.{length-take, Bor}
+use Rattle.std.proofs.Common.{length-take, Bor, take-append-drop, chars, IsUtf8}
 use Rattle.std.proofs.Math.Seq.{get_or-append_seam}
-use Rattle.std.proofs.lemmas.List.{take-append-drop}
 use Rattle.std.proofs.lemmas.Bool.Decides.{nat_tests}
 use Rattle.std.proofs.lemmas.Str.{IsUtf8-append, IsUtf8-encode, IsUtf8-take, IsUtf8-drop, IsCharBoundary-from_drop}
 use Rattle.std.proofs.lemmas.Str.{chars-append, chars_past_char, chars_from_encodes}
 use Rattle.std.specs.Char.{IsScalar}
-use Rattle.std.specs.Str.{chars, IsUtf8, NonePass, NoCharPasses}
+use Rattle.std.specs.Str.{NonePass, NoCharPasses}
 use Rattle.std.specs.Str.Pattern.{FindsChar, HasCharAt, HasMatch, SplitsAroundMatch}
 use Rattle.virtiofs_map.specs.RuleText.{Fields}
 use Rattle.virtiofs_map.specs.Separator.{Lacks}
@@ -86,8 +85,7 @@ field_here d text field rest whole lacks = (rest, whole, lacks, refl)
 -- a text with a match of d holds d
 pub contains_match : (d : ℕ) (s : List ℕ) → IsScalar d → IsUtf8 s → HasMatch (FindsChar d) s → Contains (chars s) d
 contains_match d s scalar utf8 (i, j, (none, at), order, fits) =
-    let cut = cut_at d s i j scalar utf8 at (omega arith) in
-    let e = cut.spells in (
+    let e = (cut_at d s i j scalar utf8 at (omega arith)).spells in (
       length (chars (take i s)),
       omega (arith, ap length e, length-append (chars (take i s)) (d ∷ chars (drop j s))),
       rw e (get_or-append_seam (chars (take i s)) d (chars (drop j s)) d),

@@ -1,7 +1,6 @@
 -- What is known of the prepend of the rule that decides a name.
-use Rattle.std.proofs.Common.{◌≡◌, ◌≢◌, ◌≤◌, ℕ, List, All, Option, Some, None, IsSomeAnd, refl, length, sym, ap}
-use Rattle.std.proofs.Common.{subst, ◌∙◌}
-use Rattle.std.specs.Option.{option_and_then}
+use Rattle.std.proofs.Common.{◌≡◌, ◌≢◌, ◌≤◌, ℕ, List, All, Option, Some, None, IsSomeAnd, refl, length, sym, ap, subst}
+use Rattle.std.proofs.Common.{◌∙◌, option_and_then}
 use Rattle.virtiofs_map.specs.GatheredParts.{added_prefix_by, added_prefix_of}
 use Rattle.virtiofs_map.specs.Names.{deciding}
 use Rattle.virtiofs_map.specs.Rule.{HasNoZero, MappingRule, Prefix}

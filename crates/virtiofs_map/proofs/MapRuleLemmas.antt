@@ -1,7 +1,8 @@
 -- What one map rule means.
 use Rattle.std.proofs.Common.{◌≡◌, ℕ, ◌<◌, Bool, true, false, not, cond, List, [], ◌∷◌, ◌++◌, length, drop, filter}
-use Rattle.std.proofs.Common.{Option, Some, None, ◌⊎◌, inl, inr, refl, sym, ap, ◌∙◌, subst, arith}
-use Rattle.std.specs.List.{All, cons_option, list_all, filter_map}
+use Rattle.std.proofs.Common.{Option, Some, None, ◌⊎◌, inl, inr, refl, sym, ap, ◌∙◌, subst, arith, All, filter_map}
+use Rattle.std.proofs.Common.{encode_utf8_all, ne_eqb, append-nil, append_assoc, drop_at}
+use Rattle.std.specs.List.{cons_option, list_all}
 use Rattle.std.specs.Option.{option_map_or}
 use Rattle.virtiofs_map.specs.Rule.{RuleType, Prefix, Okay, Bad, MappingRule}
 use Rattle.virtiofs_map.specs.declared.xattrmap.scopes.Side.TheVariants.{Client, Server}
@@ -10,13 +11,11 @@ use Rattle.virtiofs_map.specs.Names.{IsListed, IsHidden, IsUndecided, host_answe
 use Rattle.virtiofs_map.specs.Names.{listed_name, names, as_list, server_answer}
 use Rattle.virtiofs_map.specs.MapRule.{map_client, map_server, IsName, IsMapRule, map_rule, Agree, KeepsGuestsApart}
 use Rattle.virtiofs_map.specs.RuleText.{RuleText, expanded}
-use Rattle.std.specs.Str.{encode_utf8_all}
 use Rattle.virtiofs_map.proofs.FirstRuleLemmas.{deciding-find}
 use Rattle.virtiofs_map.proofs.BeginsLemmas.{begins_split, begins_from, begins-append}
 use Rattle.virtiofs_map.proofs.ServerListLemmas.{is_name, is_zero}
 use Rattle.virtiofs_map.proofs.NoZeroLemmas.{IsNotZero, text_no_zero, text_no_nul}
-use Rattle.std.proofs.lemmas.Bool.{ne_eqb, false_from_ne_true, false≢true}
-use Rattle.std.proofs.lemmas.List.{append-nil, append_assoc, drop_at}
+use Rattle.std.proofs.lemmas.Bool.{false_from_ne_true, false≢true}
 use Rattle.std.proofs.lemmas.List.Elements.{All-same, All-append, All-weaker}
 use Rattle.std.proofs.lemmas.List.Splits.{slice_split_at}
 

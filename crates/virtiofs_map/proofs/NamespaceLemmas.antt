@@ -1,13 +1,12 @@
 -- The delimiters and fields of a namespace's range, and what is wrong with them.
-use Rattle.std.proofs.Common.{◌≡◌, ◌≢◌, inl, inr, ◌==◌, ℕ, ◌<◌, Bool, true, false, not, List, [], ◌∷◌, ◌++◌, length}
+use Rattle.std.proofs.Common.{◌≡◌, ◌≢◌, inl, inr, ◌==◌, ℕ, ◌<◌, true, false, not, List, [], ◌∷◌, ◌++◌, length}
 use Rattle.std.proofs.Common.{take, All, Contains, slice_get, Option, Some, None, nat_eq, refl, sym, ap, ◌∙◌, subst}
-use Rattle.std.proofs.Common.{eq-eqb, append_assoc, arith}
-use Rattle.std.specs.Char.{IsScalar, encode_utf8}
+use Rattle.std.proofs.Common.{eq-eqb, append_assoc, arith, encode_utf8, chars, IsUtf8, eqb-true, length-append}
+use Rattle.std.specs.Char.{IsScalar}
 use Rattle.std.specs.Option.{option_eq}
-use Rattle.std.specs.Str.{chars, IsUtf8}
 use Rattle.std.proofs.Math.Seq.{take-append_seam}
-use Rattle.std.proofs.lemmas.Bool.{eqb-true}
-use Rattle.std.proofs.lemmas.List.{length-append}
+use Rattle.std.proofs.lemmas.Bool.{not-true, not-false, true≢false}
+use Rattle.std.proofs.lemmas.List.{nil_from_length, same_from_push}
 use Rattle.std.proofs.lemmas.List.Splits.{length-slice_split}
 use Rattle.std.proofs.lemmas.List.Elements.{All-nil, All-cons, All-contains}
 use Rattle.std.proofs.lemmas.Str.{chars-nil, chars_past_char, IsUtf8-encode, IsUtf8-take, IsCharBoundary-at_seam}
@@ -32,22 +31,11 @@ split_at_each-three d inner x y z three =
     let last : split_at_each d z ≡ z ∷ [] = split_at_each-last d z three.third_free in
     cc
 
--- two lists with one more element at the end
-snoc_same : (xs ys : List ℕ) (x y : ℕ) → xs ++ x ∷ [] ≡ ys ++ y ∷ [] → (xs ≡ ys) × (x ≡ y)
-snoc_same [] [] x y e = (refl, cc)
-snoc_same [] (b ∷ ys) x y e = absurd (omega (arith, ap length e, length-append ys (y ∷ [])))
-snoc_same (a ∷ xs) [] x y e = absurd (omega (arith, ap length e, length-append xs (x ∷ [])))
-snoc_same (a ∷ xs) (b ∷ ys) x y e =
-    let tail : xs ++ x ∷ [] ≡ ys ++ y ∷ [] = cc in
-    let head : a ≡ b = cc in
-    let (front, last) = snoc_same xs ys x y tail in
-    (cc, last)
-
 -- the delimiter of a text, and what it encloses, are determined
 enclosed_same : (text : List ℕ) (d e : ℕ) (inner other : List ℕ) → IsEnclosed text d inner → IsEnclosed text e other
     → (d ≡ e) × (inner ≡ other)
 enclosed_same text d e inner other one two =
-    let (front, last) = snoc_same (d ∷ inner) (e ∷ other) d e (sym one.whole ∙ two.whole) in
+    let (front, last) = same_from_push (d ∷ inner) (e ∷ other) d e (sym one.whole ∙ two.whole) in
     (last, cc)
 
 -- the fields of a text that says a range, between its delimiters
@@ -140,7 +128,7 @@ SaysNamespace-one text a b c x y z one two =
 -- a text between delimiters has one
 delimiter_of_enclosed : (text : List ℕ) (d : ℕ) (inner : List ℕ) → IsEnclosed text d inner → ¬ HasNoDelimiter text
 delimiter_of_enclosed text d inner enclosed none =
-    let (front, last) = snoc_same none.front (d ∷ inner) none.last d (sym none.ends ∙ enclosed.whole) in
+    let (front, last) = same_from_push none.front (d ∷ inner) none.last d (sym none.ends ∙ enclosed.whole) in
     elim none.wrong [
       | inl letter ↦
           let same : is_alphanumeric none.last ≡ is_alphanumeric d = ap is_alphanumeric last in
@@ -248,8 +236,7 @@ IsBeforeLast-here bs rest c text scalar ends =
 
 -- no byte, no character
 pub chars-empty : (bs : List ℕ) → length bs ≡ 0 → chars bs ≡ []
-chars-empty [] empty = chars-nil
-chars-empty (b ∷ bs) empty = absurd (omega arith)
+chars-empty bs empty = rw (nil_from_length bs empty) chars-nil
 
 -- the last character is alphanumeric
 pub HasNoDelimiter-letter : (bs rest : List ℕ) (c : ℕ) → IsBeforeLast bs rest c → is_alphanumeric c ≡ true
@@ -266,7 +253,7 @@ HasNoDelimiter-first bs rest c before other = record {
   ends = before.whole;
   wrong = inr
       (λ inner whole. other
-      (ap (λ (cs : List ℕ). slice_get cs 0) (snoc_same (chars rest) (c ∷ inner) c c (sym before.whole ∙ whole)).0));
+      (ap (λ (cs : List ℕ). slice_get cs 0) (same_from_push (chars rest) (c ∷ inner) c c (sym before.whole ∙ whole)).0));
 }
 
 -- it is that character
@@ -279,17 +266,11 @@ IsEnclosed-here bs rest inner c before delimits begins =
 -- what `!=` answers of the character
 pub same_option : (r : Option ℕ) (c : ℕ) → not (option_eq nat_eq r (Some c)) ≡ false → r ≡ Some c
 same_option None c same = cc
-same_option (Some d) c same = ap Some (eqb-true d c (true_from_not (nat_eq d c) same)) where
-  true_from_not : (b : Bool) → not b ≡ false → b ≡ true
-  true_from_not true h = refl
-  true_from_not false h = sym h
+same_option (Some d) c same = ap Some (eqb-true d c (not-false (nat_eq d c) same))
 
 pub other_option : (r : Option ℕ) (c : ℕ) → not (option_eq nat_eq r (Some c)) ≡ true → r ≢ Some c
 other_option r c differs same =
-    let passes : nat_eq c c ≡ true = eq-eqb c c refl in
-    let differs : not (nat_eq c c) ≡ true = rw same at differs in
-    let fails : not (nat_eq c c) ≡ false = rw passes refl in
-    cc
+    true≢false (sym (eq-eqb c c refl) ∙ not-true (nat_eq c c) (rw same at differs))
 
 -- where the delimiter is not in the text, the text is one field
 pub one_field : (d : ℕ) (inner : List ℕ) → Lacks d inner → length (split_at_each d inner) ≢ 3

@@ -1,7 +1,6 @@
 -- No pattern of a rule that was read holds a zero.
-use Rattle.std.proofs.Common.{◌≢◌, ℕ, ◌<◌, ltb, List, [], ◌∷◌, ◌++◌, sym, subst, arith}
-use Rattle.std.specs.List.{All, AllByRecursion}
-use Rattle.std.specs.Str.{encode_utf8_all}
+use Rattle.std.proofs.Common.{◌≢◌, ℕ, ◌<◌, ltb, List, [], ◌∷◌, ◌++◌, sym, subst, arith, All, encode_utf8_all}
+use Rattle.std.specs.List.{AllByRecursion}
 use Rattle.std.proofs.lemmas.Bool.{cond_both}
 use Rattle.std.proofs.lemmas.List.Elements.{All-nil, All-append, All-same, All-from_recursion}
 use lib.Utf8.{encode}

@@ -58,7 +58,7 @@ rules_snoc text (first ∷ rules) middle rule blanks rest (between, next, here, 
     blank =
     (between, next, here, not_map, are_blank, rules_snoc next rules middle rule blanks rest others whole plain blank)
 
-expanded_snoc : (rules : List RuleAsWritten) (rule : RuleAsWritten)
+pub expanded_snoc : (rules : List RuleAsWritten) (rule : RuleAsWritten)
     → expanded (rules ++ rule ∷ []) ≡ expanded rules ++ rules_of rule.head rule.key rule.prepend
 expanded_snoc rules rule =
     flat_map-append (λ (r : RuleAsWritten). rules_of r.head r.key r.prepend) rules (rule ∷ [])
@@ -170,72 +170,45 @@ pub nothing_after : {A : Type 0} (xs ys : List A) → xs ++ ys ≡ [] → ys ≡
 nothing_after [] ys e = e
 nothing_after (x ∷ xs) ys e = absurd (cc)
 
--- the number of a rule is how many rules there are then
-one_more : (number : ℕ) (items : List MappingRule) (written : List RuleAsWritten) (rule : RuleAsWritten)
-    → number ≡ length items + 1 → length items ≡ length written → number ≡ length (written ++ rule ∷ [])
-one_more number items written rule is same = omega (arith, is, same, length-append written (rule ∷ []))
-
-step_by : (head : RuleHead) (text rest : List ℕ) (items more_items : List MappingRule) (count number : ℕ)
-    (rule : RuleAsWritten) (after blanks next : List ℕ)
-    → rule.head ≡ head → ReadSoFar text rest items count → number ≡ length items + 1 → rest ≢ []
-    → RuleThen rest rule after → (rule.head ≡ Map → after ≡ [])
-    → after ≡ blanks ++ next → AllByRecursion IsBlank blanks → (next ≡ []) ⊎ IsOpened next
-    → more_items ≡ items ++ rules_of rule.head rule.key rule.prepend → ReadSoFar text next more_items number
-step_by (Typed kind scope) text rest items more_items count number rule after blanks next is_head so_far is_number more
-    whole last spells blank open_next pushed =
-    let state = going text rest items count so_far more in
-    let w = so_far.written in
-    let one : length (rules_of rule.head rule.key rule.prepend) ≡ 1 = rw is_head refl in
-    let plain : rule.head ≢ Map = λ e. (let f : Typed kind scope ≡ Map = sym is_head ∙ e in (cc)) in
-    record {
-      written = w ++ rule ∷ [];
-      are = pushed ∙ ap (λ x. x ++ rules_of rule.head rule.key rule.prepend) so_far.are ∙ sym (expanded_snoc w rule);
-      counted = one_more number items w rule is_number state.count;
-      state = inl record {
-        before =
-            rules_snoc (trimmed text) w rest rule blanks next state.before (subst (RuleThen rest rule) spells whole)
-            plain blank;
-        opened = open_next;
-        count = omega (
-          arith,
-          ap length pushed,
-          length-append items (rules_of rule.head rule.key rule.prepend),
-          one,
-          state.count,
-          length-append w (rule ∷ []),
-        );
-      };
-    }
-step_by Map text rest items more_items count number rule after blanks next is_head so_far is_number more whole last
-    spells blank open_next pushed =
-    let state = going text rest items count so_far more in
-    let w = so_far.written in
-    record {
-      written = w ++ rule ∷ [];
-      are = pushed ∙ ap (λ x. x ++ rules_of rule.head rule.key rule.prepend) so_far.are ∙ sym (expanded_snoc w rule);
-      counted = one_more number items w rule is_number state.count;
-      state = inr (
-        nothing_after blanks next (sym spells ∙ last is_head),
-        record {
-          front = w;
-          last = rule;
-          rest = rest;
-          are = refl;
-          before = state.before;
-          ends = subst (RuleThen rest rule) (last is_head) whole;
-        },
-      );
-    }
-
 -- one more rule was read
 pub step : (text rest : List ℕ) (items more_items : List MappingRule) (count number : ℕ) (rule : RuleAsWritten)
     (after next : List ℕ)
     → ReadSoFar text rest items count → number ≡ length items + 1 → rest ≢ [] → RuleThen rest rule after
     → (rule.head ≡ Map → after ≡ []) → Skips after next
     → more_items ≡ items ++ rules_of rule.head rule.key rule.prepend → ReadSoFar text next more_items number
-step text rest items more_items count number rule after next so_far is_number more whole last skipped pushed =
-    step_by rule.head text rest items more_items count number rule after skipped.blanks next refl so_far is_number more
-    whole last skipped.spells skipped.are_blank skipped.opened pushed
+step text rest items more_items count number rule after next so_far is_number more whole last skipped pushed = record {
+  written = so_far.written ++ rule ∷ [];
+  are = pushed ∙ ap (λ x. x ++ rules_of rule.head rule.key rule.prepend) so_far.are
+      ∙ sym (expanded_snoc so_far.written rule);
+  counted = omega (arith, state.count, length-append so_far.written (rule ∷ []));
+  state = by rule.head refl;
+} where
+  state : Going text rest so_far.written items
+  state = going text rest items count so_far more
+
+  by : (head : RuleHead) → rule.head ≡ head → Going text next (so_far.written ++ rule ∷ []) more_items
+      ⊎ ((next ≡ []) × RuleText text (so_far.written ++ rule ∷ []))
+  by (Typed kind scope) is_head =
+      (let one : length (rules_of rule.head rule.key rule.prepend) ≡ 1 = rw is_head refl in
+      let plain : rule.head ≢ Map = λ e. (let f : Typed kind scope ≡ Map = sym is_head ∙ e in (cc)) in
+      let items_size = length-append items (rules_of rule.head rule.key rule.prepend) in
+      inl record {
+        before = rules_snoc (trimmed text) so_far.written rest rule skipped.blanks next state.before
+            (subst (RuleThen rest rule) skipped.spells whole) plain skipped.are_blank;
+        opened = skipped.opened;
+        count = omega (arith, ap length pushed, items_size, one, state.count, length-append so_far.written (rule ∷ []));
+      })
+  by Map is_head = inr (
+    nothing_after skipped.blanks next (sym skipped.spells ∙ last is_head),
+    record {
+      front = so_far.written;
+      last = rule;
+      rest = rest;
+      are = refl;
+      before = state.before;
+      ends = subst (RuleThen rest rule) (last is_head) whole;
+    },
+  )
 
 -- ---- the end
 
@@ -263,8 +236,7 @@ finish text rest items count so_far over some =
         front = front;
         last = last;
         rest = last_rest;
-        are =
-            are;
+        are = are;
         before = before;
         ends = ends;
       }

@@ -3,8 +3,7 @@ use Rattle.std.proofs.Common.{◌≡◌, ℕ, List, [], ◌∷◌, ◌++◌, Opt
 use Rattle.std.proofs.Common.{subst, ◌∙◌, codes, false}
 use Rattle.std.specs.Char.{is_ascii_whitespace}
 use Rattle.virtiofs_map.specs.Rule.{RuleType}
-use Rattle.virtiofs_map.specs.RuleText.{All, RuleHead, Typed, Map, RuleAsWritten, Fields, RuleThen, HasNoNul, Opens}
-use Rattle.virtiofs_map.specs.RuleText.{rule_fields, head_fields, type_word}
+use Rattle.virtiofs_map.specs.RuleText.{All, RuleHead, Typed, Map, Fields, Opens, head_fields, type_word}
 use Rattle.virtiofs_map.specs.RulesFault.{RuleFault, IsUnfinished, HasRuleFault}
 use Rattle.virtiofs_map.specs.Separator.{Lacks}
 use Rattle.virtiofs_map.specs.RuleParts.{HasPatternFault, IsOpened, BeginsWithFault}
@@ -103,18 +102,6 @@ opens_at text d body (first, others, (e, solid)) f =
 
 pub empty_is_not_opened : IsOpened [] → ⊥
 empty_is_not_opened (first, others, (e, solid)) = (cc)
-
--- a rule that a delimiter opens and whose fields follow
-pub rule_then : (text : List ℕ) (d : ℕ) (body : List ℕ) (rule : RuleAsWritten) (after : List ℕ)
-    → IsOpened text → text ≡ d ∷ body → Fields d body (rule_fields rule) after → HasNoNul rule
-    → RuleThen text rule after
-rule_then text d body rule after opened e fields no_nul = record {
-  delimiter = d;
-  body = body;
-  opens = opens_at text d body opened e;
-  fields = fields;
-  no_nul = no_nul;
-}
 
 -- what P says of the fault that is told, Q says of it
 pub some_and : (told : Option RuleFault) (P Q : RuleFault → Type 0) → ((fault : RuleFault) → P fault → Q fault)

@@ -5,7 +5,7 @@ use Rattle.std.proofs.Common.{arith, zero, suc}
 use Rattle.std.proofs.lemmas.Bool.Decides.{nat_tests, Decides-eqb}
 use Rattle.std.proofs.lemmas.Slice.Eq.{slice_eq-Decides}
 use lib.Pointwise.{pointwise}
-use Rattle.virtiofs_map.proofs.TrimLemmas.{otherwise_false}
+use Rattle.std.proofs.lemmas.Bool.{false_from_ne_true}
 use Rattle.virtiofs_map.proofs.ReadSoFarLemmas.{nothing_after}
 use Rattle.virtiofs_map.specs.Rule.{RuleType, Prefix, Okay, Bad, Unsupported}
 use Rattle.virtiofs_map.specs.RuleText.{ScopeName, All, Client, Server, RuleHead, Typed, Map, RuleAsWritten, Fields}
@@ -142,7 +142,7 @@ scope_at-word Server = refl
 not_same : (s word : List ℕ) → s ≢ word → same s word ≡ false
 unfolding same
 not_same s word differ =
-    otherwise_false _
+    false_from_ne_true _
     (λ e. differ ((slice_eq-Decides (λ a b. Decides-eqb a b) s word (pointwise nat_eq s word) refl).0 e))
 
 type_at-none : (w : List ℕ) → ((kind : RuleType) → w ≢ type_word kind) → w ≢ codes "map" → type_at w ≡ None
@@ -191,8 +191,7 @@ patterns_nul_key : (d : ℕ) (text : List ℕ) (head : RuleHead) (key rest : Lis
     → Fields d text (key ∷ []) rest → Contains key 0 → patterns d head text ≡ Err (NulInPattern Key)
 unfolding patterns after_field unless_nul
 patterns_nul_key d text head key rest fields holds =
-    let one = one_field d text key [] rest fields in
-    rw (one.found, nul_here key holds) refl
+    rw ((one_field d text key [] rest fields).found, nul_here key holds) refl
 
 patterns_nul_prepend : (d : ℕ) (text : List ℕ) (head : RuleHead) (key prepend rest : List ℕ)
     → Fields d text (key ∷ prepend ∷ []) rest → Lacks 0 key → Contains prepend 0
@@ -232,8 +231,7 @@ reading_no_type : (d : ℕ) (text got rest : List ℕ)
     → reading d text ≡ Err (InvalidType got (codes "prefix, ok, bad, map"))
 unfolding reading after_field by_type
 reading_no_type d text got rest fields no_type no_map =
-    let one = one_field d text got [] rest fields in
-    rw (one.found, type_at-none got no_type no_map) refl
+    rw ((one_field d text got [] rest fields).found, type_at-none got no_type no_map) refl
 
 reading_no_scope : (d : ℕ) (text : List ℕ) (kind : RuleType) (got rest : List ℕ)
     → Fields d text (type_word kind ∷ got ∷ []) rest → ((word : ScopeName) → got ≢ scope_word word)

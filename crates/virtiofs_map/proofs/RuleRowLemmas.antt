@@ -1,10 +1,10 @@
 -- A rule is read back from its row, and the row at a place is that of the rule there.
 use Rattle.std.proofs.Common.{◌≡◌, ℕ, ◌+◌, ◌-◌, ◌*◌, ◌/◌, ◌%◌, ◌^◌, ◌<◌, ◌≤◌, zero, suc, Bool, true, false}
 use Rattle.std.proofs.Common.{if◌then◌else◌, List, [], ◌∷◌, ◌++◌, Some, None, length, get_or, slice_get, take, drop}
-use Rattle.std.proofs.Common.{min, refl, ap, sym, subst, ◌∙◌, arith, append_assoc, append-nil, length-append}
+use Rattle.std.proofs.Common.{min, cond, eqb, refl, ap, sym, subst, ◌∙◌, arith, append_assoc, append-nil, length-append}
 use Rattle.std.proofs.Common.{length-take}
 use Rattle.std.proofs.Math.Seq.{drop-append-add, take-append_seam}
-use Rattle.std.proofs.lemmas.List.{take_all, take_more}
+use Rattle.std.proofs.lemmas.List.{take_more}
 use Rattle.std.proofs.lemmas.Option.{get_or_from_slice_get, slice_get_past, slice_get_within}
 use Rattle.virtiofs_map.specs.NodeParts.{IsSpan}
 use Rattle.virtiofs_map.specs.NamesImage.{AreRuleRows, acts_number, rule_row, rule_rows}
@@ -28,46 +28,36 @@ below_four Okay = omega arith
 below_four Bad = omega arith
 below_four Unsupported = omega arith
 
+kind_at : ℕ → RuleType
+kind_at n = cond (eqb n 0) Prefix (cond (eqb n 1) Okay (cond (eqb n 2) Bad Unsupported))
+
+kind_back : (kind : RuleType) → kind_at (type_number kind) ≡ kind
+unfolding kind_at
+kind_back Prefix = refl
+kind_back Okay = refl
+kind_back Bad = refl
+kind_back Unsupported = refl
+
 pub same_type : (kind other : RuleType) → type_number kind ≡ type_number other → kind ≡ other
-same_type Prefix Prefix same = refl
-same_type Okay Okay same = refl
-same_type Bad Bad same = refl
-same_type Unsupported Unsupported same = refl
-same_type Prefix Okay same = absurd (omega arith)
-same_type Prefix Bad same = absurd (omega arith)
-same_type Prefix Unsupported same = absurd (omega arith)
-same_type Okay Prefix same = absurd (omega arith)
-same_type Okay Bad same = absurd (omega arith)
-same_type Okay Unsupported same = absurd (omega arith)
-same_type Bad Prefix same = absurd (omega arith)
-same_type Bad Okay same = absurd (omega arith)
-same_type Bad Unsupported same = absurd (omega arith)
-same_type Unsupported Prefix same = absurd (omega arith)
-same_type Unsupported Okay same = absurd (omega arith)
-same_type Unsupported Bad same = absurd (omega arith)
+same_type kind other same = sym (kind_back kind) ∙ ap kind_at same ∙ kind_back other
 
 -- three things that share a number
 abbrev packed : ℕ → Bool → Bool → ℕ
 packed kind client server = kind + 4 * (if client then 1 else 0) + 8 * (if server then 1 else 0)
 
+bit_small : (b : Bool) → (if b then 1 else 0) ≤ 1
+bit_small true = omega arith
+bit_small false = omega arith
+
 packed_fits : (kind : ℕ) (client server : Bool) → kind < 4 → packed kind client server < 65536
-packed_fits kind true true small = omega arith
-packed_fits kind true false small = omega arith
-packed_fits kind false true small = omega arith
-packed_fits kind false false small = omega arith
+packed_fits kind client server small = omega (arith, bit_small client, bit_small server)
 
 kind_of_packed : (kind : ℕ) (client server : Bool) → kind < 4 → packed kind client server % 4 ≡ kind
-kind_of_packed kind true true small = omega arith
-kind_of_packed kind true false small = omega arith
-kind_of_packed kind false true small = omega arith
-kind_of_packed kind false false small = omega arith
+kind_of_packed kind client server small = omega (arith, bit_small client, bit_small server)
 
 sides_of_packed : (kind : ℕ) (client server : Bool) → kind < 4
     → packed kind client server / 4 % 4 ≡ (if client then 1 else 0) + 2 * (if server then 1 else 0)
-sides_of_packed kind true true small = omega arith
-sides_of_packed kind true false small = omega arith
-sides_of_packed kind false true small = omega arith
-sides_of_packed kind false false small = omega arith
+sides_of_packed kind client server small = omega (arith, bit_small client, bit_small server)
 
 holds_client : (client server : Bool)
     → holds Client ((if client then 1 else 0) + 2 * (if server then 1 else 0)) ≡ client
@@ -84,7 +74,7 @@ holds_server false true = refl
 holds_server false false = refl
 
 -- rules are the same whose fields are
-same_rule_fields : (one other : MappingRule) → one.kind ≡ other.kind → one.client ≡ other.client
+pub same_rule_fields : (one other : MappingRule) → one.kind ≡ other.kind → one.client ≡ other.client
     → one.server ≡ other.server → one.key ≡ other.key → one.prepend ≡ other.prepend → one ≡ other
 same_rule_fields one other kinds clients servers keys prepends = rw (kinds, clients, servers, keys, prepends) refl
 
@@ -208,10 +198,7 @@ pub three_written : (rule : MappingRule) (span : Span) (so_far one two : List �
     → two ++ le_u64_bytes span.end ≡ so_far ++ rule_row rule span
 unfolding rule_row
 three_written rule span so_far one two number is first second =
-    ap (λ (l : List ℕ). l ++ le_u64_bytes span.end) (second ∙ ap (λ (l : List ℕ). l ++ le_u64_bytes span.prepend) first)
-    ∙ ap (λ (n : ℕ). so_far ++ le_u64_bytes (span.key + 281474976710656 * n) ++ le_u64_bytes span.prepend
-    ++ le_u64_bytes span.end) is
-    ∙ simp append_assoc
+    rw (second, first, is) (simp append_assoc)
 
 -- the rows of one rule more
 pub rule_rows-more : (rules : List MappingRule) (spans : List Span) (at : ℕ) (rule : MappingRule) (span : Span)
@@ -283,8 +270,7 @@ pub rule_gone : (rules : List MappingRule) (rows bytes : List ℕ) (at : ℕ) �
     → length rows / 24 ≤ at
     → slice_get rules at ≡ None
 rule_gone rules rows bytes at has past =
-    let long = ap length has.are ∙ length-rule_rows rules has.spans has.stand.counted in
-    slice_get_past rules at (omega (arith, long, past))
+    slice_get_past rules at (omega (arith, ap length has.are ∙ length-rule_rows rules has.spans has.stand.counted))
 
 -- one row more is written
 pub rule_rows-next : (rules : List MappingRule) (spans : List Span) (at : ℕ) (rule : MappingRule) (span : Span)
@@ -296,16 +282,5 @@ rule_rows-next rules spans at rule span so_far new more same here there before a
     let below = slice_get_within rules at rule (sym here) in
     let one : get_or rules at rule ≡ rule = get_or_from_slice_get rules at rule rule (sym here) in
     let two : get_or spans at span ≡ span = get_or_from_slice_get spans at span span (sym there) in
-    after ∙ ap (λ (l : List ℕ). l ++ rule_row rule span) before
-    ∙ append_assoc so_far (rule_rows (take at rules) (take at spans)) (rule_row rule span)
-    ∙ ap (λ (r : MappingRule). so_far ++ (rule_rows (take at rules) (take at spans) ++ rule_row r span)) (sym one)
-    ∙ ap (λ (p : Span). so_far ++ (rule_rows (take at rules) (take at spans) ++ rule_row (get_or rules at rule) p))
-    (sym two)
-    ∙ ap (λ (l : List ℕ). so_far ++ l) (sym (rule_rows-more rules spans at rule span same below))
-
--- the rows of the first rules are those of all, where there are no more
-pub rule_rows-whole : (rules : List MappingRule) (spans : List Span) (at : ℕ) → length spans ≡ length rules
-    → length rules ≤ at
-    → rule_rows (take at rules) (take at spans) ≡ rule_rows rules spans
-rule_rows-whole rules spans at same past =
-    rw (take_all at rules past, take_all at spans (omega (arith, same, past))) refl
+    rw (after, before, rule_rows-more rules spans at rule span same below, one, two)
+    (append_assoc so_far (rule_rows (take at rules) (take at spans)) (rule_row rule span))

@@ -1,12 +1,11 @@
 -- The rules that an image has are those of which it is one.
 use Rattle.std.proofs.Common.{◌≡◌, ℕ, zero, suc, ◌/◌, ◌<◌, ◌≤◌, List, [], ◌∷◌, ◌++◌, Some, length, take, drop, refl}
-use Rattle.std.proofs.Common.{sym, ap, subst, ◌∙◌, arith}
-use Rattle.std.specs.List.{slice_get}
+use Rattle.std.proofs.Common.{sym, ap, subst, ◌∙◌, arith, slice_get}
 use Rattle.std.proofs.Math.Seq.{drop-append_seam, take-append_seam}
 use Rattle.virtiofs_map.specs.NodeParts.{IsSpan}
-use Rattle.virtiofs_map.specs.NamesImage.{AreRuleRows, HasImage, IsImage, IsMapOf, image_length, part, rule_row, rule_rows}
-use Rattle.virtiofs_map.specs.NamesImageParts.{Holds, IsMap, IsWholeImage, rule_of_row, rules_in, rules_of, rules_of_rows}
-use Rattle.virtiofs_map.specs.NamesImageParts.{type_numbered}
+use Rattle.virtiofs_map.specs.NamesImage.{AreRuleRows, IsImage, IsMapOf, image_length, part, rule_row, rule_rows}
+use Rattle.virtiofs_map.specs.NamesImageParts.{Holds, IsMap, IsWholeImage, rule_of_row, rules_in, rules_of}
+use Rattle.virtiofs_map.specs.NamesImageParts.{rules_of_rows, type_numbered}
 use Rattle.virtiofs_map.specs.Rule.{MappingRule, type_number}
 use Rattle.virtiofs_map.specs.declared.xattrmap.spans.Span.{Span}
 use Rattle.virtiofs_map.specs.declared.xattrmap.view.XattrMapRef.{XattrMapRef}
@@ -52,9 +51,7 @@ rows_back bytes (rule ∷ rules) (span ∷ spans) same each few =
 pub as_many : (rules : List MappingRule) (rows bytes : List ℕ) → AreRuleRows rules rows bytes
     → length rows / 24 ≡ length rules
 as_many rules rows bytes are =
-    let long = length-rule_rows rules are.spans are.stand.counted in
-    let same = ap length are.are in
-    omega (arith, long, same)
+    omega (arith, length-rule_rows rules are.spans are.stand.counted, ap length are.are)
 
 -- an image has the rules of which it is one
 pub rules_in_image : (rules : List MappingRule) (image : List ℕ) → IsImage rules image → rules_in image ≡ rules
@@ -79,12 +76,6 @@ pub of_its_own : (rules : List MappingRule) (bytes : List ℕ) → IsWholeImage 
     → IsWholeImage (rules_in bytes) bytes
 of_its_own rules bytes is = subst (λ (l : List MappingRule). IsWholeImage l bytes)
     (sym (rules_in_image rules bytes is.image)) is
-
--- so the rules have an image with as many bytes
-pub has_image : (rules : List MappingRule) (bytes : List ℕ) → IsWholeImage (rules_in bytes) bytes
-    → rules_in bytes ≡ rules → HasImage rules (length bytes)
-has_image rules bytes is are =
-    subst (λ (l : List MappingRule). HasImage l (length bytes)) are (is.whole, bytes, refl, is.image)
 
 -- copied to the front of some bytes, they are an image of the rules
 module _ (rules : List MappingRule) (bytes old new : List ℕ) (is : IsWholeImage (rules_in bytes) bytes)

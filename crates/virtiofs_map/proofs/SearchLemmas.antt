@@ -1,10 +1,10 @@
 -- How a search halves the ranges, and which range it finds.
 use Rattle.std.proofs.Common.{◌≡◌, inl, inr, ℕ, suc, zero, ◌+◌, ◌/◌, ◌^◌, ◌<◌, ◌≤◌, List, length, get_or, AllPairs}
 use Rattle.std.proofs.Common.{Contains, Some, slice_get, sym, ap, ◌∙◌, arith, pow-suc}
-use Rattle.std.proofs.lemmas.Bool.{cases_order}
+use Rattle.std.proofs.lemmas.Bool.{cases_order, cases_lt}
 use Rattle.std.proofs.lemmas.Option.{slice_get-get_or, get_or_from_slice_get}
 use Rattle.virtiofs_map.specs.LookupSteps.{halvings_within, binary_digits}
-use Rattle.virtiofs_map.specs.Mapping.{first_of, count_of, EntryCovers}
+use Rattle.virtiofs_map.specs.Mapping.{first_of, EntryCovers}
 use Rattle.virtiofs_map.specs.RangeParts.{Precedes, Searched, HasDigitsFor}
 use Rattle.virtiofs_map.specs.Steps.{count_after}
 use Rattle.virtiofs_map.specs.declared.soft_idmap.entry.Entry.{Entry}
@@ -28,7 +28,7 @@ below_digits m = below_halvings m m (omega arith)
 pub HasDigitsFor-start : (left taken m : ℕ) → left ≤ m → taken ≡ 0 → HasDigitsFor left taken (binary_digits m)
 HasDigitsFor-start left taken m within none = record {
   digits = binary_digits m;
-  room = omega (arith, below_digits m, within);
+  room = omega (arith, below_digits m);
   spent = omega arith;
 }
 
@@ -73,13 +73,12 @@ above_from : (ranges : List Entry) (n middle k : ℕ) (range d : Entry) → AllP
     → n < first_of (get_or ranges k d)
 above_from ranges n middle k range d ordered here begins from below =
     let is : get_or ranges middle d ≡ range = get_or_from_slice_get ranges middle range d here in
-    elim (cases_order middle k) [
-      | inl same ↦ rw (← same) (rw is begins)
-      | inr (inl before) ↦ later (rw is at (ordered middle k d before below))
-      | inr (inr after) ↦ absurd (omega arith)
-    ] where
-      later : Precedes range (get_or ranges k d) → n < first_of (get_or ranges k d)
-      later precedes = omega arith
+    elim (cases_lt middle k) [
+      | inl before ↦
+          let precedes : Precedes range (get_or ranges k d) = rw is at (ordered middle k d before below) in
+          omega arith
+      | inr after ↦ (let same : k ≡ middle = omega arith in rw (same, is) begins)
+    ]
 
 pub Searched-left : (ranges : List Entry) (n index end middle wider : ℕ) (range : Entry)
     → AllPairs Precedes ranges → Searched ranges n index end → index < middle → slice_get ranges middle ≡ Some range
@@ -100,17 +99,11 @@ Searched-finds ranges n index range ordered searched (k, below, here) covers =
       | inl same ↦ slice_get-get_or ranges index range inside
           ∙ ap (λ (r : Entry). Some r) (ap (λ (i : ℕ). get_or ranges i range) (sym same) ∙ here)
       | inr (inl before) ↦
-          let begins : first_of (get_or ranges index range) ≤ n = searched.begins range (omega arith) in
-          absurd (ends (rw here at (ordered k index range before inside)) begins)
+          let precedes : Precedes range (get_or ranges index range) = rw here at (ordered k index range before inside) in
+          absurd (omega (arith, covers, searched.begins range (omega arith)))
       | inr (inr after) ↦
           let above : n < first_of range = rw here at (searched.above k range (omega arith) below) in
-          let begins : first_of range ≤ n = covers.0 in
-          absurd (omega arith)
+          absurd (omega (arith, covers))
     ] where
       inside : index < length ranges
-      inside = let within : index + 1 ≤ length ranges = searched.within in omega arith
-
-      ends : Precedes range (get_or ranges index range) → first_of (get_or ranges index range) ≤ n → ⊥
-      ends precedes begins =
-          let within : n < first_of range + count_of range = covers.1 in
-          omega arith
+      inside = omega (arith, searched.within)

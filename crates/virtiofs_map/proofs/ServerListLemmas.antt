@@ -1,5 +1,5 @@
 -- The list that the guest gets, name by name.
-use Rattle.std.proofs.Common.{◌≡◌, ℕ, ◌+◌, ◌<◌, ◌≤◌, Bool, true, false, not, eqb, ltb, List, [], ◌∷◌, ◌++◌, length}
+use Rattle.std.proofs.Common.{◌≡◌, ℕ, zero, suc, ◌+◌, ◌<◌, ◌≤◌, Bool, true, false, not, eqb, ltb, List, [], ◌∷◌, ◌++◌, length}
 use Rattle.std.proofs.Common.{Option, Some, None, IfSome, inl, inr, refl, sym, ap, ◌∙◌, arith, filter}
 use Rattle.std.specs.List.{slice_split, onto_first, cons_option, filter_map, flat_map, position, position_or_len}
 use Rattle.std.specs.List.{before_first, after_first}
@@ -152,3 +152,18 @@ length_parts rules (part ∷ parts) =
 
 pub length-listed : (rules : List MappingRule) (list : List ℕ) → length (listed rules list) ≤ length list + 1
 length-listed rules list = omega (arith, length_parts rules (slice_split is_zero list), total_split list)
+
+-- ---- how long a list is
+
+-- a name more, of a list with so many bytes left
+pub short_more : (count left rest list shown next : ℕ) → next ≡ count + shown + 1 → 0 < rest
+    → (0 < rest → count + rest ≤ list)
+    → shown + left ≤ rest → (0 < left → shown + left < rest) → next + left ≤ list + 1
+short_more count zero rest list shown next is some room within apart = omega (arith, is, within, room some)
+short_more count (suc left) rest list shown next is some room within apart =
+    omega (arith, is, apart (omega arith), room some)
+
+pub shorter_more : (count left rest list shown next : ℕ) → next ≡ count + shown + 1 → 0 < rest
+    → (0 < rest → count + rest ≤ list)
+    → (0 < left → shown + left < rest) → 0 < left → next + left ≤ list
+shorter_more count left rest list shown next is some room apart more = omega (arith, apart more, room some)

@@ -43,13 +43,10 @@ one_cut p (x ∷ front) (y ∷ other) c d back rest same first second c_fails d_
     let r = one_cut p front other c d back rest tails (All-tail (λ (z : ℕ). p z ≡ true) x front first)
     (All-tail (λ (z : ℕ). p z ≡ true) y other second) c_fails d_fails in
     record {
-      same_front = cons_same x y front other is r.same_front;
+      same_front = (let later = r.same_front in cc);
       same_character = r.same_character;
-      same_back =
-          r.same_back;
-    } where
-      cons_same : (a b : ℕ) (xs ys : List ℕ) → a ≡ b → xs ≡ ys → a ∷ xs ≡ b ∷ ys
-      cons_same a b xs ys first rest = cc
+      same_back = r.same_back;
+    }
 
 IsCut-one : (text prefix other : List ℕ) (c d : ℕ) (rest back : List ℕ) → IsCut text prefix c rest
     → IsCut text other d back → SameCut prefix other c d rest back

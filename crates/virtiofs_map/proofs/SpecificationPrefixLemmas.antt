@@ -1,13 +1,13 @@
 -- The front of a specification's text: how far its prefix has been read.
 use Rattle.std.proofs.Common.{◌≡◌, ℕ, ◌+◌, ◌<◌, Bool, true, false, ◌&&◌, nat_lt, ◌≤◌, ◌⊎◌, inl, inr, List, [], ◌∷◌}
-use Rattle.std.proofs.Common.{◌++◌, length, map, refl, sym, ap, ◌∙◌, subst, append_assoc, arith}
-use Rattle.std.specs.Char.{IsScalar, encode_utf8, to_ascii_lowercase}
+use Rattle.std.proofs.Common.{◌++◌, length, map, refl, sym, ap, ◌∙◌, subst, append_assoc, arith, encode_utf8, chars}
+use Rattle.std.proofs.Common.{IsUtf8, append-nil, ltb-true, ltb-false}
+use Rattle.std.specs.Char.{IsScalar, to_ascii_lowercase}
 use Rattle.std.specs.List.{AllPass}
-use Rattle.std.specs.Str.{chars, IsUtf8}
 use Rattle.std.proofs.lemmas.Str.{chars-append, chars-nil, chars_past_char, scalars-chars, IsUtf8-encode}
 use Rattle.std.proofs.lemmas.Str.{IsUtf8-past_char}
-use Rattle.std.proofs.lemmas.List.{append-nil}
-use Rattle.std.proofs.lemmas.Bool.{cases_Bool, ltb-true, ltb-false}
+use Rattle.std.proofs.lemmas.List.{map-append}
+use Rattle.std.proofs.lemmas.Bool.{and_parts, cases_Bool}
 use Rattle.std.proofs.Math.Utf8.{scalar, scalars, low_scalar}
 use Rattle.std.proofs.lemmas.List.Elements.{All-push, All-nil}
 use Rattle.virtiofs_map.specs.SpecificationText.{is_word_character, lowered}
@@ -31,16 +31,9 @@ IsPrefixSoFar-start text rest word is_text same empty = record {
   lower = rw empty chars-nil;
 }
 
-map-append : (f : ℕ → ℕ) (xs ys : List ℕ) → map f (xs ++ ys) ≡ map f xs ++ map f ys
-map-append f [] ys = refl
-map-append f (x ∷ xs) ys = ap (λ (zs : List ℕ). f x ∷ zs) (map-append f xs ys)
-
 -- the first of several characters is one
 IsScalar-first : (c : ℕ) (cs : List ℕ) → scalars (c ∷ cs) ≡ true → IsScalar c
-IsScalar-first c cs all = first_true (scalar c) (scalars cs) all where
-  first_true : (a b : Bool) → (a && b) ≡ true → a ≡ true
-  first_true true b h = refl
-  first_true false b h = h
+IsScalar-first c cs all = (and_parts (scalar c) (scalars cs) all).0
 
 -- whether one number is below another
 ltb_tells : (a b : ℕ) → ((nat_lt a b ≡ true) × (a < b)) ⊎ ((nat_lt a b ≡ false) × (b ≤ a))

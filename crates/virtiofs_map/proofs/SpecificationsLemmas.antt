@@ -1,8 +1,7 @@
 -- A list of texts says at most one list of specifications, and has at most one fault.
 use Rattle.std.proofs.Common.{◌≡◌, inl, inr, ℕ, ◌+◌, ◌<◌, zero, suc, List, [], ◌∷◌, ◌++◌, length, take, get_or}
-use Rattle.std.proofs.Common.{slice_get, Option, Some, None, IsSomeAnd, Bor, sym, ap, ◌∙◌, subst, arith}
-use Rattle.std.specs.Option.{option_map}
-use Rattle.std.specs.Str.{chars}
+use Rattle.std.proofs.Common.{slice_get, Option, Some, None, IsSomeAnd, Bor, sym, ap, ◌∙◌, subst, arith, option_map}
+use Rattle.std.proofs.Common.{chars}
 use Rattle.std.proofs.lemmas.Bool.{cases_order}
 use Rattle.std.proofs.lemmas.List.{take-map, map_more, length-map}
 use Rattle.std.proofs.lemmas.Option.{slice_get-map, slice_get-get_or}

@@ -1,7 +1,7 @@
 -- What trimming a text leaves, in characters.
 use Rattle.std.proofs.Common.{◌≡◌, ℕ, zero, suc, ◌<◌, Bool, true, false, cond, ◌&&◌, eqb, List, [], ◌∷◌, ◌++◌, length}
 use Rattle.std.proofs.Common.{take, drop, get_or, ◌⊎◌, inl, inr, refl, sym, ap, subst, ◌∙◌, arith}
-use Rattle.std.proofs.lemmas.Bool.{false≢true}
+use Rattle.std.proofs.lemmas.Bool.{false≢true, false_from_ne_true}
 use Rattle.std.proofs.lemmas.Bool.Decides.{nat_tests}
 use Rattle.std.proofs.lemmas.List.{take-append-drop}
 use Rattle.std.proofs.lemmas.Str.{chars-encodes, scalars-chars, encodes-chars, chars-append, chars-IsAscii}
@@ -32,11 +32,10 @@ drop_scalars : (cs : List ℕ) → all_scalars cs ≡ true → all_scalars (drop
 drop_scalars [] e = refl
 drop_scalars (c ∷ cs) e =
     let parts = and_parts (scalar c) (all_scalars cs) e in
-    let rest = drop_scalars cs parts.1 in
     elim (is_whitespace c && eqb (length (drop_trailing_whitespace cs)) 0) as (λ b. all_scalars
     (cond b [] (c ∷ drop_trailing_whitespace cs)) ≡ true) [
       | true ↦ refl
-      | false ↦ rw (parts.0, rest) refl
+      | false ↦ rw (parts.0, drop_scalars cs parts.1) refl
     ]
 
 -- what `trim` gives, in characters
@@ -55,11 +54,6 @@ blank_is_white c e = grind (arith, nat_tests)
 
 blank_is_ascii : (c : ℕ) → is_ascii_whitespace c ≡ true → c < 128
 blank_is_ascii c e = grind (arith, nat_tests)
-
--- a test that is not true is false
-pub otherwise_false : (b : Bool) → (b ≡ true → ⊥) → b ≡ false
-otherwise_false true h = absurd (h refl)
-otherwise_false false h = refl
 
 skip_head_by : (b : Bool) (x : ℕ) (xs zs ds : List ℕ) (c : ℕ) → is_whitespace x ≡ b
     → (zs ≡ c ∷ ds → is_whitespace c ≡ false) → cond b zs (x ∷ xs) ≡ c ∷ ds → is_whitespace c ≡ false
@@ -83,7 +77,7 @@ drop_head (x ∷ xs) ds c e = drop_head_by _ x xs (drop_trailing_whitespace xs) 
 pub opened_or_empty : (cs : List ℕ) → ((c : ℕ) (ds : List ℕ) → cs ≡ c ∷ ds → is_ascii_whitespace c ≡ true → ⊥)
     → (cs ≡ []) ⊎ IsOpened cs
 opened_or_empty [] h = inl refl
-opened_or_empty (c ∷ ds) h = inr (c, ds, (refl, otherwise_false _ (h c ds refl)))
+opened_or_empty (c ∷ ds) h = inr (c, ds, (refl, false_from_ne_true _ (h c ds refl)))
 
 pub trimmed_opened : (text : List ℕ) → (trimmed text ≡ []) ⊎ IsOpened (trimmed text)
 trimmed_opened text = opened_or_empty (trimmed text) (λ c ds e blank.
@@ -162,7 +156,7 @@ skips s r utf8 (n, is_rest, lengths, below, stops) =
       opened = opened_or_empty (chars r) (λ c ds e is_blank.
           let spelled : r ≡ encode_utf8_all (c ∷ ds) = sym (encodes-chars r utf8) ∙ ap encode_utf8_all e in
           let first : get_or r 0 0 ≡ c = byte_from_char r (encode_utf8_all ds) c spelled (blank_is_ascii c is_blank) in
-          let long : n < length s = omega (arith, lengths, ap length spelled, length-le-encodes (c ∷ ds)) in
+          let long : n < length s = omega (arith, ap length spelled, length-le-encodes (c ∷ ds)) in
           let here : get_or r 0 0 ≡ get_or s n 0 = ap (λ x. get_or x 0 0) is_rest ∙ get_or_drop_first s n in
           false≢true (sym (stops long) ∙ ap is_ascii_whitespace (sym here ∙ first) ∙ is_blank));
     }

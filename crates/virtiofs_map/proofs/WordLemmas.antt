@@ -1,15 +1,15 @@
 -- What the words of a map say of a number, by a search of its ranges.
-use Rattle.std.proofs.Common.{rules, [], ◌∷◌, ◌≡◌, inl, inr, ℕ, zero, suc, ◌+◌, ◌-◌, ◌/◌, ◌<◌, ◌≤◌, List, length, get_or}
-use Rattle.std.proofs.Common.{slice_index, AllPairs, All, Contains, Option, Some, None, slice_get, min, subst, refl}
-use Rattle.std.proofs.Common.{sym, ◌∙◌, arith}
-use Rattle.std.proofs.lemmas.Bool.{cases_order}
-use Rattle.std.proofs.lemmas.List.Elements.{All-contains, Contains-get_or}
+use Rattle.std.proofs.Common.{rules, [], ◌∷◌, ◌≡◌, inl, inr, ℕ, zero, suc, ◌+◌, ◌-◌, ◌/◌, ◌<◌, ◌≤◌, List, length}
+use Rattle.std.proofs.Common.{get_or, slice_index, AllPairs, All, Contains, Option, Some, None, slice_get, min, subst}
+use Rattle.std.proofs.Common.{refl, sym, ◌∙◌, arith}
+use Rattle.std.proofs.lemmas.Bool.{cases_lt}
+use Rattle.std.proofs.lemmas.List.Elements.{Contains-get_or}
 use Rattle.std.proofs.lemmas.Option.{same_Some, slice_get-get_or}
 use Rattle.virtiofs_map.specs.Build.{HasTarget, Accepted}
 use Rattle.virtiofs_map.specs.Image.{IsImage}
 use Rattle.virtiofs_map.specs.ImageAnswer.{SaysValue, SaysIn, SaysLeadsBack}
 use Rattle.virtiofs_map.specs.LookupSteps.{acting, halvings_within, binary_digits}
-use Rattle.virtiofs_map.specs.Mapping.{first_of, count_of, EntryCovers, target_of, Becomes}
+use Rattle.virtiofs_map.specs.Mapping.{first_of, EntryCovers, target_of, Becomes}
 use Rattle.virtiofs_map.specs.MappingLaws.{IsMappedBothWays}
 use Rattle.virtiofs_map.specs.RangeParts.{Precedes, HasNumbers, AreRanges}
 use Rattle.virtiofs_map.specs.Steps.{count_after, CountsBetween}
@@ -22,8 +22,7 @@ use Rattle.virtiofs_map.specs.declared.soft_idmap.entry.Entry.TheVariants.{Fail}
 use Rattle.virtiofs_map.specs.declared.soft_idmap.row.Answer.{Answer}
 use Rattle.virtiofs_map.specs.declared.soft_idmap.row.Answer.TheVariants as answers
 use Rattle.virtiofs_map.proofs.MappingLawLemmas.{HasOneValue-accepted, LeadsBack-mapped}
-use Rattle.virtiofs_map.proofs.SearchLemmas.{Searched-start, Searched-right, Searched-left}
-use Rattle.virtiofs_map.proofs.SearchLemmas.{Searched-finds}
+use Rattle.virtiofs_map.proofs.SearchLemmas.{Searched-start, Searched-right, Searched-left, Searched-finds}
 use Rattle.virtiofs_map.proofs.StoredLemmas.{Becomes-itself, Becomes-by_range}
 
 -- any range, where a list has none
@@ -69,23 +68,17 @@ pub Searches-turn : (table : Table) (n index size half middle next : ℕ)
     → (n < slice_index table.words (table.firsts + middle) → next ≡ index)
     → Searches table n next (next + (size - half))
 Searches-turn table n index size half middle next searches within some halved is right left =
-    elim (cases_order (slice_index table.words (table.firsts + middle)) n) [
-      | inl same ↦ go_right (omega arith)
-      | inr (inl before) ↦ go_right (omega arith)
-      | inr (inr after) ↦ go_left after
-    ] where
-      go_right : slice_index table.words (table.firsts + middle) ≤ n → Searches table n next (next + (size - half))
-      go_right begins =
-          let moved : next ≡ middle = right begins in
-          let last : next + (size - half) ≡ index + size = omega arith in
-          rw (last, moved) (searches_right table n index (index + size) middle searches within (omega arith) begins)
-
-      go_left : n < slice_index table.words (table.firsts + middle) → Searches table n next (next + (size - half))
-      go_left begins =
+    elim (cases_lt n (slice_index table.words (table.firsts + middle))) [
+      | inl begins ↦
           let stays : next ≡ index = left begins in
           rw stays
           (searches_left table n index (index + size) middle (index + (size - half)) searches (omega arith) begins
           (omega arith) (omega arith) (omega arith))
+      | inr begins ↦
+          let moved : next ≡ middle = right begins in
+          let last : next + (size - half) ≡ index + size = omega arith in
+          rw (last, moved) (searches_right table n index (index + size) middle searches within (omega arith) begins)
+    ]
 
 -- ---- what is said
 
@@ -93,11 +86,9 @@ Searches-turn table n index size half middle next searches within some halved is
 pub SaysIn-none : (specs : List IdMap) (direction : Direction) (table : Table) (n : ℕ)
     → HasRanges specs direction table → table.count ≡ 0 → SaysIn specs direction n (answers.Becomes n)
 SaysIn-none specs direction table n has none =
-    (Some n, Becomes-itself specs direction has.ranges n has.stores uncovered, refl) where
-      uncovered : (range : Entry) → Contains has.ranges range → ¬ EntryCovers range n
-      uncovered range (k, below, here) covers =
-          let counted : length has.ranges ≡ table.count = has.stand.counted in
-          absurd (omega arith)
+    let uncovered : (range : Entry) → Contains has.ranges range → ¬ EntryCovers range n =
+    λ range (k, below, here) covers. omega (arith, below, has.stand.counted) in
+    (Some n, Becomes-itself specs direction has.ranges n has.stores uncovered, refl)
 
 -- the range at an index decides, where no other one covers the number
 says_by : (specs : List IdMap) (direction : Direction) (table : Table) (n at : ℕ) (answer : Answer)
@@ -113,8 +104,8 @@ says_by specs direction table n at answer has inside says alone =
     let range : Entry = get_or has.ranges at no_range in
     let here : slice_get has.ranges at ≡ Some range = slice_get-get_or has.ranges at no_range inside' in
     let stored : Contains has.ranges range = Contains-get_or has.ranges at no_range inside' in
-    let numbers : HasNumbers range = All-contains HasNumbers has.ranges range has.ordered.numbers stored in
-    let target : HasTarget range = All-contains HasTarget has.ranges range has.ordered.target stored in
+    let numbers : HasNumbers range = has.ordered.numbers at no_range inside' in
+    let target : HasTarget range = has.ordered.target at no_range inside' in
     elim (says range (has.stand.each at range here) numbers target) [
       | inl (covers, value) ↦ (
         target_of range n,
@@ -150,8 +141,7 @@ no_ranges direction table none = record {
   stores =
       record {
         from = search rules;
-        each =
-            λ spec range listed is some. absurd (let (k, below, at) = listed in omega arith);
+        each = λ spec range listed is some. absurd (let (k, below, at) = listed in omega arith);
         counted = refl;
       };
   ordered =
@@ -172,20 +162,20 @@ no_count HostToGuest = refl
 pub IsImage-empty : IsImage [] (words_lent [])
 IsImage-empty = record {
   kind = refl;
+  ended = refl;
   room = omega arith;
   accepted =
       record {
         source = λ direction. search rules;
         target = λ direction. search rules;
-        apart =
-            λ direction i j d before below. absurd (omega arith);
+        apart = λ direction i j d before below. absurd (omega arith);
       };
   ranges = λ direction. no_ranges direction (table_in (words_lent []) direction) (no_count direction);
 }
 
 -- a map that has words lends those
 pub IsImage-lent : (specs : List IdMap) (words : List ℕ) → IsImage specs words → IsImage specs (words_lent words)
-IsImage-lent specs [] image = absurd (let room = image.room in omega arith)
+IsImage-lent specs [] image = absurd (omega (arith, image.room))
 IsImage-lent specs (first ∷ rest) image = image
 
 -- ---- how many ranges there are
@@ -217,12 +207,7 @@ begins_above : (ranges : List Entry) (d : Entry) (k : ℕ) → All HasNumbers ra
 begins_above ranges d zero numbers ordered below = omega arith
 begins_above ranges d (suc k) numbers ordered below =
     let earlier : k ≤ first_of (get_or ranges k d) = begins_above ranges d k numbers ordered (omega arith) in
-    let own : HasNumbers (get_or ranges k d) =
-    All-contains HasNumbers ranges (get_or ranges k d) numbers (Contains-get_or ranges k d (omega arith)) in
-    let some : 1 ≤ count_of (get_or ranges k d) = own.some in
-    let precedes : first_of (get_or ranges k d) + count_of (get_or ranges k d) ≤ first_of (get_or ranges (suc k) d) =
-    ordered k (suc k) d (omega arith) below in
-    omega arith
+    omega (arith, (numbers k d (omega arith)).some, ordered k (suc k) d (omega arith) below)
 
 count_below : (ranges : List Entry) (count : ℕ) → AreRanges ranges → length ranges ≡ count → count < 4294967296
 count_below ranges zero are counted = omega arith
@@ -230,12 +215,8 @@ count_below ranges (suc k) are counted =
     let below : k < length ranges = omega arith in
     let begins : k ≤ first_of (get_or ranges k no_range) =
     begins_above ranges no_range k are.numbers are.ordered below in
-    let own : HasNumbers (get_or ranges k no_range) =
-    All-contains HasNumbers ranges (get_or ranges k no_range) are.numbers
-    (Contains-get_or ranges k no_range below) in
-    let some : 1 ≤ count_of (get_or ranges k no_range) = own.some in
-    let source : first_of (get_or ranges k no_range) + count_of (get_or ranges k no_range) ≤ 4294967295 = own.source in
-    omega arith
+    let own = are.numbers k no_range below in
+    omega (arith, own.some, own.source)
 
 -- ranges are fewer than a word can count
 pub AreRanges-count : (ranges : List Entry) → AreRanges ranges → length ranges < 4294967296

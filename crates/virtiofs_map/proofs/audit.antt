@@ -1,7 +1,7 @@
 mod AuditCountLemmas
 mod AuditCutLemmas
 mod AuditGatheredLemmas
-mod AuditLeastLemmas
+pub mod AuditLeastLemmas
 mod AuditLostLemmas
 mod AuditOrderLemmas
 mod AuditPassLemmas

@@ -11,6 +11,8 @@ use Rattle.virtiofs_map.specs.Names.{host_answer, names, server_answer, ListsBac
 use Rattle.virtiofs_map.specs.Rule.{MappingRule}
 use Rattle.virtiofs_map.specs.declared.audit.answer.Audit.{Audit}
 use Rattle.virtiofs_map.specs.declared.audit.answer.Audit.TheVariants.{Yes, No}
+use Rattle.virtiofs_map.specs.declared.audit.asking.NameFault.{NameFault}
+use Rattle.virtiofs_map.specs.declared.audit.asking.NameFault.TheVariants.{Lost, Stray, Seen, Shared}
 use Rattle.virtiofs_map.specs.declared.xattrmap.scopes.Side.{Side}
 
 -- ---- the least name that is bad
@@ -182,3 +184,12 @@ pub record IsMostAdded (rules : List MappingRule) (most : ℕ) : Type 0 where
   pub at_most : (name host : List ℕ) → IsName name → client_answer rules name ≡ Passes host
       → length host ≤ length name + most
   pub reached : (most ≡ 0) ⊎ AddsTo rules most
+
+-- ---- what may be wrong with a name
+
+-- the name has this fault under these rules, where another guest has the other rules
+abbrev pub HasFault : NameFault → List MappingRule → List MappingRule → List ℕ → Type 0
+HasFault Lost rules others = IsLost rules
+HasFault Stray rules others = IsStray rules
+HasFault Seen rules others = IsSeen rules others
+HasFault Shared rules others = IsShared rules others

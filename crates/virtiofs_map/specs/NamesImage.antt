@@ -74,10 +74,10 @@ pattern_bytes [] = 0
 pattern_bytes (rule ∷ rules) = length rule.key + length rule.prepend + pattern_bytes rules
 
 -- how many bytes the image of a map of the rules has: six numbers of 8 bytes, a row of 24 bytes for each node of the
--- two tries and for each rule, and all patterns
+-- two tries and for each rule, all patterns, and one number more
 unfoldable pub image_length : List MappingRule → ℕ
 image_length rules =
-    48 + 24 * (node_count Client rules + node_count Server rules + length rules) + pattern_bytes rules
+    56 + 24 * (node_count Client rules + node_count Server rules + length rules) + pattern_bytes rules
 
 -- the most bytes that an image may have
 abbrev pub longest_image : ℕ
@@ -85,16 +85,22 @@ longest_image = 281474976710655
 
 -- ---- what an image says
 
+-- the number behind the patterns is the first one again: so a part of an image with zeros behind it is no image
+pub record HasEnd (image : List ℕ) : Type 0 where
+  pub within : part_end image 3 + 8 ≤ length image
+  pub is : le_u64_at image (part_end image 3) ≡ image_kind
+
 -- the bytes are an image of a map of these rules
 pub record IsImage (rules : List MappingRule) (image : List ℕ) : Type 0 where
   -- the image begins with six numbers, the first of which says what it is, and the row of a root
   pub begun : 72 ≤ length image
+  pub ended : HasEnd image
   pub kind : le_u64_at image 0 ≡ image_kind
-  -- the parts that the other numbers name are all there: the first stands behind these numbers, and the last ends
-  -- where the image does
+  -- the parts that the other numbers name are all there: the first stands behind these numbers, and one number behind
+  -- the last
   pub parts : (which : ℕ) → which < 4 → HasPart image which
   pub first : part_start image 0 ≡ 48
-  pub last : part_end image 3 ≡ image_length rules
+  pub last : part_end image 3 + 8 ≡ image_length rules
   pub short : image_length rules ≤ longest_image
   -- the image has a trie of what names are compared with, for each side
   pub client : IsTrieIn Client rules image (part_start image 0) (part_end image 0) (part_start image 3) (part image 3)
@@ -107,9 +113,9 @@ pub record IsImage (rules : List MappingRule) (image : List ℕ) : Type 0 where
 abbrev pub IsMapOf : List MappingRule → XattrMapRef → Type 0
 IsMapOf rules map = IsImage rules map.bytes.now
 
--- the bytes do not begin as an image does
+-- the bytes do not begin as an image does, or it does not end among them
 abbrev pub IsNoImage : List ℕ → Type 0
-IsNoImage image = (length image < 72) ⊎ (le_u64_at image 0 ≢ image_kind)
+IsNoImage image = (length image < 72) ⊎ (le_u64_at image 0 ≢ image_kind) ⊎ (¬ HasEnd image)
 
 -- the image of the rules has so many bytes
 abbrev pub HasImage : List MappingRule → ℕ → Type 0

@@ -81,7 +81,7 @@ pub record ArePlaces (client server rules bytes : ℕ) (places : Places) : Type 
   pub second : places.rules ≡ places.server + server
   pub third : places.bytes ≡ places.rules + 24 * rules
   pub last : places.end ≡ places.bytes + bytes
-  pub short : places.end ≤ longest_image
+  pub short : places.end + 8 ≤ longest_image
 
 -- the six numbers at the beginning of an image
 abbrev pub numbers_of : Places → List ℕ

@@ -1,5 +1,5 @@
 -- What holds while a trie of patterns is built. Only private functions cite these definitions.
-use Rattle.std.specs.Prelude.{◌≡◌, ◌≢◌, ◌⊎◌, ℕ, ◌+◌, ◌-◌, ◌<◌, ◌≤◌, false, List, [], length, take, drop, All}
+use Rattle.std.specs.Prelude.{◌≡◌, ◌≢◌, ◌⊎◌, ℕ, ◌+◌, ◌<◌, ◌≤◌, false, List, [], length, take, All}
 use Rattle.std.specs.Prelude.{suc, ◌∷◌, map, Option, Some, None, slice_get, ◌==◌, ◌&&◌, not, if◌then◌else◌}
 use Rattle.std.specs.Option.{option_map_or}
 use Rattle.virtiofs_map.specs.NodeParts.{no_answer, AreInOrder, AreRowsOf}
@@ -21,12 +21,6 @@ pub record IsReady (most : ℕ) (one : Pattern) : Type 0 where
 pub record AreReady (most : ℕ) (patterns : List Pattern) : Type 0 where
   pub each : All (IsReady most) patterns
   pub order : AreInOrder patterns
-
--- the row stands among the bytes, from one place to another
-pub record IsSlice (bytes row : List ℕ) (start end : ℕ) : Type 0 where
-  pub rising : start ≤ end
-  pub within : end ≤ length bytes
-  pub are : take (end - start) (drop start bytes) ≡ row
 
 -- the bytes of the pattern at a place
 unfoldable pub text : List Pattern → ℕ → List ℕ

@@ -14,6 +14,10 @@ use Rattle.virtiofs_map.specs.declared.soft_idmap.row.Answer.{Answer}
 
 -- ---- the words
 
+-- with which an image begins and ends: the letters ids, and the version 2
+abbrev pub image_kind : ℕ
+image_kind = 1768190722
+
 -- three words of a row are those of the range
 abbrev pub IsRow : ℕ → ℕ → ℕ → Entry → Type 0
 IsRow count to kind (Map first target many) = (count ≡ many) × (to ≡ target) × (kind ≡ 4294967295)
@@ -92,13 +96,17 @@ table_in words HostToGuest =
           host_count words;
     }
 
--- there are words for the ranges of both directions
+-- where the ranges of both directions end
+abbrev pub ranges_end : List ℕ → ℕ
+ranges_end words = 3 + 4 * guest_count words + 4 * host_count words
+
+-- there are words for the ranges of both directions, and one behind them
 abbrev pub HasWords : List ℕ → Type 0
-HasWords words = 3 + 4 * guest_count words + 4 * host_count words ≤ length words
+HasWords words = ranges_end words < length words
 
 -- what a map lends that keeps these words: the map of no specification may keep none
 abbrev pub words_lent : List ℕ → List ℕ
-words_lent [] = 1768190721 ∷ 0 ∷ 0 ∷ []
+words_lent [] = image_kind ∷ 0 ∷ 0 ∷ image_kind ∷ []
 words_lent (first ∷ rest) = first ∷ rest
 
 -- ---- a search

@@ -20,10 +20,8 @@
 //!   guest's map? If so, and only then, these names make no difference to the lists of the other.
 //! - [`shares_no_name`]: is no name of the host reached by both guests? Two guests with
 //!   `:ok:client::: :bad:server:::` are kept apart, since no list shows a name, and share every name.
-//! - [`audit_within`], [`audit_listed_within`], [`keeps_apart_within`] and
-//!   [`shares_no_name_within`] ask the same about the names that begin with given bytes. The least
-//!   name of all is often of no use to a person: under `:ok:client:::` it is the byte 1. The least
-//!   that begins with `user.` is `user.`.
+//! - [`ask`] asks one of these four, of maps that are lent, about the names that begin with given
+//!   bytes.
 //! - [`XattrMap::is_terminated`]: does each name of either side have a rule?
 //! - [`XattrMap::decides`]: does a rule decide any name? In `:ok:all::: :bad:client:a::` the second
 //!   rule decides none, since the first takes all names.
@@ -33,18 +31,18 @@
 //! are treated alike. The names to try are found from the patterns, and are tried one after the
 //! other.
 ghost use Rattle.std.specs.Prelude.{◌≡◌, ◌↔◌, IfOk, OnOk, OnErr};
-ghost use Rattle.virtiofs_map.specs.Audit.{AnswersLeast, Within, Sound, IsLost, most_tried, OpensListed, IsStray};
+ghost use Rattle.virtiofs_map.specs.Audit.{AnswersLeast, Sound, IsLost, most_tried, OpensListed, IsStray};
 ghost use Rattle.virtiofs_map.specs.Audit.{Apart, Isolated, IsSeen, SharesNoName, IsShared};
 ghost use Rattle.virtiofs_map.specs.Steps.{CountsBetween};
 ghost use Rattle.virtiofs_map.specs.declared.audit.answer.Audit.TheVariants.{Yes};
 
 mod added;
 mod answer;
+mod asking;
 mod candidates;
 mod deciding;
 mod gathered;
 mod least;
-pub mod lent;
 mod ordered;
 mod questions;
 mod reach;
@@ -53,6 +51,7 @@ mod terminated;
 use crate::steps::Steps;
 use crate::xattrmap::{Side, XattrMap, XattrName};
 pub use answer::Audit;
+pub use asking::{NameFault, ask};
 use candidates::try_guest_names;
 use least::Tried;
 use questions::{Asked, Question};
@@ -130,7 +129,8 @@ pub fn keeps_apart<A: Allocator + Copy>(
     // The answer is Yes if and only if the guests are isolated.
     ensures isolated { IfOk result (λ audit. (audit ≡ Yes) ↔ Isolated r.now q.now) }
 {
-    lent::keeps_apart(alloc, r.as_ref(), q.as_ref())
+    let all = XattrName { bytes: &[] };
+    ask(alloc, NameFault::Seen, r.as_ref(), q.as_ref(), all)
 }
 
 /// `Yes` if there is no non-empty host name that both guests reach, the one with the first map
@@ -158,7 +158,8 @@ pub fn shares_no_name<A: Allocator + Copy>(
     // The other way round it is the same.
     ensures both_ways { IfOk result (λ audit. (audit ≡ Yes) ↔ SharesNoName q.now r.now) }
 {
-    lent::shares_no_name(alloc, r.as_ref(), q.as_ref())
+    let all = XattrName { bytes: &[] };
+    ask(alloc, NameFault::Shared, r.as_ref(), q.as_ref(), all)
 }
 
 /// For each non-empty host name H that is listed to the guest under a name N: does N pass as H?
@@ -177,76 +178,6 @@ pub fn audit_listed<A: Allocator + Copy>(
     ensures answer { IfOk result (AnswersLeast (IsStray map.now)) }
     ensures opens { IfOk result (λ audit. (audit ≡ Yes) ↔ OpensListed map.now) }
 {
-    lent::audit_listed(alloc, map.as_ref())
-}
-
-/// The question of [`audit`] about the names alone that begin with these bytes: whether each of them
-/// that passes is listed back. `No` has the least name that begins so, passes and is not listed
-/// back. So `user.` as the beginning gives a name that a person can use, where the least name of all
-/// is one byte that nobody writes.
-///
-/// # Errors
-///
-/// `AllocError`: a request for memory was refused.
-pub fn audit_within<A: Allocator + Copy>(
-    alloc: A,
-    map: &XattrMap<A>,
-    beginning: XattrName<'_>,
-) -> Result<Audit<A>, AllocError>
-    ensures { IfOk result (AnswersLeast (Within beginning.entry.bytes.now (IsLost map.now))) }
-{
-    lent::audit_within(alloc, map.as_ref(), beginning)
-}
-
-/// The question of [`keeps_apart`] about the names of the first map alone that begin with these
-/// bytes. `No` has the least name that begins so and passes as a non-empty host name which the second
-/// map does not hide.
-///
-/// # Errors
-///
-/// `AllocError`: a request for memory was refused.
-pub fn keeps_apart_within<A: Allocator + Copy>(
-    alloc: A,
-    r: &XattrMap<A>,
-    q: &XattrMap<A>,
-    beginning: XattrName<'_>,
-) -> Result<Audit<A>, AllocError>
-    ensures { IfOk result (AnswersLeast (Within beginning.entry.bytes.now (IsSeen r.now q.now))) }
-{
-    lent::keeps_apart_within(alloc, r.as_ref(), q.as_ref(), beginning)
-}
-
-/// The question of [`shares_no_name`] about the names of the first map alone that begin with these
-/// bytes. `No` has the least name that begins so and passes as a non-empty host name which the second
-/// map reaches too.
-///
-/// # Errors
-///
-/// `AllocError`: a request for memory was refused.
-pub fn shares_no_name_within<A: Allocator + Copy>(
-    alloc: A,
-    r: &XattrMap<A>,
-    q: &XattrMap<A>,
-    beginning: XattrName<'_>,
-) -> Result<Audit<A>, AllocError>
-    ensures { IfOk result (AnswersLeast (Within beginning.entry.bytes.now (IsShared r.now q.now))) }
-{
-    lent::shares_no_name_within(alloc, r.as_ref(), q.as_ref(), beginning)
-}
-
-/// The question of [`audit_listed`] about the names of the host alone that begin with these bytes.
-/// `No` has the least name of the host that begins so, is listed, and is not opened by the name under
-/// which it is listed.
-///
-/// # Errors
-///
-/// `AllocError`: a request for memory was refused.
-pub fn audit_listed_within<A: Allocator + Copy>(
-    alloc: A,
-    map: &XattrMap<A>,
-    beginning: XattrName<'_>,
-) -> Result<Audit<A>, AllocError>
-    ensures { IfOk result (AnswersLeast (Within beginning.entry.bytes.now (IsStray map.now))) }
-{
-    lent::audit_listed_within(alloc, map.as_ref(), beginning)
+    let (map, all) = (map.as_ref(), XattrName { bytes: &[] });
+    ask(alloc, NameFault::Stray, map, map, all)
 }

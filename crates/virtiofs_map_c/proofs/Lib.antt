@@ -1,6 +1,4 @@
 mod ArraysLemmas
-mod EscapedLemmas
-mod FaultTextLemmas
 mod FirstLemmas
 mod FrontLemmas
 mod IdsFoundLemmas

@@ -1,11 +1,12 @@
 -- What is decided of a name is what becomes of it.
-use Rattle.std.proofs.Common.{◌≡◌, ◌≢◌, inl, inr, ℕ, Bool, List, ◌++◌, length, Option, Some, None, IsSomeAnd, IfOk}
+use Rattle.std.proofs.Common.{◌≡◌, ◌≢◌, inl, inr, ℕ, Bool, List, [], ◌++◌, length, Option, Some, None, IsSomeAnd, IfOk}
 use Rattle.std.proofs.Common.{MatchResult, Result, Ok, Err, refl, sym, subst, ap, arith, ◌∙◌, ◌<◌, drop}
 use Rattle.std.proofs.lemmas.Bool.{cases_lt}
 use Rattle.std.specs.Global.{Global}
 use Rattle.std.specs.Option.{option_map, option_map_or}
-use Rattle.virtiofs_map.specs.Audit.{AnswersLeast}
+use Rattle.virtiofs_map.specs.Audit.{AnswersLeast, Within}
 use Rattle.virtiofs_map.specs.declared.audit.answer.Audit.{Audit}
+use Rattle.virtiofs_map.specs.declared.audit.answer.Audit.TheVariants.{Yes, No}
 use Rattle.virtiofs_map.specs.LookupAnswers.{IsDecidedBy}
 use Rattle.virtiofs_map.specs.Names.{ClientAnswer, IsUnterminated, answer_by, client_answer, deciding}
 use Rattle.virtiofs_map.specs.NamesImage.{Says, WritesList}
@@ -143,11 +144,20 @@ no_room_told answer old count new (list, is, same, short) =
 
 -- ---- audits
 
+-- all names begin with no bytes
+of_all : {A : Type 0} (bad : List ℕ → Type 0) (audit : Audit A) → AnswersLeast (Within [] bad) audit
+    → AnswersLeast bad audit
+of_all bad Yes none = λ name is. none name (record { is_bad = is; front = refl })
+of_all bad (No name) least = record {
+  is_bad = least.is_bad.is_bad;
+  none_before = λ other is before. least.none_before other (record { is_bad = is; front = refl }) before;
+}
+
 -- what an audit found is the least name that is bad
 pub audit_told : {E : Type 0} (bad : List ℕ → Type 0) (found : Result (Audit Global) E) (old : List ℕ) (code : ℕ)
     (all : Bool) (len : ℕ) (new : List ℕ)
-    → IfOk found (AnswersLeast bad)
+    → IfOk found (AnswersLeast (Within [] bad))
     → MatchResult found (λ audit. TellsFound audit old code all len new) (λ _. TellsNo no_memory old code all len new)
     → TellsLeast bad old code all len new
-audit_told bad (Ok audit) old code all len new least tells = inl (audit, least, tells)
+audit_told bad (Ok audit) old code all len new least tells = inl (audit, of_all bad audit least, tells)
 audit_told bad (Err error) old code all len new least tells = inr tells

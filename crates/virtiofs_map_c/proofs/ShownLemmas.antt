@@ -1,52 +1,17 @@
 -- The list that a daemon hands on, name by name.
-use Rattle.std.proofs.Common.{◌≡◌, ℕ, zero, suc, ◌+◌, ◌<◌, ◌≤◌, Bool, true, false, not, eqb, ◌&&◌, if◌then◌else◌}
-use Rattle.std.proofs.Common.{List, [], ◌∷◌, ◌++◌, length, drop, Some, None, inl, inr, refl, sym, ap}
-use Rattle.std.proofs.Common.{◌∙◌, arith, append-nil, length-append, filter}
-use Rattle.std.specs.List.{slice_split, position_or_len, before_first, after_first, list_all, flat_map}
+use Rattle.std.proofs.Common.{◌≡◌, ℕ, ◌+◌, ◌<◌, ◌≤◌, Bool, true, false, ◌&&◌, if◌then◌else◌, List, [], ◌∷◌, ◌++◌, length}
+use Rattle.std.proofs.Common.{drop, Some, None, inl, inr, refl, sym, ap, ◌∙◌, arith, append-nil, length-append}
+use Rattle.std.specs.List.{list_all, flat_map}
 use Rattle.std.specs.Borrow.{Bor}
-use Rattle.std.proofs.lemmas.Bool.{cases_lt}
 use Rattle.std.proofs.lemmas.Bool.Decides.{nat_tests}
-use Rattle.std.proofs.lemmas.List.{take_all, drop_all, append_assoc}
-use Rattle.std.proofs.lemmas.List.Splits.{slice_split_first, slice_split_none}
-use Rattle.std.proofs.lemmas.List.Sums.{fails_before_first}
-use Rattle.std.proofs.lemmas.List.Elements.{All-from_get_or, filter-append}
+use Rattle.std.proofs.lemmas.List.{append_assoc}
 use Rattle.virtiofs_map.specs.Names.{HostAnswer, IsListed, IsHidden, IsUndecided, is_decided, names}
+use Rattle.virtiofs_map.specs.NamesImageParts.{Holds}
 use Rattle.virtiofs_map.specs.Rule.{MappingRule}
-use Rattle.virtiofs_map_c.specs.Shown.{Holds, IsFirstShown, IsShownAs, part_of, shown_as, shown_list}
+use Rattle.virtiofs_map.proofs.ForCallers.{IsCut, is_name, names_step_name, names_step_none}
+use Rattle.virtiofs_map_c.specs.Shown.{IsFirstShown, IsShownAs, part_of, shown_as, shown_list}
 use Rattle.virtiofs_map_c.specs.declared.names.shown.Shown.{Shown}
 use Rattle.virtiofs_map_c.specs.declared.names.shown.Shown.TheVariants as seen
-
-abbrev is_zero : ℕ → Bool
-is_zero byte = eqb byte 0
-
-abbrev is_name : List ℕ → Bool
-is_name part = not (eqb (length part) 0)
-
--- ---- the names of a list
-
-parts_none : (list : List ℕ) → length list ≤ position_or_len is_zero list → slice_split is_zero list ≡ list ∷ []
-parts_none list l =
-    slice_split_none is_zero list
-    (All-from_get_or (λ x. is_zero x ≡ false) list 0 (λ i h. fails_before_first is_zero list i 0 (omega arith)))
-
--- the first name of a list, if it is one, and then the names of the rest
-names_step : (list : List ℕ)
-    → names list ≡ filter is_name (before_first is_zero list ∷ []) ++ names (after_first is_zero list)
-names_step list =
-    elim (cases_lt (position_or_len is_zero list) (length list)) [
-      | inl l ↦ ap (filter is_name) (slice_split_first is_zero list 0 l)
-          ∙ filter-append is_name (before_first is_zero list ∷ []) (slice_split is_zero (after_first is_zero list))
-      | inr l ↦ ap (filter is_name) (parts_none list l) ∙ alone list l
-    ] where
-      alone : (list : List ℕ) → length list ≤ position_or_len is_zero list
-          → filter is_name (list ∷ []) ≡ filter is_name (before_first is_zero list ∷ [])
-          ++ names (after_first is_zero list)
-      alone list l =
-          rw (
-            take_all (position_or_len is_zero list) list l,
-            drop_all (position_or_len is_zero list + 1) list (omega arith),
-          )
-          (sym (append-nil (filter is_name (list ∷ []))))
 
 is_some : (name : List ℕ) → 0 < length name → is_name name ≡ true
 is_some name some = grind (arith, nat_tests, some)
@@ -54,17 +19,13 @@ is_some name some = grind (arith, nat_tests, some)
 is_none : (name : List ℕ) → length name ≡ 0 → is_name name ≡ false
 is_none name none = grind (arith, nat_tests, none)
 
-module _ (rules : List MappingRule) (list name rest : List ℕ) (before : name ≡ before_first is_zero list)
-    (after : rest ≡ after_first is_zero list) where
-  step : names list ≡ filter is_name (name ∷ []) ++ names rest
-  step = names_step list ∙ rw (← before, ← after) refl
-
+module _ (rules : List MappingRule) (list name rest : List ℕ) (cut : IsCut list name rest) where
   pub no_name : length name ≡ 0 → IsFirstShown rules list seen.Hidden rest
-  no_name none = inl (step ∙ rw (is_none name none) refl, refl)
+  no_name none = inl (names_step_none list name rest cut (is_none name none), refl)
 
   pub first_name : (shown : Shown) → 0 < length name → IsShownAs (shown_as rules name) shown
       → IsFirstShown rules list shown rest
-  first_name shown some is = inr (name, step ∙ rw (is_some name some) refl, is)
+  first_name shown some is = inr (name, names_step_name list name rest cut (is_some name some), is)
 
 -- ---- what becomes of them
 
@@ -206,23 +167,3 @@ module _ (rules : List MappingRule) (list rest : List ℕ) (count : ℕ) (old ne
       → (told : List ℕ) × (shown_list rules list ≡ Some told) × (count ≡ length told) × (length old < count)
   too_long long =
       (so_far.so_far, answer, so_far.counted, omega (arith, long, so_far.holds.same))
-
--- ---- how long it is
-
--- a name more, of a list with so many bytes left
-pub short_more : (count left rest list shown next : ℕ) → next ≡ count + shown + 1 → 0 < rest
-    → (0 < rest → count + rest ≤ list) → shown + left ≤ rest → (0 < left → shown + left < rest)
-    → next + left ≤ list + 1
-short_more count zero rest list shown next is some room within apart =
-    let b = room some in omega (arith, is, within, b)
-short_more count (suc left) rest list shown next is some room within apart =
-    let a = apart (omega arith) in
-    let b = room some in
-    omega (arith, is, a, b)
-
-pub shorter_more : (count left rest list shown next : ℕ) → next ≡ count + shown + 1 → 0 < rest
-    → (0 < rest → count + rest ≤ list) → (0 < left → shown + left < rest) → 0 < left → next + left ≤ list
-shorter_more count left rest list shown next is some room apart more =
-    let a = apart more in
-    let b = room some in
-    omega (arith, is, a, b)

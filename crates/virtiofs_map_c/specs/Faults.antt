@@ -67,36 +67,13 @@ number_kind Zero = 2
 -- what is told of a list of which no map is made
 abbrev pub build_told : BuildFault → Fault
 build_told (RangeOverflow spec index direction range_end) =
-    record {
-      kind = 4;
-      part = specification;
+    record (told_at 4 specification index 0 0) {
       direction = direction_number direction;
-      end =
-          end_number range_end;
-      number = 0;
-      place = index;
-      expected = 0;
-      seen = 0;
-      quoted = 0;
-      wanted = 0;
-      spec =
-          spec_as_c spec;
-    }
-build_told (Intersects spec index direction) =
-    record {
-      kind = 5;
-      part = specification;
-      direction = direction_number direction;
-      end = 0;
-      number = 0;
-      place =
-          index;
-      expected = 0;
-      seen = 0;
-      quoted = 0;
-      wanted = 0;
+      end = end_number range_end;
       spec = spec_as_c spec;
     }
+build_told (Intersects spec index direction) =
+    record (told_at 5 specification index 0 0) { direction = direction_number direction; spec = spec_as_c spec }
 
 -- what is told of an array; where there is no fault, that memory ran out
 abbrev pub array_told : Option ArrayFault → Fault

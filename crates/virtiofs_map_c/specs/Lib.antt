@@ -1,9 +1,7 @@
 pub mod Arrays
 pub mod Codes
-pub mod Escaped
-pub mod FaultText
 pub mod Faults
-pub mod FrontParts
+pub mod Front
 pub mod Ids
 pub mod IdsFound
 pub mod Makes

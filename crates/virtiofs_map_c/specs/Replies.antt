@@ -1,7 +1,7 @@
 -- How an answer in bytes comes to the caller's buffer.
 use Rattle.std.specs.Prelude.{◌≡◌, ℕ, ◌<◌, ◌≤◌, min, nat_lt, if◌then◌else◌, List, ◌++◌, length, take, drop}
 use Rattle.virtiofs_map_c.specs.Codes.{ok, no_room}
-use Rattle.virtiofs_map_c.specs.FrontParts.{cut_text}
+use Rattle.virtiofs_map_c.specs.Front.{cut_text}
 
 -- The length is told. Where the bytes fit they are the beginning of the buffer, and the rest of it is as it was; else
 -- all of it is as it was.

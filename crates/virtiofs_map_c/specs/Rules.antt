@@ -47,9 +47,7 @@ rule_kind (NulInPattern Prepend) = 18
 abbrev pub rule_quoted : RuleFault → List ℕ
 rule_quoted (InvalidScope got expected) = encode_utf8_all got
 rule_quoted (InvalidType got expected) = encode_utf8_all got
-rule_quoted IncompleteRule = []
-rule_quoted MapRuleViolation = []
-rule_quoted (NulInPattern field) = []
+rule_quoted other = []
 
 -- what is told of what is wrong with a text of rules, or of out of memory, where there is room for that many bytes
 abbrev pub bytes_told : ℕ → Option BytesFault → Fault
@@ -62,11 +60,8 @@ bytes_told room (Some (OfRules NotOfText)) = no_fault
 
 -- what is quoted of a text of rules at fault
 abbrev pub bytes_quoted : Option BytesFault → List ℕ
-bytes_quoted None = []
-bytes_quoted (Some NotUtf8) = []
-bytes_quoted (Some (OfRules NoRules)) = []
 bytes_quoted (Some (OfRules (InRule k fault))) = rule_quoted fault
-bytes_quoted (Some (OfRules NotOfText)) = []
+bytes_quoted other = []
 
 -- what is wrong with a text of rules, or out of memory, is told and quoted
 pub record IsBytesTold (code : ℕ) (told : Fault) (old new : List ℕ) (fault : Option BytesFault) : Type 0 where

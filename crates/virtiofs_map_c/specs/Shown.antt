@@ -1,5 +1,5 @@
 -- What the guest sees of the host's names: under which name, and in a list that a daemon hands on.
-use Rattle.std.specs.Prelude.{◌≡◌, ◌⊎◌, ℕ, ◌≤◌, if◌then◌else◌, List, [], ◌∷◌, ◌++◌, length, drop, Option, Some, None}
+use Rattle.std.specs.Prelude.{◌≡◌, ◌⊎◌, ℕ, if◌then◌else◌, List, [], ◌∷◌, ◌++◌, length, Option, Some, None}
 use Rattle.std.specs.List.{list_all, flat_map}
 use Rattle.virtiofs_map.specs.Names.{HostAnswer, IsListed, IsHidden, IsUndecided, host_answer, is_decided, names}
 use Rattle.virtiofs_map.specs.Rule.{MappingRule}
@@ -65,9 +65,3 @@ abbrev pub IsFirstShown : List MappingRule → List ℕ → Shown → List ℕ �
 IsFirstShown rules list shown rest =
     ((names list ≡ names rest) × (shown ≡ seen.Hidden))
     ⊎ ((name : List ℕ) × (names list ≡ name ∷ names rest) × IsShownAs (shown_as rules name) shown)
-
--- the buffer begins with what was written so far, and the rest of it is as it was; where there was no room for all of
--- it, it may hold anything
-pub record Holds (so_far old new : List ℕ) : Type 0 where
-  pub same : length new ≡ length old
-  pub are : length so_far ≤ length old → new ≡ so_far ++ drop (length so_far) old

@@ -1,6 +1,5 @@
 -- What C passes as a map: all numbers of one, and no more.
 use Rattle.std.specs.Prelude.{◌≡◌, ◌⊎◌, ℕ, ◌+◌, ◌*◌, List, [], ◌∷◌, length, slice_index}
-use Rattle.virtiofs_map.specs.Image.{HasKind}
 use Rattle.virtiofs_map.specs.Image as ids
 use Rattle.virtiofs_map.specs.NamesImage.{IsNoImage, part_end}
 use Rattle.virtiofs_map.specs.NamesImage as names
@@ -9,31 +8,31 @@ use Rattle.virtiofs_map.specs.declared.cmdline.IdMap.{IdMap as Specification}
 
 -- ---- of ids
 
--- there are as many words as the second and the third one say: three, and four for each range
+-- there are as many words as the second and the third one say: four, and four for each range
 abbrev pub AreAllWords : List ℕ → Type 0
-AreAllWords words = length words ≡ 3 + 4 * slice_index words 1 + 4 * slice_index words 2
+AreAllWords words = length words ≡ 4 + 4 * slice_index words 1 + 4 * slice_index words 2
 
 -- the words are the image of a map of the specifications, and nothing stands behind it
 pub record IsIdMap (specs : List Specification) (words : List ℕ) : Type 0 where
   pub image : ids.IsImage specs words
   pub all : AreAllWords words
 
--- the words do not begin as a map does, or are not as many as they say
+-- the words do not begin and end as a map does, or are not as many as they say
 abbrev pub IsNoIdMap : List ℕ → Type 0
-IsNoIdMap words = (¬ HasKind words) ⊎ (¬ AreAllWords words)
+IsNoIdMap words = ids.IsNoImage words ⊎ (¬ AreAllWords words)
 
 -- ---- of names
 
--- there are as many bytes as the sixth number of eight bytes says
+-- there are as many bytes as the sixth number of eight bytes says, and eight more
 abbrev pub AreAllBytes : List ℕ → Type 0
-AreAllBytes bytes = length bytes ≡ part_end bytes 3
+AreAllBytes bytes = length bytes ≡ part_end bytes 3 + 8
 
 -- the bytes are the image of a map of the rules, and nothing stands behind it
 pub record IsNameMap (rules : List MappingRule) (bytes : List ℕ) : Type 0 where
   pub image : names.IsImage rules bytes
   pub all : AreAllBytes bytes
 
--- the bytes do not begin as a map does, or are not as many as they say
+-- the bytes do not begin and end as a map does, or are not as many as they say
 abbrev pub IsNoNameMap : List ℕ → Type 0
 IsNoNameMap bytes = IsNoImage bytes ⊎ (¬ AreAllBytes bytes)
 

@@ -1,6 +1,6 @@
 //! Bytes, as C lends them.
-ghost use Rattle.std.specs.List.{before_first, after_first};
-ghost use Rattle.std.specs.Prelude.{◌≡◌, ◌==◌, ◌+◌, ◌<◌, ◌≤◌, List, length, position, IsTrue};
+ghost use Rattle.std.specs.List.{before_first};
+ghost use Rattle.std.specs.Prelude.{◌≡◌, ◌==◌, ◌+◌, ◌≤◌, List, length, position, IsTrue};
 ghost use Rattle.virtiofs_map.specs.LeU64Parts.{le_u64_at};
 ghost use Rattle.virtiofs_map.specs.NamesImage.{IsImage, IsNoImage};
 ghost use Rattle.virtiofs_map.specs.Rule.{MappingRule};
@@ -44,7 +44,7 @@ pub fn are_all(bytes: &[u8]) -> bool
     ensures yes { IsTrue result → AreAllBytes bytes.now }
     ensures all { 72 ≤ length bytes.now → AreAllBytes bytes.now → IsTrue result }
 {
-    bytes.len() >= 72 && le_u64_at(bytes, 40) == bytes.len() as u64
+    bytes.len() >= 72 && le_u64_at(bytes, 40) == bytes.len() as u64 - 8
 }
 
 /// The bytes, where they are as many as they say, and else none: then no call takes them for a map.
@@ -84,20 +84,5 @@ pub fn before_zero(bytes: &[u8]) -> &[u8]
     match first_zero(bytes) {
         Some(end) => &bytes[..end],
         None => bytes,
-    }
-}
-
-/// The first name of a list, up to a zero or to the end, and the rest of the list after that zero.
-pub fn cut_name(list: &[u8]) -> (&[u8], &[u8])
-    ensures name { result.0.now ≡ before_first (λ byte. byte == 0) list.now }
-    ensures rest { result.1.now ≡ after_first (λ byte. byte == 0) list.now }
-    ensures shorter { 0 < length list.now → length result.1.now < length list.now }
-    ensures within { length result.0.now + length result.1.now ≤ length list.now }
-    ensures zero { 0 < length result.1.now
-        → length result.0.now + length result.1.now < length list.now }
-{
-    match first_zero(list) {
-        Some(end) => (&list[..end], &list[end + 1..]),
-        None => (list, &[]),
     }
 }

@@ -30,7 +30,7 @@ use virtiofs_map::soft_idmap::{Direction, IdMapBuildError};
 /// How many words the map of that many specifications has at most.
 #[unsafe(no_mangle)]
 pub extern "C" fn virtiofs_map_ids_bound(count: usize) -> usize
-    ensures { result ≡ min (3 + 8 * count) 18446744073709551615 }
+    ensures { result ≡ min (4 + 8 * count) 18446744073709551615 }
 {
     most_words(count)
 }
@@ -43,7 +43,7 @@ fn make(
     wanted: &mut usize,
 ) -> Result<u32, IdMapBuildError>
     ensures made { IfOk result (λ code. TellsImage list.now words.old code wanted.new words.new) }
-    ensures bound { IfOk result (λ _. wanted.new ≤ 3 + 8 * length list.now) }
+    ensures bound { IfOk result (λ _. wanted.new ≤ 4 + 8 * length list.now) }
     ensures refused { IfErr result (λ e.
         OutOfMemoryOr (build_fault_of e) (HasFirstFault list.now)) }
     ensures keeps { OnErr result (words.new ≡ words.old) }
@@ -67,7 +67,7 @@ fn make_of_array(
 ) -> Result<u32, ArrayError>
     ensures made { IfOk result (λ code. (list : List Specification) × AreSaid specs.now list
         × TellsImage list words.old code wanted.new words.new) }
-    ensures bound { IfOk result (λ _. wanted.new ≤ 3 + 8 * length specs.now) }
+    ensures bound { IfOk result (λ _. wanted.new ≤ 4 + 8 * length specs.now) }
     ensures refused { IfErr result (λ e.
         OutOfMemoryOr (array_fault_of e) (HasArrayFault specs.now)) }
     ensures keeps { OnErr result (words.new ≡ words.old) }
@@ -89,7 +89,7 @@ pub extern "C" fn virtiofs_map_ids_make(
     ensures made { IsAnswered result → (list : List Specification) × AreSaid specs.now list
         × TellsImage list words.old result wanted.new words.new }
     ensures no_fault { IsAnswered result → fault.new ≡ no_fault }
-    ensures bound { wanted.new ≤ 3 + 8 * length specs.now }
+    ensures bound { wanted.new ≤ 4 + 8 * length specs.now }
     ensures keeps { (¬ IsAnswered result) → (wanted.new ≡ 0) × (words.new ≡ cleared words.old) }
     ensures refused { (¬ IsAnswered result) →
         TellsFault (HasArrayFault specs.now) (IsArrayTold result fault.new) }
@@ -120,7 +120,7 @@ fn make_of_texts(
 ) -> Result<u32, TextsError>
     ensures made { IfOk result (λ code. (list : List Specification) × AllSaySpecs texts.now list
         × TellsImage list words.old code wanted.new words.new) }
-    ensures bound { IfOk result (λ _. wanted.new ≤ 3 + 8 * length texts.now) }
+    ensures bound { IfOk result (λ _. wanted.new ≤ 4 + 8 * length texts.now) }
     ensures refused { IfErr result (λ e.
         OutOfMemoryOr (texts_fault_of e) (HasTextsFault texts.now)) }
     ensures explained { IfErr result (λ e.
@@ -146,7 +146,7 @@ pub extern "C" fn virtiofs_map_ids_make_texts(
         × TellsImage list words.old result wanted.new words.new }
     ensures no_fault { IsAnswered result → fault.new ≡ no_fault }
     ensures unquoted { IsAnswered result → quoted.new ≡ quoted.old }
-    ensures bound { wanted.new ≤ 3 + 8 * length texts.now }
+    ensures bound { wanted.new ≤ 4 + 8 * length texts.now }
     ensures keeps { (¬ IsAnswered result) → (wanted.new ≡ 0) × (words.new ≡ cleared words.old) }
     ensures refused { (¬ IsAnswered result) →
         TellsFault (HasTextsFault texts.now)

@@ -1,7 +1,7 @@
 //! Maps of attribute names, in the caller's bytes.
 ghost use Rattle.std.specs.List.{before_first};
 ghost use Rattle.std.specs.Prelude.{◌≡◌, ◌≢◌, ◌==◌, ◌↔◌, ◌≤◌, ◌+◌, ◌*◌, ℕ, List, length, IsTrue, false, min};
-ghost use Rattle.virtiofs_map.specs.Audit.{IsLost, IsStray, IsSeen, IsShared, Terminated};
+ghost use Rattle.virtiofs_map.specs.Audit.{HasFault, IsLost, IsStray, IsSeen, IsShared, Terminated};
 ghost use Rattle.virtiofs_map.specs.LookupAnswers.{IsDecidedBy};
 ghost use Rattle.virtiofs_map.specs.Names.{server_answer};
 ghost use Rattle.virtiofs_map.specs.NamesImage.{image_length};
@@ -27,9 +27,9 @@ use lookups::{tell, tell_client, tell_list, tell_none};
 use made::{made, tell_of_rules};
 use shown::{Shown, seen, write_shown};
 use std::alloc::Global;
-use virtiofs_map::audit::lent::{audit, audit_listed, keeps_apart, shares_no_name};
+use virtiofs_map::audit::{NameFault, ask};
 use virtiofs_map::xattrmap::image::{decide, is_terminated, most_bytes, write_list};
-use virtiofs_map::xattrmap::{Side, XattrMapRef};
+use virtiofs_map::xattrmap::{Side, XattrMapRef, XattrName};
 
 /// How many bytes the map of a text of that length has at most.
 #[unsafe(no_mangle)]
@@ -179,6 +179,34 @@ pub extern "C" fn virtiofs_map_names_is_terminated(bytes: &[u8], all: &mut bool)
     }
 }
 
+/// Asks whether a name has a fault under a first map, where another guest has the second.
+fn ask_all(
+    alloc: Global,
+    fault: NameFault,
+    first: &[u8],
+    second: &[u8],
+    all: &mut bool,
+    out: &mut [u8],
+    len: &mut usize,
+) -> u32
+    ensures answer { (rules others : List MappingRule) → IsNameMap rules first.now
+        → IsNameMap others second.now
+        → TellsLeast (HasFault fault rules others) out.old result all.new len.new out.new }
+    ensures no_map { IsNoNameMap first.now
+        → TellsNo no_map out.old result all.new len.new out.new }
+    ensures no_other { IsNoNameMap second.now
+        → TellsNo no_map out.old result all.new len.new out.new }
+{
+    let Some(one) = XattrMapRef::of(all_of(first)) else {
+        return tell_none(NO_MAP, all, len);
+    };
+    let Some(other) = XattrMapRef::of(all_of(second)) else {
+        return tell_none(NO_MAP, all, len);
+    };
+    let beginning = XattrName { bytes: &[] };
+    tell(ask(alloc, fault, one, other, beginning), all, out, len)
+}
+
 /// Whether each name that passes is listed back.
 #[unsafe(no_mangle)]
 pub extern "C" fn virtiofs_map_names_audit(
@@ -192,10 +220,7 @@ pub extern "C" fn virtiofs_map_names_audit(
         → TellsLeast (IsLost rules) out.old result all.new len.new out.new }
     ensures no_map { IsNoNameMap bytes.now → TellsNo no_map out.old result all.new len.new out.new }
 {
-    match XattrMapRef::of(all_of(bytes)) {
-        Some(map) => tell(audit(alloc, map), all, out, len),
-        None => tell_none(NO_MAP, all, len),
-    }
+    ask_all(alloc, NameFault::Lost, bytes, bytes, all, out, len)
 }
 
 /// Whether each name of the host that is listed is opened by the name under which it is listed.
@@ -211,10 +236,7 @@ pub extern "C" fn virtiofs_map_names_audit_listed(
         → TellsLeast (IsStray rules) out.old result all.new len.new out.new }
     ensures no_map { IsNoNameMap bytes.now → TellsNo no_map out.old result all.new len.new out.new }
 {
-    match XattrMapRef::of(all_of(bytes)) {
-        Some(map) => tell(audit_listed(alloc, map), all, out, len),
-        None => tell_none(NO_MAP, all, len),
-    }
+    ask_all(alloc, NameFault::Stray, bytes, bytes, all, out, len)
 }
 
 /// Whether the second map hides every name of the host that a guest with the first map can reach.
@@ -234,13 +256,7 @@ pub extern "C" fn virtiofs_map_names_keeps_apart(
     ensures no_other { IsNoNameMap second.now
         → TellsNo no_map out.old result all.new len.new out.new }
 {
-    match (
-        XattrMapRef::of(all_of(first)),
-        XattrMapRef::of(all_of(second)),
-    ) {
-        (Some(one), Some(other)) => tell(keeps_apart(alloc, one, other), all, out, len),
-        _ => tell_none(NO_MAP, all, len),
-    }
+    ask_all(alloc, NameFault::Seen, first, second, all, out, len)
 }
 
 /// Whether no name of the host is reached by a guest with the first map and by one with the second.
@@ -260,11 +276,5 @@ pub extern "C" fn virtiofs_map_names_shares_no_name(
     ensures no_other { IsNoNameMap second.now
         → TellsNo no_map out.old result all.new len.new out.new }
 {
-    match (
-        XattrMapRef::of(all_of(first)),
-        XattrMapRef::of(all_of(second)),
-    ) {
-        (Some(one), Some(other)) => tell(shares_no_name(alloc, one, other), all, out, len),
-        _ => tell_none(NO_MAP, all, len),
-    }
+    ask_all(alloc, NameFault::Shared, first, second, all, out, len)
 }

@@ -1,6 +1,6 @@
 //! The words of a map, as C lends them.
 ghost use Rattle.std.specs.Prelude.{◌≡◌, ◌↔◌, List, IsTrue};
-ghost use Rattle.virtiofs_map.specs.Image.{HasKind, IsImage};
+ghost use Rattle.virtiofs_map.specs.Image.{IsImage, IsNoImage};
 ghost use Rattle.virtiofs_map.specs.declared.cmdline.IdMap.{IdMap as Specification};
 ghost use Rattle.virtiofs_map_c.specs.Wholes.{AreAllWords, IsIdMap, IsNoIdMap, cleared};
 
@@ -20,7 +20,7 @@ pub struct Words<'w> {
 pub fn are_all(words: &[u32]) -> bool
     ensures { IsTrue result ↔ AreAllWords words.now }
 {
-    words.len() >= 3 && words.len() == 3 + 4 * (words[1] as usize + words[2] as usize)
+    words.len() >= 4 && words.len() == 4 + 4 * (words[1] as usize + words[2] as usize)
 }
 
 /// The words, where they are as many as they say, and else none: then no call takes them for a map.
@@ -28,7 +28,7 @@ pub fn are_all(words: &[u32]) -> bool
 pub fn all_of(words: &[u32]) -> &[u32]
     ensures map { (specs : List Specification) → IsIdMap specs words.now
         → IsImage specs result.now }
-    ensures no_map { IsNoIdMap words.now → ¬ HasKind result.now }
+    ensures no_map { IsNoIdMap words.now → IsNoImage result.now }
 {
     if are_all(words) { words } else { &[] }
 }

@@ -49,8 +49,8 @@ fault_in of_daemon processes i process (NotText pid) before after inside here fi
     fault_at of_daemon processes i process (NotText pid) before after inside here first is
 fault_in of_daemon processes i process (NoDaemon pid) before after inside here first is =
     fault_at of_daemon processes i process (NoDaemon pid) before after inside here first is
-fault_in of_daemon processes i process (Words fault) before after inside here first is =
-    fault_at of_daemon processes i process (Words fault) before after inside here first is
+fault_in of_daemon processes i process (Words pid fault) before after inside here first is =
+    fault_at of_daemon processes i process (Words pid fault) before after inside here first is
 
 -- one more process
 pub adds_more : (of_daemon : Options) (processes : List HostProcess) (process : HostProcess)

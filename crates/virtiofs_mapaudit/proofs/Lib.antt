@@ -1,1 +1,2 @@
 mod EveryoneLemmas
+mod RunningLemmas

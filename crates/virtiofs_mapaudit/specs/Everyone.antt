@@ -54,8 +54,9 @@ IsProcessFault of_daemon process (NotText pid) =
 IsProcessFault of_daemon process (NoDaemon pid) =
     (pid ≡ process.pid) × ((words : List (Bor (List ℕ))) × HasWords process words
     × options.IsProcess of_daemon 1 words process_is.NoDaemon)
-IsProcessFault of_daemon process (Words fault) =
-    (words : List (Bor (List ℕ))) × HasWords process words × options.IsProcessFault of_daemon words fault
+IsProcessFault of_daemon process (Words pid fault) =
+    (pid ≡ process.pid) × ((words : List (Bor (List ℕ))) × HasWords process words
+    × options.IsProcessFault of_daemon words fault)
 IsProcessFault of_daemon process OutOfMemory = ⊤
 
 -- the guest of a process was added

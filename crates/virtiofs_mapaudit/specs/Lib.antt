@@ -1,2 +1,4 @@
 pub mod Answers
 pub mod Everyone
+pub mod Running
+pub mod Whole

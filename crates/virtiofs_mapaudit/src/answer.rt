@@ -37,8 +37,9 @@ pub(crate) struct Answer {
     /// The lines that are to be written to standard error: guest by guest, the first fault of each
     /// option that is refused.
     pub(crate) refusals: Vec<String>,
-    /// Further such lines: where options alone are written, what guests lose by them.
-    pub(crate) losses: Vec<String>,
+    /// Further such lines: where options alone are written, what guests lose by them; and then what is
+    /// not known of command lines.
+    pub(crate) further: Vec<String>,
     /// How the program ends where all of it is written.
     pub(crate) outcome: Answered,
 }
@@ -184,7 +185,7 @@ fn answer_with<'r>(
     let outcome = outcome_of(request, &report);
     let text = text_of(alloc, request, guests, &report)?;
     let refusals = refusal_lines(alloc, report.all.refusals.as_slice())?;
-    let losses = match &report.advised {
+    let further = match &report.advised {
         Some(advised) if request.front.mend => {
             loss_lines(alloc, report.all.sets.as_slice(), advised.sets.as_slice())?
         }
@@ -193,7 +194,7 @@ fn answer_with<'r>(
     Ok(Answer {
         text,
         refusals,
-        losses,
+        further,
         outcome,
     })
 }

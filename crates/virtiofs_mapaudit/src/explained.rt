@@ -158,7 +158,7 @@ fn push_ways(
     if let (Direction::GuestToHost, Some(id)) = (direction, ways.there.specs.becomes)
         && id == u32::MAX
     {
-        return text.push_str("    calls fail\n");
+        return text.push_str("    virtiofsd acts as itself\n");
     }
     push_layers(text, of, back_from(direction), back)?;
     push_round(text, ways.is_round)
@@ -362,7 +362,7 @@ pub(crate) fn answer_questions(
     Ok(Answer {
         text,
         refusals,
-        losses: Vec::new(alloc),
+        further: Vec::new(alloc),
         outcome,
     })
 }

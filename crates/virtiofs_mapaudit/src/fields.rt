@@ -147,9 +147,18 @@ fn push_phrases<'a>(
         true => "in the daemon's namespace",
         false => "of the host",
     };
-    let why = match found.host {
-        u32::MAX => "which is no id to Linux",
-        _ => "which the daemon's namespace does not have",
+    // (Linux takes that number for no change of an id, and so the daemon's own stays)
+    let (calls, fail, why) = match found.host {
+        u32::MAX => (
+            "virtiofsd acts as itself for ",
+            "",
+            "which is no id to Linux",
+        ),
+        _ => (
+            "calls with ",
+            " fail",
+            "which the daemon's namespace does not have",
+        ),
     };
     let shared = match found.is_shared {
         true => Field::As(one, found.other),
@@ -158,6 +167,8 @@ fn push_phrases<'a>(
     fields.push(("does", Field::Phrase(does)))?;
     fields.push(("keeps", Field::Phrase(keeps)))?;
     fields.push(("there", Field::Phrase(there)))?;
+    fields.push(("calls", Field::Phrase(calls)))?;
+    fields.push(("fail", Field::Phrase(fail)))?;
     fields.push(("why", Field::Phrase(why)))?;
     fields.push(("as", shared))?;
     Ok(())

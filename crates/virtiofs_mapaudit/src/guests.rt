@@ -32,8 +32,8 @@ pub(crate) enum ProcessFault<'a> {
     NotText(u32),
     /// No word of the process of that number is the daemon's.
     NoDaemon(u32),
-    /// Its words are wrong.
-    Words(Fault<'a>),
+    /// The words of the process of that number are wrong.
+    Words(u32, Fault<'a>),
     /// A request for memory was refused.
     OutOfMemory,
 }
@@ -114,7 +114,7 @@ fn guest_of<'a>(
             ))
         }
         Ok(Process::NoDaemon) => Err(ProcessFault::NoDaemon(process.pid)),
-        Err(ReadError::Wrong(fault)) => Err(ProcessFault::Words(fault)),
+        Err(ReadError::Wrong(fault)) => Err(ProcessFault::Words(process.pid, fault)),
         Err(ReadError::OutOfMemory) => Err(ProcessFault::OutOfMemory),
     }
 }

@@ -1,15 +1,22 @@
 //! What the host tells of the processes and the users that the words name. Files are read here alone.
 
 use crate::guests::HostProcess;
+use crate::running::{Running, groups};
 use std::alloc::{AllocError, AllocFailed, Global};
 use std::{fs, io};
+use virtiofs_host::command_line::read_command_line;
 use virtiofs_host::decimal::decimal;
+use virtiofs_host::error::ReadError as TextError;
 use virtiofs_host::runner::{
     NotShown, RunAs, Runner, Shown, group_of, read_run_as, running, starting,
 };
+use virtiofs_host::status::parent;
 use virtiofs_host::subordinate::has_carriage_return;
 use virtiofs_host::users::find_user;
-use virtiofs_options::fault::shown;
+use virtiofs_options::fault::{ReadError, shown};
+use virtiofs_options::front::Asked;
+use virtiofs_options::options::OF_DAEMON;
+use virtiofs_options::running::{runs_daemon, shared_directory};
 use virtiofs_options::values::Values;
 
 /// Why the host is not asked, or does not answer.
@@ -47,6 +54,15 @@ pub(crate) struct Host {
     /// Who starts the daemons of the command lines: nobody that is named, one user for all, or one for
     /// each.
     pub(crate) starters: Vec<Runner<Global>>,
+    /// The processes: all that are named, or of those that run the ones of each directory.
+    pub(crate) shares: Vec<Share>,
+}
+
+/// Processes whose guests share a directory.
+#[derive(Drop)]
+pub(crate) struct Share {
+    /// The directory, where it is one of several; empty where the words of the daemon say none.
+    pub(crate) directory: String,
     /// The processes.
     pub(crate) processes: Vec<HostProcess>,
 }
@@ -87,12 +103,36 @@ fn content(rt: &HostRuntime, path: &str) -> Result<Option<Vec<u8>>, HostFault> {
     }
 }
 
-/// The content of a file of a process.
-fn of_process(rt: &HostRuntime, pid: u32, name: &str) -> Result<Vec<u8>, HostFault> {
+/// The text of a file that is named.
+pub(crate) fn named_text(rt: &HostRuntime, path: &str) -> Result<String, HostFault> {
+    let Some(bytes) = content(rt, path)? else {
+        return Err(told(format!(in rt.alloc(); "there is no file {path}\n")));
+    };
+    match String::from_utf8(bytes) {
+        Ok(text) => Ok(text),
+        Err(_) => Err(told(format!(in rt.alloc(); "{path} is not UTF-8\n"))),
+    }
+}
+
+/// Whether a process is gone.
+fn is_gone(rt: &HostRuntime, pid: u32) -> Result<bool, AllocError> {
+    let path = format!(in rt.alloc(); "/proc/{pid}")?;
+    match fs::metadata(rt, path.as_str()) {
+        Ok(_) => Ok(false),
+        Err(error) => Ok(error.kind() == io::ErrorKind::NotFound),
+    }
+}
+
+/// The content of a file of a process; `None` where the process is gone.
+fn of_process(rt: &HostRuntime, pid: u32, name: &str) -> Result<Option<Vec<u8>>, HostFault> {
     let path = format!(in rt.alloc(); "/proc/{pid}/{name}")?;
-    match content(rt, path.as_str())? {
-        Some(bytes) => Ok(bytes),
-        None => Err(told(format!(in rt.alloc(); "there is no process {pid}\n"))),
+    match content(rt, path.as_str()) {
+        // (what is read of one that ends meanwhile is refused in several ways)
+        Err(HostFault::Told(sentence)) => match is_gone(rt, pid)? {
+            true => Ok(None),
+            false => Err(HostFault::Told(sentence)),
+        },
+        read => read,
     }
 }
 
@@ -109,20 +149,28 @@ fn not_shown(alloc: Global, pid: u32, fault: NotShown) -> HostFault {
     told(format!(in alloc; "/proc/{pid}/{name} is not as Linux writes it\n"))
 }
 
-/// Who runs a process. `place` is that of the runner.
-fn runner_of(rt: &HostRuntime, pid: u32, place: usize) -> Result<Runner<Global>, HostFault> {
-    let status = of_process(rt, pid, "status")?;
-    let (uid_map, gid_map) = (
-        of_process(rt, pid, "uid_map")?,
-        of_process(rt, pid, "gid_map")?,
-    );
+/// Who runs a process; `None` where it is gone. `place` is that of the runner.
+fn runner_of(
+    rt: &HostRuntime,
+    pid: u32,
+    place: usize,
+) -> Result<Option<Runner<Global>>, HostFault> {
+    let Some(status) = of_process(rt, pid, "status")? else {
+        return Ok(None);
+    };
+    let Some(uid_map) = of_process(rt, pid, "uid_map")? else {
+        return Ok(None);
+    };
+    let Some(gid_map) = of_process(rt, pid, "gid_map")? else {
+        return Ok(None);
+    };
     let shown = Shown {
         status: status.as_slice(),
         uid_map: uid_map.as_slice(),
         gid_map: gid_map.as_slice(),
     };
     match running(rt.alloc(), pid, shown, place) {
-        Ok(runner) => Ok(runner),
+        Ok(runner) => Ok(Some(runner)),
         Err(fault) => Err(not_shown(rt.alloc(), pid, fault)),
     }
 }
@@ -198,14 +246,170 @@ fn pid_of(rt: &HostRuntime, text: &str) -> Result<u32, HostFault> {
     }
 }
 
-/// A process, whose runner has that place among all runners.
-fn process_of(rt: &HostRuntime, text: &str, place: usize) -> Result<HostProcess, HostFault> {
+/// The process of that number and command line, whose runner has that place among all runners.
+fn process_of(
+    rt: &HostRuntime,
+    pid: u32,
+    cmdline: Vec<u8>,
+    place: usize,
+) -> Result<Option<HostProcess>, HostFault> {
+    match runner_of(rt, pid, place)? {
+        Some(runner) => Ok(Some(HostProcess {
+            pid,
+            cmdline,
+            runner,
+        })),
+        None => Ok(None),
+    }
+}
+
+/// The process that a text names.
+fn named_by(rt: &HostRuntime, text: &str, place: usize) -> Result<HostProcess, HostFault> {
     let pid = pid_of(rt, text)?;
-    Ok(HostProcess {
+    if let Some(cmdline) = of_process(rt, pid, "cmdline")? {
+        if let Some(process) = process_of(rt, pid, cmdline, place)? {
+            return Ok(process);
+        }
+    }
+    Err(told(format!(in rt.alloc(); "there is no process {pid}\n")))
+}
+
+/// The processes that are named. The first has that place among all runners.
+fn named(rt: &HostRuntime, texts: &[&str], first: usize) -> Result<Vec<HostProcess>, HostFault> {
+    let mut processes = Vec::new(rt.alloc());
+    for text in texts {
+        let place = first.saturating_add(processes.len());
+        processes.push(named_by(rt, text, place)?)?;
+    }
+    Ok(processes)
+}
+
+/// A process of a daemon.
+#[derive(Drop)]
+struct Daemon {
+    /// Its number.
+    pid: u32,
+    /// The number of its parent.
+    parent: u32,
+    /// What the kernel shows as its command line.
+    cmdline: Vec<u8>,
+    /// The directory that it shares, as the host has it; empty where it says none.
+    directory: String,
+}
+
+/// A directory without symbolic links. One that is not absolute stays as it is, and so does one that this
+/// host does not resolve.
+fn resolved(rt: &HostRuntime, directory: &str) -> Result<String, HostFault> {
+    if directory.starts_with('/') {
+        match fs::canonicalize(rt, directory) {
+            Ok(path) => return Ok(path.into_string()),
+            Err(error) if error.kind() == io::ErrorKind::OutOfMemory => {
+                return Err(HostFault::OutOfMemory);
+            }
+            Err(_) => {}
+        }
+    }
+    Ok(String::from_str(rt.alloc(), directory)?)
+}
+
+/// The directory that a command line says, as the host has it.
+fn directory_of(rt: &HostRuntime, cmdline: &[u8]) -> Result<String, HostFault> {
+    let words = match read_command_line(rt.alloc(), cmdline) {
+        Ok(words) => words,
+        Err(TextError::Wrong(_)) => return Ok(String::new(rt.alloc())),
+        Err(TextError::OutOfMemory) => return Err(HostFault::OutOfMemory),
+    };
+    match shared_directory(rt.alloc(), OF_DAEMON, words.as_slice()) {
+        Ok(directory) => resolved(rt, directory.unwrap_or("")),
+        Err(ReadError::Wrong(_)) => Ok(String::new(rt.alloc())),
+        Err(ReadError::OutOfMemory) => Err(HostFault::OutOfMemory),
+    }
+}
+
+/// The process of that number, if it is a daemon's and is not gone.
+fn daemon_of(rt: &HostRuntime, pid: u32) -> Result<Option<Daemon>, HostFault> {
+    let Some(cmdline) = of_process(rt, pid, "cmdline")? else {
+        return Ok(None);
+    };
+    if !runs_daemon(cmdline.as_slice()) {
+        return Ok(None);
+    }
+    let Some(status) = of_process(rt, pid, "status")? else {
+        return Ok(None);
+    };
+    let Some(parent) = parent(status.as_slice()) else {
+        return Err(not_shown(rt.alloc(), pid, NotShown::Status));
+    };
+    let directory = directory_of(rt, cmdline.as_slice())?;
+    Ok(Some(Daemon {
         pid,
-        cmdline: of_process(rt, pid, "cmdline")?,
-        runner: runner_of(rt, pid, place)?,
-    })
+        parent,
+        cmdline,
+        directory,
+    }))
+}
+
+/// That `/proc` is not listed.
+fn unlisted(rt: &HostRuntime, error: &io::Error) -> HostFault {
+    match unread(rt, "/proc", error) {
+        Err(fault) => fault,
+        Ok(_) => told(format!(in rt.alloc(); "there is no folder /proc\n")),
+    }
+}
+
+/// All processes of daemons.
+fn daemons(rt: &HostRuntime) -> Result<Vec<Daemon>, HostFault> {
+    let mut all = Vec::new(rt.alloc());
+    let entries = match fs::read_dir(rt, "/proc") {
+        Ok(entries) => entries,
+        Err(error) => return Err(unlisted(rt, &error)),
+    };
+    for entry in entries {
+        let pid = match entry {
+            Ok(entry) => decimal(entry.file_name().as_bytes()),
+            Err(error) => return Err(unlisted(rt, &error)),
+        };
+        let it = match pid {
+            Some(pid) => daemon_of(rt, pid)?,
+            None => None,
+        };
+        if let Some(it) = it {
+            all.push(it)?;
+        }
+    }
+    Ok(all)
+}
+
+/// The processes that serve guests, by the directory that they share. One that is gone is passed over.
+fn shares_of(rt: &HostRuntime, daemons: &[Daemon]) -> Result<Vec<Share>, HostFault> {
+    let mut all = Vec::new(rt.alloc());
+    for it in daemons {
+        all.push(Running {
+            pid: it.pid,
+            parent: it.parent,
+            cmdline: it.cmdline.as_slice(),
+            directory: it.directory.as_str(),
+        })?;
+    }
+    let mut shares = Vec::new(rt.alloc());
+    for group in groups(rt.alloc(), all.as_slice())?.as_slice() {
+        let (mut directory, mut processes) = ("", Vec::new(rt.alloc()));
+        for it in group.as_slice() {
+            let cmdline = Vec::from_slice(rt.alloc(), it.cmdline)?;
+            if let Some(process) = process_of(rt, it.pid, cmdline, processes.len())? {
+                processes.push(process)?;
+            }
+            directory = it.directory;
+        }
+        if !processes.is_empty() {
+            let directory = String::from_str(rt.alloc(), directory)?;
+            shares.push(Share {
+                directory,
+                processes,
+            })?;
+        }
+    }
+    Ok(shares)
 }
 
 /// The users who start the daemons of so many command lines.
@@ -237,17 +441,42 @@ fn starters_of(
     Ok(starters)
 }
 
-/// Asks the host about the users and the processes that the words name, where there are so many
-/// command lines.
-pub(crate) fn ask(rt: &HostRuntime, values: &Values<'_>, guests: usize) -> Result<Host, HostFault> {
-    let starters = starters_of(rt, values, guests)?;
-    let mut processes = Vec::new(rt.alloc());
-    for text in values.pid.as_slice() {
-        let place = starters.len().saturating_add(processes.len());
-        processes.push(process_of(rt, text, place)?)?;
+/// Refuses what does not go with `--running`.
+fn check_running(
+    rt: &HostRuntime,
+    asked: Asked,
+    values: &Values<'_>,
+    guests: usize,
+) -> Result<(), HostFault> {
+    if asked.running && (asked.svg || asked.mend || guests > 0 || !values.pid.is_empty()) {
+        return Err(told(format!(in rt.alloc();
+            "'--running' goes with neither '--pid', '--svg', '--mend' nor a command line\n"
+        )));
     }
-    Ok(Host {
-        starters,
-        processes,
-    })
+    Ok(())
+}
+
+/// Asks the host about the users and the processes that the words name, or about the daemons that run,
+/// where there are so many command lines.
+pub(crate) fn ask(
+    rt: &HostRuntime,
+    asked: Asked,
+    values: &Values<'_>,
+    guests: usize,
+) -> Result<Host, HostFault> {
+    check_running(rt, asked, values, guests)?;
+    let starters = starters_of(rt, values, guests)?;
+    let shares = match asked.running {
+        true => shares_of(rt, daemons(rt)?.as_slice())?,
+        false => {
+            let processes = named(rt, values.pid.as_slice(), starters.len())?;
+            let mut shares = Vec::new(rt.alloc());
+            shares.push(Share {
+                directory: String::new(rt.alloc()),
+                processes,
+            })?;
+            shares
+        }
+    };
+    Ok(Host { starters, shares })
 }

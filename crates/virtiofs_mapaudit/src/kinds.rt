@@ -50,7 +50,7 @@ pub(crate) static KINDS: [Row; 17] = [
     Row {
         kind: Kind::Lacking,
         word: "lacking",
-        sentence: "calls with {extent} fail: {one} {id} becomes {one} {host}, {why}",
+        sentence: "{calls}{extent}{fail}: {one} {id} becomes {one} {host}, {why}",
         recipe: None,
     },
     Row {
@@ -172,6 +172,21 @@ pub(crate) fn read_kinds(
         }
     }
     Ok(Ok(kinds))
+}
+
+/// The words of a text, in which `#` begins what is not read of a line.
+pub(crate) fn words_in(alloc: Global, text: &str) -> Result<Vec<&str>, AllocError> {
+    let mut words = Vec::new(alloc);
+    for line in text.split('\n') {
+        let front = match line.split_once('#') {
+            Some((front, _)) => front,
+            None => line,
+        };
+        for word in front.split_ascii_whitespace() {
+            words.push(word)?;
+        }
+    }
+    Ok(words)
 }
 
 /// The sentence on a value of `--accept` that names no kind.

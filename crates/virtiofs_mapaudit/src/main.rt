@@ -11,28 +11,31 @@ mod kinds;
 mod losses;
 mod picture;
 mod refusal;
+mod running;
 mod shell;
 mod summary;
 mod tables;
 mod text;
+mod whole;
 mod words;
 
-use crate::answer::{Request, answer_audit};
+use crate::answer::{Answer, Request, answer_audit};
 use crate::explained::{answer_questions, question_sentence};
-use crate::guests::{ProcessFault, all_guests};
-use crate::host::{Host, HostFault, ask};
-use crate::kinds::read_kinds;
+use crate::guests::{Everyone, ProcessFault, all_guests};
+use crate::host::{Host, HostFault, ask, named_text};
+use crate::kinds::{read_kinds, words_in};
+use crate::whole::{whole_lines, whole_text, worst};
 use std::alloc::{AllocError, Global};
 use std::process::ExitCode;
 use std::{env, io};
 use virtiofs_findings::explain::asking::{Question, Questions, read_questions};
-use virtiofs_findings::guest::Guest;
+use virtiofs_findings::finding::Kind;
 use virtiofs_options::fault::{ReadError, fault_text};
 use virtiofs_options::front::Asked;
 use virtiofs_options::guests::Guests;
 use virtiofs_options::help::told;
 use virtiofs_options::options::{OF_DAEMON, OWN};
-use virtiofs_options::unknown::{UnknownWord, unknown_line};
+use virtiofs_options::unknown::unknown_line;
 use virtiofs_options::values::Values;
 use virtiofs_options::words::{Words, read_words};
 use virtiofs_output::emit::emit;
@@ -68,15 +71,6 @@ fn arguments(rt: &HostRuntime) -> Result<Option<Vec<String>>, AnswerFault> {
         Err(error) if error.kind() == io::ErrorKind::OutOfMemory => Err(AnswerFault::OutOfMemory),
         Err(_) => Ok(None),
     }
-}
-
-/// The lines on what the daemon does not know.
-fn unknown_lines(alloc: Global, unknown: &[UnknownWord<'_>]) -> Result<Vec<String>, AllocError> {
-    let mut lines = Vec::new(alloc);
-    for word in unknown {
-        lines.push(unknown_line(alloc, *word)?)?;
-    }
-    Ok(lines)
 }
 
 fn run(rt: &HostRuntime) -> Result<Answered, AnswerFault> {
@@ -117,33 +111,46 @@ fn process_text(alloc: Global, fault: ProcessFault<'_>) -> Result<String, AllocE
             format!(in alloc; "a word of process {pid} is not UTF-8\n")
         }
         ProcessFault::NoDaemon(pid) => format!(in alloc; "process {pid} is no virtiofsd\n"),
-        ProcessFault::Words(fault) => fault_text(alloc, fault),
+        ProcessFault::Words(pid, fault) => {
+            let text = fault_text(alloc, fault)?;
+            format!(in alloc; "process {pid}: {text}")
+        }
         ProcessFault::OutOfMemory => Err(AllocError),
     }
 }
 
-/// Answers, and then tells which words are not known, unless `quiet`.
+/// What is answered on guests, and which words are not known.
 fn answer_on(
-    rt: &HostRuntime,
+    alloc: Global,
     request: Request<'_>,
     questions: &[Question<'_>],
-    guests: &[Guest<'_, Global>],
-    unknown: &[UnknownWord<'_>],
-) -> Result<Answered, AnswerFault> {
-    let lines = unknown_lines(rt.alloc(), unknown)?;
-    let answer = match questions.is_empty() {
-        true => answer_audit(rt.alloc(), request, guests)?,
-        false => answer_questions(rt.alloc(), questions, guests)?,
+    all: &Everyone<'_>,
+) -> Result<Answer, AllocError> {
+    let mut answer = match questions.is_empty() {
+        true => answer_audit(alloc, request, all.guests.as_slice())?,
+        false => answer_questions(alloc, questions, all.guests.as_slice())?,
     };
-    write_whole(rt, answer.text.as_str())?;
-    if !request.front.quiet {
-        for lines in [&answer.refusals, &answer.losses, &lines] {
-            for line in lines.as_slice() {
-                let _ = eprintln!(rt; "{line}");
-            }
+    for word in all.unknown.as_slice() {
+        answer.further.push(unknown_line(alloc, *word)?)?;
+    }
+    Ok(answer)
+}
+
+/// The kinds that `--accept` names, and those in the files of `--accept-from`.
+fn accepted_by(rt: &HostRuntime, values: &Values<'_>) -> Result<Vec<Kind>, HostFault> {
+    let mut kinds = match read_kinds(rt.alloc(), values.accept.as_slice())? {
+        Ok(kinds) => kinds,
+        Err(text) => return Err(HostFault::Told(text)),
+    };
+    for path in values.accept_from.as_slice() {
+        let text = named_text(rt, path)?;
+        let words = words_in(rt.alloc(), text.as_str())?;
+        match read_kinds(rt.alloc(), words.as_slice())? {
+            Ok(more) => kinds.extend_from_slice(more.as_slice())?,
+            Err(text) => return Err(HostFault::Told(format!(in rt.alloc(); "{path}: {text}")?)),
         }
     }
-    Ok(answer.outcome)
+    Ok(kinds)
 }
 
 /// Reads the values of the options, asks the host, and answers.
@@ -153,9 +160,10 @@ fn audited<'a>(
     values: &Values<'a>,
     given: Guests<'a>,
 ) -> Result<Answered, AnswerFault> {
-    let accepted = match read_kinds(rt.alloc(), values.accept.as_slice())? {
+    let accepted = match accepted_by(rt, values) {
         Ok(kinds) => kinds,
-        Err(text) => return Ok(wrong(rt, text.as_str())),
+        Err(HostFault::Told(text)) => return Ok(wrong(rt, text.as_str())),
+        Err(HostFault::OutOfMemory) => return Err(AnswerFault::OutOfMemory),
     };
     let questions = match read_questions(rt.alloc(), values.explain.as_slice())? {
         Questions::Read(questions) => questions,
@@ -164,7 +172,7 @@ fn audited<'a>(
             return Ok(wrong(rt, text.as_str()));
         }
     };
-    let host = match ask(rt, values, given.guests.len()) {
+    let host = match ask(rt, asked, values, given.guests.len()) {
         Ok(host) => host,
         Err(HostFault::Told(text)) => return Ok(wrong(rt, text.as_str())),
         Err(HostFault::OutOfMemory) => return Err(AnswerFault::OutOfMemory),
@@ -176,7 +184,8 @@ fn audited<'a>(
     audited_on(rt, request, questions.as_slice(), &host, given)
 }
 
-/// Answers on the guests of command lines, and on those of the host's processes.
+/// Answers on the guests of command lines, and on those of the host's processes: on each directory by
+/// itself, where those that run are asked for.
 fn audited_on<'a>(
     rt: &HostRuntime,
     request: Request<'_>,
@@ -184,14 +193,39 @@ fn audited_on<'a>(
     host: &'a Host,
     given: Guests<'a>,
 ) -> Result<Answered, AnswerFault> {
-    let (starters, processes) = (host.starters.as_slice(), host.processes.as_slice());
-    match all_guests(rt.alloc(), OF_DAEMON, given, starters, processes) {
-        Ok(all) => {
-            let (guests, unknown) = (all.guests.as_slice(), all.unknown.as_slice());
-            answer_on(rt, request, questions, guests, unknown)
+    let mut answers = Vec::new(rt.alloc());
+    let mut left = Some(given);
+    for share in host.shares.as_slice() {
+        let given = left.take().unwrap_or(Guests {
+            guests: Vec::new(rt.alloc()),
+            unknown: Vec::new(rt.alloc()),
+        });
+        let (starters, processes) = (host.starters.as_slice(), share.processes.as_slice());
+        match all_guests(rt.alloc(), OF_DAEMON, given, starters, processes) {
+            Ok(all) => answers.push(answer_on(rt.alloc(), request, questions, &all)?)?,
+            Err(fault) => return Ok(wrong(rt, process_text(rt.alloc(), fault)?.as_str())),
         }
-        Err(fault) => Ok(wrong(rt, process_text(rt.alloc(), fault)?.as_str())),
     }
+    told_of(rt, request, host, answers.as_slice())
+}
+
+/// Writes the answers on directories.
+fn told_of(
+    rt: &HostRuntime,
+    request: Request<'_>,
+    host: &Host,
+    answers: &[Answer],
+) -> Result<Answered, AnswerFault> {
+    let shares = host.shares.as_slice();
+    let text = whole_text(rt.alloc(), request.front, shares, answers)?;
+    let lines = whole_lines(rt.alloc(), shares, answers)?;
+    write_whole(rt, text.as_str())?;
+    if !request.front.quiet {
+        for line in lines.as_slice() {
+            let _ = eprintln!(rt; "{line}");
+        }
+    }
+    Ok(worst(answers))
 }
 
 /// Writes a text to standard output, and flushes.

@@ -265,20 +265,26 @@ pub(crate) fn push_set_up(
     text.push_str("\n")
 }
 
-/// Whether the daemon of a guest runs as root of the host, or is taken to do so: root gives no ranges of
-/// both kinds.
+/// Whether the daemon of a guest runs as root of the host, or is taken to do so: no words say that another
+/// user starts it, and it has no ranges, with which root does not start.
 pub(crate) fn is_of_root(guest: &Guest<'_, Global>) -> bool {
+    let options = &guest.options;
     match guest.runner {
         Some(runner) => runner.users.own == 0,
-        None => guest.options.uid_map.is_empty() || guest.options.gid_map.is_empty(),
+        None => !options.by_other && options.uid_map.is_empty() && options.gid_map.is_empty(),
     }
 }
 
-/// Writes who runs the daemon of a guest at the end of a text.
+/// Writes who runs the daemon of a guest at the end of a text. Another user who is not known, and has not
+/// ranges of both kinds, counts as root in what else is said.
 pub(crate) fn push_runner(text: &mut String, guest: &Guest<'_, Global>) -> Result<(), AllocError> {
     let Some(runner) = guest.runner else {
+        let (users, groups) = (&guest.options.uid_map, &guest.options.gid_map);
         return text.push_str(match is_of_root(guest) {
             true => ", taken as started by root (--run-as USER)",
+            false if users.is_empty() || groups.is_empty() => {
+                ", started by another user, audited as root's (--run-as USER)"
+            }
             false => ", taken as started by another user than root (--run-as USER)",
         });
     };

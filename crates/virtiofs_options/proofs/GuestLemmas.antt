@@ -8,11 +8,12 @@ use Rattle.std.proofs.lemmas.List.Folds.{list_any-append}
 use Rattle.std.specs.List.{last_or}
 use Rattle.std.specs.Option.{option_or}
 use Rattle.virtiofs_options.proofs.OlderLemmas.{last_in}
-use Rattle.virtiofs_options.specs.GuestOptions.{Adds, TakesIn, settings, setting_in, has_setting, is_setting, is_users, is_groups, is_user_ranges, is_group_ranges, is_rules, is_acl, is_xattr, is_label, is_sandbox, older_options, older_setting, acl, xattr, label, flag_in, text_in}
+use Rattle.virtiofs_options.specs.GuestOptions.{Adds, TakesIn, settings, setting_in, has_setting, is_setting, is_users, is_groups, is_user_ranges, is_group_ranges, is_rules, is_on, is_sandbox, older_options, older_setting, flag_in, text_in}
 use Rattle.virtiofs_options.specs.declared.command.Part.{Part}
 use Rattle.virtiofs_options.specs.declared.guest.Guest.{Guest}
 use Rattle.virtiofs_options.specs.declared.older.Older.{Older}
 use Rattle.virtiofs_options.specs.declared.options.Options.{Options}
+use Rattle.virtiofs_options.specs.declared.options.Switch.TheVariants.{Acl, Xattr, Label}
 use Rattle.virtiofs_options.specs.declared.options.Sets.{Sets}
 
 values-then : (sets : Sets → Bool) (a b c : List (Bor (List ℕ))) (xs ys : List Part) → b ≡ a ++ settings sets xs
@@ -36,10 +37,10 @@ Adds-then a b c xs ys first second = record {
   user_ranges = values-then is_user_ranges _ _ _ xs ys first.user_ranges second.user_ranges;
   group_ranges = values-then is_group_ranges _ _ _ xs ys first.group_ranges second.group_ranges;
   rules = last_in (setting_in is_rules) _ _ _ xs ys first.rules second.rules;
-  lists = flags-then is_acl _ _ _ xs ys first.lists second.lists;
-  flag = flags-then is_acl _ _ _ xs ys first.flag second.flag;
-  xattr = flags-then is_xattr _ _ _ xs ys first.xattr second.xattr;
-  label = flags-then is_label _ _ _ xs ys first.label second.label;
+  lists = flags-then (is_on Acl) _ _ _ xs ys first.lists second.lists;
+  flag = flags-then (is_on Acl) _ _ _ xs ys first.flag second.flag;
+  xattr = flags-then (is_on Xattr) _ _ _ xs ys first.xattr second.xattr;
+  label = flags-then (is_on Label) _ _ _ xs ys first.label second.label;
   sandbox = last_in (setting_in is_sandbox) _ _ _ xs ys first.sandbox second.sandbox;
 }
 
@@ -81,9 +82,9 @@ flag-last flag before older said set changed is added =
 
 pub TakesIn-end : {A : Type 0} (options : Options) (a b c : Guest A) (older : Older) (parts : List Part) → Adds a b parts
     → text_in older.xattrmap ≡ last_or None (filter_map (older_setting is_rules options) (older_options parts))
-    → older.posix_acl ≡ last_or None (filter_map (flag_in acl options) (older_options parts))
-    → older.xattr ≡ last_or None (filter_map (flag_in xattr options) (older_options parts))
-    → older.security_label ≡ last_or None (filter_map (flag_in label options) (older_options parts))
+    → older.posix_acl ≡ last_or None (filter_map (flag_in Acl options) (older_options parts))
+    → older.xattr ≡ last_or None (filter_map (flag_in Xattr options) (older_options parts))
+    → older.security_label ≡ last_or None (filter_map (flag_in Label options) (older_options parts))
     → text_in older.sandbox ≡ last_or None (filter_map (older_setting is_sandbox options) (older_options parts))
     → IsChanged b c older → TakesIn options a c parts
 TakesIn-end options a b c older parts added rules lists xattrs labels sandbox changed = record {

@@ -4,10 +4,11 @@ use Rattle.std.proofs.lemmas.Grind.{flat_map-append}
 use Rattle.std.proofs.lemmas.List.{take_more}
 use Rattle.std.proofs.lemmas.List.Elements.{filter_map-append}
 use Rattle.std.specs.List.{last_or}
-use Rattle.virtiofs_options.specs.GuestOptions.{AddsOlder, is_older_form, is_rules, is_sandbox, acl, xattr, label, flag_in, older_options, older_setting, setting_in, settings, split_at_commas}
+use Rattle.virtiofs_options.specs.GuestOptions.{AddsOlder, is_older_form, is_rules, is_sandbox, is_source, flag_in, older_options, older_setting, setting_in, settings, split_at_commas}
 use Rattle.virtiofs_options.specs.declared.older.Older.{Older}
 use Rattle.virtiofs_options.specs.declared.command.Part.{Part}
 use Rattle.virtiofs_options.specs.declared.options.Options.{Options}
+use Rattle.virtiofs_options.specs.declared.options.Switch.TheVariants.{Acl, Xattr, Label}
 
 -- the last of two lists
 pub last_or-append : {A : Type 0} (o : Option A) (xs ys : List A) → last_or o (xs ++ ys) ≡ last_or (last_or o xs) ys
@@ -26,10 +27,11 @@ pub AddsOlder-then : (options : Options) (a b c : Older) (xs ys : List (List ℕ
     → AddsOlder options b c ys → AddsOlder options a c (xs ++ ys)
 AddsOlder-then options a b c xs ys first second = record {
   rules = last_in (older_setting is_rules options) _ _ _ xs ys first.rules second.rules;
-  lists = last_in (flag_in acl options) _ _ _ xs ys first.lists second.lists;
-  xattr = last_in (flag_in xattr options) _ _ _ xs ys first.xattr second.xattr;
-  label = last_in (flag_in label options) _ _ _ xs ys first.label second.label;
+  lists = last_in (flag_in Acl options) _ _ _ xs ys first.lists second.lists;
+  xattr = last_in (flag_in Xattr options) _ _ _ xs ys first.xattr second.xattr;
+  label = last_in (flag_in Label options) _ _ _ xs ys first.label second.label;
   sandbox = last_in (older_setting is_sandbox options) _ _ _ xs ys first.sandbox second.sandbox;
+  source = last_in (older_setting is_source options) _ _ _ xs ys first.source second.source;
 }
 
 -- the options in the values of `-o`, of parts one after another

@@ -35,10 +35,10 @@ audit-words own of_daemon words front rest asked values first (Err error) are is
 pub audit-wrong : (own of_daemon : Options) (words : List (Bor (List ℕ))) (front : List Word) (rest : List (Bor (List ℕ))) (asked : Asked) (values : Values)
     (first : Guest Global) (r : Result Words ReadError) → AreFrontWords of_daemon words front
     → IsFront own front (Audit asked values first) → rest ≡ rest_of words
-    → IfErr r (WrongOnly (IsAuditFault of_daemon values first rest)) → IfErr r (WrongOnly (AreWrongWords own of_daemon words))
+    → IfErr r (WrongOnly (IsAuditFault of_daemon asked values first rest)) → IfErr r (WrongOnly (AreWrongWords own of_daemon words))
 audit-wrong own of_daemon words front rest asked values first (Ok it) are is rest_is wrong = tt
 audit-wrong own of_daemon words front rest asked values first (Err error) are is rest_is wrong =
-    WrongOnly-map (IsAuditFault of_daemon values first rest) (AreWrongWords own of_daemon words) error
+    WrongOnly-map (IsAuditFault of_daemon asked values first rest) (AreWrongWords own of_daemon words) error
     (λ fault it. inr (
       front,
       asked,
@@ -46,5 +46,5 @@ audit-wrong own of_daemon words front rest asked values first (Err error) are is
       first,
       are,
       is,
-      subst (λ (l : List (Bor (List ℕ))). IsAuditFault of_daemon values first l fault) rest_is it,
+      subst (λ (l : List (Bor (List ℕ))). IsAuditFault of_daemon asked values first l fault) rest_is it,
     )) wrong

@@ -34,10 +34,12 @@ pub record IsAsked (parts : List Part) (asked : Asked) : Type 0 where
   pub mend : asked.mend ≡ has_flag (codes "--mend") parts
   pub ids : asked.ids ≡ has_shown (codes "ids") parts
   pub names : asked.names ≡ has_shown (codes "names") parts
+  pub running : asked.running ≡ has_flag (codes "--running") parts
 
 -- the values of the program's own options that are among the parts
 pub record AreValues (parts : List Part) (values : Values) : Type 0 where
   pub accept : values.accept.items ≡ values_of (codes "--accept") parts
+  pub accept_from : values.accept_from.items ≡ values_of (codes "--accept-from") parts
   pub explain : values.explain.items ≡ values_of (codes "--explain") parts
   pub pid : values.pid.items ≡ values_of (codes "--pid") parts
   pub run_as : values.run_as.items ≡ values_of (codes "--run-as") parts

@@ -15,6 +15,8 @@ use Rattle.virtiofs_options.specs.declared.options.Known.{Known}
 use Rattle.virtiofs_options.specs.declared.options.Options.{Options}
 use Rattle.virtiofs_options.specs.declared.options.Sets.{Sets}
 use Rattle.virtiofs_options.specs.declared.options.Sets.TheVariants as sets
+use Rattle.virtiofs_options.specs.declared.options.Switch.{Switch}
+use Rattle.virtiofs_options.specs.declared.options.Switch.TheVariants.{Acl, Xattr, Label}
 use Rattle.virtiofs_options.specs.declared.options.Takes.{Takes}
 use Rattle.virtiofs_options.specs.declared.options.Takes.TheVariants as takes
 
@@ -73,25 +75,27 @@ abbrev pub is_rules : Sets → Bool
 is_rules sets.Xattrmap = true
 is_rules _ = false
 
-abbrev pub is_acl : Sets → Bool
-is_acl sets.Acl = true
-is_acl _ = false
-
-abbrev pub is_xattr : Sets → Bool
-is_xattr sets.Xattr = true
-is_xattr _ = false
-
-abbrev pub is_label : Sets → Bool
-is_label sets.Label = true
-is_label _ = false
-
 abbrev pub is_sandbox : Sets → Bool
 is_sandbox sets.Sandbox = true
 is_sandbox _ = false
 
+abbrev pub is_source : Sets → Bool
+is_source sets.Source = true
+is_source _ = false
+
 abbrev pub is_older_form : Sets → Bool
 is_older_form sets.Older = true
 is_older_form _ = false
+
+-- whether this is on or off, if what is set says so
+abbrev pub turns : Switch → Sets → Option Bool
+turns Acl (sets.Turns Acl on) = Some on
+turns Xattr (sets.Turns Xattr on) = Some on
+turns Label (sets.Turns Label on) = Some on
+turns switch _ = None
+
+abbrev pub is_on : Switch → Sets → Bool
+is_on switch set = unwrap_or (turns switch set) false
 
 -- a guest whose daemon has none of the options
 pub record HasNoOption {A : Type 0} (guest : Guest A) : Type 0 where
@@ -124,10 +128,10 @@ pub record Adds {A : Type 0} (old new : Guest A) (parts : List Part) : Type 0 wh
   pub user_ranges : new.uid_map.items ≡ old.uid_map.items ++ settings is_user_ranges parts
   pub group_ranges : new.gid_map.items ≡ old.gid_map.items ++ settings is_group_ranges parts
   pub rules : new.xattrmap ≡ last_or old.xattrmap (settings is_rules parts)
-  pub lists : new.posix_acl ≡ (old.posix_acl || has_setting is_acl parts)
-  pub flag : new.acl_flag ≡ (old.acl_flag || has_setting is_acl parts)
-  pub xattr : new.xattr ≡ (old.xattr || has_setting is_xattr parts)
-  pub label : new.security_label ≡ (old.security_label || has_setting is_label parts)
+  pub lists : new.posix_acl ≡ (old.posix_acl || has_setting (is_on Acl) parts)
+  pub flag : new.acl_flag ≡ (old.acl_flag || has_setting (is_on Acl) parts)
+  pub xattr : new.xattr ≡ (old.xattr || has_setting (is_on Xattr) parts)
+  pub label : new.security_label ≡ (old.security_label || has_setting (is_on Label) parts)
   pub sandbox : new.sandbox ≡ last_or old.sandbox (settings is_sandbox parts)
 
 -- the older options in the values of `-o`, with a comma between two, in the order of the words
@@ -152,24 +156,9 @@ older_value sets text row = if sets row.sets then stripped row.name.now text els
 abbrev pub older_setting : (Sets → Bool) → Options → List ℕ → Option (List ℕ)
 older_setting sets options text = option_and_then (older_value sets text) (older_of options text)
 
--- whether an older option has on what is on or off: access control lists, extended attributes, security labels
-abbrev pub acl : Sets → Option Bool
-acl sets.Acl = Some true
-acl sets.NoAcl = Some false
-acl _ = None
-
-abbrev pub xattr : Sets → Option Bool
-xattr sets.Xattr = Some true
-xattr sets.NoXattr = Some false
-xattr _ = None
-
-abbrev pub label : Sets → Option Bool
-label sets.Label = Some true
-label sets.NoLabel = Some false
-label _ = None
-
-abbrev pub flag_in : (Sets → Option Bool) → Options → List ℕ → Option Bool
-flag_in says options text = option_and_then (λ row. says row.sets) (older_of options text)
+-- whether an older option has this on or off
+abbrev pub flag_in : Switch → Options → List ℕ → Option Bool
+flag_in switch options text = option_and_then (λ row. turns switch row.sets) (older_of options text)
 
 -- a text, if there is one
 abbrev pub text_in : Option (Bor (List ℕ)) → Option (List ℕ)
@@ -178,10 +167,11 @@ text_in text = option_map (λ it. it.now) text
 -- what older options add to those before: of each kind the last counts
 pub record AddsOlder (options : Options) (old new : Older) (texts : List (List ℕ)) : Type 0 where
   pub rules : text_in new.xattrmap ≡ last_or (text_in old.xattrmap) (filter_map (older_setting is_rules options) texts)
-  pub lists : new.posix_acl ≡ last_or old.posix_acl (filter_map (flag_in acl options) texts)
-  pub xattr : new.xattr ≡ last_or old.xattr (filter_map (flag_in xattr options) texts)
-  pub label : new.security_label ≡ last_or old.security_label (filter_map (flag_in label options) texts)
+  pub lists : new.posix_acl ≡ last_or old.posix_acl (filter_map (flag_in Acl options) texts)
+  pub xattr : new.xattr ≡ last_or old.xattr (filter_map (flag_in Xattr options) texts)
+  pub label : new.security_label ≡ last_or old.security_label (filter_map (flag_in Label options) texts)
   pub sandbox : text_in new.sandbox ≡ last_or (text_in old.sandbox) (filter_map (older_setting is_sandbox options) texts)
+  pub source : text_in new.source ≡ last_or (text_in old.source) (filter_map (older_setting is_source options) texts)
 
 -- what the parts of a command line make of a guest: older options count more than the others, wherever they stand
 pub record TakesIn {A : Type 0} (options : Options) (old new : Guest A) (parts : List Part) : Type 0 where
@@ -193,15 +183,15 @@ pub record TakesIn {A : Type 0} (options : Options) (old new : Guest A) (parts :
       ≡ option_or (last_or None (filter_map (older_setting is_rules options) (older_options parts)))
       (text_in (last_or old.xattrmap (settings is_rules parts)))
   pub lists : new.posix_acl
-      ≡ unwrap_or (last_or None (filter_map (flag_in acl options) (older_options parts)))
-      (old.posix_acl || has_setting is_acl parts)
-  pub flag : new.acl_flag ≡ (old.acl_flag || has_setting is_acl parts)
+      ≡ unwrap_or (last_or None (filter_map (flag_in Acl options) (older_options parts)))
+      (old.posix_acl || has_setting (is_on Acl) parts)
+  pub flag : new.acl_flag ≡ (old.acl_flag || has_setting (is_on Acl) parts)
   pub xattr : new.xattr
-      ≡ unwrap_or (last_or None (filter_map (flag_in xattr options) (older_options parts)))
-      (old.xattr || has_setting is_xattr parts)
+      ≡ unwrap_or (last_or None (filter_map (flag_in Xattr options) (older_options parts)))
+      (old.xattr || has_setting (is_on Xattr) parts)
   pub label : new.security_label
-      ≡ unwrap_or (last_or None (filter_map (flag_in label options) (older_options parts)))
-      (old.security_label || has_setting is_label parts)
+      ≡ unwrap_or (last_or None (filter_map (flag_in Label options) (older_options parts)))
+      (old.security_label || has_setting (is_on Label) parts)
   pub sandbox : text_in new.sandbox
       ≡ option_or (last_or None (filter_map (older_setting is_sandbox options) (older_options parts)))
       (text_in (last_or old.sandbox (settings is_sandbox parts)))

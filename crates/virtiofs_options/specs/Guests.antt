@@ -1,5 +1,5 @@
 -- The guests that command lines of the daemon make.
-use Rattle.std.specs.Prelude.{◌≡◌, ◌⊎◌, ◌==◌, ◌+◌, ◌++◌, ℕ, List, [], ◌∷◌, Bool, ◌&&◌, Option, Some, None, option_map, unwrap_or, map, find, drop, length, if◌then◌else◌}
+use Rattle.std.specs.Prelude.{◌≡◌, ◌⊎◌, ◌==◌, ◌+◌, ◌++◌, ℕ, List, [], ◌∷◌, Bool, ◌&&◌, Option, Some, None, option_map, unwrap_or, map, find, drop, take, length, if◌then◌else◌}
 use Rattle.std.specs.Borrow.{Bor}
 use Rattle.std.specs.Global.{Global}
 use Rattle.std.specs.Option.{option_or}
@@ -7,6 +7,7 @@ use Rattle.virtiofs_options.specs.Clusters.{plain, split_words}
 use Rattle.virtiofs_options.specs.GuestOptions.{HasNoOption, TakesIn, has_any}
 use Rattle.virtiofs_options.specs.Lines.{beginning, first_daemon, line_of, after_line}
 use Rattle.virtiofs_options.specs.Parts.{AreParts, HasFault}
+use Rattle.virtiofs_options.specs.Starters.{is_by_other}
 use Rattle.virtiofs_options.specs.Unknown.{AreRight, IsPartsFault, told, unknown_of}
 use Rattle.virtiofs_options.specs.Whole.{is_line}
 use Rattle.virtiofs_options.specs.declared.fault.Fault.{Fault}
@@ -45,10 +46,10 @@ IsLine options number first line guest told =
     × TakesIn options first guest parts × (told ≡ unknown_of options number parts)
 
 -- one guest more, whose command line is these words, and what of them is not known
-abbrev pub AddsLine : Options → Guest Global → List (Bor (List ℕ)) → Guests → Guests → Type 0
-AddsLine options first line old new =
+abbrev pub AddsLine : Options → Bool → Guest Global → List (Bor (List ℕ)) → Guests → Guests → Type 0
+AddsLine options by_other first line old new =
     (guest : Guest Global) × (here : Told)
-    × IsLine options (length old.guests.items + 1) first line guest here
+    × IsLine options (length old.guests.items + 1) first line guest here × (guest.by_other ≡ by_other)
     × (new.guests.items ≡ old.guests.items ++ guest ∷ [])
     × (map told new.unknown.items ≡ map told old.unknown.items ++ here)
 
@@ -58,12 +59,14 @@ IsLineFault options line fault =
     ((words : List Word) × (map plain words ≡ split_words options line) × HasFault options words fault)
     ⊎ ((parts : List Part) × AreSplitParts options line parts × IsPartsFault options parts fault)
 
--- the guest that words begin with; what follows the `--` that ends its command line is left
+-- the guest that words begin with; what follows the `--` that ends its command line is left, and what stands before the
+-- line says whether another user than root starts the daemon
 abbrev pub IsGuest : {A : Type 0} → Options → ℕ → Guest A → List (Bor (List ℕ)) → Guest A → Told
     → Option (List (Bor (List ℕ))) → Type 0
 IsGuest options number first words guest told left =
     (start : ℕ) × (start_of options (has_any first) words ≡ Some start)
     × IsLine options number first (line_of (drop start words)) guest told
+    × (guest.by_other ≡ is_by_other options (take start words))
     × (left ≡ after_line (drop start words))
 
 -- one guest more, which words begin with

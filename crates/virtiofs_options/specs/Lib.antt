@@ -5,6 +5,8 @@ pub mod GuestOptions
 pub mod Guests
 pub mod Lines
 pub mod Parts
+pub mod Running
+pub mod Starters
 pub mod Unknown
 pub mod Whole
 pub mod Words

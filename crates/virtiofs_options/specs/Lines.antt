@@ -7,6 +7,7 @@ use Rattle.virtiofs_options.specs.Parts.{is_option, key_of}
 use Rattle.virtiofs_options.specs.declared.options.Options.{Options}
 use Rattle.virtiofs_options.specs.declared.options.Sets.{Sets}
 use Rattle.virtiofs_options.specs.declared.options.Sets.TheVariants as sets
+use Rattle.virtiofs_options.specs.declared.options.Switch.TheVariants.{Acl}
 
 -- where the first `--` stands, if there is one
 abbrev pub first_end : List (Bor (List ℕ)) → Option ℕ
@@ -38,8 +39,7 @@ concerns sets.TranslateGid = true
 concerns sets.UidMap = true
 concerns sets.GidMap = true
 concerns sets.Xattrmap = true
-concerns sets.Acl = true
-concerns sets.NoAcl = true
+concerns (sets.Turns Acl on) = true
 concerns _ = false
 
 -- the word is an option for ids or names, alone or with `=` and a value

@@ -1,5 +1,5 @@
 -- What the program's words come to.
-use Rattle.std.specs.Prelude.{◌≡◌, ◌⊎◌, ◌==◌, ◌&&◌, ◌+◌, ℕ, List, [], Bool, true, false, not, Option, None, Some, is_some, map, drop, length, nat_lt, if◌then◌else◌}
+use Rattle.std.specs.Prelude.{◌≡◌, ◌⊎◌, ◌==◌, ◌||◌, ◌&&◌, ◌+◌, ℕ, List, [], Bool, true, false, not, Option, None, Some, is_some, map, drop, length, nat_lt, if◌then◌else◌}
 use Rattle.std.specs.Borrow.{Bor}
 use Rattle.std.specs.Global.{Global}
 use Rattle.virtiofs_options.specs.AskedOptions.{AreValues, IsAsked, IsAskedWrongly, first_told, not_shown, mixes, is_beside}
@@ -64,9 +64,10 @@ start_after words (Some end) = end + 1
 abbrev pub rest_of : List (Bor (List ℕ)) → List (Bor (List ℕ))
 rest_of words = drop (start_after words (first_end words)) words
 
--- processes are named, and no command line
-abbrev pub names_processes : {A : Type 0} → Values → Guest A → List (Bor (List ℕ)) → Bool
-names_processes values first words = nat_lt 0 (length values.pid.items) && not (has_any first) && (length words == 0)
+-- processes are named, or those that run are asked for, and no command line
+abbrev pub names_processes : {A : Type 0} → Asked → Values → Guest A → List (Bor (List ℕ)) → Bool
+names_processes asked values first words =
+    (asked.running || nat_lt 0 (length values.pid.items)) && not (has_any first) && (length words == 0)
 
 -- the guests of the words after the first `--`, none where only processes are named
 abbrev pub AreGuestsUnless : Bool → Options → Guest Global → List (Bor (List ℕ)) → List (Guest Global) → Told → Type 0
@@ -77,14 +78,14 @@ AreGuestsUnless false of_daemon first words guests unknown = AreGuests of_daemon
 abbrev pub IsAudit : Options → Asked → Values → Guest Global → List (Bor (List ℕ)) → Words → Type 0
 IsAudit of_daemon asked values first words (words_are.Audit asked_for all read) =
     (asked_for ≡ asked) × (all ≡ values)
-    × AreGuestsUnless (names_processes values first words) of_daemon first words read.guests.items
+    × AreGuestsUnless (names_processes asked values first words) of_daemon first words read.guests.items
     (map told read.unknown.items)
 IsAudit of_daemon asked values first words _ = ⊥
 
 -- what is wrong with them
-abbrev pub IsAuditFault : Options → Values → Guest Global → List (Bor (List ℕ)) → Fault → Type 0
-IsAuditFault of_daemon values first words fault =
-    (names_processes values first words ≡ false) × HasGuestFault of_daemon first words fault
+abbrev pub IsAuditFault : Options → Asked → Values → Guest Global → List (Bor (List ℕ)) → Fault → Type 0
+IsAuditFault of_daemon asked values first words fault =
+    (names_processes asked values first words ≡ false) × HasGuestFault of_daemon first words fault
 
 -- the words before the first `--`, once joined short options are words of their own
 abbrev pub AreFrontWords : Options → List (Bor (List ℕ)) → List Word → Type 0
@@ -106,4 +107,4 @@ AreWrongWords own of_daemon words fault =
     × (fault ≡ front_fault of_daemon words it))
     ⊎ ((front : List Word) × (asked : Asked) × (values : Values) × (first : Guest Global)
     × AreFrontWords of_daemon words front × IsFront own front (Audit asked values first)
-    × IsAuditFault of_daemon values first (rest_of words) fault)
+    × IsAuditFault of_daemon asked values first (rest_of words) fault)

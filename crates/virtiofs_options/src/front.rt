@@ -22,6 +22,8 @@ pub struct Asked {
     pub ids: bool,
     /// What becomes of some names.
     pub names: bool,
+    /// Of the daemons that run.
+    pub running: bool,
 }
 
 /// Whether an option that has no value is among the parts.
@@ -90,6 +92,7 @@ pub(crate) fn asked_of<'a>(parts: &[Part<'a>]) -> Result<Asked, Fault<'a>>
         mend: has_flag(parts, "--mend"),
         ids: has_shown(parts, "ids"),
         names: has_shown(parts, "names"),
+        running: has_flag(parts, "--running"),
     };
     if asked.mend && (asked.json || asked.quiet || asked.svg || asked.ids || asked.names) {
         return Err(Fault::NotAlone);

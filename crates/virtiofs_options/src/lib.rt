@@ -4,7 +4,7 @@
 //! and parts become what is asked for (`front`) and the options of a guest (`guest`, `older`). The
 //! contracts say what counts: values in the order of the words, of `--xattrmap` the last, and older
 //! options before the others. `read_words` puts all of it together (`words`), and `read_process` reads
-//! the words of a process (`guests`).
+//! the words of a process (`guests`). `running` says which process is a daemon's, and what it shares.
 #![tactic(auto)]
 
 mod allowed;
@@ -20,7 +20,9 @@ mod nearest;
 mod older;
 pub mod options;
 mod parts;
+pub mod running;
 pub mod shown;
+mod starter;
 mod strays;
 pub mod unknown;
 pub mod values;

@@ -3,7 +3,7 @@ ghost use Rattle.std.specs.Prelude.{◌≡◌, ◌<◌, ◌≤◌, length, drop,
 ghost use Rattle.virtiofs_options.specs.Lines.{first_end, line_of, after_line, is_daemon, concerns, is_counted, opens_with_option, has_counted, has_options, first_daemon, daemon_place, beginning};
 
 use crate::command::{is_option, key_of};
-use crate::options::{Options, Sets};
+use crate::options::{Options, Sets, Switch};
 
 /// Where the first `--` stands, if there is one.
 pub(crate) fn first_end(words: &[&str]) -> Option<usize>
@@ -54,7 +54,7 @@ pub(crate) fn concerns(sets: Sets) -> bool
 {
     match sets {
         Sets::TranslateUid | Sets::TranslateGid | Sets::UidMap | Sets::GidMap => true,
-        Sets::Xattrmap | Sets::Acl | Sets::NoAcl => true,
+        Sets::Xattrmap | Sets::Turns(Switch::Acl, _) => true,
         _ => false,
     }
 }

@@ -3,11 +3,11 @@ ghost use Rattle.std.specs.Prelude.{◌≡◌, ◌∷◌, [], None, Some, filter
 ghost use Rattle.std.specs.List.{last_or};
 ghost use Rattle.std.specs.Option.{option_or};
 ghost use Rattle.virtiofs_options.specs.Clusters.{stripped};
-ghost use Rattle.virtiofs_options.specs.GuestOptions.{AddsOlder, split_at_commas, is_older_with, is_rules, is_sandbox, older_of, older_options, older_setting, acl, xattr, label, flag_in, text_in};
+ghost use Rattle.virtiofs_options.specs.GuestOptions.{AddsOlder, split_at_commas, is_older_with, is_rules, is_sandbox, is_source, older_of, older_options, older_setting, flag_in, text_in};
 
 use crate::cluster::stripped;
 use crate::command::Part;
-use crate::options::{Known, Options, Sets, Takes};
+use crate::options::{Known, Options, Sets, Switch, Takes};
 
 /// Whether a text is a part of `-o`.
 fn is_older_with(takes: Takes, text: &str, name: &str) -> bool
@@ -43,6 +43,8 @@ pub(crate) struct Older<'a> {
     pub(crate) security_label: Option<bool>,
     /// How the daemon is kept apart from the host, if that is said.
     pub(crate) sandbox: Option<&'a str>,
+    /// Which directory is shared, if that is said.
+    pub(crate) source: Option<&'a str>,
 }
 
 /// What a text has after a name, or else the other text.
@@ -65,14 +67,12 @@ impl<'a> Older<'a> {
         };
         let mut older = self;
         match row.sets {
-            Sets::Acl => older.posix_acl = Some(true),
-            Sets::NoAcl => older.posix_acl = Some(false),
-            Sets::Xattr => older.xattr = Some(true),
-            Sets::NoXattr => older.xattr = Some(false),
-            Sets::Label => older.security_label = Some(true),
-            Sets::NoLabel => older.security_label = Some(false),
+            Sets::Turns(Switch::Acl, on) => older.posix_acl = Some(on),
+            Sets::Turns(Switch::Xattr, on) => older.xattr = Some(on),
+            Sets::Turns(Switch::Label, on) => older.security_label = Some(on),
             Sets::Xattrmap => older.xattrmap = text_after(row.name, text, older.xattrmap),
             Sets::Sandbox => older.sandbox = text_after(row.name, text, older.sandbox),
+            Sets::Source => older.source = text_after(row.name, text, older.source),
             _ => {}
         }
         older
@@ -107,13 +107,15 @@ pub(crate) fn read_older<'a>(options: Options, parts: &[Part<'a>]) -> Older<'a>
     ensures rules { text_in result.xattrmap
         ≡ last_or None (filter_map (older_setting is_rules options) (older_options parts.now)) }
     ensures lists { result.posix_acl
-        ≡ last_or None (filter_map (flag_in acl options) (older_options parts.now)) }
+        ≡ last_or None (filter_map (flag_in Switch.Acl options) (older_options parts.now)) }
     ensures xattr { result.xattr
-        ≡ last_or None (filter_map (flag_in xattr options) (older_options parts.now)) }
+        ≡ last_or None (filter_map (flag_in Switch.Xattr options) (older_options parts.now)) }
     ensures label { result.security_label
-        ≡ last_or None (filter_map (flag_in label options) (older_options parts.now)) }
+        ≡ last_or None (filter_map (flag_in Switch.Label options) (older_options parts.now)) }
     ensures sandbox { text_in result.sandbox
         ≡ last_or None (filter_map (older_setting is_sandbox options) (older_options parts.now)) }
+    ensures source { text_in result.source
+        ≡ last_or None (filter_map (older_setting is_source options) (older_options parts.now)) }
 {
     let mut older = Older {
         xattrmap: None,
@@ -121,6 +123,7 @@ pub(crate) fn read_older<'a>(options: Options, parts: &[Part<'a>]) -> Older<'a>
         xattr: None,
         security_label: None,
         sandbox: None,
+        source: None,
     };
     for part in parts {
         older = older.with_part(options, *part);

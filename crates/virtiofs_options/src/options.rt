@@ -28,6 +28,17 @@ pub(crate) enum Values {
     Tag,
 }
 
+/// What is on or off.
+#[derive(Clone, Copy)]
+pub(crate) enum Switch {
+    /// Access control lists.
+    Acl,
+    /// Extended attributes; off, they are on only where something else has them on.
+    Xattr,
+    /// Security labels.
+    Label,
+}
+
 /// What an option sets, as far as this counts here.
 #[derive(Clone, Copy)]
 pub(crate) enum Sets {
@@ -43,20 +54,12 @@ pub(crate) enum Sets {
     GidMap,
     /// The rules for names of attributes.
     Xattrmap,
-    /// That access control lists are on.
-    Acl,
-    /// That they are off.
-    NoAcl,
-    /// That extended attributes are on.
-    Xattr,
-    /// That they are on only where something else has them on.
-    NoXattr,
-    /// That security labels are on.
-    Label,
-    /// That they are off.
-    NoLabel,
+    /// What is on, or off.
+    Turns(Switch, bool),
     /// How the daemon is kept apart from the host.
     Sandbox,
+    /// Which directory is shared, in the older form.
+    Source,
     /// What the options of the older form in its value say.
     Older,
     /// That the program or the daemon tells of itself, and reads no further.
@@ -88,6 +91,11 @@ pub(crate) struct Known {
     pub(crate) help: &'static str,
 }
 
+use Sets::{
+    Fd, GidMap, Group, Older, Other, Prints, Sandbox, Socket, Source, Tells, TranslateGid,
+    TranslateUid, Turns, UidMap, Xattrmap,
+};
+use Switch::{Acl, Label, Xattr};
 use Values::{Any, AnyCase, Digits, NoEquals, Of, Tag};
 
 /// What may stand in a part of the words.
@@ -99,6 +107,9 @@ pub struct Options {
     pub(crate) own: &'static [Known],
     /// The parts of `-o`.
     pub(crate) older: &'static [Known],
+    /// What starts the daemon as another user than root, or in a user namespace: the end of a word, and
+    /// the beginning of another.
+    pub(crate) starters: &'static [(&'static str, &'static str)],
     /// Whether also words that are no options, and options that are not known.
     pub(crate) plain: bool,
 }
@@ -108,6 +119,7 @@ pub const OWN: Options = Options {
     known: &OPTIONS,
     own: &[],
     older: &[],
+    starters: &[],
     plain: false,
 };
 
@@ -116,42 +128,47 @@ pub const OF_DAEMON: Options = Options {
     known: &OPTIONS_OF_DAEMON,
     own: &OPTIONS,
     older: &OLDER_OPTIONS,
+    starters: &STARTERS,
     plain: true,
 };
 
 /// A table, with a row for each option: whether it has a value, what it sets, which values it takes, what
 /// stands for its value in the help, and what the help says of it.
 macro_rules! table {
-    ($($name:literal: $takes:ident, $sets:ident, $values:expr, $shown:literal, $help:literal;)*) => {
+    ($($name:literal: $takes:ident, $sets:expr, $values:expr, $shown:literal, $help:literal;)*) => {
         [$(Known {
             name: $name,
             takes: Takes::$takes,
-            sets: Sets::$sets,
+            sets: $sets,
             values: $values,
             shown: $shown,
             help: $help,
         }),*]
     };
-    ($($name:literal: $takes:ident, $sets:ident, $values:expr;)*) => {
+    ($($name:literal: $takes:ident, $sets:expr, $values:expr;)*) => {
         table! { $($name: $takes, $sets, $values, "", "";)* }
     };
 }
 
 /// The options of the program, and those of the daemon that may stand beside them; in the order in
 /// which the help has those of which it says something.
-const OPTIONS: [Known; 22] = table! {
+const OPTIONS: [Known; 24] = table! {
     "--translate-uid": Value, TranslateUid, Any, "SPEC", "Translate users, as the daemon does";
     "--translate-gid": Value, TranslateGid, Any, "SPEC", "Translate groups, as the daemon does";
     "--uid-map": Value, UidMap, Any, "RANGE", "A range of users of the daemon's namespace";
     "--gid-map": Value, GidMap, Any, "RANGE", "A range of groups of the daemon's namespace";
     "--xattrmap": Value, Xattrmap, Any, "RULES", "Map names of attributes";
-    "--posix-acl": Nothing, Acl, Any, "", "Access control lists are on";
-    "--xattr": Nothing, Xattr, Any, "", "Extended attributes are on, also without rules";
+    "--posix-acl": Nothing, Turns(Acl, true), Any, "", "Access control lists are on";
+    "--xattr": Nothing, Turns(Xattr, true), Any, "", "Extended attributes are on, also without rules";
     "--accept": Value, Other, Any, "KIND",
         "Findings of this kind, named as in JSON, do not count for the status";
+    "--accept-from": Value, Other, Any, "FILE",
+        "Accept also the kinds in FILE; # begins a comment there";
     "--explain": Value, Other, Any, "WHAT",
         "Say what becomes of one id or one name: user=1000, host-user=, group=, host-group=, name= or host-name=";
     "--pid": Value, Other, Any, "PID", "Audit this process of a daemon, as a further guest";
+    "--running": Nothing, Other, Any, "",
+        "Audit each virtiofsd that runs here; those of one directory together";
     "--run-as": Value, Other, Any, "UID[:GID]",
         "The user who starts the daemon; more than once: of each command line in turn";
     "--subuid": Value, Other, Any, "FILE", "Read FILE in place of /etc/subuid";
@@ -195,7 +212,7 @@ const OPTIONS_OF_DAEMON: [Known; 45] = table! {
     "--uid-map": Value, UidMap, Any;
     "--gid-map": Value, GidMap, Any;
     "--xattrmap": Value, Xattrmap, Any;
-    "--posix-acl": Nothing, Acl, Any;
+    "--posix-acl": Nothing, Turns(Acl, true), Any;
     "--sandbox": Value, Sandbox, AnyCase(&SANDBOXES);
     "-o": Value, Older, Any;
     "--fd": Value, Fd, Any;
@@ -218,7 +235,7 @@ const OPTIONS_OF_DAEMON: [Known; 45] = table! {
     "--migration-on-error": Value, Other, Of(&ON_ERRORS);
     "--shared-dir": Value, Other, Any;
     "--modcaps": Value, Other, Any;
-    "--xattr": Nothing, Xattr, Any;
+    "--xattr": Nothing, Turns(Xattr, true), Any;
     "--announce-submounts": Nothing, Other, Any;
     "--no-announce-submounts": Nothing, Other, Any;
     "--allow-mmap": Nothing, Other, Any;
@@ -228,7 +245,7 @@ const OPTIONS_OF_DAEMON: [Known; 45] = table! {
     "--syslog": Nothing, Other, Any;
     "--no-killpriv-v2": Nothing, Other, Any;
     "--killpriv-v2": Nothing, Other, Any;
-    "--security-label": Nothing, Label, Any;
+    "--security-label": Nothing, Turns(Label, true), Any;
     "--preserve-noatime": Nothing, Other, Any;
     "--readonly": Nothing, Other, Any;
     "--migration-verify-handles": Nothing, Other, Any;
@@ -240,15 +257,15 @@ const OPTIONS_OF_DAEMON: [Known; 45] = table! {
 /// The parts of `-o` of virtiofsd 1.13.2.
 const OLDER_OPTIONS: [Known; 23] = table! {
     "xattrmap=": Value, Xattrmap, NoEquals;
-    "posix_acl": Nothing, Acl, Any;
-    "no_posix_acl": Nothing, NoAcl, Any;
+    "posix_acl": Nothing, Turns(Acl, true), Any;
+    "no_posix_acl": Nothing, Turns(Acl, false), Any;
     "sandbox=": Value, Sandbox, Of(&OLDER_SANDBOXES);
-    "source=": Value, Other, NoEquals;
+    "source=": Value, Source, NoEquals;
     "modcaps=": Value, Other, NoEquals;
     "cache=": Value, Other, Of(&OLDER_CACHES);
     "loglevel=": Value, Other, Of(&OLDER_LOG_LEVELS);
-    "xattr": Nothing, Xattr, Any;
-    "no_xattr": Nothing, NoXattr, Any;
+    "xattr": Nothing, Turns(Xattr, true), Any;
+    "no_xattr": Nothing, Turns(Xattr, false), Any;
     "readdirplus": Nothing, Other, Any;
     "no_readdirplus": Nothing, Other, Any;
     "writeback": Nothing, Other, Any;
@@ -258,8 +275,40 @@ const OLDER_OPTIONS: [Known; 23] = table! {
     "announce_submounts": Nothing, Other, Any;
     "killpriv_v2": Nothing, Other, Any;
     "no_killpriv_v2": Nothing, Other, Any;
-    "security_label": Nothing, Label, Any;
-    "no_security_label": Nothing, NoLabel, Any;
+    "security_label": Nothing, Turns(Label, true), Any;
+    "no_security_label": Nothing, Turns(Label, false), Any;
     "no_posix_lock": Nothing, Other, Any;
     "no_flock": Nothing, Other, Any;
 };
+
+/// Programs that start others, and what says that they do so as another user than root, or in a user
+/// namespace.
+const STARTERS: [(&str, &str); 27] = [
+    ("sudo", "-u"),
+    ("sudo", "--user"),
+    ("sudo", "-nu"),
+    ("sudo", "-Hu"),
+    ("sudo", "-iu"),
+    ("doas", "-u"),
+    ("su", ""),
+    ("runuser", "-u"),
+    ("runuser", "--user"),
+    ("setpriv", "--reuid"),
+    ("chpst", "-u"),
+    ("setuidgid", ""),
+    ("gosu", ""),
+    ("su-exec", ""),
+    ("systemd-run", "--user"),
+    ("systemd-run", "--uid"),
+    ("podman", "unshare"),
+    ("buildah", "unshare"),
+    ("lxc-usernsexec", ""),
+    ("rootlesskit", ""),
+    ("bwrap", "--unshare-user"),
+    ("unshare", "--user"),
+    ("unshare", "--map-"),
+    ("unshare", "-U"),
+    ("unshare", "-r"),
+    ("unshare", "-mU"),
+    ("unshare", "-mr"),
+];

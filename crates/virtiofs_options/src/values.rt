@@ -12,6 +12,8 @@ use std::alloc::{AllocError, Allocator, Global};
 pub struct Values<'a> {
     /// Of `--accept`: a kind of finding.
     pub accept: Vec<&'a str, Global>,
+    /// Of `--accept-from`: a file with such kinds.
+    pub accept_from: Vec<&'a str, Global>,
     /// Of `--explain`: an id or a name.
     pub explain: Vec<&'a str, Global>,
     /// Of `--pid`: a process.
@@ -25,7 +27,7 @@ pub struct Values<'a> {
 }
 
 /// The values of an option.
-fn values_in<'a, A: Allocator>(
+pub(crate) fn values_in<'a, A: Allocator>(
     alloc: A,
     parts: &[Part<'a>],
     option: &str,
@@ -48,6 +50,7 @@ pub(crate) fn values_of<'a>(alloc: Global, parts: &[Part<'a>]) -> Result<Values<
 {
     Ok(Values {
         accept: values_in(alloc, parts, "--accept")?,
+        accept_from: values_in(alloc, parts, "--accept-from")?,
         explain: values_in(alloc, parts, "--explain")?,
         pid: values_in(alloc, parts, "--pid")?,
         run_as: values_in(alloc, parts, "--run-as")?,

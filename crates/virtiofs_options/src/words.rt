@@ -45,7 +45,7 @@ fn read_front<'a>(
     let asked = asked_of(parts.as_slice())?;
     let values = values_of(alloc, parts.as_slice())?;
     let mut guest = Guest::new(alloc);
-    guest.take_parts(options, parts.as_slice())?;
+    guest.take_parts(options, parts.as_slice(), false)?;
     Ok(Front::Audit(asked, values, guest))
 }
 
@@ -82,11 +82,16 @@ fn rest_start(words: &[&str]) -> usize
     }
 }
 
-/// Whether processes are named, and no command line.
-fn names_processes(values: &Values<'_>, first: &Guest<'_, Global>, words: &[&str]) -> bool
-    ensures { result ≡ names_processes values.now first.now words.now }
+/// Whether processes are named, or those that run are asked for, and no command line.
+fn names_processes(
+    asked: Asked,
+    values: &Values<'_>,
+    first: &Guest<'_, Global>,
+    words: &[&str],
+) -> bool
+    ensures { result ≡ names_processes asked values.now first.now words.now }
 {
-    !values.pid.is_empty() && !first.has_any() && words.is_empty()
+    (asked.running || !values.pid.is_empty()) && !first.has_any() && words.is_empty()
 }
 
 /// What the program's words come to.
@@ -109,10 +114,10 @@ fn audit_of<'a>(
     first: Guest<'a, Global>,
 ) -> Result<Words<'a>, ReadError<'a>>
     ensures read { IfOk result (IsAudit of_daemon asked values.entry first.entry words.now) }
-    ensures refused { IfErr result (WrongOnly (IsAuditFault of_daemon values.entry first.entry
+    ensures refused { IfErr result (WrongOnly (IsAuditFault of_daemon asked values.entry first.entry
         words.now)) }
 {
-    if names_processes(&values, &first, words) {
+    if names_processes(asked, &values, &first, words) {
         let guests = Guests {
             guests: Vec::new(alloc),
             unknown: Vec::new(alloc),

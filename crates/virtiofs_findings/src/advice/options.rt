@@ -76,6 +76,7 @@ fn guest_of<'a, A: Allocator + Copy>(
             xattr: options.xattr,
             security_label: options.security_label,
             sandbox: options.sandbox,
+            by_other: options.by_other,
         },
         runner: given.runner,
     })

@@ -1,18 +1,15 @@
 //! What is decided of all names of a guest.
 ghost use Rattle.std.specs.Prelude.{◌≡◌, ◌<◌, ◌↔◌, codes, IfOk, OnOk, IsTrue};
-ghost use Rattle.virtiofs_map.specs.Audit.{AnswersLeast, Within};
+ghost use Rattle.virtiofs_map.specs.Audit.{AnswersLeast, HasFault, Within};
 ghost use Rattle.virtiofs_findings.specs.Lists.{Adds};
 ghost use Rattle.virtiofs_findings.specs.NameFindings.{FindsName, FindsLeast, DecidesWritten, FindsIdle, FindsUnruled, FindsNames, name_found};
-ghost use Rattle.virtiofs_findings.specs.NameParts.{DecidesFrom, HasFault};
+ghost use Rattle.virtiofs_findings.specs.NameParts.{DecidesFrom};
 
-use super::found::{LeastName, NameFault};
+use super::found::LeastName;
 use crate::finding::{Evidence, Finding, Kind};
 use crate::report::push_of_guest;
 use std::alloc::{AllocError, Allocator};
-use virtiofs_map::audit::{
-    Audit, audit, audit_listed, audit_listed_within, audit_within, keeps_apart, keeps_apart_within,
-    shares_no_name, shares_no_name_within,
-};
+use virtiofs_map::audit::{Audit, NameFault, ask};
 use virtiofs_map::xattrmap::{XattrMap, XattrName};
 
 /// The beginning of names that users set.
@@ -54,12 +51,8 @@ fn least<A: Allocator + Copy>(
 ) -> Result<Audit<A>, AllocError>
     ensures { IfOk result (AnswersLeast (HasFault fault map.now other.now)) }
 {
-    match fault {
-        NameFault::Lost => audit(alloc, map),
-        NameFault::Stray => audit_listed(alloc, map),
-        NameFault::Seen => keeps_apart(alloc, map, other),
-        NameFault::Shared => shares_no_name(alloc, map, other),
-    }
+    let all = XattrName { bytes: &[] };
+    ask(alloc, fault, map.as_ref(), other.as_ref(), all)
 }
 
 /// The least name with a fault of those that begin with these bytes.
@@ -73,12 +66,7 @@ fn least_within<A: Allocator + Copy>(
     ensures { IfOk result (AnswersLeast
         (Within beginning.entry.bytes.now (HasFault fault map.now other.now))) }
 {
-    match fault {
-        NameFault::Lost => audit_within(alloc, map, beginning),
-        NameFault::Stray => audit_listed_within(alloc, map, beginning),
-        NameFault::Seen => keeps_apart_within(alloc, map, other, beginning),
-        NameFault::Shared => shares_no_name_within(alloc, map, other, beginning),
-    }
+    ask(alloc, fault, map.as_ref(), other.as_ref(), beginning)
 }
 
 /// The least names with a fault, if there is any. The second map is that of the other guest; for

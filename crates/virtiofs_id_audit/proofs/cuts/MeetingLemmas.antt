@@ -29,9 +29,6 @@ module _ (spans : List Span) (whole : Span) (from count : ℕ)
     (λ (span : Span). ltb span.last whole.first ≡ false) spans from)
     (begins : IsPartitionPoint (λ (span : Span). leb span.first whole.last ≡ true)
     (λ (span : Span). leb span.first whole.last ≡ false) (drop from spans) count) where
-  met : List Span
-  met = take count (drop from spans)
-
   -- the span at a place of them
   met_at : (k : ℕ) (d : Span) → k < length (take count (drop from spans))
       → (k < count) × (from + k < length spans) × (get_or (take count (drop from spans)) k d ≡ get_or spans (from + k) d)

@@ -32,10 +32,7 @@ CutTo-start whole cuts within = record {
   apart = AreApart-none;
   runs = AreRuns-none;
   below = λ k d inside. absurd (omega arith);
-  hold = λ id. (
-    λ (span, listed, has). absurd (hold_none id (span, listed, has)),
-    λ (has, before, _). absurd (let low : whole.first ≤ id = has.0 in omega arith),
-  );
+  hold = λ id. (λ held. absurd (hold_none id held), λ (has, before, _). absurd (omega (arith, has.0)));
   done = λ k d inside. absurd (omega arith);
   ahead = λ k d from inside j e none. absurd (omega arith);
 }
@@ -55,9 +52,7 @@ module _ (whole : Span) (cuts : List Span) (i next : ℕ) (kept : List Span) (cu
   -- none of the first cuts has an id from next on
   free : (id : ℕ) → next ≤ id → ¬ Hold (take i cuts) id
   free id from (span, listed, has) =
-      let ends : span.last < next = All-contains (λ s. s.last < next) (take i cuts) span so_far.done listed in
-      let high : id ≤ span.last = has.1 in
-      omega arith
+      omega (arith, has, All-contains (λ s. s.last < next) (take i cuts) span so_far.done listed)
 
   -- an id that is kept is not of this cut
   not_of_cut : (id : ℕ) → Hold kept id → ¬ Has cut id
@@ -65,17 +60,12 @@ module _ (whole : Span) (cuts : List Span) (i next : ℕ) (kept : List Span) (cu
       let under : span.last < (get_or cuts i cut).first =
       All-contains (λ s. s.last < (get_or cuts i cut).first) kept span (so_far.ahead i cut (omega arith) inside) listed in
       let under' : span.last < cut.first = rw here at under in
-      let high : id ≤ span.last = has.1 in
-      let low : cut.first ≤ id = in_cut.0 in
-      omega arith
+      omega (arith, has.1, in_cut.0)
 
   -- an id below the new next that this cut does not have, and that is not below next, is before the cut
   before_cut : (new id : ℕ) → new ≡ max next (cut.last + 1) → next ≤ id → id < new → ¬ Has cut id → id < cut.first
   before_cut new id is from below not =
-      elim (cases_lt id cut.first) [
-        | inl before ↦ before
-        | inr after ↦ absurd (not (omega arith, omega arith))
-      ]
+      elim (cases_lt id cut.first) [ inl before ↦ before | inr after ↦ absurd (not (omega arith)) ]
 
   done_more : (new : ℕ) → new ≡ max next (cut.last + 1) → All (λ s. s.last < new) (take (i + 1) cuts)
   done_more new is =
@@ -90,79 +80,71 @@ module _ (whole : Span) (cuts : List Span) (i next : ℕ) (kept : List Span) (cu
       let rising : (get_or cuts i d).first ≤ (get_or cuts k d).first = firsts i k d (omega arith) under in
       rw (get_or_default cuts i d cut inside, here) at rising
 
+  -- what is kept stays
+  kept_more : (new id : ℕ) → new ≡ max next (cut.last + 1) → Hold kept id
+      → Has whole id × (id < new) × (¬ Hold (take (i + 1) cuts) id)
+  kept_more new id is held =
+      let (in_whole, before, not) = (so_far.hold id).0 held in (
+        in_whole,
+        omega arith,
+        λ more. elim ((hold_more id).0 more) [
+          | inl old ↦ not old
+          | inr has ↦ not_of_cut id held has
+        ],
+      )
+
   -- nothing of the span lies between
   pub CutTo-pass : (new : ℕ) → new ≡ max next (cut.last + 1) → min (whole.last + 1) cut.first ≤ next
       → CutTo whole cuts (i + 1) new kept
   CutTo-pass new is none = record {
-    from = (let from : whole.first ≤ next = so_far.from in omega arith);
-    bound = (let bound : next ≤ 4294967296 = so_far.bound in let within : cut.last ≤ 4294967295 = is_span.1 in omega arith);
+    from = omega (arith, so_far.from);
+    bound = omega (arith, so_far.bound, is_span.1);
     apart = so_far.apart;
     runs = so_far.runs;
     below = All-weaker (λ s. s.last + 1 < next) (λ s. s.last + 1 < new) (λ s low. omega arith) kept so_far.below;
-    hold = λ id. (to id, back id);
+    hold = λ id. (kept_more new id is, back id);
     done = done_more new is;
     ahead = λ k d from under. so_far.ahead k d (omega arith) under;
   } where
-    to : (id : ℕ) → Hold kept id → Has whole id × (id < new) × (¬ Hold (take (i + 1) cuts) id)
-    to id held =
-        let (in_whole, before, not) = (so_far.hold id).0 held in (
-          in_whole,
-          omega arith,
-          λ more. elim ((hold_more id).0 more) [
-            | inl old ↦ not old
-            | inr has ↦ not_of_cut id held has
-          ],
-        )
-
     back : (id : ℕ) → Has whole id × (id < new) × (¬ Hold (take (i + 1) cuts) id) → Hold kept id
     back id (in_whole, below, not) =
         elim (cases_lt id next) [
           | inl before ↦ (so_far.hold id).1 (in_whole, before, λ old. not ((hold_more id).1 (inl old)))
           | inr after ↦ absurd
               (let first : id < cut.first = before_cut new id is (omega arith) below (λ has. not ((hold_more id).1 (inr has))) in
-              let high : id ≤ whole.last = in_whole.1 in
-              omega arith)
+              omega (arith, in_whole.1))
         ]
 
   -- what lies between is kept
   pub CutTo-push : (new until : ℕ) (span : Span) → new ≡ max next (cut.last + 1) → until ≡ min (whole.last + 1) cut.first
       → next < until → span.first ≡ next → span.last ≡ until - 1 → CutTo whole cuts (i + 1) new (kept ++ span ∷ [])
   CutTo-push new until span is until_is some first_is last_is = record {
-    from = (let from : whole.first ≤ next = so_far.from in omega arith);
-    bound = (let bound : next ≤ 4294967296 = so_far.bound in let within : cut.last ≤ 4294967295 = is_span.1 in omega arith);
-    apart = (let order : cut.first ≤ cut.last = is_span.0 in let within : cut.last ≤ 4294967295 = is_span.1 in
-        AreApart-push kept next span so_far.apart (below_next kept next so_far.below) (omega arith) (omega arith, omega arith));
+    from = omega (arith, so_far.from);
+    bound = omega (arith, so_far.bound, is_span.1);
+    apart = AreApart-push kept next span so_far.apart (below_next kept next so_far.below) (omega arith)
+        (omega (arith, is_span));
     runs = AreRuns-push kept next span so_far.runs so_far.below (omega arith) (omega arith);
-    below = (let order : cut.first ≤ cut.last = is_span.0 in All-push (λ s. s.last + 1 < new) kept span
-        (All-weaker (λ s. s.last + 1 < next) (λ s. s.last + 1 < new) (λ s low. omega arith) kept so_far.below) (omega arith));
+    below = All-push (λ s. s.last + 1 < new) kept span
+        (All-weaker (λ s. s.last + 1 < next) (λ s. s.last + 1 < new) (λ s low. omega arith) kept so_far.below)
+        (omega (arith, is_span));
     hold = λ id. (to id, back id);
     done = done_more new is;
     ahead = λ k d from under.
-        (let begins : cut.first ≤ (get_or cuts k d).first = later k d from under in
-        All-push (λ s. s.last < (get_or cuts k d).first) kept span (so_far.ahead k d (omega arith) under) (omega arith));
+        All-push (λ s. s.last < (get_or cuts k d).first) kept span (so_far.ahead k d (omega arith) under)
+        (omega (arith, later k d from under));
   } where
     to : (id : ℕ) → Hold (kept ++ span ∷ []) id → Has whole id × (id < new) × (¬ Hold (take (i + 1) cuts) id)
     to id held =
         elim (hold_push kept span id held) [
-          | inl old ↦ (let (in_whole, before, not) = (so_far.hold id).0 old in (
-            in_whole,
-            omega arith,
+          | inl old ↦ kept_more new id is old
+          | inr has ↦ (
+            omega (arith, has, so_far.from),
+            omega (arith, has, is_span),
             λ more. elim ((hold_more id).0 more) [
-              | inl earlier ↦ not earlier
-              | inr has ↦ not_of_cut id old has
+              | inl earlier ↦ free id (omega (arith, has)) earlier
+              | inr in_cut ↦ omega (arith, has, in_cut)
             ],
-          ))
-          | inr has ↦
-              (let low : span.first ≤ id = has.0 in let high : id ≤ span.last = has.1 in
-              let from : whole.first ≤ next = so_far.from in
-              let order : cut.first ≤ cut.last = is_span.0 in (
-                (omega arith, omega arith),
-                omega arith,
-                λ more. elim ((hold_more id).0 more) [
-                  | inl earlier ↦ free id (omega arith) earlier
-                  | inr in_cut ↦ (let low' : cut.first ≤ id = in_cut.0 in omega arith)
-                ],
-              ))
+          )
         ]
 
     back : (id : ℕ) → Has whole id × (id < new) × (¬ Hold (take (i + 1) cuts) id) → Hold (kept ++ span ∷ []) id
@@ -171,9 +153,8 @@ module _ (whole : Span) (cuts : List Span) (i next : ℕ) (kept : List Span) (cu
           | inl before ↦ push_hold kept span id
               (inl ((so_far.hold id).1 (in_whole, before, λ old. not ((hold_more id).1 (inl old)))))
           | inr after ↦
-              (let first : id < cut.first = before_cut new id is (omega arith) below (λ has. not ((hold_more id).1 (inr has))) in
-              let high : id ≤ whole.last = in_whole.1 in
-              push_hold kept span id (inr (omega arith, omega arith)))
+              (let first = before_cut new id is (omega arith) below (λ has. not ((hold_more id).1 (inr has))) in
+              push_hold kept span id (inr (omega (arith, first, in_whole))))
         ]
 
 -- after the last cut
@@ -189,7 +170,7 @@ module _ (whole : Span) (cuts : List Span) (i next : ℕ) (kept : List Span) (so
   pub CutTo-end : whole.last + 1 ≤ next → (id : ℕ) → Hold kept id ↔ (Has whole id × (¬ Hold cuts id))
   CutTo-end over id = (
     λ held. (let (in_whole, before, not) = (all_cut id).0 held in (in_whole, not)),
-    λ (in_whole, not). (all_cut id).1 (in_whole, (let high : id ≤ whole.last = in_whole.1 in omega arith), not),
+    λ (in_whole, not). (all_cut id).1 (in_whole, (omega (arith, in_whole.1)), not),
   )
 
   -- what is left is kept
@@ -200,21 +181,18 @@ module _ (whole : Span) (cuts : List Span) (i next : ℕ) (kept : List Span) (so
     to held =
         elim (hold_push kept span id held) [
           | inl old ↦ (let (in_whole, before, not) = (all_cut id).0 old in (in_whole, not))
-          | inr has ↦
-              (let low : span.first ≤ id = has.0 in let high : id ≤ span.last = has.1 in
-              let from : whole.first ≤ next = so_far.from in (
-                (omega arith, omega arith),
-                λ (cut, listed, in_cut).
-                    (let ends : cut.last < next = All-contains (λ s. s.last < next) cuts cut all_done listed in
-                    let high' : id ≤ cut.last = in_cut.1 in omega arith),
-              ))
+          | inr has ↦ (
+            omega (arith, has, so_far.from),
+            λ (cut, listed, in_cut).
+                omega (arith, has, in_cut, All-contains (λ s. s.last < next) cuts cut all_done listed),
+          )
         ]
 
     back : Has whole id × (¬ Hold cuts id) → Hold (kept ++ span ∷ []) id
     back (in_whole, not) =
         elim (cases_lt id next) [
           | inl before ↦ push_hold kept span id (inl ((all_cut id).1 (in_whole, before, not)))
-          | inr after ↦ (let high : id ≤ whole.last = in_whole.1 in push_hold kept span id (inr (omega arith, omega arith)))
+          | inr after ↦ push_hold kept span id (inr (omega (arith, in_whole)))
         ]
 
   pub apart-rest : (span : Span) → next < whole.last + 1 → whole.last ≤ 4294967295 → span.first ≡ next

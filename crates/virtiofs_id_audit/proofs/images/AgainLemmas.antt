@@ -1,10 +1,10 @@
 -- Which ids spans have again, as they come in the order of their first ids.
 use Rattle.std.proofs.Common.{◌≡◌, ◌↔◌, inl, inr, ◌⊎◌, ℕ, ◌+◌, ◌-◌, ◌<◌, ◌≤◌, min, max, List, [], ◌∷◌, ◌++◌, length}
 use Rattle.std.proofs.Common.{take, get_or, Contains, refl, ap, ◌∙◌, arith}
-use Rattle.std.proofs.Common.{rules, subst}
+use Rattle.std.proofs.Common.{subst}
 use Rattle.std.specs.List.{All}
 use Rattle.std.specs.List.Sorted.{IsPermutation, IsNonDecreasingBy}
-use Rattle.std.proofs.lemmas.Bool.{cases_order}
+use Rattle.std.proofs.lemmas.Bool.{cases_lt}
 use Rattle.std.proofs.lemmas.Bool.Decides.{nat_tests}
 use Rattle.std.proofs.lemmas.List.{get_or_default, take_all, take_more}
 use Rattle.std.proofs.lemmas.List.Sorted.{sum_by-IsPermutation}
@@ -41,10 +41,9 @@ pub record SweptTo (images : List Span) (start i reached last : ℕ) (again : Li
 -- before the first image
 below_once : (start id : ℕ) → (id < start) ↔ (1 ≤ once_below start id)
 below_once start id =
-    elim (cases_order id start) [
-      | inl same ↦ (λ below. absurd (omega arith), λ some. absurd (grind (arith, nat_tests)))
-      | inr (inl before) ↦ (λ _. grind (arith, nat_tests), λ _. before)
-      | inr (inr after) ↦ (λ below. absurd (omega arith), λ some. absurd (grind (arith, nat_tests)))
+    elim (cases_lt id start) [
+      | inl before ↦ (λ _. grind (arith, nat_tests), λ _. before)
+      | inr after ↦ (λ below. absurd (omega arith), λ some. absurd (grind (arith, nat_tests)))
     ]
 
 once_at_most : (start id : ℕ) → once_below start id ≤ 1
@@ -54,20 +53,10 @@ pub SweptTo-start : (images : List Span) (start : ℕ) → start ≤ 4294967296 
 unfolding reached_times
 SweptTo-start images start bound = record {
   bound = bound;
-  order = record {
-    some = λ k d inside. absurd (omega arith);
-    firsts = λ i j d up inside. absurd (omega arith);
-    lasts =
-        λ i j d up inside. absurd (omega arith);
-  };
-  hold = λ id. (
-    λ (span, listed, has). absurd (hold_none id (span, listed, has)),
-    λ twice. absurd (let once = once_at_most start id in omega arith),
-  );
-  ends = λ id low. (
-    λ below. (let once = (below_once start id).0 below in omega arith),
-    λ some. (below_once start id).1 (omega arith),
-  );
+  order = omega arith;
+  hold = λ id. (λ held. absurd (hold_none id held), λ twice. absurd (omega (arith, once_at_most start id)));
+  ends = λ id low.
+      (λ below. omega (arith, (below_once start id).0 below), λ some. (below_once start id).1 (omega arith));
   firsts = λ k d inside. absurd (omega arith);
   lasts = λ k d inside. absurd (omega arith);
   last_is = inl refl;
@@ -110,75 +99,61 @@ module _ (images : List Span) (start i reached last : ℕ) (again : List Span) (
       let before = reached_before id begins in
       let more = reached_more images start i id image inside here in
       elim (has_or_not image id) [
-        | inl (once, has) ↦ (λ below. (omega arith), λ times. (let high : id ≤ image.last = has.1 in omega arith))
-        | inr (never, not) ↦ (
-          λ below.
-              (let old : id < reached = by_reached below (λ high. not (begins, high)) in let times = before.0 old in
-              omega arith),
-          λ times. (let old : id < reached = before.1 (omega arith) in omega arith),
-        )
-      ] where
-        by_reached : id < new → ¬ (id ≤ image.last) → id < reached
-        by_reached below beyond =
-            elim (cases_order id image.last) [
-              | inl same ↦ absurd (beyond (omega arith))
-              | inr (inl less) ↦ absurd (beyond (omega arith))
-              | inr (inr more) ↦ omega arith
-            ]
+        | inl (once, has) ↦ omega arith
+        | inr (never, not) ↦ elim (cases_lt image.last id) [
+          | inl beyond ↦
+              (λ below. omega (arith, before.0 (omega arith)), λ times. omega (arith, before.1 (omega arith)))
+          | inr high ↦ absurd (not (begins, high))
+        ]
+      ]
 
   -- nothing of the image was reached before
   pub SweptTo-pass : (new : ℕ) → reached ≤ image.first → new ≡ max reached (image.last + 1)
       → SweptTo images start (i + 1) new last again
   SweptTo-pass new beyond is = record {
-    bound = (let bound : reached ≤ 4294967296 = so_far.bound in omega arith);
+    bound = omega (arith, so_far.bound);
     order = so_far.order;
-    hold = λ id. (same_hold id (has_or_not image id));
+    hold = λ id.
+        (let more = reached_more images start i id image inside here in
+        elim (has_or_not image id) [
+          | inl (once, (low, high)) ↦ (
+            λ held. omega (arith, (so_far.hold id).0 held),
+            λ twice. absurd (omega (arith, (reached_before id low).1 (omega arith))),
+          )
+          | inr (never, not) ↦
+              (λ held. omega (arith, (so_far.hold id).0 held), λ twice. (so_far.hold id).1 (omega arith))
+        ]);
     ends = ends_more new is;
     firsts =
         All-weaker (BeginsBefore images i) (BeginsBefore images (i + 1))
         (λ span low k d from inside'. low k d (omega arith) inside') again so_far.firsts;
     lasts = so_far.lasts;
     last_is = so_far.last_is;
-  } where
-    same_hold : (id : ℕ) → ((has_times id image ≡ 1) × Has image id) ⊎ ((has_times id image ≡ 0) × (¬ Has image id))
-        → Hold again id ↔ (2 ≤ reached_times images start (i + 1) id)
-    same_hold id (inl (once, (low, high))) =
-        let more = reached_more images start i id image inside here in (
-          λ held. (let twice = (so_far.hold id).0 held in omega arith),
-          λ twice. absurd (let old : id < reached = (reached_before id low).1 (omega arith) in omega arith),
-        )
-    same_hold id (inr (never, not)) =
-        let more = reached_more images start i id image inside here in
-        (λ held. (let twice = (so_far.hold id).0 held in omega arith), λ twice. (so_far.hold id).1 (omega arith))
+  }
 
   -- a front of the image was
   pub SweptTo-push : (new greatest : ℕ) (span : Span) → image.first < reached → new ≡ max reached (image.last + 1)
       → greatest ≡ max last (min image.last (reached - 1)) → span.first ≡ image.first → span.last ≡ greatest
       → SweptTo images start (i + 1) new greatest (again ++ span ∷ [])
   SweptTo-push new greatest span before is greatest_is first_is last_is = record {
-    bound = (let bound : reached ≤ 4294967296 = so_far.bound in omega arith);
+    bound = omega (arith, so_far.bound);
     order = record {
       some = All-push (λ s. s.first ≤ s.last) again span so_far.order.some (omega arith);
       firsts =
           IsNonDecreasingBy-push (λ s. s.first) again span so_far.order.firsts
-          (λ d any.
-          (let low : (get_or again (length again - 1) d).first ≤ (get_or images i image).first =
-          so_far.firsts (length again - 1) d (omega arith) i image (omega arith) inside in let low' = rw here at low in
-          omega arith));
+          (λ d any. omega
+          (arith, rw here at (so_far.firsts (length again - 1) d (omega arith) i image (omega arith) inside)));
       lasts = IsNonDecreasingBy-push (λ s. s.last) again span so_far.order.lasts
-          (λ d any.
-          (let high : (get_or again (length again - 1) d).last ≤ last =
-          so_far.lasts (length again - 1) d (omega arith) in omega arith));
+          (λ d any. omega (arith, so_far.lasts (length again - 1) d (omega arith)));
     };
-    hold = λ id. (more_hold id (has_or_not image id));
+    hold = λ id. (to id, from id);
     ends = ends_more new is;
     firsts =
         All-push (BeginsBefore images (i + 1)) again span
         (All-weaker (BeginsBefore images i) (BeginsBefore images (i + 1))
         (λ s low k d from inside'. low k d (omega arith) inside') again so_far.firsts)
-        (λ k d from inside'.
-        (let up = rising i k d (omega arith) inside' in let up' : image.first ≤ (get_or images k d).first =
-        rw (get_or_default images i d image inside ∙ here) at up in omega arith));
+        (λ k d from inside'. omega
+        (arith, rw (get_or_default images i d image inside ∙ here) at (rising i k d (omega arith) inside')));
     lasts = All-push (λ s. s.last ≤ greatest) again span
         (All-weaker (λ s. s.last ≤ last) (λ s. s.last ≤ greatest) (λ s high. omega arith) again so_far.lasts)
         (omega arith);
@@ -190,53 +165,43 @@ module _ (images : List Span) (start i reached last : ℕ) (again : List Span) (
         elim so_far.last_is [
           | inl none ↦ inl (omega arith)
           | inr (other, listed, ends) ↦
-              let begins : other.first ≤ (get_or images i image).first =
-              All-contains (BeginsBefore images i) again other so_far.firsts listed i image (omega arith) inside in
-              let begins' : other.first ≤ image.first = rw here at begins in
+              let begins : other.first ≤ image.first = rw here at
+              (All-contains (BeginsBefore images i) again other so_far.firsts listed i image (omega arith) inside) in
               inr (other, listed, (omega arith, omega arith))
         ]
 
     from_span : (id : ℕ) → Has span id → 2 ≤ reached_times images start (i + 1) id
     from_span id (low, high) =
         let more = reached_more images start i id image inside here in
-        elim (cases_order id (min image.last (reached - 1))) [
-          | inl same ↦ fresh (omega arith)
-          | inr (inl less) ↦ fresh (omega arith)
-          | inr (inr beyond) ↦
+        elim (cases_lt (min image.last (reached - 1)) id) [
+          | inl beyond ↦
               elim (by_last id (omega arith) (omega arith)) [
                 | inl none ↦ absurd (omega arith)
-                | inr held ↦ (let twice = (so_far.hold id).0 held in omega arith)
+                | inr held ↦ omega (arith, (so_far.hold id).0 held)
               ]
-        ] where
-          fresh : id ≤ min image.last (reached - 1) → 2 ≤ reached_times images start (i + 1) id
-          fresh short =
-              let more = reached_more images start i id image inside here in
-              let old : 1 ≤ reached_times images start i id = (reached_before id (omega arith)).0 (omega arith) in
+          | inr short ↦
               elim (has_or_not image id) [
-                | inl (once, has) ↦ omega arith
-                | inr (never, not) ↦ absurd (not (omega arith, omega arith))
+                | inl (once, has) ↦ omega (arith, (reached_before id (omega arith)).0 (omega arith))
+                | inr (never, not) ↦ absurd (not (omega arith))
               ]
+        ]
 
-    more_hold : (id : ℕ) → ((has_times id image ≡ 1) × Has image id) ⊎ ((has_times id image ≡ 0) × (¬ Has image id))
-        → Hold (again ++ span ∷ []) id ↔ (2 ≤ reached_times images start (i + 1) id)
-    more_hold id has = (to, from has) where
-      to : Hold (again ++ span ∷ []) id → 2 ≤ reached_times images start (i + 1) id
-      to held =
-          let more = reached_more images start i id image inside here in
-          elim (hold_push again span id held) [
-            | inl old ↦ (let twice = (so_far.hold id).0 old in omega arith)
-            | inr in_span ↦ from_span id in_span
-          ]
+    to : (id : ℕ) → Hold (again ++ span ∷ []) id → 2 ≤ reached_times images start (i + 1) id
+    to id held =
+        let more = reached_more images start i id image inside here in
+        elim (hold_push again span id held) [
+          | inl old ↦ omega (arith, (so_far.hold id).0 old)
+          | inr in_span ↦ from_span id in_span
+        ]
 
-      from : ((has_times id image ≡ 1) × Has image id) ⊎ ((has_times id image ≡ 0) × (¬ Has image id))
-          → 2 ≤ reached_times images start (i + 1) id → Hold (again ++ span ∷ []) id
-      from (inl (once, (low, high))) twice =
-          let more = reached_more images start i id image inside here in
-          let old : id < reached = (reached_before id low).1 (omega arith) in
-          push_hold again span id (inr (omega arith, omega arith))
-      from (inr (never, not)) twice =
-          let more = reached_more images start i id image inside here in
-          push_hold again span id (inl ((so_far.hold id).1 (omega arith)))
+    from : (id : ℕ) → 2 ≤ reached_times images start (i + 1) id → Hold (again ++ span ∷ []) id
+    from id twice =
+        let more = reached_more images start i id image inside here in
+        push_hold again span id (elim (has_or_not image id) [
+          | inl (once, (low, high)) ↦
+              (let old : id < reached = (reached_before id low).1 (omega arith) in inr (omega arith, omega arith))
+          | inr (never, not) ↦ inl ((so_far.hold id).1 (omega arith))
+        ])
 
 -- after the last image
 pub SweptTo-end : (images : List Span) (start i reached last : ℕ) (again : List Span)
@@ -251,10 +216,6 @@ SweptTo-end images start i reached last again so_far end id = rw (take_all i ima
 pub record AreKept (spans kept : List Span) : Type 0 where
   pub some : All IsSpan kept
   pub same : (id : ℕ) → Hold kept id ↔ Hold spans id
-
--- none at first
-pub kept_none : (spans kept : List Span) → kept ≡ [] → AreKept (take 0 spans) kept
-kept_none spans kept none = rw none (record { some = search rules; same = λ id. ((λ held. held), (λ held. held)) })
 
 -- a span without an id is left out
 pub kept_without : (spans kept : List Span) (i : ℕ) (d : Span) → i < length spans → AreKept (take i spans) kept
@@ -290,11 +251,9 @@ kept_with spans kept i d below so_far is = record {
 -- in another order they have the same ids
 pub hold_permuted : (spans sorted : List Span) (id : ℕ) → IsPermutation spans sorted → Hold sorted id ↔ Hold spans id
 hold_permuted spans sorted id permutation =
-    let same = sum_by-IsPermutation (has_times id) spans sorted permutation in
-    let of_sorted = times_hold sorted id in
-    let of_spans = times_hold spans id in (
-      (λ held. of_spans.0 (let some = of_sorted.1 held in omega (arith, same, some))),
-      (λ held. of_sorted.0 (let some = of_spans.1 held in omega (arith, same, some))),
+    let same = sum_by-IsPermutation (has_times id) spans sorted permutation in (
+      (λ held. (times_hold spans id).0 (omega (arith, same, (times_hold sorted id).1 held))),
+      (λ held. (times_hold sorted id).0 (omega (arith, same, (times_hold spans id).1 held))),
     )
 
 -- all of them, in another order

@@ -79,20 +79,18 @@ one_covers_or_none : (specs : List IdMap) (direction : Direction) (n : ℕ)
     ⊎ ((spec : IdMap) → Contains specs spec → ¬ Covers spec direction n)
 one_covers_or_none [] direction n = inr (λ spec (k, inside, here). absurd (omega arith))
 one_covers_or_none (spec ∷ specs) direction n =
-    first (covers_or_not spec direction n) (one_covers_or_none specs direction n) where
-      first : Covers spec direction n ⊎ (¬ Covers spec direction n)
-          → ((other : IdMap) × Contains specs other × Covers other direction n)
-          ⊎ ((other : IdMap) → Contains specs other → ¬ Covers other direction n)
-          → ((other : IdMap) × Contains (spec ∷ specs) other × Covers other direction n)
-          ⊎ ((other : IdMap) → Contains (spec ∷ specs) other → ¬ Covers other direction n)
-      first (inl covers) rest = inl (spec, (0, omega arith, refl), covers)
-      first (inr not) (inl (other, listed, covers)) =
-          inl (other, Contains-append_right (spec ∷ []) specs other listed, covers)
-      first (inr not) (inr none) = inr (λ other listed covers.
-          elim (Contains-append_cases (spec ∷ []) specs other listed) [
-            | inl front ↦ not (subst (λ (s : IdMap). Covers s direction n) (only spec other front) covers)
-            | inr later ↦ none other later covers
-          ])
+    elim (covers_or_not spec direction n) [
+      | inl covers ↦ inl (spec, (0, omega arith, refl), covers)
+      | inr not ↦ elim (one_covers_or_none specs direction n) [
+        | inl (other, listed, covers) ↦
+            inl (other, Contains-append_right (spec ∷ []) specs other listed, covers)
+        | inr none ↦ inr (λ other listed covers.
+            elim (Contains-append_cases (spec ∷ []) specs other listed) [
+              | inl front ↦ not (subst (λ (s : IdMap). Covers s direction n) (only spec other front) covers)
+              | inr later ↦ none other later covers
+            ])
+      ]
+    ]
 
 becomes_some : (specs : List IdMap) (direction : Direction) (n : ℕ) → (value : Option ℕ) × Becomes specs direction n value
 becomes_some specs direction n =
@@ -184,7 +182,7 @@ StandsBefore-append specs more spec later is = record {
   at = is.at;
   later_at = is.later_at;
   before = is.before;
-  inside = (let total = length-append specs more in omega (arith, total, is.inside));
+  inside = omega (arith, length-append specs more, is.inside);
   here = get_or_append_left specs more spec is.at (omega (arith, is.before, is.inside)) ∙ is.here;
   there = get_or_append_left specs more later is.later_at is.inside ∙ is.there;
 }
@@ -196,7 +194,7 @@ StandsBefore-push specs spec later (k, inside, here) = record {
   at = k;
   later_at = length specs;
   before = inside;
-  inside = (let total = length-append specs (later ∷ []) in omega (arith, total));
+  inside = omega (arith, length-append specs (later ∷ []));
   here = get_or_append_left specs (later ∷ []) spec k inside ∙ here;
   there = get_or_push specs later later (length specs) refl;
 }

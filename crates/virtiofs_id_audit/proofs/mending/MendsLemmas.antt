@@ -1,6 +1,6 @@
 -- Specifications of which the bad ids are cut out, and those that forbid them, are mended together.
 use Rattle.std.proofs.Common.{◌≡◌, ◌⊎◌, ◌↔◌, inl, inr, ℕ, ◌+◌, ◌<◌, ◌≤◌, List, [], ◌∷◌, ◌++◌, length, take, get_or}
-use Rattle.std.proofs.Common.{Contains, Option, Some, None, refl, sym, ap, ◌∙◌, subst, arith}
+use Rattle.std.proofs.Common.{Contains, Option, Some, None, refl, sym, ap, ◌∙◌, arith}
 use Rattle.std.proofs.lemmas.Bool.{cases_lt}
 use Rattle.std.proofs.lemmas.List.{get_or_default, get_or-take, length-take, nil_from_length, take_all, take_more}
 use Rattle.std.proofs.lemmas.List.{append-nil}
@@ -22,7 +22,7 @@ use Rattle.virtiofs_map.specs.declared.soft_idmap.entry.Direction.TheVariants.{G
 use Rattle.virtiofs_id_audit.proofs.ApartLemmas.{free_after, held_or_not}
 use Rattle.virtiofs_id_audit.proofs.mending.ListedLemmas.{StandsBefore-append, StandsBefore-push}
 use Rattle.virtiofs_id_audit.proofs.mending.ListedLemmas.{StandsBefore-push_cases}
-use Rattle.virtiofs_id_audit.proofs.mending.ListedLemmas.{Accepted-append, Accepted-one, KeepApart, Listed-append}
+use Rattle.virtiofs_id_audit.proofs.mending.ListedLemmas.{Accepted-append, KeepApart, Listed-append}
 use Rattle.virtiofs_id_audit.proofs.mending.ListedLemmas.{Listed-one, LeadsBack-stable, covered_maps, none_covers}
 use Rattle.virtiofs_map.proofs.ForCallers.{Becomes-forbidden, Becomes-one, Covers-maps}
 
@@ -54,13 +54,6 @@ AreCut-more specs cut more parts bad so_far is apart = record {
         | inr new ↦ inr ((is.same direction n value).1 (new, stays))
       ])
 
--- one of the specifications
-pub Accepted-at : (specs : List IdMap) (i : ℕ) (d : IdMap) → Accepted specs → i < length specs
-    → Accepted (get_or specs i d ∷ [])
-Accepted-at specs i d accepted inside =
-    Accepted-one (get_or specs i d) (λ direction. accepted.source direction i d inside)
-    (λ direction. accepted.target direction i d inside)
-
 -- no number is mapped by an earlier one too
 earlier_apart : (specs : List IdMap) (i : ℕ) (d : IdMap) → Accepted specs → i < length specs
     → KeepApart (take i specs) (get_or specs i d ∷ [])
@@ -74,15 +67,17 @@ earlier_apart specs i d accepted inside direction n value other (spec, (k, withi
     Covers-maps (get_or specs i d) direction n other ((Listed-one (get_or specs i d) direction n other).0 listed) in
     accepted.apart direction k i d before inside (n, first, second)
 
+-- the specification covers no bad id
+abbrev pub IsFree : (ℕ → Type 0) → IdMap → Type 0
+IsFree bad spec = (n : ℕ) → Covers spec GuestToHost n → ¬ bad n
+
 -- the first specifications, cut; those that cover no bad id are left as they are
 pub record CutSoFar (specs : List IdMap) (bad : ℕ → Type 0) (i : ℕ) (out : List IdMap) : Type 0 where
   pub cut : AreCut (take i specs) bad out
   pub remnants : (remnant : IdMap) → Contains out remnant
       → (given : IdMap) × Contains (take i specs) given × IsRemnant given bad remnant
-  pub clean : (spec : IdMap) → Contains (take i specs) spec → ((n : ℕ) → Covers spec GuestToHost n → ¬ bad n)
-      → Contains out spec
-  pub order : (spec later : IdMap) → StandsBefore (take i specs) spec later
-      → ((n : ℕ) → Covers spec GuestToHost n → ¬ bad n) → ((n : ℕ) → Covers later GuestToHost n → ¬ bad n)
+  pub clean : (spec : IdMap) → Contains (take i specs) spec → IsFree bad spec → Contains out spec
+  pub order : (spec later : IdMap) → StandsBefore (take i specs) spec later → IsFree bad spec → IsFree bad later
       → StandsBefore out spec later
   pub unchanged : ((n : ℕ) → ¬ bad n) → out ≡ take i specs
 
@@ -92,7 +87,7 @@ CutSoFar-start specs bad = record {
     accepted = record {
       source = λ direction k d inside. absurd (omega arith);
       target = λ direction k d inside. absurd (omega arith);
-      apart = λ direction i j d before below. absurd (omega arith);
+      apart = omega arith;
     };
     same = λ direction n value. (
       (λ (spec, (k, inside, here), maps). absurd (omega arith)),
@@ -101,7 +96,7 @@ CutSoFar-start specs bad = record {
   };
   remnants = λ remnant (k, inside, here). absurd (omega arith);
   clean = λ spec (k, inside, here). absurd (omega arith);
-  order = λ spec later is. absurd (let inside = is.inside in omega (arith, inside));
+  order = λ spec later is. absurd (omega (arith, is.inside));
   unchanged = λ _. refl;
 }
 
@@ -109,8 +104,7 @@ pub CutSoFar-more : (specs : List IdMap) (bad : ℕ → Type 0) (i : ℕ) (d : I
     → Accepted specs → i < length specs → CutSoFar specs bad i out
     → ((parts : List IdMap) × (new ≡ out ++ parts) × AreCut (get_or specs i d ∷ []) bad parts)
     → ((remnant : IdMap) → Contains new remnant → Contains out remnant ⊎ IsRemnant (get_or specs i d) bad remnant)
-    → (((n : ℕ) → Covers (get_or specs i d) GuestToHost n → ¬ bad n) → new ≡ out ++ get_or specs i d ∷ [])
-    → CutSoFar specs bad (i + 1) new
+    → (IsFree bad (get_or specs i d) → new ≡ out ++ get_or specs i d ∷ []) → CutSoFar specs bad (i + 1) new
 CutSoFar-more specs bad i d out new accepted inside so_far (parts, new_is, are) remnants clean =
     let more = take_more specs i d inside in
     record {
@@ -130,27 +124,34 @@ CutSoFar-more specs bad i d out new accepted inside so_far (parts, new_is, are) 
       unchanged = λ none. clean (λ n covers. none n)
           ∙ ap (λ xs. xs ++ get_or specs i d ∷ []) (so_far.unchanged none) ∙ sym more;
     } where
-      kept : (spec : IdMap) → ((n : ℕ) → Covers spec GuestToHost n → ¬ bad n)
-          → Contains (take i specs) spec ⊎ (get_or specs i d ≡ spec) → Contains new spec
+      kept : (spec : IdMap) → IsFree bad spec → Contains (take i specs) spec ⊎ (get_or specs i d ≡ spec)
+          → Contains new spec
       kept spec none (inl before) = rw new_is (Contains-append_left out parts spec (so_far.clean spec before none))
       kept spec none (inr same) =
-          let none' : (n : ℕ) → Covers (get_or specs i d) GuestToHost n → ¬ bad n =
-          subst (λ (s : IdMap). (n : ℕ) → Covers s GuestToHost n → ¬ bad n) (sym same) none in
-          rw (clean none', ← same) (Contains-push out (get_or specs i d))
+          rw (clean (rw (← same) at none), ← same) (Contains-push out (get_or specs i d))
 
-      in_order : (spec later : IdMap) → ((n : ℕ) → Covers spec GuestToHost n → ¬ bad n)
-          → ((n : ℕ) → Covers later GuestToHost n → ¬ bad n)
+      in_order : (spec later : IdMap) → IsFree bad spec → IsFree bad later
           → StandsBefore (take i specs) spec later ⊎ (Contains (take i specs) spec × (get_or specs i d ≡ later))
           → StandsBefore new spec later
       in_order spec later none none' (inl before) =
           rw new_is (StandsBefore-append out parts spec later (so_far.order spec later before none none'))
       in_order spec later none none' (inr (listed, same)) =
-          let clean_here : (n : ℕ) → Covers (get_or specs i d) GuestToHost n → ¬ bad n =
-          subst (λ (s : IdMap). (n : ℕ) → Covers s GuestToHost n → ¬ bad n) (sym same) none' in
-          rw (clean clean_here, ← same)
+          rw (clean (rw (← same) at none'), ← same)
           (StandsBefore-push out spec (get_or specs i d) (so_far.clean spec listed none))
 
 -- ---- all of them, and what is forbidden
+
+-- where the same is listed of a number, it becomes the same
+Becomes-same : (specs others : List IdMap) (direction : Direction) (n : ℕ) (value : Option ℕ)
+    → ((other : Option ℕ) → Listed specs direction n other ↔ Listed others direction n other)
+    → Becomes specs direction n value → Becomes others direction n value
+Becomes-same specs others direction n value same (inl listed) = inl ((same value).0 listed)
+Becomes-same specs others direction n value same (inr (uncovered, is)) = inr (
+  none_covers others direction n (λ other listed.
+      (let (spec, within, maps) = (same other).1 listed in
+      uncovered spec within (Covers-maps spec direction n other maps))),
+  is,
+)
 
 module _ (specs cut forbids : List IdMap) (bad_host : ℕ → Type 0) (spans : List Span) (accepted : Accepted specs)
     (found : (n : ℕ) → Hold spans n ↔ IsBad specs bad_host n) (are : AreCut specs (Hold spans) cut)
@@ -176,37 +177,31 @@ module _ (specs cut forbids : List IdMap) (bad_host : ℕ → Type 0) (spans : L
   bad_becomes n is =
       inl ((Listed-append cut forbids GuestToHost n None).1 (inr (bad_forbidden n is)))
 
-  -- what is not cut out becomes what it became
+  -- what is not cut out is listed as it was
+  same : (direction : Direction) (n : ℕ) → Stays (Hold spans) direction n
+      → ((other : Option ℕ) → ¬ Listed forbids direction n other) → (other : Option ℕ)
+      → Listed specs direction n other ↔ Listed (cut ++ forbids) direction n other
+  same direction n stays none other = (
+    (λ old. (Listed-append cut forbids direction n other).1 (inl ((are.same direction n other).1 (old, stays)))),
+    (λ new. elim ((Listed-append cut forbids direction n other).0 new) [
+      | inl old ↦ ((are.same direction n other).0 old).0
+      | inr forbidden ↦ absurd (none other forbidden)
+    ]),
+  )
+
+  -- so it becomes what it became
   stays_becomes : (direction : Direction) (n : ℕ) (value : Option ℕ) → Stays (Hold spans) direction n
       → ((other : Option ℕ) → ¬ Listed forbids direction n other) → Becomes specs direction n value
       → Becomes (cut ++ forbids) direction n value
-  stays_becomes direction n value stays none (inl listed) =
-      inl ((Listed-append cut forbids direction n value).1 (inl ((are.same direction n value).1 (listed, stays))))
-  stays_becomes direction n value stays none (inr (uncovered, same)) =
-      inr (none_covers (cut ++ forbids) direction n not_listed, same) where
-        not_listed : (other : Option ℕ) → ¬ Listed (cut ++ forbids) direction n other
-        not_listed other listed =
-            elim ((Listed-append cut forbids direction n other).0 listed) [
-              | inl old ↦
-                  (let (spec, within, maps) = ((are.same direction n other).0 old).0 in
-                  uncovered spec within (Covers-maps spec direction n other maps))
-              | inr forbidden ↦ none other forbidden
-            ]
+  stays_becomes direction n value stays none =
+      Becomes-same specs (cut ++ forbids) direction n value (same direction n stays none)
 
   becomes_stays : (direction : Direction) (n : ℕ) (value : Option ℕ) → Stays (Hold spans) direction n
       → ((other : Option ℕ) → ¬ Listed forbids direction n other) → Becomes (cut ++ forbids) direction n value
       → Becomes specs direction n value
-  becomes_stays direction n value stays none (inl listed) =
-      elim ((Listed-append cut forbids direction n value).0 listed) [
-        | inl old ↦ inl ((are.same direction n value).0 old).0
-        | inr forbidden ↦ absurd (none value forbidden)
-      ]
-  becomes_stays direction n value stays none (inr (uncovered, same)) =
-      inr (none_covers specs direction n not_listed, same) where
-        not_listed : (other : Option ℕ) → ¬ Listed specs direction n other
-        not_listed other listed =
-            let (spec, within, maps) = (are.same direction n other).1 (listed, stays) in
-            uncovered spec (Contains-append_left cut forbids spec within) (Covers-maps spec direction n other maps)
+  becomes_stays direction n value stays none =
+      Becomes-same (cut ++ forbids) specs direction n value
+      (λ other. let is = same direction n stays none other in (is.1, is.0))
 
   not_forbidden : (n : ℕ) → ¬ Hold spans n → (other : Option ℕ) → ¬ Listed forbids GuestToHost n other
   not_forbidden n not other listed = not (forbidden_bad n other listed)
@@ -239,7 +234,16 @@ module _ (specs cut forbids : List IdMap) (bad_host : ℕ → Type 0) (spans : L
   pub Mends-cut : Mends specs bad_host (cut ++ forbids)
   Mends-cut = record {
     accepted = all_accepted;
-    forbids = λ guest. (forbids_to guest (held_or_not spans guest), forbids_from guest (held_or_not spans guest));
+    forbids = λ guest. elim (held_or_not spans guest) [
+      | inl is ↦ (λ becomes. inr ((found guest).0 is), λ either. bad_becomes guest is)
+      | inr not ↦ (
+        λ becomes. inl (becomes_stays GuestToHost guest None not (not_forbidden guest not) becomes),
+        λ either. elim either [
+          | inl becomes ↦ stays_becomes GuestToHost guest None not (not_forbidden guest not) becomes
+          | inr is ↦ absurd (not_bad guest not is)
+        ],
+      )
+    ];
     keeps = λ guest value not_bad.
         (let not : ¬ Hold spans guest = λ is. not_bad ((found guest).0 is) in (
           becomes_stays GuestToHost guest value not (not_forbidden guest not),
@@ -249,17 +253,7 @@ module _ (specs cut forbids : List IdMap) (bad_host : ℕ → Type 0) (spans : L
       becomes_stays HostToGuest host value tt (forbid.host host),
       stays_becomes HostToGuest host value tt (forbid.host host),
     );
-  } where
-    forbids_to : (n : ℕ) → Hold spans n ⊎ (¬ Hold spans n) → Becomes (cut ++ forbids) GuestToHost n None
-        → Becomes specs GuestToHost n None ⊎ IsBad specs bad_host n
-    forbids_to n (inl is) becomes = inr ((found n).0 is)
-    forbids_to n (inr not) becomes = inl (becomes_stays GuestToHost n None not (not_forbidden n not) becomes)
-
-    forbids_from : (n : ℕ) → Hold spans n ⊎ (¬ Hold spans n)
-        → Becomes specs GuestToHost n None ⊎ IsBad specs bad_host n → Becomes (cut ++ forbids) GuestToHost n None
-    forbids_from n (inl is) either = bad_becomes n is
-    forbids_from n (inr not) (inl becomes) = stays_becomes GuestToHost n None not (not_forbidden n not) becomes
-    forbids_from n (inr not) (inr is) = absurd (not_bad n not is)
+  }
 
   -- ---- what follows
 
@@ -329,18 +323,15 @@ module _ (specs cut forbids : List IdMap) (bad_host : ℕ → Type 0) (spans : L
 
   -- ---- what stays
 
-  pub KeepsClean-cut : ((spec : IdMap) → Contains specs spec → ((n : ℕ) → Covers spec GuestToHost n → ¬ Hold spans n)
-      → Contains cut spec)
-      → ((spec later : IdMap) → StandsBefore specs spec later
-      → ((n : ℕ) → Covers spec GuestToHost n → ¬ Hold spans n)
-      → ((n : ℕ) → Covers later GuestToHost n → ¬ Hold spans n) → StandsBefore cut spec later)
-      → KeepsClean specs bad_host (cut ++ forbids)
+  pub KeepsClean-cut : ((spec : IdMap) → Contains specs spec → IsFree (Hold spans) spec → Contains cut spec)
+      → ((spec later : IdMap) → StandsBefore specs spec later → IsFree (Hold spans) spec
+      → IsFree (Hold spans) later → StandsBefore cut spec later) → KeepsClean specs bad_host (cut ++ forbids)
   KeepsClean-cut kept order = record {
     each = λ spec listed clean. Contains-append_left cut forbids spec (kept spec listed (not_held spec clean));
     order = λ spec later stands clean clean'. StandsBefore-append cut forbids spec later
         (order spec later stands (not_held spec clean) (not_held later clean'));
   } where
-    not_held : (spec : IdMap) → IsClean specs bad_host spec → (n : ℕ) → Covers spec GuestToHost n → ¬ Hold spans n
+    not_held : (spec : IdMap) → IsClean specs bad_host spec → IsFree (Hold spans) spec
     not_held spec clean n covers is = clean n covers ((found n).0 is)
 
   pub all_unchanged : AreRuns spans → (((n : ℕ) → ¬ Hold spans n) → cut ≡ specs)

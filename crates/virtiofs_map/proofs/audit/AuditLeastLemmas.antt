@@ -5,7 +5,7 @@ use Rattle.std.specs.Cmp.Lexicographic.{slice_cmp}
 use Rattle.std.specs.List.{All, Contains}
 use Rattle.std.specs.Option.{option_to_list}
 use Rattle.std.specs.Ordering.{nat_cmp, is_lt, ordering_then}
-use Rattle.std.specs.Result.{IfOk, OnOk}
+use Rattle.std.specs.Result.{IfOk}
 use Rattle.std.specs.declared.cmp.Ordering.{Ordering}
 use Rattle.std.specs.declared.cmp.Ordering.TheVariants.{Less, Equal, Greater}
 use Rattle.std.proofs.lemmas.Bool.{and_parts, cases_Bool, cond_both, false≢true, true≢false}
@@ -278,9 +278,3 @@ answers_all Bad (No name) least = record {
 pub if_ok_weaker : {X Y : Type 0} (r : Result X Y) (P Q : X → Type 0) → ((x : X) → P x → Q x) → IfOk r P → IfOk r Q
 if_ok_weaker (Ok x) P Q f p = f x p
 if_ok_weaker (Err e) P Q f p = tt
-
--- and with what holds where it did not
-pub if_ok_given : {X Y : Type 0} (r : Result X Y) (G : Type 0) (P Q : X → Type 0) → OnOk r G
-    → (G → (x : X) → P x → Q x) → IfOk r P → IfOk r Q
-if_ok_given (Ok x) G P Q given f p = f given x p
-if_ok_given (Err e) G P Q given f p = tt

@@ -1,5 +1,5 @@
 -- Names that pass and do not list back: what the test says of them, and that the names tried decide.
-use Rattle.std.proofs.Common.{◌≡◌, ◌≢◌, ℕ, ◌<◌, Bool, true, false, not, List, [], ◌∷◌, ◌++◌, length, drop, Option, Some}
+use Rattle.std.proofs.Common.{◌≡◌, ◌≢◌, ℕ, ◌<◌, true, false, not, List, [], ◌∷◌, ◌++◌, length, drop, Option, Some}
 use Rattle.std.proofs.Common.{None, inl, inr, refl, sym, ap, ◌∙◌, subst, arith}
 use Rattle.std.specs.List.{All}
 use Rattle.std.specs.Option.{option_map_or, option_and_then}
@@ -97,11 +97,6 @@ cut_where_back rules name added no_zero is some e back =
     ap (cuts added) by.is ∙ eq-eqb (length by.cut) (length added) cut
 
 -- ---- the test
-
--- the test, at what is put before the name
-lost_by : List MappingRule → List ℕ → Option (List ℕ) → Bool
-lost_by rules name o =
-    option_map_or (λ added. not (cuts added (added_prefix Server rules (added ++ name)))) o false
 
 pub lost_at : (rules : List MappingRule) (name added : List ℕ) → name ≢ [] → added_prefix Client rules name ≡ Some added
     → is_lost rules name ≡ not (cuts added (added_prefix Server rules (added ++ name)))

@@ -7,7 +7,8 @@ use Rattle.std.specs.List.{filter_map}
 use Rattle.std.specs.List.Sorted.{IsPermutation}
 use Rattle.std.specs.Ordering.{nat_cmp, ordering_then}
 use Rattle.std.specs.declared.cmp.Ordering.TheVariants.{Less}
-use Rattle.std.proofs.lemmas.Bool.{and_parts, and_from, cases_Bool, cases_lt, eq-eqb, eqb-true, false≢true, true≢false}
+use Rattle.std.proofs.lemmas.List.{length-take, nil_from_length}
+use Rattle.std.proofs.lemmas.Bool.{and_parts, and_from, false_from_ne_true, cases_Bool, cases_lt, eq-eqb, eqb-true, false≢true, true≢false}
 use Rattle.std.proofs.lemmas.List.Sorted.{Contains-permutation}
 use Rattle.std.proofs.lemmas.List.Sums.{common_prefix_len-le}
 use Rattle.virtiofs_map.specs.Audit.{IsBefore}
@@ -97,10 +98,6 @@ passes_begins : (rules : List MappingRule) (host added : List ℕ) → passes_wi
 passes_begins rules host added e =
     (and_parts (begins added host) (adds added (added_prefix Client rules (drop (length added) host))) e).0
 
-false_where : (b : Bool) → (b ≡ true → ⊥) → b ≡ false
-false_where true f = absurd (f refl)
-false_where false f = refl
-
 begins_itself : (name : List ℕ) → begins name name ≡ true
 begins_itself [] = refl
 begins_itself (x ∷ name) = and_from (eqb x x) (begins name name) (eq-eqb x x refl) (begins_itself name)
@@ -109,8 +106,8 @@ pub left_first : (rules : List MappingRule) (all_added : List (List ℕ)) (host 
 left_first rules all_added host = record {
   begun = begins_itself host;
   others = λ added among l.
-      false_where (passes_with rules host added)
-      (λ e. let within = begins_length added host (passes_begins rules host added e) in omega arith);
+      false_from_ne_true (passes_with rules host added)
+      (λ e. omega (arith, l, begins_length added host (passes_begins rules host added e)));
 }
 
 -- an added prefix that leads to the host name and is no longer than the rest begins the last one up to the rest
@@ -144,9 +141,7 @@ begins_take (suc k) (x ∷ rest) (y ∷ host) b =
     and_from (eqb x y) (begins (take k rest) host) parts.0 (begins_take k rest host parts.1)
 
 pub take_within : (k : ℕ) (rest : List ℕ) → k ≤ length rest → length (take k rest) ≡ k
-take_within zero rest l = refl
-take_within (suc k) [] l = absurd (omega arith)
-take_within (suc k) (x ∷ rest) l = let e = take_within k rest (omega arith) in omega arith
+take_within k rest l = omega (arith, length-take k rest)
 
 -- the last one does not begin the rest
 pub left_shared : (rules : List MappingRule) (all_added : List (List ℕ)) (host rest last less : List ℕ) (count : ℕ)
@@ -156,10 +151,12 @@ left_shared rules all_added host rest last less count left is e at =
     subst (IsLeft rules all_added host) (sym at) (record {
       begun = begins_take count rest host left.begun;
       others = λ added among l.
-          false_where (passes_with rules host added)
-          (λ holds.
-          (let most = leads_shared rules all_added host rest last added left is among holds in
-          let size = take_within count rest (let w = (shared_within last rest).1 in omega arith) in omega arith));
+          false_from_ne_true (passes_with rules host added)
+          (λ holds. omega (
+            arith,
+            leads_shared rules all_added host rest last added left is among holds,
+            take_within count rest (omega (arith, shared_within last rest)),
+          ));
     })
 
 -- the last one begins the rest, and does not lead to the host name
@@ -171,10 +168,9 @@ left_shorter rules all_added host rest last less count left is e whole fails som
     subst (IsLeft rules all_added host) (sym at) (record {
       begun = begins_take (count - 1) rest host left.begun;
       others = λ added among l.
-          false_where (passes_with rules host added)
+          false_from_ne_true (passes_with rules host added)
           (λ holds. shorter_fails rules all_added host rest last added left is among holds fails
-          (let size = take_within (count - 1) rest (let w = (shared_within last rest).1 in omega arith) in
-          omega arith));
+          (omega (arith, take_within (count - 1) rest (omega (arith, shared_within last rest)))));
     }) where
       shorter_fails : (rules : List MappingRule) (all_added : List (List ℕ)) (host rest last added : List ℕ)
           → IsLeft rules all_added host rest → IsLast all_added rest last → Contains all_added added
@@ -216,7 +212,7 @@ pub not_reached : (rules : List MappingRule) (all_added : List (List ℕ)) (host
     → ((added : List ℕ) → Contains all_added added → passes_with rules host added ≡ true → ⊥)
     → is_reached rules host ≡ false
 not_reached rules all_added host are none =
-    false_where (is_reached rules host)
+    false_from_ne_true (is_reached rules host)
     (λ e.
     (let leads = test_leads rules host e in
     let fit = rule_fits rules host leads in
@@ -249,10 +245,7 @@ not_reached_empty rules all_added host rest last are left is none whole fails =
     not_reached rules all_added host are
     (λ added among e.
     (let most = leads_shared rules all_added host rest last added left is among e in
-    let empty : last ≡ [] = no_bytes last (omega arith) in
-    let same : added ≡ [] = no_bytes added (omega arith) in
+    let empty : last ≡ [] = nil_from_length last (omega arith) in
+    let same : added ≡ [] = nil_from_length added (omega arith) in
     let as_last : added ≡ last = same ∙ sym empty in
-    true≢false (sym (subst (λ a. passes_with rules host a ≡ true) as_last e) ∙ fails))) where
-      no_bytes : (name : List ℕ) → length name ≡ 0 → name ≡ []
-      no_bytes [] e = refl
-      no_bytes (x ∷ name) e = absurd (omega arith)
+    true≢false (sym (subst (λ a. passes_with rules host a ≡ true) as_last e) ∙ fails)))

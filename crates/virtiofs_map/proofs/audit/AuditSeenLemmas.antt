@@ -1,6 +1,6 @@
 -- Names whose host name another map does not hide: that the names tried decide, and what they mean for lists.
 use Rattle.std.proofs.Common.{◌≡◌, ◌≢◌, ℕ, ◌<◌, Bool, true, false, ◌&&◌, not, cond, List, [], ◌∷◌, ◌++◌, length, filter}
-use Rattle.std.proofs.Common.{Option, Some, None, inl, inr, refl, sym, ap, ◌∙◌, subst, arith}
+use Rattle.std.proofs.Common.{Some, None, inl, inr, refl, sym, ap, ◌∙◌, subst, arith}
 use Rattle.std.specs.List.{All, cons_option, list_all, filter_map}
 use Rattle.std.specs.Option.{option_map_or, is_none}
 use Rattle.std.proofs.lemmas.Bool.{cases_Bool, true≢false, not-true, not_from_false, false_from_ne_true, ne_eqb}
@@ -138,9 +138,6 @@ same_without rules set hides (name ∷ all) rest (inr (out, others, e, leaves)) 
       listed = ap (cons_option (listed_name (host_answer rules name))) more.listed ∙ ap (all_listed rules) (sym e);
     }
 
-answer_of : Bool → List (List ℕ) → Option (List ℕ)
-answer_of decided listed = cond decided (Some (as_list listed)) None
-
 same_answer : (rules : List MappingRule) (list other : List ℕ)
     → all_decided rules (names list) ≡ all_decided rules (names other)
     → all_listed rules (names list) ≡ all_listed rules (names other)
@@ -168,11 +165,6 @@ first_name (x ∷ xs) rest some no_zero =
 names_twice : (host : List ℕ) → host ≢ [] → All IsNotZero host → names (twice host) ≡ host ∷ host ∷ []
 names_twice host some no_zero =
     first_name host (host ++ 0 ∷ []) some no_zero ∙ ap (λ all. host ∷ all) (first_name host [] some no_zero)
-
-answer_to_two : HostAnswer → Option (List ℕ)
-answer_to_two answer =
-    cond (is_decided answer && (is_decided answer && true))
-    (Some (as_list (cons_option (listed_name answer) (cons_option (listed_name answer) [])))) None
 
 shown_twice : (answer : HostAnswer) → answer ≢ IsHidden
     → cond (is_decided answer && (is_decided answer && true))

@@ -1,13 +1,15 @@
 -- Host names that are listed under a name that does not pass as them: what the test says of them, and that the names
 -- tried decide.
-use Rattle.std.proofs.Common.{◌≡◌, ◌≢◌, ℕ, ◌<◌, ◌≤◌, Bool, true, false, ◌&&◌, not, eqb, List, [], ◌∷◌, ◌++◌, length}
-use Rattle.std.proofs.Common.{drop, Option, Some, None, inl, inr, refl, sym, ap, ◌∙◌, arith}
+use Rattle.std.proofs.Common.{◌≡◌, ◌≢◌, ℕ, ◌<◌, ◌≤◌, Bool, true, false, not, List, [], ◌∷◌, ◌++◌, length}
+use Rattle.std.proofs.Common.{drop, Option, Some, None, inl, inr, refl, sym, ap, ◌∙◌}
 use Rattle.std.specs.Bool.{nat_eq}
 use Rattle.std.specs.Cmp.Lexicographic.{pointwise}
 use Rattle.std.specs.Option.{option_map_or, option_and_then}
 use Rattle.std.proofs.lemmas.Bool.{and_parts, and_from, cases_Bool, false≢true, true≢false, not-true, not_from_false}
-use Rattle.std.proofs.lemmas.Bool.{false_from_ne_true, eq-eqb, eqb-true}
-use Rattle.std.proofs.lemmas.List.{length-append}
+use Rattle.std.proofs.lemmas.Bool.{false_from_ne_true}
+use Rattle.std.proofs.lemmas.Bool.Decides.{Decides-eqb}
+use Rattle.std.proofs.lemmas.Slice.Eq.{slice_eq-Decides}
+use Rattle.std.proofs.lemmas.List.{append_cancel_right}
 use Rattle.std.proofs.lemmas.List.Elements.{All-head}
 use Rattle.virtiofs_map.specs.Audit.{Within, OpensListed, IsStray}
 use Rattle.virtiofs_map.specs.AuditParts.{added_prefix, some_byte, adds, is_stray, within, host_names}
@@ -24,30 +26,11 @@ use Rattle.virtiofs_map.proofs.audit.AuditLostLemmas.{some_byte_from, some_byte_
 use Rattle.virtiofs_map.proofs.BeginsLemmas.{begins_split, begins_length}
 
 -- two added prefixes of one list that leave the same rest are one
-same_fronts : (a b rest : List ℕ) → a ++ rest ≡ b ++ rest → a ≡ b
-same_fronts [] [] rest e = refl
-same_fronts [] (y ∷ b) rest e = absurd (omega (arith, ap length e, length-append b rest))
-same_fronts (x ∷ a) [] rest e = absurd (omega (arith, ap length e, length-append a rest))
-same_fronts (x ∷ a) (y ∷ b) rest e =
-    let head : x ≡ y = cc in
-    let tail : a ++ rest ≡ b ++ rest = cc in
-    let more = same_fronts a b rest tail in
-    cc
-
 same_bytes : (xs ys : List ℕ) → pointwise nat_eq xs ys ≡ true → xs ≡ ys
-same_bytes [] [] e = refl
-same_bytes [] (y ∷ ys) e = absurd (false≢true e)
-same_bytes (x ∷ xs) [] e = absurd (false≢true e)
-same_bytes (x ∷ xs) (y ∷ ys) e =
-    let parts = and_parts (eqb x y) (pointwise nat_eq xs ys) e in
-    let head = eqb-true x y parts.0 in
-    let tail = same_bytes xs ys parts.1 in
-    cc
+same_bytes xs ys e = (slice_eq-Decides Decides-eqb xs ys (pointwise nat_eq xs ys) refl).0 e
 
 pub bytes_same : (xs : List ℕ) → pointwise nat_eq xs xs ≡ true
-bytes_same [] = refl
-bytes_same (x ∷ xs) =
-    ap (λ b. b && pointwise nat_eq xs xs) (eq-eqb x x refl) ∙ bytes_same xs
+bytes_same xs = (slice_eq-Decides Decides-eqb xs xs (pointwise nat_eq xs xs) refl).1 refl
 
 -- ---- opened
 
@@ -65,7 +48,7 @@ added_where_opened : (rules : List MappingRule) (cut name : List ℕ) → client
     → adds cut (added_prefix Client rules name) ≡ true
 added_where_opened rules cut name e =
     let by = passes_added rules name (cut ++ name) e in
-    let same = same_fronts cut by.added name by.host_is in
+    let same = append_cancel_right cut by.added name by.host_is in
     ap (adds cut) by.is ∙ ap (λ added. pointwise nat_eq added cut) (sym same) ∙ bytes_same cut
 
 -- ---- the test

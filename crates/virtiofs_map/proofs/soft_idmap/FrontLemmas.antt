@@ -1,18 +1,18 @@
 -- Where the entries of a front of a list precede one another, its specifications keep apart, and the other way round.
-use Rattle.std.proofs.Common.{◌≡◌, ◌≢◌, ◌⊎◌, inl, inr, ℕ, ◌+◌, ◌<◌, ◌≤◌, List, [], ◌∷◌, ◌++◌, length, take, get_or, map}
+use Rattle.std.proofs.Common.{◌≡◌, ◌≢◌, inl, inr, ℕ, ◌+◌, ◌<◌, ◌≤◌, List, [], ◌∷◌, ◌++◌, length, take, get_or, map}
 use Rattle.std.proofs.Common.{min, All, AllPairs, Contains, Some, IfSome, sym, ap, ◌∙◌, subst, arith}
 use Rattle.std.proofs.Math.Seq.{take-length}
 use Rattle.std.proofs.lemmas.Bool.{cases_lt, cases_order}
 use Rattle.std.proofs.lemmas.List.{get_or_default, get_or-take, get_or-map, length-take, length-map, take_more}
-use Rattle.std.proofs.lemmas.List.Elements.{All-push, All-weaker, All-get_or, All-map, All-contains, Contains-push}
+use Rattle.std.proofs.lemmas.List.Elements.{All-push, All-weaker, All-map, All-contains, Contains-push}
 use Rattle.std.proofs.lemmas.List.Elements.{Contains-append_left}
 use Rattle.std.proofs.lemmas.List.Quantifiers.{all_pairs_push}
 use Rattle.virtiofs_map.proofs.StoredLemmas.{found_entry}
 use Rattle.virtiofs_map.specs.Build.{HasSource, HasTarget, Meet, Accepted}
-use Rattle.virtiofs_map.specs.Mapping.{entry_of, first_of, count_of, EntryCovers, Covers}
+use Rattle.virtiofs_map.specs.Mapping.{entry_of, first_of, count_of, EntryCovers}
 use Rattle.virtiofs_map.specs.LookupSteps.{acting}
 use Rattle.virtiofs_map.specs.RangeParts.{Precedes, HasNumbers, AreRanges, IsOfOne, Stores, StandsAt, IsIndexed, AreIndexed}
-use Rattle.virtiofs_map.specs.RangeParts.{AreSorted, ArePrecedingBelow, KeepsApartTo, HasRoomBothWays}
+use Rattle.virtiofs_map.specs.RangeParts.{AreSorted, ArePrecedingBelow, KeepsApartTo, HasRoom, HasRoomBothWays}
 use Rattle.virtiofs_map.specs.declared.cmdline.IdMap.{IdMap}
 use Rattle.virtiofs_map.specs.declared.soft_idmap.entry.Direction.{Direction}
 use Rattle.virtiofs_map.specs.declared.soft_idmap.entry.Direction.TheVariants.{GuestToHost, HostToGuest}
@@ -66,13 +66,9 @@ apart_from_indexed specs direction count indexed within are_indexed preceding i 
       met below' (m, first, second) =
           let x = found_entry (entry_of (get_or specs i d) direction) (λ entry. EntryCovers entry m) first in
           let y = found_entry (entry_of (get_or specs j d) direction) (λ entry. EntryCovers entry m) second in
-          let x_low : first_of x.entry ≤ m = x.holds.0 in
-          let x_high : m < first_of x.entry + count_of x.entry = x.holds.1 in
-          let y_low : first_of y.entry ≤ m = y.holds.0 in
-          let y_high : m < first_of y.entry + count_of y.entry = y.holds.1 in
           no_meeting count i j indexed x.entry y.entry m preceding (omega arith) below' (λ same. omega arith) x.holds
-          y.holds (indexed_at i x.entry (omega arith) x.is (omega arith))
-          (indexed_at j y.entry below' y.is (omega arith))
+          y.holds (indexed_at i x.entry (omega arith) x.is (omega (arith, x.holds)))
+          (indexed_at j y.entry below' y.is (omega (arith, y.holds)))
 
 -- ---- from specifications to places
 
@@ -94,37 +90,28 @@ apart_at specs direction count i j x y accepted within (_, here) (_, there) belo
           (m, second, first)
     ]
 
-covers_own : (spec : IdMap) (direction : Direction) (entry : Entry) (m : ℕ) → entry_of spec direction ≡ Some entry
-    → EntryCovers entry m → Covers spec direction m
-covers_own spec direction entry m is covers = rw is covers
-
 preceding_at : (specs : List IdMap) (direction : Direction) (count : ℕ) (one other : IndexedEntry)
     → Accepted (take count specs) → count ≤ length specs → IsIndexed specs direction one → IsIndexed specs direction other
     → one.index ≢ other.index → first_of one.entry ≤ first_of other.entry → one.index < count → other.index < count
     → Precedes one.entry other.entry
 preceding_at specs direction count one other accepted within first second differ rises below under =
     elim (cases_lt (first_of other.entry) (first_of one.entry + count_of one.entry)) [
-      | inl overlaps ↦ absurd (meets overlaps)
-      | inr precedes ↦ precedes
-    ] where
-      meets : first_of other.entry < first_of one.entry + count_of one.entry → ⊥
-      meets overlaps =
-          let some : 1 ≤ count_of other.entry = second.counted in
-          let m = first_of other.entry in
-          apart_at specs direction count one.index other.index first.spec second.spec accepted within first.here
+      | inl overlaps ↦ absurd
+          (apart_at specs direction count one.index other.index first.spec second.spec accepted within first.here
           second.here below under differ (
-            m,
-            covers_own first.spec direction one.entry m first.sets_up (rises, overlaps),
-            covers_own second.spec direction other.entry m second.sets_up (omega arith, omega arith),
-          )
+            first_of other.entry,
+            rw first.sets_up (rises, overlaps),
+            rw second.sets_up (omega (arith, second.counted)),
+          ))
+      | inr precedes ↦ precedes
+    ]
 
 pub preceding_from_accepted : (specs : List IdMap) (direction : Direction) (count : ℕ) (indexed : List IndexedEntry)
     → Accepted (take count specs) → count ≤ length specs → AreSorted specs direction indexed
     → ArePrecedingBelow count indexed
 preceding_from_accepted specs direction count indexed accepted within sorted a b d before below one_below other_below =
-    let P = λ (one : IndexedEntry). IsIndexed specs direction one × (one.index < length specs) in
-    let first = All-get_or P indexed a d (omega arith) sorted.are_indexed.from in
-    let second = All-get_or P indexed b d below sorted.are_indexed.from in
+    let first = sorted.are_indexed.from a d (omega arith) in
+    let second = sorted.are_indexed.from b d below in
     preceding_at specs direction count (get_or indexed a d) (get_or indexed b d) accepted within first.0 second.0
     (sorted.are_indexed.once a b d before below) (sorted.rising a b d (omega arith) below) one_below other_below
 
@@ -135,25 +122,15 @@ pub Accepted-from_front : (specs : List IdMap) (count : ℕ) (guests hosts : Lis
     → AreSorted specs HostToGuest hosts → ArePrecedingBelow count guests → ArePrecedingBelow count hosts
     → Accepted (take count specs)
 Accepted-from_front specs count guests hosts within room indexed_guests indexed_hosts guests_apart hosts_apart = record {
-  source = source;
-  target = target;
+  source = λ direction. All-weaker HasRoomBothWays (λ spec. IfSome (entry_of spec direction) HasSource)
+      (λ spec both. (room_in spec both direction).source) (take count specs) room;
+  target = λ direction. All-weaker HasRoomBothWays (λ spec. IfSome (entry_of spec direction) HasTarget)
+      (λ spec both. (room_in spec both direction).target) (take count specs) room;
   apart = apart;
 } where
-  source : (direction : Direction) → All (λ spec. IfSome (entry_of spec direction) HasSource) (take count specs)
-  source GuestToHost =
-      All-weaker HasRoomBothWays (λ (spec : IdMap). IfSome (entry_of spec GuestToHost) HasSource)
-      (λ spec both. both.guest.source) (take count specs) room
-  source HostToGuest =
-      All-weaker HasRoomBothWays (λ (spec : IdMap). IfSome (entry_of spec HostToGuest) HasSource)
-      (λ spec both. both.host.source) (take count specs) room
-
-  target : (direction : Direction) → All (λ spec. IfSome (entry_of spec direction) HasTarget) (take count specs)
-  target GuestToHost =
-      All-weaker HasRoomBothWays (λ (spec : IdMap). IfSome (entry_of spec GuestToHost) HasTarget)
-      (λ spec both. both.guest.target) (take count specs) room
-  target HostToGuest =
-      All-weaker HasRoomBothWays (λ (spec : IdMap). IfSome (entry_of spec HostToGuest) HasTarget)
-      (λ spec both. both.host.target) (take count specs) room
+  room_in : (spec : IdMap) → HasRoomBothWays spec → (direction : Direction) → HasRoom spec direction
+  room_in spec both GuestToHost = both.guest
+  room_in spec both HostToGuest = both.host
 
   apart : (direction : Direction) → AllPairs (λ spec other. ¬ Meet spec other direction) (take count specs)
   apart GuestToHost = apart_from_indexed specs GuestToHost count guests within indexed_guests.are_indexed guests_apart
@@ -168,18 +145,12 @@ added : (count end next : ℕ) (front : List IndexedEntry) (one : IndexedEntry) 
 added count end next front one is so_far counts begins = record {
   preceding =
       all_pairs_push (λ (one other : IndexedEntry). one.index < count → other.index < count → Precedes one.entry other.entry)
-      front one so_far.preceding (λ k e below first second. ends (get_or front k e) (so_far.before k e below first));
+      front one so_far.preceding (λ k e below first second. omega (arith, so_far.before k e below first));
   before =
       All-push (λ (other : IndexedEntry). other.index < count → first_of other.entry + count_of other.entry ≤ next) front one
-      (λ k e below first. grows (get_or front k e) (so_far.before k e below first)) (λ _. omega arith);
+      (λ k e below first. omega (arith, so_far.before k e below first)) (λ _. omega arith);
   reached = inr (one, Contains-push front one, counts, sym is);
-} where
-  ends : (other : IndexedEntry) → first_of other.entry + count_of other.entry ≤ end → Precedes other.entry one.entry
-  ends other before = omega arith
-
-  grows : (other : IndexedEntry) → first_of other.entry + count_of other.entry ≤ end
-      → first_of other.entry + count_of other.entry ≤ next
-  grows other before = omega arith
+}
 
 pub KeepsApartTo-add : (count end next i : ℕ) (indexed : List IndexedEntry) (d : IndexedEntry) → i < length indexed
     → KeepsApartTo count end (take i indexed) → (get_or indexed i d).index < count
@@ -205,36 +176,29 @@ KeepsApartTo-pass count end i indexed d within so_far past =
         before =
             All-push (λ (other : IndexedEntry). other.index < count → first_of other.entry + count_of other.entry ≤ end) front
             one so_far.before (λ first. absurd (omega arith));
-        reached = still so_far.reached;
-      } where
-        still : (end ≡ 0)
-            ⊎ ((other : IndexedEntry) × Contains front other × (other.index < count)
-            × (first_of other.entry + count_of other.entry ≡ end))
-            → (end ≡ 0)
-            ⊎ ((other : IndexedEntry) × Contains (front ++ one ∷ []) other × (other.index < count)
-            × (first_of other.entry + count_of other.entry ≡ end))
-        still (inl none) = inl none
-        still (inr (other, listed, counts, ends)) =
-            inr (other, Contains-append_left front (one ∷ []) other listed, counts, ends)
+        reached = elim so_far.reached [
+          | inl none ↦ inl none
+          | inr (other, listed, counts, ends) ↦
+              inr (other, Contains-append_left front (one ∷ []) other listed, counts, ends)
+        ];
+      }
 
 -- one that begins below the end so far
 pub overlap_found : (count end i : ℕ) (indexed : List IndexedEntry) (d : IndexedEntry) → i < length indexed
     → KeepsApartTo count end (take i indexed) → (get_or indexed i d).index < count
     → first_of (get_or indexed i d).entry < end → ¬ ArePrecedingBelow count indexed
-overlap_found count end i indexed d within so_far counts begins preceding = found so_far.reached where
-  found : (end ≡ 0)
-      ⊎ ((other : IndexedEntry) × Contains (take i indexed) other × (other.index < count)
-      × (first_of other.entry + count_of other.entry ≡ end)) → ⊥
-  found (inl none) = absurd (omega arith)
-  found (inr (other, (k, below, here), other_counts, ends)) =
+overlap_found count end i indexed d within so_far counts begins preceding = elim so_far.reached [
+  | inl none ↦ absurd (omega arith)
+  | inr (other, (k, below, here), other_counts, ends) ↦
       let R = λ (one other : IndexedEntry). one.index < count → other.index < count → Precedes one.entry other.entry in
       let before : k < i = omega (arith, length-take i indexed) in
       let there : get_or indexed k other ≡ other = sym (get_or-take i indexed k other before) ∙ here in
-      let own : get_or indexed i (get_or indexed i d) ≡ get_or indexed i d =
-      get_or_default indexed i (get_or indexed i d) d within in
-      let precedes : first_of other.entry + count_of other.entry ≤ first_of (get_or indexed i d).entry =
-      pair_at R indexed k i other (get_or indexed i d) preceding before within there own other_counts counts in
-      absurd (omega arith)
+      let own = get_or_default indexed i (get_or indexed i d) d within in
+      omega (
+        arith,
+        pair_at R indexed k i other (get_or indexed i d) preceding before within there own other_counts counts,
+      )
+]
 
 -- ---- the ranges of an accepted list
 
@@ -272,10 +236,9 @@ AreRanges-indexed specs direction indexed accepted sorted = record {
       let entry = λ (one : IndexedEntry). one.entry in
       let below' : b < length indexed = rw (length-map indexed entry) at below in
       let some = get_or indexed a (record { entry = d; index = 0 }) in
-      let P = λ (one : IndexedEntry). IsIndexed specs direction one × (one.index < length specs) in
       let whole : Accepted (take (length specs) specs) = rw (take-length specs) accepted in
-      let first = All-get_or P indexed a some (omega arith) sorted.are_indexed.from in
-      let second = All-get_or P indexed b some below' sorted.are_indexed.from in
+      let first = sorted.are_indexed.from a some (omega arith) in
+      let second = sorted.are_indexed.from b some below' in
       rw (get_or-map entry indexed a some d (omega arith), get_or-map entry indexed b some d below')
       (preceding_from_accepted specs direction (length specs) indexed whole (omega arith) sorted a b some before below'
       first.1 second.1)

@@ -1,10 +1,10 @@
 -- The pieces of a map: each as long as it can be, and no more of them than twice as many as specifications act, and
 -- one.
-use Rattle.std.proofs.Common.{◌≡◌, inl, inr, ◌⊎◌, ℕ, ◌+◌, ◌-◌, ◌*◌, ◌<◌, ◌≤◌, false, nat_lt, if◌then◌else◌, List, []}
+use Rattle.std.proofs.Common.{if◌then◌else◌, ◌≡◌, inl, inr, ◌⊎◌, ℕ, ◌+◌, ◌-◌, ◌*◌, ◌<◌, ◌≤◌, false, nat_lt, List, []}
 use Rattle.std.proofs.Common.{◌∷◌, length, Contains, Option, Some, None, IsSomeAnd, refl, ap, ◌∙◌, arith}
 use Rattle.std.specs.Iterator.{Yields, Drains}
 use Rattle.std.specs.List.{AllByRecursion, sum_by}
-use Rattle.std.proofs.lemmas.Bool.{cases_Bool, cases_order}
+use Rattle.std.proofs.lemmas.Bool.{cases_Bool, cases_lt}
 use Rattle.std.proofs.lemmas.Bool.Decides.{nat_tests}
 use Rattle.std.proofs.lemmas.List.Elements.{All-contains, All-from_recursion}
 use Rattle.std.proofs.lemmas.List.Sums.{sum_by-cons}
@@ -31,26 +31,18 @@ pub IsStretch-join : (specs : List IdMap) (direction : Direction) (piece more lo
     → Joins piece more longer → IsStretch specs direction longer
 IsStretch-join specs direction piece more longer stretch more_stretch follows joins =
     let first : longer.first ≡ piece.first = joins.first_is in
-    let order : piece.first ≤ piece.last = stretch.order in
-    let within : more.last ≤ 4294967295 = more_stretch.within in
-    let from : more.first ≤ longer.last = joins.from in
-    let to : longer.last ≤ more.last = joins.to in
     record {
-      order = omega arith;
-      within = omega arith;
+      order = omega (arith, stretch.order, joins.from);
+      within = omega (arith, more_stretch.within, joins.to);
       named = joins.named;
       becomes = λ n low high.
-          elim (cases_order n more.first) [
-            | inl same ↦ later n (omega arith) high
-            | inr (inl before) ↦ rw (joins.value n (omega arith) (omega arith))
+          elim (cases_lt n more.first) [
+            | inl before ↦ rw (joins.value n (omega arith) (omega arith))
                 (stretch.becomes n (omega arith) (omega arith))
-            | inr (inr after) ↦ later n (omega arith) high
+            | inr after ↦ rw (joins.value_more n after high)
+                (more_stretch.becomes n after (omega (arith, joins.to)))
           ];
-    } where
-      later : (n : ℕ) → more.first ≤ n → n ≤ longer.last → Becomes specs direction n (value_in longer n)
-      later n low high =
-          let to : longer.last ≤ more.last = joins.to in
-          rw (joins.value_more n low high) (more_stretch.becomes n low (omega arith))
+    }
 
 -- where the piece cannot have the number after it, no outcome has
 pub IsPiece-longest : (specs : List IdMap) (direction : Direction) (piece more : Piece) → Accepted specs
@@ -66,20 +58,9 @@ IsPiece-longest specs direction piece more accepted stretch more_stretch follows
     (λ n low high. HasOneValue-accepted specs accepted direction n _ _ (by n low (omega arith))
         (stretch.becomes n low high)),
     HasOneValue-accepted specs accepted direction more.first _ _
-        (let order : piece.first ≤ piece.last = stretch.order in by more.first (omega arith) (omega arith))
+        (by more.first (omega (arith, stretch.order)) (omega arith))
         (more_stretch.becomes more.first (omega arith) more_stretch.order),
   );
-}
-
--- nor where there is no number after it
-pub IsPiece-last : (specs : List IdMap) (direction : Direction) (piece : Piece) → IsStretch specs direction piece
-    → 4294967295 ≤ piece.last → IsPiece specs direction piece
-IsPiece-last specs direction piece stretch last = record {
-  order = stretch.order;
-  within = stretch.within;
-  named = stretch.named;
-  becomes = stretch.becomes;
-  longest = λ below. absurd (omega arith);
 }
 
 -- ---- where outcomes change
@@ -125,18 +106,13 @@ end_fewer : (n m end : ℕ) → n ≤ m
     → (above m end + 1 ≤ above n end) ⊎ ((above m end ≡ above n end) × (n < end → m < end))
 unfolding above
 end_fewer n m end up =
-    elim (cases_order m end) [
-      | inl same ↦ at_most (omega arith)
-      | inr (inl before) ↦ inr (grind (arith, nat_tests), λ _. before)
-      | inr (inr after) ↦ at_most (omega arith)
-    ] where
-      at_most : end ≤ m → (above m end + 1 ≤ above n end) ⊎ ((above m end ≡ above n end) × (n < end → m < end))
-      at_most within =
-          elim (cases_order n end) [
-            | inl same ↦ inr (grind (arith, nat_tests), λ below. absurd (omega arith))
-            | inr (inl before) ↦ inl (grind (arith, nat_tests))
-            | inr (inr after) ↦ inr (grind (arith, nat_tests), λ below. absurd (omega arith))
-          ]
+    elim (cases_lt m end) [
+      | inl before ↦ inr (grind (arith, nat_tests), λ _. before)
+      | inr within ↦ elim (cases_lt n end) [
+        | inl before ↦ inl (grind (arith, nat_tests))
+        | inr after ↦ inr (grind (arith, nat_tests), λ below. absurd (omega arith))
+      ]
+    ]
 
 -- of two sums whose parts are no greater than those of the other, one is less, or both parts are the same
 sum_fewer : {P Q : Type 0} (a b c d : ℕ) → (a + 1 ≤ b) ⊎ ((a ≡ b) × P) → (c + 1 ≤ d) ⊎ ((c ≡ d) × Q)
@@ -212,15 +188,14 @@ AreOne-steady specs direction n m value up (inl (spec, listed, maps)) steady =
     let found =
     found_entry (entry_of spec direction) (λ entry. EntryCovers entry n × (target_of entry n ≡ value)) maps in
     let entry : Entry = found.entry in
-    let low : first_of entry ≤ n = found.holds.0.0 in
-    let high : n < first_of entry + count_of entry = found.holds.0.1 in
-    let later : m < first_of entry + count_of entry = (steady spec listed entry found.is (omega arith)).1 high in (
+    let (low, high) = found.holds.0 in
+    let later = (steady spec listed entry found.is (omega (arith, low, high))).1 high in (
       outcome_from entry n,
       λ k from to. inl (
         spec,
         listed,
         maps_by (entry_of spec direction) entry k (value_by (outcome_from entry n) n k) found.is
-            (omega arith, omega arith) (value_from entry n k low from),
+            (omega (arith, low, later)) (value_from entry n k low from),
       ),
     )
 AreOne-steady specs direction n m value up (inr (none, same)) steady =
@@ -229,13 +204,11 @@ AreOne-steady specs direction n m value up (inr (none, same)) steady =
       uncovered k from to spec listed covers =
           let found = found_entry (entry_of spec direction) (λ entry. EntryCovers entry k) covers in
           let entry : Entry = found.entry in
-          let low : first_of entry ≤ k = found.holds.0 in
-          let high : k < first_of entry + count_of entry = found.holds.1 in
-          let ends = steady spec listed entry found.is (omega arith) in
-          elim (cases_order n (first_of entry)) [
-            | inl here ↦ none spec listed (rw found.is (omega arith, omega arith))
-            | inr (inl before) ↦ (let begins : m < first_of entry = ends.0 before in omega arith)
-            | inr (inr after) ↦ none spec listed (rw found.is (omega arith, omega arith))
+          let (low, high) = found.holds in
+          elim (cases_lt n (first_of entry)) [
+            | inl before ↦
+                omega (arith, low, (steady spec listed entry found.is (omega (arith, low, high))).0 before)
+            | inr after ↦ none spec listed (rw found.is (omega (arith, high)))
           ]
 
 -- so after a piece there are fewer ends
@@ -258,23 +231,19 @@ few_from : (specs : List IdMap) (direction : Direction) (next : ℕ) (pieces : L
     → AllByRecursion (IsPiece specs direction) pieces → length pieces ≤ ends_above direction next specs + 1
 few_from specs direction next [] follow each = omega arith
 few_from specs direction next (piece ∷ pieces) (begins, follow) (is, each) =
-    elim (cases_order piece.last 4294967295) [
-      | inl last ↦ (let none : length pieces ≡ 0 = ended pieces follow each (omega arith) in omega arith)
-      | inr (inl below) ↦
+    elim (cases_lt piece.last 4294967295) [
+      | inl below ↦
           let rest : length pieces ≤ ends_above direction (piece.last + 1) specs + 1 =
           few_from specs direction (piece.last + 1) pieces follow each in
           let fewer : ends_above direction (piece.last + 1) specs + 1 ≤ ends_above direction next specs =
           rw begins at (fewer_after specs direction piece is below) in
           omega arith
-      | inr (inr beyond) ↦ absurd (let within : piece.last ≤ 4294967295 = is.within in omega arith)
+      | inr last ↦ omega (arith, ended pieces follow each last)
     ] where
       ended : (ps : List Piece) → FollowFrom (piece.last + 1) ps → AllByRecursion (IsPiece specs direction) ps
           → 4294967295 ≤ piece.last → length ps ≡ 0
       ended [] follow each last = refl
-      ended (p ∷ ps) (begins, follow) (is, each) last =
-          let order : p.first ≤ p.last = is.order in
-          let within : p.last ≤ 4294967295 = is.within in
-          absurd (omega arith)
+      ended (p ∷ ps) (begins, follow) (is, each) last = absurd (omega (arith, begins, is.order, is.within))
 
 -- ---- what an iterator gives in all
 
@@ -293,6 +262,5 @@ ArePieces-drained specs direction left pieces is (end, (after, yields, (last, sa
     record {
       follow = all.0;
       each = All-from_recursion (IsPiece specs direction) pieces all.1;
-      few = (let few = few_from specs direction 0 pieces all.0 all.1 in let ends =
-          ends_above-acting direction 0 specs in omega arith);
+      few = omega (arith, few_from specs direction 0 pieces all.0 all.1, ends_above-acting direction 0 specs);
     }

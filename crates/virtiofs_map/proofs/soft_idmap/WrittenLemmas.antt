@@ -1,7 +1,7 @@
 -- What was written for the entries that were placed is the image of a map.
-use Rattle.std.proofs.Common.{◌≡◌, ℕ, ◌+◌, ◌*◌, ◌<◌, ◌≤◌, List, ◌++◌, length, drop, map, slice_index, slice_get, Some}
+use Rattle.std.proofs.Common.{◌≡◌, ℕ, ◌+◌, ◌*◌, ◌<◌, ◌≤◌, List, length, map, slice_index, slice_get, Some}
 use Rattle.std.proofs.Common.{refl, sym, ap, ◌∙◌, arith}
-use Rattle.std.proofs.Math.Seq.{take-length, take-append_seam, drop-append_seam}
+use Rattle.std.proofs.Math.Seq.{take-length}
 use Rattle.std.proofs.lemmas.List.{length-map}
 use Rattle.std.proofs.lemmas.List.Sums.{count_by-le-length}
 use Rattle.std.proofs.lemmas.Option.{slice_get_within}
@@ -10,7 +10,7 @@ use Rattle.virtiofs_map.specs.Image.{IsImage, image_length, IsWritten}
 use Rattle.virtiofs_map.specs.LookupSteps.{covers_some, acting}
 use Rattle.virtiofs_map.specs.Mapping.{entry_of}
 use Rattle.virtiofs_map.specs.RangeParts.{AreSorted, AreSortedBothWays}
-use Rattle.virtiofs_map.specs.WordParts.{AreFirstsBelow, AreRowsBelow, KeepsBefore, IsAt, HasRanges, table_in}
+use Rattle.virtiofs_map.specs.WordParts.{AreFirstsBelow, AreRowsBelow, KeepsBefore, IsAt, HasRanges, image_kind, table_in}
 use Rattle.virtiofs_map.specs.declared.cmdline.IdMap.{IdMap}
 use Rattle.virtiofs_map.specs.declared.soft_idmap.entry.Direction.{Direction}
 use Rattle.virtiofs_map.specs.declared.soft_idmap.entry.Direction.TheVariants.{GuestToHost, HostToGuest}
@@ -71,16 +71,18 @@ has_ranges specs direction indexed words firsts rows count accepted sorted count
 -- the words are those of both directions
 pub IsImage-written : (specs : List IdMap) (guests hosts : List IndexedEntry) (words : List ℕ)
     → Accepted specs → AreSorted specs GuestToHost guests → AreSorted specs HostToGuest hosts
-    → slice_index words 0 ≡ 1768190721 → slice_index words 1 ≡ length guests → slice_index words 2 ≡ length hosts
-    → 3 + 4 * length guests + 4 * length hosts ≤ length words
+    → slice_index words 0 ≡ image_kind → slice_index words 1 ≡ length guests → slice_index words 2 ≡ length hosts
+    → 4 + 4 * length guests + 4 * length hosts ≤ length words
+    → slice_index words (3 + length guests + length hosts + 3 * length guests + 3 * length hosts) ≡ image_kind
     → AreFirstsBelow words 3 (entries guests) (length guests)
     → AreFirstsBelow words (3 + length guests) (entries hosts) (length hosts)
     → AreRowsBelow words (3 + length guests + length hosts) (entries guests) (length guests)
     → AreRowsBelow words (3 + length guests + length hosts + 3 * length guests) (entries hosts) (length hosts)
     → IsImage specs words
-IsImage-written specs guests hosts words accepted from_guest from_host kind many_guests many_hosts room guest_firsts
+IsImage-written specs guests hosts words accepted from_guest from_host kind many_guests many_hosts room end guest_firsts
     host_firsts guest_rows host_rows = record {
       kind = kind;
+      ended = ap (slice_index words) (omega (arith, many_guests, many_hosts)) ∙ end;
       room = omega arith;
       accepted = accepted;
       ranges = ranges;
@@ -110,30 +112,20 @@ indexed-acting specs direction indexed sorted = sorted.are_indexed.counted
 
 -- how long an image is
 pub image-length : (specs : List IdMap) (guests hosts : List IndexedEntry) (len : ℕ) → AreSortedBothWays specs guests hosts
-    → len ≡ 3 + 4 * length guests + 4 * length hosts → len ≡ image_length specs
+    → len ≡ 4 + 4 * length guests + 4 * length hosts → len ≡ image_length specs
 image-length specs guests hosts len indexed is =
     rw (
       indexed-acting specs GuestToHost guests indexed.from_guest,
       indexed-acting specs HostToGuest hosts indexed.from_host,
     ) at is
 
-pub image-bound : (specs : List IdMap) → image_length specs ≤ 3 + 8 * length specs
+pub image-bound : (specs : List IdMap) → image_length specs ≤ 4 + 8 * length specs
 image-bound specs =
     let guests : acting specs GuestToHost ≤ length specs =
     count_by-le-length (λ (spec : IdMap). covers_some (entry_of spec GuestToHost)) specs in
     let hosts : acting specs HostToGuest ≤ length specs =
     count_by-le-length (λ (spec : IdMap). covers_some (entry_of spec HostToGuest)) specs in
     omega arith
-
--- an image that was written to a front
-pub IsWritten-front : (specs : List IdMap) (old front new : List ℕ) (len : ℕ) → len ≡ image_length specs
-    → len ≤ length old → length front ≡ len → new ≡ front ++ drop len old → IsImage specs front
-    → IsWritten specs old new
-IsWritten-front specs old front new len is within long made image = record {
-  image = λ _. rw (← is, made, ← long, take-append_seam) image;
-  rest = λ _. rw (← is, made, ← long) (drop-append_seam front (drop (length front) old));
-  no_room = λ short. absurd (omega arith);
-}
 
 -- and where there is no room for one
 pub IsWritten-none : (specs : List IdMap) (words : List ℕ) (len : ℕ) → len ≡ image_length specs → length words < len

@@ -1,15 +1,13 @@
 -- How much longer names become on the host.
-use Rattle.std.proofs.Common.{◌≡◌, ◌≢◌, inl, inr, ℕ, ◌+◌, ◌<◌, ◌≤◌, List, ◌++◌, length, Option, Some, None}
-use Rattle.std.proofs.Common.{refl, sym, ap, ◌∙◌, arith, length-append}
-use Rattle.std.specs.Prelude.{option_and_then}
-use Rattle.std.specs.List.{slice_get}
+use Rattle.std.proofs.Common.{◌≡◌, inl, inr, ℕ, ◌+◌, ◌<◌, ◌≤◌, List, ◌++◌, length, Option, Some, None, refl, sym, ap}
+use Rattle.std.proofs.Common.{◌∙◌, arith, length-append, option_and_then, slice_get}
 use Rattle.std.specs.Option.{option_map_or}
 use Rattle.std.proofs.lemmas.Bool.{cases_lt}
 use Rattle.std.proofs.lemmas.Option.{slice_get_within}
 use Rattle.virtiofs_map.specs.AddedParts.{IsAddedAt, IsAddedBelow}
 use Rattle.virtiofs_map.specs.Audit.{DecidesOn, IsMostAdded}
 use Rattle.virtiofs_map.specs.Names.{first, Passes, IsUnterminated, answer_by, client_answer}
-use Rattle.virtiofs_map.specs.Rule.{RuleType, Prefix, Okay, Bad, Unsupported, MappingRule}
+use Rattle.virtiofs_map.specs.Rule.{Prefix, MappingRule}
 use Rattle.virtiofs_map.specs.declared.xattrmap.scopes.Side.TheVariants.{Client}
 use Rattle.virtiofs_map.proofs.xattrmap.DecidingLemmas.{first_at}
 
@@ -23,35 +21,6 @@ answered rules place rule name here is =
     let by : MappingRule → _ = λ one. answer_by one.kind one.prepend name in
     ap (λ at. option_map_or by (option_and_then (slice_get rules) at) IsUnterminated) is
     ∙ ap (λ one. option_map_or by one IsUnterminated) here
-
--- a rule of another type than `prefix` lets names pass as they are
-as_it_is : (kind : RuleType) (prepend name host : List ℕ) → kind ≢ Prefix → answer_by kind prepend name ≡ Passes host
-    → host ≡ name
-as_it_is Prefix prepend name host other passes = absurd (other refl)
-as_it_is Okay prepend name host other passes = cc
-as_it_is Bad prepend name host other passes = absurd (cc)
-as_it_is Unsupported prepend name host other passes = absurd (cc)
-
-pub nothing_past : (rules : List MappingRule) (place : ℕ) → slice_get rules place ≡ None → IsAddedAt rules place 0
-nothing_past rules place past = record {
-  at_most = λ name host _ is _. (let here = (first_at Client rules name place is).here in
-      let both = sym past ∙ here in absurd (cc));
-  reached = inl refl;
-}
-
-pub nothing_by_kind : (rules : List MappingRule) (place : ℕ) (rule : MappingRule) → slice_get rules place ≡ Some rule
-    → rule.kind ≢ Prefix → IsAddedAt rules place 0
-nothing_by_kind rules place rule here other = record {
-  at_most = λ name host _ is passes. (let same = as_it_is rule.kind rule.prepend name host other
-      (sym (answered rules place rule name here is) ∙ passes) in omega (arith, ap length same));
-  reached = inl refl;
-}
-
-pub nothing_decided : (rules : List MappingRule) (place : ℕ) → ¬ DecidesOn Client rules place → IsAddedAt rules place 0
-nothing_decided rules place none = record {
-  at_most = λ name host is_name is _. absurd (none (record { name = name; is_name = is_name; is_first = is }));
-  reached = inl refl;
-}
 
 pub its_prepend : (rules : List MappingRule) (place : ℕ) (rule : MappingRule) → slice_get rules place ≡ Some rule
     → rule.kind ≡ Prefix → DecidesOn Client rules place → IsAddedAt rules place (length rule.prepend)
@@ -77,7 +46,7 @@ its_prepend rules place rule here kind decides = record {
 
 pub none_so_far : (rules : List MappingRule) → IsAddedBelow rules 0 0
 none_so_far rules = record {
-  at_most = λ name host place _ below _ _. absurd (omega (arith, below));
+  at_most = λ name host place _ below _ _. absurd (omega arith);
   reached = inl refl;
 }
 
@@ -86,8 +55,8 @@ pub one_more : (rules : List MappingRule) (at most added : ℕ) → IsAddedBelow
 one_more rules at most added below here less = record {
   at_most = λ name host place is_name within is passes. elim (cases_lt place at) [
     | inl l ↦ below.at_most name host place is_name l is passes
-    | inr l ↦ (let same : place ≡ at = omega (arith, l, within) in
-        omega (arith, here.at_most name host is_name (is ∙ ap Some same) passes, less))
+    | inr l ↦ (let same : place ≡ at = omega arith in
+        omega (arith, here.at_most name host is_name (is ∙ ap Some same) passes))
   ];
   reached = below.reached;
 }
@@ -96,8 +65,8 @@ pub one_longer : (rules : List MappingRule) (at most added : ℕ) → IsAddedBel
     → most < added → IsAddedBelow rules (at + 1) added
 one_longer rules at most added below here more = record {
   at_most = λ name host place is_name within is passes. elim (cases_lt place at) [
-    | inl l ↦ omega (arith, below.at_most name host place is_name l is passes, more)
-    | inr l ↦ (let same : place ≡ at = omega (arith, l, within) in
+    | inl l ↦ omega (arith, below.at_most name host place is_name l is passes)
+    | inr l ↦ (let same : place ≡ at = omega arith in
         here.at_most name host is_name (is ∙ ap Some same) passes)
   ];
   reached = here.reached;
@@ -120,7 +89,6 @@ all_of_them rules count most all below = record {
   at_most = λ name host is_name passes.
       (let (place, is) = decided_by rules name host (first Client rules name) refl passes in
       let at = first_at Client rules name place is in
-      let within = slice_get_within rules place at.rule at.here in
-      below.at_most name host place is_name (omega (arith, within, all)) is passes);
+      below.at_most name host place is_name (omega (arith, slice_get_within rules place at.rule at.here)) is passes);
   reached = below.reached;
 }

@@ -1,10 +1,9 @@
 -- The list that is answered once all items of a host's list are written down: it is not empty, and short enough.
-use Rattle.std.proofs.Common.{◌≡◌, ℕ, true, false, eqb, List, [], ◌∷◌, ◌++◌, Option, Some, None, Err}
-use Rattle.std.proofs.Common.{length, ◌+◌, ◌<◌, ◌≤◌, refl, sym, ap, subst, ◌∙◌, arith}
-use Rattle.std.specs.List.{list_all, filter_map}
+use Rattle.std.proofs.Common.{◌≡◌, ℕ, true, false, eqb, List, [], ◌∷◌, ◌++◌, Option, Some, None, Err, length, ◌+◌, ◌<◌}
+use Rattle.std.proofs.Common.{◌≤◌, refl, sym, ap, subst, ◌∙◌, arith, filter_map, append-nil}
+use Rattle.std.specs.List.{list_all}
 use Rattle.std.proofs.lemmas.Bool.{cond_both}
 use Rattle.std.proofs.lemmas.Bool.Decides.{nat_tests}
-use Rattle.std.proofs.lemmas.List.{append-nil}
 use Rattle.virtiofs_map.specs.Listing.{listing}
 use Rattle.virtiofs_map.specs.Names.{is_decided, host_answer, names, as_list, server_answer}
 use Rattle.virtiofs_map.specs.Rule.{MappingRule}

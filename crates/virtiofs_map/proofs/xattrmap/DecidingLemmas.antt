@@ -1,9 +1,8 @@
 -- Rules that decide no name: earlier ones take their patterns.
 use Rattle.std.proofs.Common.{◌≡◌, ℕ, ◌<◌, ◌≤◌, ◌⊎◌, true, false, cond, List, [], length, get_or, Some, None, inl, inr}
-use Rattle.std.proofs.Common.{sym, ap, ◌∙◌, subst, arith}
-use Rattle.std.specs.List.{position_or_len, slice_get}
-use Rattle.std.proofs.lemmas.Bool.{and_parts, and_from, cases_lt, lt-ltb, true≢false}
-use Rattle.std.proofs.lemmas.List.{append-nil}
+use Rattle.std.proofs.Common.{sym, ap, ◌∙◌, subst, arith, slice_get, lt-ltb, true≢false, append-nil}
+use Rattle.std.specs.List.{position_or_len}
+use Rattle.std.proofs.lemmas.Bool.{and_parts, and_from, cases_lt}
 use Rattle.std.proofs.lemmas.List.Quantifiers.{position-Some}
 use Rattle.std.proofs.lemmas.List.Sums.{fails_before_first}
 use Rattle.std.proofs.lemmas.Option.{slice_get-get_or, slice_get_within, get_or_from_slice_get}
@@ -13,8 +12,8 @@ use Rattle.virtiofs_map.specs.Names.{begins, fits, first}
 use Rattle.virtiofs_map.specs.Rule.{Okay, MappingRule}
 use Rattle.virtiofs_map.specs.declared.xattrmap.scopes.Side.{Side}
 use Rattle.virtiofs_map.specs.declared.xattrmap.scopes.Side.TheVariants.{Client, Server}
-use Rattle.virtiofs_map.proofs.AuditAlikeLemmas.{begins_trans, fits_more}
-use Rattle.virtiofs_map.proofs.BeginsLemmas.{begins_from}
+use Rattle.virtiofs_map.proofs.AuditAlikeLemmas.{fits_more}
+use Rattle.virtiofs_map.proofs.BeginsLemmas.{begins_trans, begins_from}
 
 -- ---- a rule and its pattern
 
@@ -98,8 +97,7 @@ own_pattern_decided side rules place rule here decides =
 pub none_decided_past : (side : Side) (rules : List MappingRule) (place : ℕ) → slice_get rules place ≡ None
     → ¬ DecidesOn side rules place
 none_decided_past side rules place past decides =
-    let is = first_at side rules decides.name place decides.is_first in
-    let both = sym past ∙ is.here in
+    let both = sym past ∙ (first_at side rules decides.name place decides.is_first).here in
     cc
 
 -- ---- both sides

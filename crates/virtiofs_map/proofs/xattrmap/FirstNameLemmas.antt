@@ -1,15 +1,14 @@
 -- Where the first name of a list ends, and what the rules find along a list.
 use Rattle.std.proofs.Common.{◌≡◌, ◌≢◌, ℕ, zero, suc, ◌+◌, ◌≤◌, ◌&&◌, not, cond, eqb, List, [], ◌∷◌, ◌++◌, length}
 use Rattle.std.proofs.Common.{get_or, take, drop, All, inl, inr, refl, sym, ap, ◌∙◌, arith}
-use Rattle.std.specs.List.{position_or_len, slice_get, before_first, after_first}
-use Rattle.std.specs.Option.{option_and_then}
+use Rattle.std.specs.List.{position_or_len, before_first, after_first}
 use Rattle.std.proofs.lemmas.Bool.{and_left, cases_Bool, cases_lt, eqb-true, ne_eqb}
 use Rattle.std.proofs.lemmas.List.{length-drop, take_all}
 use Rattle.std.proofs.lemmas.List.Elements.{All-contains, All-head, All-tail}
 use Rattle.std.proofs.lemmas.List.Sums.{passes_at_first, split_at_first}
 use Rattle.virtiofs_map.specs.NodeParts.{answer_for, answer_of}
 use Rattle.virtiofs_map.specs.FirstRule.{acts, pattern}
-use Rattle.virtiofs_map.specs.Names.{begins, deciding, first}
+use Rattle.virtiofs_map.specs.Names.{begins, first}
 use Rattle.virtiofs_map.specs.Rule.{MappingRule, HasNoZero}
 use Rattle.virtiofs_map.specs.declared.xattrmap.scopes.Side.{Side}
 use Rattle.virtiofs_map.proofs.xattrmap.FittingLemmas.{fits_is, same_first}
@@ -55,10 +54,6 @@ first_of_list side rules list plain = elim (cases_lt (position_or_len is_zero li
   | inr l ↦ ap (first side rules) (sym (take_all (position_or_len is_zero list) list l))
 ]
 
-pub deciding_of_list : (side : Side) (rules : List MappingRule) (list : List ℕ) → All HasNoZero rules
-    → deciding side rules list ≡ deciding side rules (before_first is_zero list)
-deciding_of_list side rules list plain = ap (option_and_then (slice_get rules)) (first_of_list side rules list plain)
-
 pub answer_of_list : (side : Side) (rules : List MappingRule) (list : List ℕ) → All HasNoZero rules
     → answer_of side rules list ≡ answer_of side rules (before_first is_zero list)
 answer_of_list side rules list plain = ap (answer_for rules) (first_of_list side rules list plain)
@@ -69,21 +64,19 @@ answer_of_list side rules list plain = ap (answer_for rules) (first_of_list side
 pub zero_behind : (list : List ℕ) (passed : ℕ) → passed ≤ length list → All (λ byte. byte ≢ 0) (take passed list)
     → position_or_len is_zero list ≡ passed + position_or_len is_zero (drop passed list)
 zero_behind list zero within none = omega arith
-zero_behind [] (suc passed) within none = absurd (omega (arith, within))
+zero_behind [] (suc passed) within none = absurd (omega arith)
 zero_behind (x ∷ list) (suc passed) within none =
     ap (λ b. cond (not b) (1 + position_or_len is_zero list) 0)
     (ne_eqb x 0 (All-head (λ byte. byte ≢ 0) x (take passed list) none))
     ∙ (let rest = All-tail (λ byte. byte ≢ 0) x (take passed list) none in
-    let more = zero_behind list passed (omega (arith, within)) rest in
-    omega (arith, more))
+    omega (arith, zero_behind list passed (omega arith) rest))
 
 module _ (list : List ℕ) (passed : ℕ) (within : passed ≤ length list)
     (none : All (λ byte. byte ≢ 0) (take passed list)) where
   pub zero_at : (further : ℕ) → further ≡ position_or_len is_zero (drop passed list)
       → passed + further ≡ position_or_len is_zero list
-  zero_at further there = let behind = zero_behind list passed within none in omega (arith, behind, there)
+  zero_at further there = omega (arith, zero_behind list passed within none)
 
   pub no_zero_left : length (drop passed list) ≤ position_or_len is_zero (drop passed list)
       → length list ≤ position_or_len is_zero list
-  no_zero_left past =
-      let behind = zero_behind list passed within none in omega (arith, behind, past, within, length-drop passed list)
+  no_zero_left past = omega (arith, zero_behind list passed within none, within, length-drop passed list)

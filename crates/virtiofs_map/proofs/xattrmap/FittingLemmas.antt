@@ -24,8 +24,8 @@ pub begins_front : (p name : List ℕ) (k : ℕ) → length p ≤ k → begins p
 begins_front [] name k l = refl
 begins_front (x ∷ p) [] zero l = refl
 begins_front (x ∷ p) [] (suc k) l = refl
-begins_front (x ∷ p) (y ∷ name) zero l = absurd (omega (arith, l))
-begins_front (x ∷ p) (y ∷ name) (suc k) l = ap (λ b. eqb x y && b) (begins_front p name k (omega (arith, l)))
+begins_front (x ∷ p) (y ∷ name) zero l = absurd (omega arith)
+begins_front (x ∷ p) (y ∷ name) (suc k) l = ap (λ b. eqb x y && b) (begins_front p name k (omega arith))
 
 -- a path, and the byte after it
 pub front_more : (path left name : List ℕ) (byte : ℕ) → name ≡ path ++ byte ∷ left

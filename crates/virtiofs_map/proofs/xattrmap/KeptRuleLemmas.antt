@@ -1,10 +1,8 @@
 -- Rules whose patterns stand in one memory.
 use Rattle.std.proofs.Common.{◌≡◌, ℕ, ◌+◌, ◌-◌, ◌≤◌, Bool, true, false, List, [], ◌∷◌, ◌++◌, map, length, take, drop}
 use Rattle.std.proofs.Common.{get_or, Option, Some, None, IfSome, Decides, refl, sym, ap, subst, ◌∙◌, arith}
-use Rattle.std.proofs.Common.{length-append, length-drop}
-use Rattle.std.specs.List.{All, slice_get}
-use Rattle.std.specs.Option.{option_map}
-use Rattle.std.proofs.lemmas.List.{take-append-le, drop-append-le, map-append, length-map, take_more, take_all}
+use Rattle.std.proofs.Common.{length-append, length-drop, All, slice_get, option_map, take_all}
+use Rattle.std.proofs.lemmas.List.{take-append-le, drop-append-le, map-append, length-map, take_more}
 use Rattle.std.proofs.lemmas.List.Elements.{All-head, All-tail, All-push}
 use Rattle.std.proofs.lemmas.Option.{slice_get-map, slice_get_within, get_or_from_slice_get}
 use Rattle.virtiofs_map.specs.NodeParts.{AreSpans, IsSpan}
@@ -25,9 +23,8 @@ the_same x y e = cc
 part_more : (bytes more : List ℕ) (from to : ℕ) → from ≤ to → to ≤ length bytes
     → take (to - from) (drop from (bytes ++ more)) ≡ take (to - from) (drop from bytes)
 part_more bytes more from to rising within =
-    let size = length-drop from bytes in
-    ap (λ xs. take (to - from) xs) (drop-append-le from bytes more (omega (arith, rising, within)))
-    ∙ take-append-le (to - from) (drop from bytes) more (omega (arith, size, rising, within))
+    ap (λ xs. take (to - from) xs) (drop-append-le from bytes more (omega arith))
+    ∙ take-append-le (to - from) (drop from bytes) more (omega (arith, length-drop from bytes))
 
 same_patterns : (kind : RuleKind) (scope : Scope) (k l p q : List ℕ) → k ≡ l → p ≡ q
     → rule_with kind scope k p ≡ rule_with kind scope l q
@@ -37,7 +34,7 @@ kept_more : (bytes more : List ℕ) (entry : RuleEntry) → IsAmong bytes entry
     → rule_kept (bytes ++ more) entry ≡ rule_kept bytes entry
 kept_more bytes more entry among =
     same_patterns entry.kind entry.scope _ _ _ _
-    (part_more bytes more entry.span.key entry.span.prepend among.rising (omega (arith, among.rising_on, among.within)))
+    (part_more bytes more entry.span.key entry.span.prepend among.rising (omega arith))
     (part_more bytes more entry.span.prepend entry.span.end among.rising_on among.within)
 
 among_more : (bytes more : List ℕ) (entry : RuleEntry) → IsAmong bytes entry → IsAmong (bytes ++ more) entry
@@ -46,7 +43,7 @@ among_more bytes more entry among = record {
   prepend = refl;
   rising = among.rising;
   rising_on = among.rising_on;
-  within = let size = length-append bytes more in omega (arith, size, among.within);
+  within = omega (arith, length-append bytes more);
 }
 
 all_more : (bytes more : List ℕ) (entries : List RuleEntry) → All (IsAmong bytes) entries
@@ -71,7 +68,7 @@ among_grown bytes new entries (more, are) all =
 pattern_bytes_more : (rules : List MappingRule) (rule : MappingRule)
     → pattern_bytes (rules ++ rule ∷ []) ≡ pattern_bytes rules + length rule.key + length rule.prepend
 pattern_bytes_more [] rule = omega arith
-pattern_bytes_more (one ∷ rules) rule = let more = pattern_bytes_more rules rule in omega (arith, more)
+pattern_bytes_more (one ∷ rules) rule = omega (arith, pattern_bytes_more rules rule)
 
 -- more bytes, and a rule more
 module _ (bytes new : List ℕ) (entries entries' : List RuleEntry) (entry : RuleEntry) (key prepend : List ℕ)
@@ -98,9 +95,8 @@ module _ (bytes new : List ℕ) (entries entries' : List RuleEntry) (entry : Rul
   kept_pushed = record {
     among = among_pushed;
     whole =
-        (let list = ap pattern_bytes list_pushed in
-        let more = pattern_bytes_more (map (rule_kept bytes) entries) (rule_with entry.kind entry.scope key prepend) in
-        omega (arith, list, more, longer, kept.whole));
+        (let more = pattern_bytes_more (map (rule_kept bytes) entries) (rule_with entry.kind entry.scope key prepend) in
+        omega (arith, ap pattern_bytes list_pushed, more, longer, kept.whole));
   }
 
 -- where the patterns of each rule stand
@@ -158,7 +154,7 @@ pub same_all : (one other : List MappingRule) (place : ℕ) → length one ≤ p
     → take place one ≡ take place other → true ≡ same_rules one other
 same_all one other place past long so_far =
     let same : one ≡ other = sym (take_all place one past) ∙ so_far
-    ∙ take_all place other (omega (arith, long, past)) in
+    ∙ take_all place other (omega arith) in
     sym ((same_rules-Decides one other _ refl).1 same)
 
 -- what holds of each rule holds of the one that is lent

@@ -1,7 +1,6 @@
 -- The rules that are made for a written one.
-use Rattle.std.proofs.Common.{◌≡◌, ℕ, List, [], ◌∷◌, refl, ◌∙◌, ◌≢◌, ◌++◌, append_assoc}
+use Rattle.std.proofs.Common.{◌≡◌, ℕ, List, [], ◌∷◌, refl, ◌∙◌, ◌≢◌, ◌++◌, append_assoc, chars, IsUtf8}
 use Rattle.std.proofs.lemmas.Str.{encodes-chars, chars-nil}
-use Rattle.std.specs.Str.{chars, IsUtf8}
 use Rattle.virtiofs_map.specs.Rule.{Prefix, Bad, Okay, MappingRule}
 use Rattle.virtiofs_map.specs.RuleParts.{type_of, scope_of, head_of, holds, bits_of, rule_with}
 use Rattle.virtiofs_map.specs.RuleText.{All, Map, rule_of, rules_of, on_client, on_server}

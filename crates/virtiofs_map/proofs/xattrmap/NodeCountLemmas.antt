@@ -4,12 +4,13 @@ use Rattle.std.proofs.Common.{◌∷◌, ◌++◌, length, drop, map, nat_lt, Op
 use Rattle.std.proofs.Common.{◌⊎◌, append_assoc, length-append}
 use Rattle.std.specs.List.{filter, flat_map, list_any, range_with_len}
 use Rattle.std.proofs.lemmas.Bool.{cases_Bool, cases_lt, cond_both, eqb-true, false_from_ne_true, true≢false}
+use Rattle.std.proofs.lemmas.List.FromFn.{length-range_with_len}
 use Rattle.std.proofs.lemmas.Bool.Decides.{nat_tests}
 use Rattle.virtiofs_map.specs.Names.{begins}
 use Rattle.virtiofs_map.specs.PatternTrie.{TextNode, root, leads, next_bytes, label_after, text_node_after, child, children, slots}
 use Rattle.virtiofs_map.specs.PatternTrie.{are_sparse, span, levels, longest_of, text_nodes}
 use Rattle.virtiofs_map.proofs.BeginsLemmas.{begins_from, begins_length, begins_split}
-use Rattle.virtiofs_map.proofs.xattrmap.SlotLemmas.{Rising, rising_filter, length-range, slots_placed, slots_upto}
+use Rattle.virtiofs_map.proofs.xattrmap.SlotLemmas.{Rising, rising_filter, slots_placed, slots_upto}
 
 -- ---- sums
 
@@ -20,24 +21,24 @@ sum_of f (x ∷ xs) = f x + sum_of f xs
 module _ {X : Type 0} (f g : X → ℕ) where
   sum_less : ((x : X) → f x ≤ g x) → (xs : List X) → sum_of f xs ≤ sum_of g xs
   sum_less less [] = omega arith
-  sum_less less (x ∷ xs) = let here = less x in let rest = sum_less less xs in omega (arith, here, rest)
+  sum_less less (x ∷ xs) = omega (arith, less x, sum_less less xs)
 
   sum_both : (xs : List X) → sum_of (λ x. f x + g x) xs ≡ sum_of f xs + sum_of g xs
   sum_both [] = refl
-  sum_both (x ∷ xs) = let rest = sum_both xs in omega (arith, rest)
+  sum_both (x ∷ xs) = omega (arith, sum_both xs)
 
 module _ {X : Type 0} (f : X → ℕ) where
   sum_none : ((x : X) → f x ≡ 0) → (xs : List X) → sum_of f xs ≡ 0
   sum_none none [] = refl
-  sum_none none (x ∷ xs) = let here = none x in let rest = sum_none none xs in omega (arith, here, rest)
+  sum_none none (x ∷ xs) = omega (arith, none x, sum_none none xs)
 
   pub sum_append : (xs ys : List X) → sum_of f (xs ++ ys) ≡ sum_of f xs + sum_of f ys
   sum_append [] ys = omega arith
-  sum_append (x ∷ xs) ys = let rest = sum_append xs ys in omega (arith, rest)
+  sum_append (x ∷ xs) ys = omega (arith, sum_append xs ys)
 
   sum_map : {Y : Type 0} (h : Y → X) (ys : List Y) → sum_of f (map h ys) ≡ sum_of (λ y. f (h y)) ys
   sum_map h [] = refl
-  sum_map h (y ∷ ys) = let rest = sum_map h ys in omega (arith, rest)
+  sum_map h (y ∷ ys) = omega (arith, sum_map h ys)
 
   sum_left : (p : X → Bool) (xs : List X) → sum_of f (filter p xs) ≤ sum_of f xs
   sum_left p [] = omega arith
@@ -64,9 +65,7 @@ sum_part f from (suc count) low (suc n) above within = elim (cases_lt from low) 
   | inl l ↦ (let rest = sum_part f (from + 1) count low (suc n) (omega (arith, l)) (omega (arith, within)) in
       omega (arith, rest))
   | inr g ↦ (let same : low ≡ from = omega (arith, above, g) in
-      let here = ap f same in
-      let rest = sum_part f (from + 1) count (low + 1) n (omega (arith, above)) (omega (arith, within)) in
-      omega (arith, here, rest))
+      omega (arith, ap f same, sum_part f (from + 1) count (low + 1) n (omega (arith, above)) (omega (arith, within))))
 ]
 
 -- ---- what a text adds
@@ -85,50 +84,40 @@ through path text byte = cond (begins (path ++ byte ∷ []) text) (6 + (length t
 single_past : (n x low count : ℕ) → x < low → sum_of (λ b. cond (eqb b x && true) n 0) (range_with_len low count) ≡ 0
 single_past n x low zero past = refl
 single_past n x low (suc count) past =
-    let rest = single_past n x (low + 1) count (omega (arith, past)) in
     let not_here : eqb low x ≡ false = grind (arith, nat_tests, past) in
-    let here = ap (λ b. cond (b && true) n 0) not_here in
-    omega (arith, here, rest)
+    omega (arith, ap (λ b. cond (b && true) n 0) not_here, single_past n x (low + 1) count (omega arith))
 
 single : (n x low count : ℕ) → sum_of (λ b. cond (eqb b x && true) n 0) (range_with_len low count) ≤ n
 single n x low zero = omega arith
 single n x low (suc count) = elim (cases_Bool (eqb low x)) [
   | inl e ↦
-      (let here = ap (λ b. cond (b && true) n 0) e in
-      let same = eqb-true low x e in
-      let rest = single_past n x (low + 1) count (omega (arith, same)) in
-      omega (arith, here, rest))
-  | inr e ↦
-      (let here = ap (λ b. cond (b && true) n 0) e in
-      let rest = single n x (low + 1) count in
-      omega (arith, here, rest))
+      (let rest = single_past n x (low + 1) count (omega (arith, eqb-true low x e)) in
+      omega (arith, ap (λ b. cond (b && true) n 0) e, rest))
+  | inr e ↦ omega (arith, ap (λ b. cond (b && true) n 0) e, single n x (low + 1) count)
 ]
 
 -- a text goes on with one byte at most
 one_byte : (n low count : ℕ) (path text : List ℕ)
     → sum_of (λ b. cond (begins (path ++ b ∷ []) text) n 0) (range_with_len low count) ≤ cond (begins path text) n 0
-one_byte n low count [] [] =
-    let none = sum_none (λ (b : ℕ). 0) (λ b. refl) (range_with_len low count) in omega (arith, none)
+one_byte n low count [] [] = omega (arith, sum_none (λ (b : ℕ). 0) (λ b. refl) (range_with_len low count))
 one_byte n low count [] (x ∷ text) = single n x low count
 one_byte n low count (p ∷ path) [] =
-    let none = sum_none (λ (b : ℕ). 0) (λ b. refl) (range_with_len low count) in omega (arith, none)
+    omega (arith, sum_none (λ (b : ℕ). 0) (λ b. refl) (range_with_len low count))
 one_byte n low count (p ∷ path) (x ∷ text) = by (eqb p x) (one_byte n low count path text) where
   by : (same : Bool)
       → sum_of (λ b. cond (begins (path ++ b ∷ []) text) n 0) (range_with_len low count) ≤ cond (begins path text) n 0
       → sum_of (λ b. cond (same && begins (path ++ b ∷ []) text) n 0) (range_with_len low count)
       ≤ cond (same && begins path text) n 0
   by true rest = rest
-  by false rest = let none = sum_none (λ (b : ℕ). 0) (λ b. refl) (range_with_len low count) in omega (arith, none)
+  by false rest = omega (arith, sum_none (λ (b : ℕ). 0) (λ b. refl) (range_with_len low count))
 
 all_through : (path : List ℕ) (texts : List (List ℕ)) (low count : ℕ)
     → sum_of (λ b. sum_of (λ t. through path t b) texts) (range_with_len low count) ≤ sum_of (worth path) texts
-all_through path [] low count =
-    let none = sum_none (λ (b : ℕ). 0) (λ b. refl) (range_with_len low count) in omega (arith, none)
+all_through path [] low count = omega (arith, sum_none (λ (b : ℕ). 0) (λ b. refl) (range_with_len low count))
 all_through path (text ∷ texts) low count =
     let both = sum_both (through path text) (λ b. sum_of (λ t. through path t b) texts) (range_with_len low count) in
-    let here = one_byte (6 + (length text - length path)) low count path text in
     let rest = all_through path texts low count in
-    omega (arith, both, here, rest)
+    omega (arith, both, one_byte (6 + (length text - length path)) low count path text, rest)
 
 -- ---- what is below a text node
 
@@ -147,20 +136,18 @@ module _ (path : List ℕ) (byte : ℕ) (label : List ℕ) where
       let here = ap (λ b. cond b (6 + (length text - length path)) 0) e in
       let long = begins_length (path ++ byte ∷ []) text e in
       let front = length-append path (byte ∷ []) in
-      let whole = length-append path (byte ∷ label) in
       let less : worth (path ++ byte ∷ label) text ≤ 6 + (length text - length (path ++ byte ∷ label)) =
       cond_both (begins (path ++ byte ∷ label) text) (6 + (length text - length (path ++ byte ∷ label))) 0
       (λ n. n ≤ 6 + (length text - length (path ++ byte ∷ label))) (λ _. omega arith) (λ _. omega arith) in
-      (omega (arith, here, long, front, whole, less), omega (arith, here, long, front))
+      (omega (arith, here, long, front, length-append path (byte ∷ label), less), omega (arith, here, long, front))
 
   no_more : (text : List ℕ) → worth (path ++ byte ∷ label) text ≤ through path text byte
   no_more text = elim (cases_Bool (begins (path ++ byte ∷ []) text)) [
-    | inl e ↦ (let less = (less_after text e).0 in omega (arith, less))
+    | inl e ↦ omega (arith, (less_after text e).0)
     | inr f ↦ (let none : begins (path ++ byte ∷ label) text ≡ false =
         false_from_ne_true (begins (path ++ byte ∷ label) text)
         (λ e. true≢false (sym (begun_before text e) ∙ f)) in
-        let here = ap (λ b. cond b (6 + (length text - length (path ++ byte ∷ label))) 0) none in
-        omega (arith, here))
+        omega (arith, ap (λ b. cond b (6 + (length text - length (path ++ byte ∷ label))) 0) none))
   ]
 
   -- so where some text goes on with it, there is less below
@@ -174,9 +161,8 @@ module _ (path : List ℕ) (byte : ℕ) (label : List ℕ) where
         let rest = sum_less (worth (path ++ byte ∷ label)) (λ t. through path t byte) no_more texts in
         (omega (arith, here.0, rest), omega (arith, here.1)))
     | inr f ↦
-        (let here = no_more text in
-        let rest = less_below texts (sym (ap (λ b. b || list_any (begins (path ++ byte ∷ [])) texts) f) ∙ led) in
-        (omega (arith, here, rest.0), omega (arith, rest.1)))
+        (let rest = less_below texts (sym (ap (λ b. b || list_any (begins (path ++ byte ∷ [])) texts) f) ∙ led) in
+        (omega (arith, no_more text, rest.0), omega (arith, rest.1)))
   ]
 
 -- ---- places of children
@@ -189,14 +175,13 @@ unfolding slots
 slot_count [] = inr refl
 slot_count (low ∷ []) =
     inl (cond_both (are_sparse (low ∷ [])) (low ∷ []) (range_with_len low (span low [])) (λ left. length left + 6 ≤ 7)
-    (λ _. omega arith) (λ _. let size = length-range low (span low []) in omega (arith, size)))
+    (λ _. omega arith) (λ _. omega (arith, length-range_with_len low (span low []))))
 slot_count (low ∷ next ∷ bytes) =
     inl (cond_both (are_sparse (low ∷ next ∷ bytes)) (low ∷ next ∷ bytes) (range_with_len low (span low (next ∷ bytes)))
     (λ left. length left + 6 ≤ 7 * length (low ∷ next ∷ bytes))
     (λ _. omega arith)
     (λ e. let few = not_less (2 * length (low ∷ next ∷ bytes) + 4) (span low (next ∷ bytes)) e in
-    let size = length-range low (span low (next ∷ bytes)) in
-    omega (arith, few, size)))
+    omega (arith, few, length-range_with_len low (span low (next ∷ bytes)))))
 
 -- what places between the bytes add, where these add no less than any part of a range
 slot_sum : (f : ℕ → ℕ) (p : ℕ → Bool) (range bytes : List ℕ) → bytes ≡ filter p range → Rising 1 256 bytes
@@ -206,22 +191,19 @@ unfolding slots
 slot_sum f p range [] is rising part = omega arith
 slot_sum f p range (low ∷ bytes) is rising part = elim (cases_Bool (are_sparse (low ∷ bytes))) [
   | inl e ↦
-      (let all = ap (λ b. sum_of f (cond b (low ∷ bytes) (range_with_len low (span low bytes)))) e in
-      let left = ap (sum_of f) is in
+      (let left = ap (sum_of f) is in
       let less = sum_left f p range in
-      omega (arith, all, left, less))
+      omega (arith, ap (λ b. sum_of f (cond b (low ∷ bytes) (range_with_len low (span low bytes)))) e, left, less))
   | inr e ↦
       (let placed = slots_placed low bytes rising e in
       let upto = slots_upto low bytes rising e in
-      let size = ap length placed ∙ length-range low (span low bytes) in
-      let all = ap (sum_of f) placed in
-      let less = part low (span low bytes) upto.0 (omega (arith, upto.1, size)) in
-      omega (arith, all, less))
+      let size = ap length placed ∙ length-range_with_len low (span low bytes) in
+      omega (arith, ap (sum_of f) placed, part low (span low bytes) upto.0 (omega (arith, upto.1, size))))
 ]
 
 sum_ones : {X : Type 0} (xs : List X) → sum_of (λ (x : X). 1) xs ≡ length xs
 sum_ones [] = refl
-sum_ones (x ∷ xs) = let rest = sum_ones xs in omega (arith, rest)
+sum_ones (x ∷ xs) = omega (arith, sum_ones xs)
 
 -- ---- all text nodes
 
@@ -254,8 +236,6 @@ module _ (most : ℕ) (texts : List (List ℕ)) where
       → sum_of (λ b. sum_of (λ t. through path t b) texts) range ≤ held texts path
       → sum_of (λ b. below_most (child most texts path b)) (slots bytes) + 7 * length bytes ≤ held texts path
   range_most path range bytes is rising part all =
-      let counted = sum_counted (λ b. leads texts (path ++ b ∷ [])) range in
-      let count = ap length is in
       let both = sum_both (λ b. below_most (child most texts path b)) (λ b. cond (leads texts (path ++ b ∷ [])) 7 0)
       range in
       let less = sum_less
@@ -263,7 +243,7 @@ module _ (most : ℕ) (texts : List (List ℕ)) where
       (λ b. sum_of (λ t. through path t b) texts) (child_most path) range in
       let slot = slot_sum (λ b. below_most (child most texts path b)) (λ b. leads texts (path ++ b ∷ [])) range bytes is
       rising (part (λ b. below_most (child most texts path b))) in
-      omega (arith, counted, count, both, less, all, slot)
+      omega (arith, sum_counted (λ b. leads texts (path ++ b ∷ [])) range, ap length is, both, less, slot)
 
   slots_most : (path : List ℕ)
       → sum_of (λ b. below_most (child most texts path b)) (slots (next_bytes texts path))
@@ -286,34 +266,26 @@ module _ (most : ℕ) (texts : List (List ℕ)) where
       let mapped = sum_map with_below (child most texts text_node.path) (slots bytes) in
       elim (slot_count bytes) [
         | inl few ↦
-            (let both = sum_both (λ (b : ℕ). 1) below (slots bytes) in
-            let ones = sum_ones (slots bytes) in
-            let led = slots_most text_node.path in
-            omega (arith, mapped, few, both, ones, led))
-        | inr none ↦
-            (let empty = ap (sum_of (λ b. with_below (child most texts text_node.path b))) none in
-            omega (arith, mapped, empty))
+            (let led = slots_most text_node.path in
+            omega (arith, mapped, few, sum_both (λ (b : ℕ). 1) below (slots bytes), sum_ones (slots bytes), led))
+        | inr none ↦ omega (arith, mapped, ap (sum_of (λ b. with_below (child most texts text_node.path b))) none)
       ]
 
   level_most : (level : List (Option TextNode))
       → length level + sum_of with_below (flat_map (children most texts) level) ≤ sum_of with_below level
   level_most [] = omega arith
   level_most (of ∷ level) =
-      let both = sum_append with_below (children most texts of) (flat_map (children most texts) level) in
       let here = children_most of in
       let rest = level_most level in
-      omega (arith, both, here, rest)
+      omega (arith, sum_append with_below (children most texts of) (flat_map (children most texts) level), here, rest)
 
   levels_most : (n : ℕ) (level : List (Option TextNode))
       → length (levels (children most texts) n level) ≤ sum_of with_below level
   levels_most zero level = omega arith
   levels_most (suc n) level =
       let next = flat_map (children most texts) level in
-      let size = length-append level (levels (children most texts) n next) in
-      let below = levels_most n next in
-      let here = level_most level in
-      omega (arith, size, below, here)
+      omega (arith, length-append level (levels (children most texts) n next), levels_most n next, level_most level)
 
   pub text_nodes_most : length (text_nodes most texts) ≤ 1 + (held texts [] - 6)
   unfolding text_nodes
-  text_nodes_most = let all = levels_most (suc (longest_of texts)) (Some root ∷ []) in omega (arith, all)
+  text_nodes_most = omega (arith, levels_most (suc (longest_of texts)) (Some root ∷ []))

@@ -1,9 +1,7 @@
 -- What begins the pattern of a rule, as the path of a node does.
 use Rattle.std.proofs.Common.{◌≡◌, ◌≢◌, ◌⊎◌, ℕ, zero, suc, ◌≤◌, true, cond, List, [], ◌∷◌, length, take, drop, max, All}
-use Rattle.std.proofs.Common.{Some, inl, inr, refl, sym, ap, subst, ◌∙◌, arith}
-use Rattle.std.specs.List.{slice_get}
+use Rattle.std.proofs.Common.{Some, inl, inr, refl, sym, ap, subst, ◌∙◌, arith, slice_get, take_at}
 use Rattle.std.proofs.lemmas.Bool.{cond_both}
-use Rattle.std.proofs.lemmas.List.{take_at}
 use Rattle.std.proofs.lemmas.List.Elements.{All-contains, All-nil, All-same, All-take}
 use Rattle.std.proofs.lemmas.Option.{slice_get_read}
 use Rattle.virtiofs_map.specs.NodeParts.{BeginsPattern}
@@ -38,12 +36,11 @@ module _ (side : Side) (rules : List MappingRule) (path : List ℕ)
   -- so a path is no longer than the longest pattern
   pub path_short : length path ≤ longest side rules
   path_short = elim front [
-    | inl none ↦ (let size = ap length none in omega (arith, size))
+    | inl none ↦ omega (arith, ap length none)
     | inr of ↦
         (let here = slice_get_read rules (length rules) of.inside.0 of.rule refl of.inside.1 (sym of.inside.2) in
-        let top = no_longer side rules of.inside.0 of.rule here of.acting in
         let within = begins_length path (pattern side of.rule) of.starts in
-        omega (arith, top, within))
+        omega (arith, no_longer side rules of.inside.0 of.rule here of.acting, within))
   ]
 
   -- and holds no zero where the rules hold none

@@ -3,6 +3,7 @@ use Rattle.std.proofs.Common.{◌≡◌, ℕ, zero, suc, ◌+◌, ◌-◌, ◌<�
 use Rattle.std.proofs.Common.{length, Some, refl, sym, ap, subst, ◌∙◌, arith, inl, inr}
 use Rattle.std.specs.List.{slice_get, filter, range_with_len}
 use Rattle.std.proofs.lemmas.Bool.{cases_lt, cond_both}
+use Rattle.std.proofs.lemmas.List.FromFn.{length-range_with_len}
 use Rattle.virtiofs_map.specs.PatternTrie.{last_byte, span, are_sparse, slots}
 
 -- ---- numbers that rise
@@ -14,7 +15,7 @@ Rising low high (x ∷ xs) = (low ≤ x) × (x < high) × Rising (suc x) high xs
 
 lower : (least low high : ℕ) (xs : List ℕ) → least ≤ low → Rising low high xs → Rising least high xs
 lower least low high [] le rising = tt
-lower least low high (x ∷ xs) le rising = (omega (arith, le, rising.0), rising.1, rising.2)
+lower least low high (x ∷ xs) le rising = (omega (arith, rising.0), rising.1, rising.2)
 
 pub rising_filter : (p : ℕ → Bool) (low n : ℕ) → Rising low (low + n) (filter p (range_with_len low n))
 rising_filter p low zero = tt
@@ -33,14 +34,14 @@ rising_filter p low (suc n) =
 -- a number in between that passes is among those that are left
 pub filter_has : (p : ℕ → Bool) (low n x : ℕ) → low ≤ x → x < low + n → p x ≡ true
     → (k : ℕ) × (slice_get (filter p (range_with_len low n)) k ≡ Some x)
-filter_has p low zero x from below passes = absurd (omega (arith, from, below))
+filter_has p low zero x from below passes = absurd (omega arith)
 filter_has p low (suc n) x from below passes = elim (cases_lt low x) [
   | inl l ↦
-      (let later = filter_has p (low + 1) n x (omega (arith, l)) (omega (arith, below)) passes in
+      (let later = filter_has p (low + 1) n x (omega arith) (omega arith) passes in
       cond_both (p low) (low ∷ filter p (range_with_len (low + 1) n)) (filter p (range_with_len (low + 1) n))
       (λ xs. (k : ℕ) × (slice_get xs k ≡ Some x)) (λ _. (suc later.0, later.1)) (λ _. later))
   | inr g ↦
-      (let same : low ≡ x = omega (arith, g, from) in
+      (let same : low ≡ x = omega arith in
       subst (λ b. (k : ℕ) × (slice_get (cond b (low ∷ filter p (range_with_len (low + 1) n))
       (filter p (range_with_len (low + 1) n))) k ≡ Some x)) (sym (ap p same ∙ passes)) (zero, ap Some same))
 ]
@@ -67,26 +68,19 @@ between low high first [] (suc k) x rising e = absurd cc
 between low high first (next ∷ xs) zero x rising e =
     let same : first ≡ x = cc in
     let more = between (suc first) high next xs 0 next rising.2 refl in
-    let up = rising.2.0 in
-    (omega (arith, same), omega (arith, same, more.1, up))
+    (omega (arith, same), omega (arith, same, more.1, rising.2.0))
 between low high first (next ∷ xs) (suc k) x rising e =
     let more = between (suc first) high next xs k x rising.2 e in
-    let up = rising.2.0 in
-    (omega (arith, more.0, up), more.1)
+    (omega (arith, more.0, rising.2.0), more.1)
 
 pub last_below : (low high first : ℕ) (xs : List ℕ) → Rising low high (first ∷ xs)
     → (first ≤ last_byte first xs) × (last_byte first xs < high)
 last_below low high first [] rising = (omega arith, rising.1)
 last_below low high first (next ∷ xs) rising =
     let more = last_below (suc first) high next xs rising.2 in
-    let up = rising.2.0 in
-    (omega (arith, more.0, up), more.1)
+    (omega (arith, more.0, rising.2.0), more.1)
 
 -- ---- all numbers of a range
-
-pub length-range : (low n : ℕ) → length (range_with_len low n) ≡ n
-length-range low zero = refl
-length-range low (suc n) = let more = length-range (low + 1) n in omega (arith, more)
 
 pub range_at : (low n k : ℕ) → k < n → slice_get (range_with_len low n) k ≡ Some (low + k)
 range_at low zero k l = absurd (omega (arith, l))
@@ -128,6 +122,5 @@ module _ (low : ℕ) (bytes : List ℕ) (rising : Rising 1 256 (low ∷ bytes)) 
 
   pub slots_upto : are_sparse (low ∷ bytes) ≡ false → (1 ≤ low) × (low + length (slots (low ∷ bytes)) ≤ 256)
   slots_upto dense =
-      let count = ap length (slots_placed dense) ∙ length-range low (span low bytes) in
       let end = last_below 1 256 low bytes rising in
-      (rising.0, omega (arith, count, end.0, end.1))
+      (rising.0, omega (arith, ap length (slots_placed dense) ∙ length-range_with_len low (span low bytes), end.0, end.1))

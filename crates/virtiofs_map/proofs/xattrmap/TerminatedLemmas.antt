@@ -1,5 +1,5 @@
 -- Where a few names are decided, all names are.
-use Rattle.std.proofs.Common.{◌≡◌, zero, suc, ◌≢◌, ℕ, ◌+◌, ◌<◌, Bool, true, false, List, [], ◌∷◌, filter, Option, Some}
+use Rattle.std.proofs.Common.{◌≡◌, ◌≢◌, ℕ, ◌+◌, ◌<◌, Bool, true, false, List, [], ◌∷◌, filter, Option, Some}
 use Rattle.std.proofs.Common.{None, is_some, inl, inr, refl, sym, ap, ◌∙◌, arith}
 use Rattle.std.specs.List.{AllByRecursion, find, list_all, slice_split, onto_first}
 use Rattle.std.specs.Option.{option_map_or}
@@ -80,10 +80,6 @@ parts_onto : (x : ℕ) → IsByteOfName x → (parts : List (List ℕ)) → AllB
 parts_onto x is [] all = ((is, tt), tt)
 parts_onto x is (part ∷ parts) all = ((is, all.0), all.1)
 
-positive : (x : ℕ) → (x ≡ 0 → ⊥) → 0 < x
-positive zero some = absurd (some refl)
-positive (suc x) some = omega arith
-
 parts_are : (list : List ℕ) → IsList list → AllByRecursion IsPart (slice_split is_zero list)
 parts_are [] is = (tt, tt)
 parts_are (x ∷ xs) is =
@@ -91,7 +87,7 @@ parts_are (x ∷ xs) is =
     let below = All-head (λ byte. byte < 256) x xs is in
     cond_both (is_zero x) ([] ∷ slice_split is_zero xs) (onto_first x (slice_split is_zero xs)) (AllByRecursion IsPart)
     (λ _. (tt, more))
-    (λ fails. parts_onto x (positive x (eqb-false x 0 fails), below) (slice_split is_zero xs) more)
+    (λ fails. parts_onto x (omega (arith, eqb-false x 0 fails), below) (slice_split is_zero xs) more)
 
 -- each name of one byte is decided
 abbrev pub BytesDecided : List MappingRule → ℕ → Type 0

@@ -1,14 +1,13 @@
 -- What the answer of a walk says of the first rule that fits.
 use Rattle.std.proofs.Common.{◌≡◌, ◌≢◌, ℕ, ◌+◌, ◌*◌, ◌/◌, ◌%◌, ◌<◌, Bool, true, false, cond, ltb, List, length, Option}
-use Rattle.std.proofs.Common.{Some, None, refl, sym, ap, ◌∙◌, arith}
-use Rattle.std.specs.List.{position_or_len, slice_get}
-use Rattle.std.specs.Option.{option_and_then, option_map_or}
-use Rattle.std.proofs.lemmas.Bool.{ltb-true}
+use Rattle.std.proofs.Common.{Some, None, refl, sym, ap, ◌∙◌, arith, slice_get, option_and_then, ltb-true}
+use Rattle.std.specs.List.{position_or_len}
+use Rattle.std.specs.Option.{option_map_or}
 use Rattle.virtiofs_map.specs.NodeParts.{AreFew, answer_for, answer_of, no_answer, type_at}
 use Rattle.virtiofs_map.specs.Names.{fits, first, deciding}
-use Rattle.virtiofs_map.specs.Rule.{MappingRule, RuleType, Prefix, Okay, Bad, Unsupported, type_number}
+use Rattle.virtiofs_map.specs.Rule.{MappingRule, Prefix, type_number}
 use Rattle.virtiofs_map.specs.declared.xattrmap.scopes.Side.{Side}
-use Rattle.virtiofs_map.proofs.RuleRowLemmas.{same_type, there}
+use Rattle.virtiofs_map.proofs.RuleRowLemmas.{below_four, same_type, there}
 
 -- ---- answers
 
@@ -19,20 +18,14 @@ first_within side rules name at =
     through (ltb (position_or_len (fits side name) rules) (length rules)) (position_or_len (fits side name) rules)
     (λ b. ltb-true (position_or_len (fits side name) rules) (length rules) b) where
       through : (b : Bool) (n : ℕ) → (b ≡ true → n < length rules) → cond b (Some n) None ≡ Some at → at < length rules
-      through true n below e = let same : n ≡ at = cc in let low = below refl in omega (arith, same, low)
+      through true n below e = let same : n ≡ at = cc in omega (arith, same, below refl)
       through false n below e = cc
-
-number_small : (kind : RuleType) → type_number kind < 4
-number_small Prefix = omega arith
-number_small Okay = omega arith
-number_small Bad = omega arith
-number_small Unsupported = omega arith
 
 pub type_small : (rules : List MappingRule) (at : ℕ) → type_at rules at < 4
 type_small rules at = through (slice_get rules at) where
   through : (o : Option MappingRule) → option_map_or (λ rule. type_number rule.kind) o 0 < 4
   through None = omega arith
-  through (Some rule) = number_small rule.kind
+  through (Some rule) = below_four rule.kind
 
 module _ (side : Side) (rules : List MappingRule) (name : List ℕ) where
   -- the answer that stands for a rule
@@ -54,9 +47,7 @@ module _ (side : Side) (rules : List MappingRule) (name : List ℕ) where
     through : (o : Option ℕ) → first side rules name ≡ o → first side rules name ≡ Some (answer_of side rules name / 4)
     through None same = absurd (ne (ap (answer_for rules) same))
     through (Some at) same =
-        let is = answer_at at same in
-        let small = type_small rules at in
-        let quarter : at ≡ answer_of side rules name / 4 = omega (arith, is, small) in
+        let quarter : at ≡ answer_of side rules name / 4 = omega (arith, answer_at at same, type_small rules at) in
         same ∙ ap Some quarter
 
   -- and what is left of it is the number of the type of the rule that decides
@@ -66,12 +57,10 @@ module _ (side : Side) (rules : List MappingRule) (name : List ℕ) where
     through : (o : Option ℕ) → first side rules name ≡ o → type_number rule.kind ≡ answer_of side rules name % 4
     through None same = absurd (let none = ap (option_and_then (slice_get rules)) same in cc)
     through (Some at) same =
-        let is = answer_at at same in
-        let small = type_small rules at in
         let there : slice_get rules at ≡ Some rule = sym (ap (option_and_then (slice_get rules)) same) ∙ e in
         let kind : type_at rules at ≡ type_number rule.kind =
         ap (λ o. option_map_or (λ r. type_number r.kind) o 0) there in
-        omega (arith, is, small, kind)
+        omega (arith, answer_at at same, type_small rules at, kind)
 
 -- ---- what a walk finds
 
@@ -92,13 +81,12 @@ module _ (side : Side) (rules : List MappingRule) (name : List ℕ) (answer : �
 
   pub prefix_decides : answer % 4 ≡ 0 → PrefixDecides side rules name (answer / 4)
   prefix_decides e =
-      let place = place_some (λ none. absurd (omega (arith, e, none))) in
+      let place = place_some (λ none. absurd (omega arith)) in
       let one = there rules (answer / 4) (first_within side rules name (answer / 4) place) in
       let decides : deciding side rules name ≡ Some one.0 = ap (option_and_then (slice_get rules)) place ∙ one.1 in
-      let number = answer_type side rules name one.0 decides in
       record {
         rule = one.0;
         decides = decides;
-        kind = same_type one.0.kind Prefix (omega (arith, number, answers, e));
+        kind = same_type one.0.kind Prefix (omega (arith, answer_type side rules name one.0 decides, answers));
         here = one.1;
       }

@@ -192,7 +192,7 @@ pub(crate) fn words_of<A: Allocator + Copy>(
         (λ e. OutOfMemoryOr (build_fault_of e) (HasFirstFault specs.now)) }
 {
     let (guests, hosts) = sorted_both(alloc, specs)?;
-    let mut words = Vec::from_elem(alloc, 0, 3 + 4 * guests.len() + 4 * hosts.len())?;
+    let mut words = Vec::from_elem(alloc, 0, 4 + 4 * guests.len() + 4 * hosts.len())?;
     write_words(&mut words, &guests, &hosts);
     Ok(words)
 }

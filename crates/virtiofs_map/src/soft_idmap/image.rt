@@ -6,7 +6,7 @@
 ghost use Rattle.std.specs.Prelude.{◌≡◌, ℕ, ◌+◌, ◌*◌, ◌≤◌, List, length, min, Option, IfOk, IfErr, OnOk, OnErr};
 ghost use Rattle.std.specs.Prelude.{MatchResult, ⊤};
 ghost use Rattle.virtiofs_map.specs.Build.{Accepted, BuildFault, HasFirstFault, build_fault_of};
-ghost use Rattle.virtiofs_map.specs.Image.{HasKind, IsImage, image_length, IsWritten};
+ghost use Rattle.virtiofs_map.specs.Image.{IsImage, IsNoImage, image_length, IsWritten};
 ghost use Rattle.virtiofs_map.specs.ImageAnswer.{SaysValue, SaysIn, SaysLeadsBack};
 ghost use Rattle.virtiofs_map.specs.Mapping.{Becomes};
 ghost use Rattle.virtiofs_map.specs.MappingLaws.{IsMappedBothWays};
@@ -26,9 +26,9 @@ use std::alloc::Allocator;
 ///
 /// If the result does not fit into `usize`, it is [`usize::MAX`]. No list can be that long.
 pub fn most_words(specs: usize) -> usize
-    ensures { result ≡ min (3 + 8 * specs) 18446744073709551615 }
+    ensures { result ≡ min (4 + 8 * specs) 18446744073709551615 }
 {
-    specs.saturating_mul(8).saturating_add(3)
+    specs.saturating_mul(8).saturating_add(4)
 }
 
 /// Writes the image of the map of a list of specifications, and says how many words it has.
@@ -44,7 +44,7 @@ pub fn write_image<A: Allocator + Copy>(
 ) -> Result<usize, IdMapBuildError>
     ensures accepted { OnOk result (Accepted specs.now) }
     ensures len { IfOk result (λ len. len ≡ image_length specs.now) }
-    ensures bound { IfOk result (λ len. len ≤ 3 + 8 * length specs.now) }
+    ensures bound { IfOk result (λ len. len ≤ 4 + 8 * length specs.now) }
     ensures written { OnOk result (IsWritten specs.now words.old words.new) }
     ensures complete { Accepted specs.now → MatchResult result (λ _. ⊤)
         (λ e. IsOutOfMemory (build_fault_of e)) }
@@ -56,7 +56,7 @@ pub fn write_image<A: Allocator + Copy>(
     ensures keeps { OnErr result (words.new ≡ words.old) }
 {
     let (guests, hosts) = sorted_both(alloc, specs)?;
-    let len = 3 + 4 * guests.len() + 4 * hosts.len();
+    let len = 4 + 4 * guests.len() + 4 * hosts.len();
     if words.len() < len {
         return Ok(len);
     }
@@ -68,8 +68,8 @@ pub fn write_image<A: Allocator + Copy>(
 /// Looks up a number in an image, in the given direction.
 ///
 /// Any words may be passed. If they do not begin with the first word of an image of this version,
-/// or are too few for the ranges that they announce, the result is [`Answer::NoImage`]. It does not
-/// allocate.
+/// or if it does not stand behind the ranges that they announce, the result is
+/// [`Answer::NoImage`]. It does not allocate.
 #[inline(always)]
 pub fn look_up(words: &[u32], direction: Direction, n: u32) -> Answer
     ensures says { (specs : List Specification) → IsImage specs words.now
@@ -78,7 +78,7 @@ pub fn look_up(words: &[u32], direction: Direction, n: u32) -> Answer
         → Becomes specs direction n value → SaysValue value result }
     ensures leads_back { (specs : List Specification) → IsImage specs words.now
         → IsMappedBothWays specs direction n → SaysLeadsBack specs direction n result }
-    ensures no_image { (¬ HasKind words.now) → result ≡ Answer.NoImage }
+    ensures no_image { IsNoImage words.now → result ≡ Answer.NoImage }
 {
     let Some(map) = IdMapRef::of(words) else {
         return Answer::NoImage;

@@ -3,10 +3,11 @@
 //! The first word says what the words are (`KIND` in `write.rt`), the second how many ranges there
 //! are from guest to host, and the third how many from host to guest. Then come the first numbers
 //! of the ranges from guest to host, in order, and of those from host to guest: a search reads
-//! these alone. The rows of the ranges follow, in the same order (`row.rt`).
-ghost use Rattle.std.specs.Prelude.{◌≡◌, ◌+◌, ◌<◌, ◌≤◌, List, slice_index, IfSome, IsSome};
+//! these alone. The rows of the ranges follow, in the same order (`row.rt`), and the first word
+//! again: where zeros follow a part of the words, it is missing.
+ghost use Rattle.std.specs.Prelude.{◌≡◌, ◌+◌, ◌<◌, ◌≤◌, List, slice_index, IfSome, IsNone, IsSome};
 ghost use Rattle.virtiofs_map.specs.Build.{HasTarget};
-ghost use Rattle.virtiofs_map.specs.Image.{HasKind, IsImage};
+ghost use Rattle.virtiofs_map.specs.Image.{IsImage, IsNoImage};
 ghost use Rattle.virtiofs_map.specs.Mapping.{Becomes};
 ghost use Rattle.virtiofs_map.specs.RangeParts.{HasNumbers};
 ghost use Rattle.virtiofs_map.specs.Steps.{count_after};
@@ -84,21 +85,22 @@ pub(crate) struct Last {
 }
 
 /// The words of the map of no specification, which keeps none.
-static NO_RANGES: [u32; 3] = [KIND, 0, 0];
+static NO_RANGES: [u32; 4] = [KIND, 0, 0, KIND];
 
 impl<'m> IdMapRef<'m> {
     /// The map whose image the words are. `None` if they do not begin with the first word of an
-    /// image of this version, or are too few for the ranges that they announce. Of other words that
-    /// are no image, a map is made that may answer anything.
+    /// image of this version, or if it does not stand behind the ranges that they announce. Of other
+    /// words that are no image, a map is made that may answer anything.
     pub fn of(words: &'m [u32]) -> Option<IdMapRef<'m>>
-        ensures kind { IsSome result → HasKind words.now }
+        ensures closed { IsNoImage words.now → IsNone result }
         ensures words { IfSome result (λ map. map ≡ words.now) }
         ensures image { (specs : List Specification) → IsImage specs words.now → IsSome result }
     {
         if words.len() < 3 || words[0] != KIND {
             return None;
         }
-        if words.len() < 3 + 4 * words[1] as usize + 4 * words[2] as usize {
+        let end = 3 + 4 * words[1] as usize + 4 * words[2] as usize;
+        if words.len() <= end || words[end] != KIND {
             return None;
         }
         Some(IdMapRef { words })

@@ -3,7 +3,7 @@ ghost use Rattle.std.specs.Prelude.{◌≡◌, ◌+◌, ◌*◌, ◌<◌, ◌≤
 ghost use Rattle.virtiofs_map.specs.Build.{Accepted};
 ghost use Rattle.virtiofs_map.specs.Image.{IsImage};
 ghost use Rattle.virtiofs_map.specs.RangeParts.{AreSorted};
-ghost use Rattle.virtiofs_map.specs.WordParts.{IsRow, AreFirstsBelow, AreRowsBelow, KeepsBefore};
+ghost use Rattle.virtiofs_map.specs.WordParts.{IsRow, AreFirstsBelow, AreRowsBelow, KeepsBefore, image_kind};
 ghost use Rattle.virtiofs_map.specs.declared.cmdline.IdMap.{IdMap as Specification};
 ghost use Rattle.virtiofs_map.specs.declared.soft_idmap.entry.Direction.TheVariants.{GuestToHost, HostToGuest};
 
@@ -11,9 +11,9 @@ use super::entry::Entry;
 use super::indexed::IndexedEntry;
 use super::row::{FAILS, MAPS, SQUASHES};
 
-/// The first word of every map of ids: the letters `ids` in the three upper bytes, and the version
+/// The first and the last word of every map of ids: the letters `ids` in the three upper bytes, and the version
 /// of the layout in the lowest.
-pub(crate) const KIND: u32 = 0x6964_7301;
+pub(crate) const KIND: u32 = 0x6964_7302;
 
 /// An entry that was placed.
 fn entry_at(indexed: &[IndexedEntry], at: usize) -> Entry
@@ -26,7 +26,7 @@ fn entry_at(indexed: &[IndexedEntry], at: usize) -> Entry
 /// Writes the first word, and how many ranges there are in each direction.
 fn write_head(words: &mut [u32], guests: u32, hosts: u32)
     requires room { 3 ≤ length words.old }
-    ensures kind { slice_index words.new 0 ≡ 1768190721 }
+    ensures kind { slice_index words.new 0 ≡ image_kind }
     ensures guests { slice_index words.new 1 ≡ guests }
     ensures hosts { slice_index words.new 2 ≡ hosts }
 {
@@ -76,11 +76,20 @@ fn write_firsts(words: &mut [u32], start: usize, indexed: &[IndexedEntry])
     }
 }
 
+/// Writes the last word.
+fn write_end(words: &mut [u32], at: usize)
+    requires room { at < length words.old }
+    ensures end { slice_index words.new at ≡ image_kind }
+    ensures before { KeepsBefore at words.old words.new }
+{
+    words[at] = KIND;
+}
+
 /// Writes the image of the entries of both directions.
 pub(crate) fn write_words(words: &mut [u32], guests: &[IndexedEntry], hosts: &[IndexedEntry])
     requires guests { length guests.now < 4294967296 }
     requires hosts { length hosts.now < 4294967296 }
-    requires room { 3 + 4 * length guests.now + 4 * length hosts.now ≤ length words.old }
+    requires room { 4 + 4 * length guests.now + 4 * length hosts.now ≤ length words.old }
     ensures { (specs : List Specification) → Accepted specs
         → AreSorted specs GuestToHost guests.now → AreSorted specs HostToGuest hosts.now
         → IsImage specs words.new }
@@ -91,4 +100,5 @@ pub(crate) fn write_words(words: &mut [u32], guests: &[IndexedEntry], hosts: &[I
     write_firsts(words, 3 + guests.len(), hosts);
     write_rows(words, rows, guests);
     write_rows(words, rows + 3 * guests.len(), hosts);
+    write_end(words, rows + 3 * guests.len() + 3 * hosts.len());
 }

@@ -3,8 +3,9 @@
 //! An image takes no memory but its own bytes, and may be read by any number of threads at once. It
 //! begins with six numbers of eight bytes, the lowest byte first: what it is, and where its four
 //! parts begin and end. The parts are the rows of the client's trie, those of the server's, the
-//! rows of the rules, and the bytes of all patterns. The functions that read an image take any
-//! bytes, and read nothing outside them: bytes that do not begin as an image does are no map.
+//! rows of the rules, and the bytes of all patterns. It ends with the first number again, so a part
+//! of an image with zeros behind it is none. The functions that read an image take any bytes, and
+//! read nothing outside them: bytes that do not begin and end as an image does are no map.
 
 ghost use Rattle.std.specs.List.{before_first};
 ghost use Rattle.std.specs.Prelude.{◌≡◌, ◌+◌, ◌*◌, ◌<◌, ◌≤◌, ◌==◌, ◌↔◌, ℕ, List, length, min, IfNone, IfSome, IsSomeAnd, IsTrue, IsNone};
@@ -20,16 +21,17 @@ mod list;
 pub(crate) mod stored;
 pub(crate) mod write;
 
+pub use super::listed::cut_name;
 use crate::xattrmap::scopes::Side;
 use crate::xattrmap::{XattrMap, XattrMapRef};
 use fill::put;
-pub use list::write_list;
+pub use list::{put_name, write_list};
 use std::alloc::Allocator;
 
 /// What an image decides for a name.
 #[derive(Clone, Copy, PartialEq, Eq, Debug)]
 pub enum Decision<'m> {
-    /// The bytes do not begin as an image of a map does. For other bytes that are no image, any
+    /// The bytes do not begin and end as an image of a map does. For others that are no image, any
     /// decision is possible.
     NoMap,
     /// No rule fits the name.
@@ -58,7 +60,7 @@ pub enum ImageWritten {
 /// What came of writing a list.
 #[derive(Clone, Copy, PartialEq, Eq, Debug)]
 pub enum ListWritten {
-    /// The bytes do not begin as an image of a map does. For other bytes that are no image, any
+    /// The bytes do not begin and end as an image of a map does. For others that are no image, any
     /// result is possible.
     NoMap,
     /// No rule decides one of the names.
@@ -108,7 +110,7 @@ impl<A: Allocator> XattrMap<A> {
 /// Looks up a name of that side in an image: what the first rule that fits it does. It does not
 /// allocate. No pattern holds a zero, so a name is decided as what stands before its first zero.
 ///
-/// The result is `NoMap` if the bytes do not begin as an image does. For other bytes that are no
+/// The result is `NoMap` if the bytes do not begin and end as an image does. For others that are no
 /// image, any result is possible; a prepend in it is then some part of these bytes.
 #[inline(always)]
 pub fn decide<'m>(image: &'m [u8], side: Side, name: &[u8]) -> Decision<'m>
@@ -127,8 +129,8 @@ pub fn decide<'m>(image: &'m [u8], side: Side, name: &[u8]) -> Decision<'m>
     }
 }
 
-/// Whether no name is ever left without a rule; `None` if the bytes do not begin as an image does.
-/// For other bytes that are no image, the result has no meaning. It does not allocate.
+/// Whether no name is ever left without a rule; `None` if the bytes do not begin and end as an image
+/// does. For others that are no image, the result has no meaning. It does not allocate.
 pub fn is_terminated(image: &[u8]) -> Option<bool>
     ensures closed { IsNoImage image.now → IsNone result }
     ensures terminated { (rules : List MappingRule) → IsImage rules image.now

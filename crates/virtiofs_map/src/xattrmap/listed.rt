@@ -30,7 +30,7 @@ fn first_zero(list: &[u8]) -> Option<usize>
 
 /// The first name of a list, up to a zero or to the end, and the rest of the list after that zero.
 /// The zero is looked for behind the bytes of the name that were passed, which hold none.
-pub(crate) fn cut_name(list: &[u8], passed: usize) -> (&[u8], &[u8])
+pub fn cut_name(list: &[u8], passed: usize) -> (&[u8], &[u8])
     requires { passed ≤ length list.now }
     ensures name { All (λ byte. byte ≢ 0) (take passed list.now)
         → result.0.now ≡ before_first (λ byte. byte == 0) list.now }

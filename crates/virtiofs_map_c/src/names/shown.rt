@@ -1,13 +1,11 @@
 //! What the guest sees of the host's names: of one, and of a list.
-ghost use Rattle.std.specs.Prelude.{◌≡◌, ◌≤◌, ◌<◌, ◌+◌, List, [], ◌∷◌, ◌++◌, ℕ, length, drop};
+ghost use Rattle.std.specs.Prelude.{◌≡◌, ◌≤◌, ◌<◌, ◌+◌, List, length, drop};
 ghost use Rattle.virtiofs_map.specs.Names.{IsListed};
 ghost use Rattle.virtiofs_map.specs.NamesImage.{IsImage, IsNoImage, WritesList};
 ghost use Rattle.virtiofs_map.specs.Rule.{MappingRule};
-ghost use Rattle.virtiofs_map_c.specs.Shown.{Holds, IsFirstShown, IsShownAs, shown_as, shown_length, shown_list, without_empty};
+ghost use Rattle.virtiofs_map_c.specs.Shown.{IsFirstShown, IsShownAs, shown_as, shown_length, shown_list, without_empty};
 
-use crate::buffer::write_joined;
-use crate::bytes::cut_name;
-use virtiofs_map::xattrmap::image::{Decision, ListWritten, decide};
+use virtiofs_map::xattrmap::image::{Decision, ListWritten, cut_name, decide, put_name};
 use virtiofs_map::xattrmap::{Side, XattrMapRef};
 
 /// What the guest sees of a name of the host.
@@ -61,28 +59,11 @@ fn first_shown<'n>(image: &[u8], list: &'n [u8]) -> (Shown<'n>, &'n [u8])
     ensures zero { 0 < length result.1.now
         → shown_length result.0 + length result.1.now < length list.now }
 {
-    let (name, rest) = cut_name(list);
+    let (name, rest) = cut_name(list, 0);
     if name.is_empty() {
         return (Shown::Hidden, rest);
     }
     (seen(image, name), rest)
-}
-
-/// Writes a name and a zero at a place, where there is room for them, and gives the place behind.
-fn put_name(out: &mut [u8], at: usize, name: &[u8]) -> usize
-    requires fits { at + length name.now + 1 ≤ 18446744073709551615 }
-    ensures behind { result ≡ at + length name.now + 1 }
-    ensures same { length out.new ≡ length out.old }
-    ensures holds { (so_far first : List ℕ) → Holds so_far first out.old → at ≡ length so_far
-        → Holds (so_far ++ name.now ++ 0 ∷ []) first out.new }
-{
-    let end = at + name.len() + 1;
-    if end <= out.len() {
-        let (_, room) = out.split_at_mut(at);
-        let mut len = 0;
-        write_joined(name, &[0], room, &mut len);
-    }
-    end
 }
 
 /// Writes the list that a daemon hands on to its guest for the host's list, by an image: each name

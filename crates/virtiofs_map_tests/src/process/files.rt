@@ -3,7 +3,7 @@
 use std::test::Fail;
 use virtiofs_host::command_line::read_command_line;
 use virtiofs_host::error::ReadError;
-use virtiofs_host::status::{effective_gid, effective_uid};
+use virtiofs_host::status::{effective_gid, effective_uid, parent};
 use virtiofs_host::subordinate::read_subordinate;
 use virtiofs_host::users::find_user;
 
@@ -157,5 +157,21 @@ fn effective_ids_are_read(rt: HostRuntime) {
     for &(text, uid, gid) in &EFFECTIVE {
         assert_eq!(rt; effective_uid(text.as_bytes()), uid, "{text}");
         assert_eq!(rt; effective_gid(text.as_bytes()), gid, "{text}");
+    }
+}
+
+static PARENTS: [(&str, Option<u32>); 6] = [
+    ("Name:\tinit\nPPid:\t0\n", Some(0)),
+    ("PPid:\t4194304\nUid:\t0\t0\t0\t0\n", Some(4194304)),
+    ("PPid: 7\nPPid:\t8", Some(8)),
+    ("TracerPid:\t5\nPid:\t6\n", None),
+    ("PPid:\t\n", None),
+    ("", None),
+];
+
+#[test]
+fn parents_are_read(rt: HostRuntime) {
+    for &(text, pid) in &PARENTS {
+        assert_eq!(rt; parent(text.as_bytes()), pid, "{text}");
     }
 }

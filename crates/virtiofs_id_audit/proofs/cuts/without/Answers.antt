@@ -38,35 +38,27 @@ loop-cut-preserved g c =
           c.requires.spans c.requires.firsts inside here c.max-next.result (omega arith) (omega arith))
     ]
 
-pub returns-clause-apart : goal.returns-clause-apart
-returns-clause-apart g c =
+pub returns : goal.returns
+returns g c =
+    let whole = c.args.whole in
+    let cuts = c.args.cuts.now in
+    let kept = c.loop-cut.kept.items in
+    let so_far = c.loop-cut.invariant in
     elim c.if-next-end.branch [
       | then-next-end+in_ok-push-2 w ↦
-          rw (w.kept-is, w.in_ok-push-2.ensures.items)
-          (apart-rest c.args.whole c.args.cuts.now c.loop-cut.cut-index c.loop-cut.next c.loop-cut.kept.items
-          c.loop-cut.invariant c.loop-cut-test.false _ (omega arith) (omega arith) refl refl)
-      | else-next-end w ↦ rw w.kept-is c.loop-cut.invariant.apart
-    ]
-
-pub returns-clause-hold : goal.returns-clause-hold
-returns-clause-hold g c =
-    elim c.if-next-end.branch [
-      | then-next-end+in_ok-push-2 w ↦
-          rw (w.kept-is, w.in_ok-push-2.ensures.items)
-          (CutTo-rest c.args.whole c.args.cuts.now c.loop-cut.cut-index c.loop-cut.next c.loop-cut.kept.items
-          c.loop-cut.invariant c.loop-cut-test.false _ (omega arith) refl refl)
+          rw (w.kept-is, w.in_ok-push-2.ensures.items) (record {
+            apart = apart-rest whole cuts c.loop-cut.cut-index c.loop-cut.next kept so_far c.loop-cut-test.false _
+                (omega arith) (omega arith) refl refl;
+            runs = runs-rest whole cuts c.loop-cut.cut-index c.loop-cut.next kept so_far c.loop-cut-test.false _
+                (omega arith) refl refl;
+            hold = CutTo-rest whole cuts c.loop-cut.cut-index c.loop-cut.next kept so_far c.loop-cut-test.false _
+                (omega arith) refl refl;
+          })
       | else-next-end w ↦
-          rw w.kept-is
-          (CutTo-end c.args.whole c.args.cuts.now c.loop-cut.cut-index c.loop-cut.next c.loop-cut.kept.items
-          c.loop-cut.invariant c.loop-cut-test.false (omega arith))
-    ]
-
-pub returns-clause-runs : goal.returns-clause-runs
-returns-clause-runs g c =
-    elim c.if-next-end.branch [
-      | then-next-end+in_ok-push-2 w ↦
-          rw (w.kept-is, w.in_ok-push-2.ensures.items)
-          (runs-rest c.args.whole c.args.cuts.now c.loop-cut.cut-index c.loop-cut.next c.loop-cut.kept.items
-          c.loop-cut.invariant c.loop-cut-test.false _ (omega arith) refl refl)
-      | else-next-end w ↦ rw w.kept-is c.loop-cut.invariant.runs
+          rw w.kept-is (record {
+            apart = so_far.apart;
+            runs = so_far.runs;
+            hold = CutTo-end whole cuts c.loop-cut.cut-index c.loop-cut.next kept so_far c.loop-cut-test.false
+                (omega arith);
+          })
     ]

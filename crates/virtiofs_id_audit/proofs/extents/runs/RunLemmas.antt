@@ -36,8 +36,7 @@ module _ (spans : List Span) (id at : ℕ) (order : AreInOrder spans) (splits : 
     to = omega arith;
     all = λ never. absurd (cc);
     none = λ _ n from to (span, listed, has).
-        (let after = held_after spans id at n span order splits from (span, listed, has) in
-        omega (arith, after.0));
+        omega (arith, held_after spans id at n span order splits from (span, listed, has));
   }
 
   module _ (span : Span) (inside : at < length spans) (here : get_or spans at span ≡ span) where
@@ -47,10 +46,7 @@ module _ (spans : List Span) (id at : ℕ) (order : AreInOrder spans) (splits : 
       from = omega arith;
       to = omega arith;
       all = λ never. absurd (cc);
-      none = λ _ n from to held.
-          (let after = held_after spans id at n span order splits from held in
-          let begins : span.first ≤ n = rw here at after.1 in
-          omega arith);
+      none = λ _ n from to held. omega (arith, rw here at (held_after spans id at n span order splits from held).1);
     }
 
     pub IsRun-in : span.first ≤ id → span.last ≤ 4294967295
@@ -74,12 +70,11 @@ IsRun-each piece spans to run order each start is = record {
   from = omega arith;
   to = omega arith;
   all = λ bad n from to'.
-      (let far : to ≤ run.last = is.from in
+      (let far = is.from in
       (to + (n - piece.first), value-each piece to n each start from, is.all bad _ (omega arith) (omega arith)));
   none = λ never n from to' (host, becomes, held).
-      (let far : to ≤ run.last = is.from in
-      let same : host ≡ to + (n - piece.first) = same_Some _ _ (sym becomes ∙ value-each piece to n each start from) in
-      is.none never host (omega arith) (omega arith) held);
+      (let same : host ≡ to + (n - piece.first) = same_Some _ _ (sym becomes ∙ value-each piece to n each start from) in
+      is.none never host (omega arith) (omega (arith, is.from)) held);
 }
 
 -- what the first one becomes, where they become others one after the other
@@ -91,24 +86,15 @@ start_by (AllToOne to) first each = absurd (false≢true each)
 start_by Forbidden first each = absurd (false≢true each)
 
 -- all of them are ids
-each_fits_by : (outcome : Outcome) (first last to : ℕ) → is_one_to_one outcome ≡ true
+each_fits : (outcome : Outcome) (first last to : ℕ) → is_one_to_one outcome ≡ true
     → Some to ≡ value_by outcome first first → IsNamed outcome first last → first ≤ last → last ≤ 4294967295
     → to + (last - first) ≤ 4294967295
-each_fits_by Kept first last to each start named order within =
-    let same : to ≡ first = same_Some _ _ start in
-    omega arith
-each_fits_by (OneToOne target) first last to each start named order within =
-    let same : to ≡ target + (first - first) = same_Some _ _ start in
-    let fits : target + (last - first) ≤ 4294967295 = named.1 in
-    omega arith
-each_fits_by (AllToOne target) first last to each start named order within = absurd (false≢true each)
-each_fits_by Forbidden first last to each start named order within = absurd (false≢true each)
-
-each_fits : (piece : Piece) (to : ℕ) → is_one_to_one piece.becomes ≡ true → Some to ≡ value_in piece piece.first
-    → IsNamed piece.becomes piece.first piece.last → piece.first ≤ piece.last → piece.last ≤ 4294967295
-    → to + (piece.last - piece.first) ≤ 4294967295
-each_fits piece to each start named order within =
-    each_fits_by piece.becomes piece.first piece.last to each start named order within
+each_fits Kept first last to each start named order within =
+    omega (arith, same_Some to first start)
+each_fits (OneToOne target) first last to each start named order within =
+    omega (arith, same_Some to (target + (first - first)) start, named.1)
+each_fits (AllToOne target) first last to each start named order within = absurd (false≢true each)
+each_fits Forbidden first last to each start named order within = absurd (false≢true each)
 
 -- where they become others one after the other, all do
 pub IsRun-moved : (piece : Piece) (to : ℕ) → piece.becomes ≡ OneToOne to → piece.first ≤ piece.last
@@ -136,27 +122,24 @@ pub IsRun-into : (specs : List IdMap) (hosts : ℕ → Type 0) (there : Piece) (
     → IsRun (BecomesOne there hosts) there.first there.last run → last ≡ min run.last 4294967294
     → IsRun (GoesInto specs hosts) n 4294967294 (record { last = last; all = run.all })
 IsRun-into specs hosts there n last run accepted stretch first is_id is last_is =
-    let far : there.first ≤ run.last = is.from in
-    let end : run.last ≤ there.last = is.to in
     record {
-      from = omega arith;
+      from = omega (arith, is.from);
       to = omega arith;
       all = λ every m from below. into m from below (is.all every m (omega arith) (omega arith));
       none = λ never m from below goes. is.none never m (omega arith) (omega arith) (
         goes.host,
-        lookup_one_value specs accepted GuestToHost m _ _ (stretch.becomes m (omega arith) (omega arith))
+        lookup_one_value specs accepted GuestToHost m _ _ (stretch.becomes m (omega arith) (omega (arith, is.to)))
             goes.goes.becomes,
         goes.is_one,
       );
     } where
       into : (m : ℕ) → n ≤ m → m ≤ last → BecomesOne there hosts m → GoesInto specs hosts m
       into m from below (host, becomes, is_one) =
-          let end : run.last ≤ there.last = is.to in
           record {
             host = host;
             goes = record {
               is_id = omega arith;
-              becomes = rw becomes at (stretch.becomes m (omega arith) (omega arith));
+              becomes = rw becomes at (stretch.becomes m (omega arith) (omega (arith, is.to)));
             };
             is_one = is_one;
           }
@@ -175,9 +158,8 @@ module _ (specs : List IdMap) (trip : Piece) (n last : ℕ) (moved : Run) (accep
     to = within;
     all = λ every m from to. moved_astray every m from (omega arith) (omega arith);
     none = λ never m from to astray.
-        (let end : moved.last ≤ trip.last = is_moved.to in
         is_moved.none never m (omega arith) (omega arith)
-        (IsMoved-astray specs trip m accepted returns (omega arith) (omega arith) astray));
+        (IsMoved-astray specs trip m accepted returns (omega arith) (omega (arith, is_moved.to)) astray);
   }
 
   -- those after one that is astray, up to a start
@@ -194,18 +176,15 @@ module _ (specs : List IdMap) (trip : Piece) (n last : ℕ) (moved : Run) (accep
 
       not_back : (d : ℕ) → n + d ≤ last → ¬ Becomes specs HostToGuest (to + d) (Some (n + d))
       not_back zero below back =
-          let up : trip.first ≤ moved.last = is_moved.from in
-          let astray = moved_astray every n (omega arith) (omega arith) (omega arith) in
-          let host : astray.host ≡ to + (n - n) =
-          same_Some _ _ (lookup_one_value specs accepted GuestToHost n _ _ astray.goes.becomes
+          let astray = moved_astray every n (omega arith) (omega (arith, is_moved.from)) (omega arith) in
+          let host = same_Some _ _ (lookup_one_value specs accepted GuestToHost n _ _ astray.goes.becomes
           (goes n (omega arith) (omega arith))) in
-          let host' : astray.host ≡ to = omega arith in
-          let host'' : to + 0 ≡ to = omega arith in
+          let host' : to + 0 ≡ astray.host = omega (arith, host) in
           let guest : n + 0 ≡ n = omega arith in
-          astray.not_back (rw host' (rw (host'', guest) at back))
+          astray.not_back (rw (host', guest) at back)
       not_back (suc d) below back =
           let fits : to + (there.last - there.first) ≤ 4294967295 =
-          each_fits there to each start stretch.named stretch.order stretch.within in
+          each_fits there.becomes there.first there.last to each start stretch.named stretch.order stretch.within in
           elim (are (to + suc d) (n + suc d) (omega arith) (omega arith) back) [
             | inl listed ↦ none (n + suc d) (omega arith) below listed
             | inr before ↦
@@ -260,13 +239,10 @@ module _ (specs : List IdMap) (hosts : ℕ → Type 0) (n : ℕ) (astray : Run)
   module _ (into : Run) (last : ℕ) (is_into : IsRun (GoesInto specs hosts) n 4294967294 into)
       (last_is : last ≡ min astray.last into.last) where
     reaches : n ≤ last
-    reaches =
-        let far : n ≤ astray.last = is_astray.from in
-        let far' : n ≤ into.last = is_into.from in
-        omega arith
+    reaches = omega (arith, is_astray.from, is_into.from)
 
     stays : last ≤ 4294967294
-    stays = let near : into.last ≤ 4294967294 = is_into.to in omega arith
+    stays = omega (arith, is_into.to)
 
     pub IsRun-bad : astray.all ≡ false
         → IsRun (IsBad specs hosts) n 4294967294 (record { last = last; all = into.all })

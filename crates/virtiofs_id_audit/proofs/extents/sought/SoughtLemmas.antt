@@ -6,15 +6,15 @@ use Rattle.std.proofs.lemmas.Bool.{cases_lt}
 use Rattle.std.proofs.lemmas.List.{get_or_default}
 use Rattle.std.proofs.lemmas.List.Elements.{All-push, All-weaker, All-contains}
 use Rattle.virtiofs_id_audit.specs.ExtentParts.{IsSought, IsRun, AreOthers}
-use Rattle.virtiofs_id_audit.specs.IdAudit.{GoesInto}
 use Rattle.virtiofs_id_audit.specs.IdAuditParts.{IsSpan, Has, Hold, AreApart}
 use Rattle.virtiofs_id_audit.specs.declared.extents.runs.Run.{Run}
 use Rattle.virtiofs_id_audit.specs.declared.extents.runs.Sought.{Sought}
 use Rattle.virtiofs_id_audit.specs.declared.extents.runs.Sought.TheVariants.{Into, OnlyAstray, Bad}
 use Rattle.virtiofs_id_audit.specs.declared.spans.Span.{Span}
 use Rattle.virtiofs_map.specs.declared.cmdline.IdMap.{IdMap}
-use Rattle.virtiofs_id_audit.proofs.ApartLemmas.{AreApart-none, AreApart-push}
+use Rattle.virtiofs_id_audit.proofs.ApartLemmas.{AreApart-push}
 use Rattle.virtiofs_id_audit.proofs.HeldLemmas.{hold_push, push_hold}
+use Rattle.virtiofs_id_audit.proofs.IdAuditLemmas.{GoesInto-same}
 
 -- of the ids below next it is known which are others
 pub record OthersTo (such : ℕ → Type 0) (next : ℕ) (others : List Span) : Type 0 where
@@ -23,32 +23,18 @@ pub record OthersTo (such : ℕ → Type 0) (next : ℕ) (others : List Span) : 
   pub below : All (λ span. span.last < next) others
   pub are : AreOthers such next (Hold others)
 
-pub OthersTo-start : (such : ℕ → Type 0) → OthersTo such 0 []
-OthersTo-start such = record {
-  bound = omega arith;
-  apart = AreApart-none;
-  below = λ k d inside. absurd (omega arith);
-  are = record {
-    such_ones = λ n below. absurd (omega arith);
-    other_ones = λ n below. absurd (omega arith);
-  };
-}
-
 module _ (such : ℕ → Type 0) (next : ℕ) (others : List Span) (run : Run) (so_far : OthersTo such next others)
     (is : IsRun such next 4294967294 run) where
   -- the others so far have no id from next on
   not_held : (id : ℕ) → next ≤ id → ¬ Hold others id
   not_held id from (span, listed, has) =
-      let ends : span.last < next = All-contains (λ s. s.last < next) others span so_far.below listed in
-      let high : id ≤ span.last = has.1 in
-      omega arith
+      omega (arith, has, All-contains (λ s. s.last < next) others span so_far.below listed)
 
   pub OthersTo-such : run.all ≡ true → OthersTo such (run.last + 1) others
   OthersTo-such every =
-      let far : next ≤ run.last = is.from in
-      let near : run.last ≤ 4294967294 = is.to in
+      let far = is.from in
       record {
-        bound = omega arith;
+        bound = omega (arith, is.to);
         apart = so_far.apart;
         below = All-weaker (λ s. s.last < next) (λ s. s.last < run.last + 1) (λ s low. omega arith) others so_far.below;
         are = record {
@@ -66,11 +52,10 @@ module _ (such : ℕ → Type 0) (next : ℕ) (others : List Span) (run : Run) (
   pub OthersTo-push : (span : Span) → run.all ≡ false → span.first ≡ next → span.last ≡ run.last
       → OthersTo such (run.last + 1) (others ++ span ∷ [])
   OthersTo-push span none first_is last_is =
-      let far : next ≤ run.last = is.from in
-      let near : run.last ≤ 4294967294 = is.to in
+      let far = is.from in
       record {
-        bound = omega arith;
-        apart = AreApart-push others next span so_far.apart so_far.below (omega arith) (omega arith, omega arith);
+        bound = omega (arith, is.to);
+        apart = AreApart-push others next span so_far.apart so_far.below (omega arith) (omega (arith, is.to));
         below = All-push (λ s. s.last < run.last + 1) others span
             (All-weaker (λ s. s.last < next) (λ s. s.last < run.last + 1) (λ s low. omega arith) others so_far.below)
             (omega arith);
@@ -82,7 +67,7 @@ module _ (such : ℕ → Type 0) (next : ℕ) (others : List Span) (run : Run) (
           other_ones = λ n below held. elim (cases_lt n next) [
             | inl before ↦ so_far.are.other_ones n before (elim (hold_push others span n held) [
               | inl old ↦ old
-              | inr has ↦ absurd (let low : span.first ≤ n = has.0 in omega arith)
+              | inr has ↦ absurd (omega (arith, has.0))
             ])
             | inr after ↦ is.none none n (omega arith) (omega arith)
           ];
@@ -105,16 +90,11 @@ IsSought-is_id Into specs hosts n is = is.goes.is_id
 IsSought-is_id OnlyAstray specs hosts n is = is.0.goes.is_id
 IsSought-is_id Bad specs hosts n is = is.goes.is_id
 
--- ids of the host by other words
-into_same : (specs : List IdMap) (hosts others : ℕ → Type 0) (n : ℕ) → ((id : ℕ) → hosts id → others id)
-    → GoesInto specs hosts n → GoesInto specs others n
-into_same specs hosts others n same is = record { host = is.host; goes = is.goes; is_one = same is.host is.is_one }
-
 IsSought-same : (sought : Sought) (specs : List IdMap) (hosts others : ℕ → Type 0) (n : ℕ)
     → ((id : ℕ) → hosts id ↔ others id) → IsSought sought specs hosts n → IsSought sought specs others n
-IsSought-same Into specs hosts others n same is = into_same specs hosts others n (λ id. (same id).0) is
+IsSought-same Into specs hosts others n same is = GoesInto-same specs hosts others n (λ id. (same id).0) is
 IsSought-same OnlyAstray specs hosts others n same (astray, not) =
-    (astray, λ is. not (into_same specs others hosts n (λ id. (same id).1) is))
+    (astray, λ is. not (GoesInto-same specs others hosts n (λ id. (same id).1) is))
 IsSought-same Bad specs hosts others n same is = record {
   host = is.host;
   goes = is.goes;
@@ -134,8 +114,7 @@ module _ (sought : Sought) (specs : List IdMap) (merged hosts : ℕ → Type 0) 
   sought_held n = (
     (λ held.
         (let (within, not) = (hold n).0 held in
-        let high : n ≤ all.last = within.1 in
-        IsSought-same sought specs merged hosts n same (are.such_ones n (omega arith) not))),
+        IsSought-same sought specs merged hosts n same (are.such_ones n (omega (arith, within)) not))),
     (λ is.
         (let is' : IsSought sought specs merged n =
         IsSought-same sought specs hosts merged n (λ id. ((same id).1, (same id).0)) is in
@@ -151,8 +130,7 @@ below_greatest others ids all last_is hold apart k d inside =
     let span : Span = get_or ids k d in
     let some : IsSpan span = apart.some k d inside in
     let held : Hold ids span.last = (span, (k, inside, get_or_default ids k span d inside), (some.0, omega arith)) in
-    let high : span.last ≤ all.last = ((hold span.last).0 held).0.1 in
-    omega arith
+    omega (arith, ((hold span.last).0 held).0)
 
 module _ {A E : Type 0} (others : List Span) (all : Span) (last_is : all.last ≡ 4294967294) where
   pub all_sought : (sought : Sought) (specs : List IdMap) (merged hosts : ℕ → Type 0) → all.first ≡ 0

@@ -16,7 +16,7 @@ use Rattle.virtiofs_map.specs.Pieces.{value_in, IsPiece, PiecesLeft, GivesPiece}
 use Rattle.virtiofs_map.specs.declared.cmdline.IdMap.{IdMap}
 use Rattle.virtiofs_map.specs.declared.soft_idmap.entry.Direction.TheVariants.{HostToGuest}
 use Rattle.virtiofs_map.specs.declared.soft_idmap.piece.Piece.{Piece}
-use Rattle.virtiofs_id_audit.proofs.PieceLemmas.{value-each, value-not_each, value-forbidden}
+use Rattle.virtiofs_id_audit.proofs.PieceLemmas.{value-each, value-not_each}
 use Rattle.virtiofs_map.proofs.ForCallers.{lookup_one_value}
 
 -- ---- the pieces of the host
@@ -54,12 +54,6 @@ module _ (specs : List IdMap) (piece : Piece) (starts : List ℕ) (host guest : 
         by false all later =
             inl (at (same_Some _ _ (sym ((value-not_each piece start all start_is is.named).1 host) ∙ value)))
 
-  -- no id of it becomes one of the guest
-  pub not_forbidden : None ≡ value_in piece piece.first → ⊥
-  not_forbidden none =
-      let both : None ≡ Some guest = sym (value-forbidden piece host none) ∙ value in
-      absurd (cc)
-
 -- ---- the pieces so far
 
 pub record StartsSoFar (specs : List IdMap) (starts : List ℕ) (left : PiecesLeft) : Type 0 where
@@ -67,15 +61,6 @@ pub record StartsSoFar (specs : List IdMap) (starts : List ℕ) (left : PiecesLe
   pub direction_is : left.direction ≡ HostToGuest
   pub starts_are : (host guest : ℕ) → 1 ≤ host → host < left.next → Becomes specs HostToGuest host (Some guest)
       → IsAfterStart specs starts host guest
-
-pub StartsSoFar-start : (specs : List IdMap) (left : PiecesLeft)
-    → left ≡ record { specs = specs; direction = HostToGuest; next = 0 } → StartsSoFar specs [] left
-StartsSoFar-start specs left is =
-    rw is (record {
-      specs_are = refl;
-      direction_is = refl;
-      starts_are = λ host guest some below. absurd (omega arith);
-    })
 
 module _ (specs : List IdMap) (starts : List ℕ) (left after : PiecesLeft) (piece : Piece) (accepted : Accepted specs)
     (so_far : StartsSoFar specs starts left) (gives : GivesPiece left (Some piece) after) where
@@ -106,11 +91,6 @@ module _ (specs : List IdMap) (starts : List ℕ) (left after : PiecesLeft) (pie
       (λ host guest from to becomes. started specs piece (starts ++ start ∷ []) host guest accepted is_piece from to
       becomes start start_is (Contains-push starts start))
 
-  pub StartsSoFar-skip : None ≡ value_in piece piece.first → StartsSoFar specs starts after
-  StartsSoFar-skip none =
-      with_more starts (λ guest listed. listed) (λ host guest from to becomes.
-      absurd (not_forbidden specs piece starts host guest accepted is_piece from to becomes none))
-
 pub AreStarts-sorted : (specs : List IdMap) (starts sorted : List ℕ) (left after : PiecesLeft)
     → StartsSoFar specs starts left → GivesPiece left None after → IsPermutation starts sorted
     → AreStarts specs sorted
@@ -133,21 +113,16 @@ module _ (starts : List ℕ) (n at : ℕ) (up : IsNonDecreasing starts)
         | inl before ↦ absurd
             (let low : leb start n ≡ true = rw here' at (splits.0 k 0 (omega arith) before) in
             grind (arith, nat_tests))
-        | inr after ↦ (
-          omega arith,
-          (let rising : get_or starts at 0 ≤ get_or starts k 0 = up at k 0 after inside in omega arith),
-        )
+        | inr after ↦ omega (arith, up at k 0 after inside)
       ]
 
   pub none_left : length starts ≤ at → (start : ℕ) → n < start → ¬ Contains starts start
-  none_left out start above listed = let after = later start above listed in omega (arith, after.0)
+  none_left out start above listed = omega (arith, later start above listed)
 
   pub none_between : (next : ℕ) → get_or starts at next ≡ next → at < length starts → (start : ℕ) → n < start
       → start < next → ¬ Contains starts start
   none_between next here inside start above below listed =
-      let after = later start above listed in
-      let here' : get_or starts at 0 ≡ next = get_or_default starts at 0 next inside ∙ here in
-      omega (arith, after.1, here')
+      omega (arith, later start above listed, get_or_default starts at 0 next inside ∙ here)
 
   pub next_above : (next : ℕ) → get_or starts at next ≡ next → at < length starts → n < next
   next_above next here inside =

@@ -19,14 +19,13 @@ pub returns-in_ok-push-3-clause-counts : goal.returns-in_ok-push-3-clause-counts
 returns-in_ok-push-3-clause-counts g c = λ specs low host accepted is up before.
     rw (c.in_ok-push-3.ensures.items, c.in_ok-push-2.ensures.items)
     (counts-two specs c.args.piece low host c.args.images.now.items accepted is up before c.in-Some.to _
-    (sym c.is_one_to_one.ensures ∙ c.if-is_one_to_one.false) c.in-Some.ensures (omega arith) refl refl)
+    (sym c.is_one_to_one.ensures ∙ c.if-is_one_to_one.false) c.in-Some.ensures refl refl (omega arith))
 
 pub returns-else-piece-last-clause-counts : goal.returns-else-piece-last-clause-counts
 returns-else-piece-last-clause-counts g c = λ specs low host accepted is up before.
     rw c.in_ok-push-2.ensures.items
     (counts-one specs c.args.piece low host c.args.images.now.items accepted is up before c.in-Some.to _
-    (sym c.is_one_to_one.ensures ∙ c.if-is_one_to_one.false) c.in-Some.ensures (omega arith) (omega arith) refl
-    refl)
+    (sym c.is_one_to_one.ensures ∙ c.if-is_one_to_one.false) c.in-Some.ensures refl refl (omega arith) (omega arith))
 
 pub returns-in_default-clause-spans : goal.returns-in_default-clause-spans
 returns-in_default-clause-spans g c = c.requires.spans

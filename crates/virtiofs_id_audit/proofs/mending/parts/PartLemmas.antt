@@ -1,6 +1,6 @@
 -- What a specification does to the ids of the guest in some spans, a part for each.
-use Rattle.std.proofs.Common.{◌≡◌, inl, inr, ℕ, ◌+◌, ◌<◌, ◌≤◌, List, [], ◌∷◌, ◌++◌, length, take, get_or}
-use Rattle.std.proofs.Common.{Option, Some, None, IsSomeAnd, IfSome, refl, sym, ap, ◌∙◌, subst, arith}
+use Rattle.std.proofs.Common.{◌≡◌, inl, inr, ℕ, ◌+◌, ◌<◌, List, [], ◌∷◌, ◌++◌, length, take, get_or}
+use Rattle.std.proofs.Common.{Option, Some, None, IsSomeAnd, IfSome, sym, ap, ◌∙◌, subst, arith}
 use Rattle.std.proofs.lemmas.List.{append_assoc, length-append, get_or_default, get_or-take, length-take, take_more}
 use Rattle.std.proofs.lemmas.List.Elements.{Contains-append_left, Contains-push, Contains-push_cases}
 use Rattle.virtiofs_id_audit.specs.IdAuditParts.{Has, Hold, AreApart}
@@ -12,7 +12,7 @@ use Rattle.virtiofs_map.specs.declared.cmdline.IdMap.{IdMap}
 use Rattle.virtiofs_map.specs.declared.soft_idmap.entry.Direction.{Direction}
 use Rattle.virtiofs_map.specs.declared.soft_idmap.entry.Direction.TheVariants.{GuestToHost, HostToGuest}
 use Rattle.virtiofs_map.specs.declared.soft_idmap.entry.Entry.{Entry}
-use Rattle.virtiofs_id_audit.proofs.HeldLemmas.{hold_push, push_hold, hold_none}
+use Rattle.virtiofs_id_audit.proofs.HeldLemmas.{hold_push, push_hold}
 use Rattle.virtiofs_id_audit.proofs.mending.ListedLemmas.{Accepted-append, Accepted-one, KeepApart, Listed-append}
 use Rattle.virtiofs_id_audit.proofs.mending.ListedLemmas.{Listed-one, covered_maps}
 use Rattle.virtiofs_map.proofs.ForCallers.{Covers-maps}
@@ -33,22 +33,6 @@ Accepted-part spec part span source is = Accepted-one part sources targets where
   targets : (direction : Direction) → IfSome (entry_of part direction) HasTarget
   targets GuestToHost = is.target
   targets HostToGuest = rw is.host tt
-
-pub AreParts-none : (spec : IdMap) → AreParts spec [] []
-AreParts-none spec = record {
-  count = refl;
-  accepted = record {
-    source = λ direction k d inside. absurd (omega arith);
-    target = λ direction k d inside. absurd (omega arith);
-    apart = λ direction i j d before below. absurd (omega arith);
-  };
-  guest = λ n value. (
-    (λ (part, (k, inside, here), maps). absurd (omega arith)),
-    (λ (maps, held). absurd (hold_none n held)),
-  );
-  host = λ n value (part, (k, inside, here), maps). absurd (omega arith);
-  each = λ part (k, inside, here). absurd (omega arith);
-}
 
 -- the specification covers the ends of the span
 abbrev pub CoversAll : IdMap → Span → Type 0
@@ -92,8 +76,7 @@ module _ (spec part : IdMap) (spans : List Span) (span : Span) (parts : List IdM
 
   pub AreParts-more : AreParts spec (spans ++ span ∷ []) (parts ++ part ∷ [])
   AreParts-more = record {
-    count = (let more = length-append parts (part ∷ []) in let more' = length-append spans (span ∷ []) in
-        omega (arith, more, more', so_far.count));
+    count = omega (arith, length-append parts (part ∷ []), length-append spans (span ∷ []), so_far.count);
     accepted =
         Accepted-append parts (part ∷ []) so_far.accepted (Accepted-part spec part span source is) keep_apart;
     guest = λ n value. (to n value, from n value);
@@ -127,9 +110,7 @@ earlier_free spans i d n are inside has (span, (k, within, here), has') =
     let same : get_or spans k span ≡ span = sym (get_or-take i spans k span before) ∙ here in
     let apart : (get_or spans k span).last < (get_or spans i span).first = are.apart k i span before inside in
     let apart' : span.last < (get_or spans i d).first = rw (same, get_or_default spans i span d inside) at apart in
-    let low : (get_or spans i d).first ≤ n = has.0 in
-    let high : n ≤ span.last = has'.1 in
-    omega arith
+    omega (arith, has, has')
 
 -- what a list has after another one are the parts so far
 abbrev pub PartsSoFar : IdMap → List Span → ℕ → List IdMap → List IdMap → Type 0

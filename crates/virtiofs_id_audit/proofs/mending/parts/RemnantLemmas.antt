@@ -1,5 +1,5 @@
 -- What is left of one specification where bad ids of the guest are cut out of it.
-use Rattle.std.proofs.Common.{◌≡◌, ◌⊎◌, ◌↔◌, inl, inr, ℕ, ◌+◌, ◌<◌, ◌≤◌, max, List, [], ◌∷◌, ◌++◌, length, get_or, All, Contains}
+use Rattle.std.proofs.Common.{◌≡◌, ◌⊎◌, ◌↔◌, inl, inr, ℕ, ◌+◌, ◌≤◌, max, List, [], ◌∷◌, ◌++◌, length, get_or, All, Contains}
 use Rattle.std.proofs.Common.{Bool, false, IsTrue, Option, Some, None, IsSomeAnd, IfSome, refl, sym, ◌∙◌, subst, arith}
 use Rattle.std.proofs.lemmas.Bool.{cases_lt, false≢true}
 use Rattle.std.proofs.lemmas.List.{get_or_default}
@@ -104,26 +104,24 @@ module _ (spec : IdMap) (entry : Entry) (whole : Span) (bad met : List Span) (ac
           let has : Has span n = (covered n).0 ends.last in
           let (in_whole, not_met) = (keeps n).0 (span, within, has) in
           elim (cases_lt span.last (n + 1)) [
-            | inl over ↦
-                let at : n + 1 ≡ span.last + 1 = omega arith in
-                after n in_whole not_met
-                (λ held. free_after kept span runs within (rw at at held))
-                (held_or_not met (n + 1)) (cases_lt whole.last (n + 1))
+            | inl over ↦ elim (cases_lt whole.last (n + 1)) [
+              | inl past ↦ inl (record {
+                last = within_covers n in_whole;
+                end = λ covers. omega (arith, covers_within (n + 1) covers);
+              })
+              | inr under ↦ elim (held_or_not met (n + 1)) [
+                | inl is_met ↦ inr (
+                  λ is. not_met ((hold n in_whole).1 is),
+                  (hold (n + 1) (omega (arith, in_whole, under))).0 is_met,
+                )
+                | inr not ↦ absurd
+                    (let at : n + 1 ≡ span.last + 1 = omega (arith, has) in
+                    let held = (keeps (n + 1)).1 (omega (arith, in_whole, under), not) in
+                    free_after kept span runs within (rw at at held))
+              ]
+            ]
             | inr under ↦ absurd (ends.end ((covered (n + 1)).1 (omega arith, under)))
-          ] where
-            after : (n : ℕ) → Has whole n → ¬ Hold met n → ¬ Hold kept (n + 1)
-                → Hold met (n + 1) ⊎ (¬ Hold met (n + 1)) → (whole.last < n + 1) ⊎ (n + 1 ≤ whole.last)
-                → EndsWith spec GuestToHost n ⊎ ((¬ Hold bad n) × Hold bad (n + 1))
-            after n in_whole not_met free decided (inl over) = inl (record {
-              last = within_covers n in_whole;
-              end = λ covers. (let high : n + 1 ≤ whole.last = (covers_within (n + 1) covers).1 in omega arith);
-            })
-            after n in_whole not_met free (inl is_met) (inr under) =
-                let low : whole.first ≤ n = in_whole.0 in
-                inr ((λ is. not_met ((hold n in_whole).1 is)), (hold (n + 1) (omega arith, under)).0 is_met)
-            after n in_whole not_met free (inr not) (inr under) =
-                let low : whole.first ≤ n = in_whole.0 in
-                absurd (free ((keeps (n + 1)).1 ((omega arith, under), not)))
+          ]
 
       pub parts_remnants : AreRuns kept → (part : IdMap) → Contains parts part
           → IsRemnant spec (Hold bad) part

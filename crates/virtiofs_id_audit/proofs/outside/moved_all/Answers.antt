@@ -1,4 +1,5 @@
-use Rattle.virtiofs_id_audit.proofs.OutsideLemmas.{moved_no_span, moved_one_more, moved_all_spans}
+use Rattle.std.proofs.lemmas.List.{take_all}
+use Rattle.virtiofs_id_audit.proofs.OutsideLemmas.{moved_no_span, moved_one_more}
 use Rattle.virtiofs_id_audit.proofs.outside.moved_all.Goals as goal
 
 pub loop-span-init : goal.loop-span-init
@@ -11,5 +12,4 @@ loop-span-preserved g c =
 
 pub returns : goal.returns
 returns g c =
-    moved_all_spans c.args.way c.args.ranges.now c.args.spans.now _ c.loop-span.span-index c.loop-span-test.false
-    c.loop-span.invariant
+    rw (take_all c.loop-span.span-index c.args.spans.now c.loop-span-test.false) at c.loop-span.invariant

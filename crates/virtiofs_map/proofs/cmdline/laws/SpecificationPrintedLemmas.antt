@@ -1,11 +1,8 @@
 -- The printed form of a specification is a text that says it.
 use Rattle.std.proofs.Common.{◌≡◌, ℕ, ◌^◌, ◌<◌, true, false, List, [], ◌∷◌, ◌++◌, All, flat_map, codes, refl, sym, ap}
-use Rattle.std.proofs.Common.{◌∙◌, subst, arith}
-use Rattle.std.specs.Fmt.{decimal}
+use Rattle.std.proofs.Common.{◌∙◌, subst, arith, decimal, chars, IsAscii, append-nil}
 use Rattle.std.specs.List.{AllZip, list_all}
-use Rattle.std.specs.Str.{chars, IsAscii}
 use Rattle.std.proofs.lemmas.Fmt.{IsAscii-decimal}
-use Rattle.std.proofs.lemmas.List.{append-nil}
 use Rattle.std.proofs.lemmas.List.Elements.{All-head, All-tail}
 use Rattle.std.proofs.lemmas.List.Sums.{AllPass-from_list_all}
 use Rattle.std.proofs.lemmas.Str.{chars-IsAscii, IsAscii-append}

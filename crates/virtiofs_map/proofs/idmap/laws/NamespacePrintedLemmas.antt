@@ -1,7 +1,6 @@
 -- What a range of a namespace is printed as is a text that says it.
-use Rattle.std.proofs.Common.{◌≡◌, ℕ, ◌^◌, ◌<◌, false, List, [], ◌++◌, refl, ◌∙◌, append_assoc, arith, codes}
-use Rattle.std.specs.Fmt.{decimal}
-use Rattle.std.specs.Str.{chars, IsAscii}
+use Rattle.std.proofs.Common.{◌≡◌, ℕ, ◌^◌, ◌<◌, false, List, [], ◌++◌, refl, ◌∙◌, append_assoc, arith, codes, decimal}
+use Rattle.std.proofs.Common.{chars, IsAscii}
 use Rattle.std.proofs.lemmas.Fmt.{IsAscii-decimal}
 use Rattle.std.proofs.lemmas.Str.{chars-IsAscii, IsAscii-append}
 use Rattle.std.proofs.lemmas.Str.Ascii.{IsAscii-nil, IsAscii-cons}

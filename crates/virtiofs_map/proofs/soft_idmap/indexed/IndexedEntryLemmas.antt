@@ -3,7 +3,7 @@ use Rattle.std.proofs.Common.{◌≡◌, ◌≢◌, inl, inr, ℕ, ◌+◌, ◌<
 use Rattle.std.proofs.Common.{All, Contains, IsPermutation, Option, Some, None, sym, ap, ◌∙◌, arith, lt-ltb, le-ltb}
 use Rattle.std.proofs.lemmas.Bool.{cases_lt}
 use Rattle.std.proofs.lemmas.List.{get_or_default, length_push}
-use Rattle.std.proofs.lemmas.List.Elements.{All-push, All-weaker, All-get_or, Contains-append_left, Contains-push}
+use Rattle.std.proofs.lemmas.List.Elements.{All-push, All-weaker, Contains-append_left, Contains-push}
 use Rattle.std.proofs.lemmas.List.Quantifiers.{all_pairs_push}
 use Rattle.std.proofs.lemmas.List.Sorted.{All-permutation, Contains-permutation, length_permutation}
 use Rattle.std.proofs.lemmas.List.Sums.{count_by_more_yes, count_by_more_no}
@@ -52,15 +52,11 @@ AreIndexed-add specs direction i d entry indexed within is some are_indexed =
           (weaker specs direction i indexed are_indexed.from) (indexed_here, omega arith);
       each = each one;
       once = all_pairs_push (λ (one other : IndexedEntry). one.index ≢ other.index) indexed one are_indexed.once
-          (λ k e below. earlier (get_or indexed k e)
-          (All-get_or (λ (one : IndexedEntry). IsIndexed specs direction one × (one.index < i)) indexed k e below are_indexed.from));
+          (λ k e below same. omega (arith, (are_indexed.from k e below).1));
       counted = length_push indexed one ∙ ap (λ (n : ℕ). n + 1) are_indexed.counted
           ∙ sym (count_by_more_yes (λ (spec : IdMap). covers_some (entry_of spec direction)) specs i d within
           (covers (entry_of (get_or specs i d) direction) entry is some));
     } where
-      earlier : (other : IndexedEntry) → IsIndexed specs direction other × (other.index < i) → other.index ≢ i
-      earlier other (_, before) = λ same. omega arith
-
       each : (one : IndexedEntry) → (index : ℕ) (spec : IdMap) (own : Entry) → index < i + 1 → StandsAt specs index spec
           → entry_of spec direction ≡ Some own → 1 ≤ count_of own
           → Contains (indexed ++ (record { entry = entry; index = i }) ∷ []) (record { entry = own; index = index })

@@ -1,10 +1,9 @@
 -- What a range, or the want of one, says of the numbers from some number on.
 use Rattle.std.proofs.Common.{◌≡◌, ◌≢◌, inl, inr, ℕ, ◌+◌, ◌-◌, ◌<◌, ◌≤◌, List, length, get_or, AllPairs}
 use Rattle.std.proofs.Common.{Contains, Some, slice_get, sym, ap, ◌∙◌, arith}
-use Rattle.std.proofs.lemmas.Bool.{cases_order}
+use Rattle.std.proofs.lemmas.Bool.{cases_lt}
 use Rattle.std.proofs.lemmas.List.Elements.{All-contains}
 use Rattle.std.proofs.lemmas.Option.{same_Some, slice_get-get_or, slice_get_within, get_or_from_slice_get}
-use Rattle.virtiofs_map.specs.Build.{HasTarget}
 use Rattle.virtiofs_map.specs.Mapping.{first_of, count_of, EntryCovers, target_of}
 use Rattle.virtiofs_map.specs.Pieces.{value_in, IsMade, IsStretch}
 use Rattle.virtiofs_map.specs.RangeParts.{Precedes, HasNumbers}
@@ -38,32 +37,24 @@ pub numbers_at : (specs : List IdMap) (direction : Direction) (table : Table) (a
 numbers_at specs direction table at range has here =
     All-contains HasNumbers has.ranges range has.ordered.numbers (stored has.ranges at range here)
 
-pub target_at : (specs : List IdMap) (direction : Direction) (table : Table) (at : ℕ) (range : Entry)
-    (has : HasRanges specs direction table) → slice_get has.ranges at ≡ Some range → HasTarget range
-target_at specs direction table at range has here =
-    All-contains HasTarget has.ranges range has.ordered.target (stored has.ranges at range here)
-
 -- ---- numbers that a range covers
 
 pub IsStretch-covered : (specs : List IdMap) (direction : Direction) (table : Table) (n at : ℕ) (range : Entry)
     (piece : Piece) (has : HasRanges specs direction table) → slice_get has.ranges at ≡ Some range → EntryCovers range n
     → IsMade n (first_of range + count_of range - 1) (target_of range) piece → IsStretch specs direction piece
 IsStretch-covered specs direction table n at range piece has here covers made =
-    let numbers : HasNumbers range = numbers_at specs direction table at range has here in
-    let source : first_of range + count_of range ≤ 4294967295 = numbers.source in
     let first : piece.first ≡ n = made.first_is in
     let last : piece.last ≡ first_of range + count_of range - 1 = made.last_is in
-    let low : first_of range ≤ n = covers.0 in
-    let high : n < first_of range + count_of range = covers.1 in
+    let (low, high) = covers in
     record {
       order = omega arith;
-      within = omega arith;
+      within = omega (arith, (numbers_at specs direction table at range has here).source);
       named = rw (first, last) made.named;
       becomes = λ k from to.
           (let value : value_in piece k ≡ target_of range k = made.value k (omega arith) (omega arith) in
           rw value
           (Becomes-by_range specs direction has.ranges k range has.stores (stored has.ranges at range here)
-          (omega arith, omega arith)));
+          (omega arith)));
     }
 
 -- ---- numbers that no range covers
@@ -76,17 +67,16 @@ before_covers ranges n end k j range ordered within ends from below here covers 
     let last : Entry = get_or ranges (end - 1) range in
     let ended : first_of last + count_of last ≤ n =
     ends last (slice_get-get_or ranges (end - 1) range (omega arith)) in
-    let high : k < first_of range + count_of range = covers.1 in
-    elim (cases_order j (end - 1)) [
-      | inl at_last ↦
-          let is : last ≡ range = ap (λ (i : ℕ). get_or ranges i range) (sym at_last) ∙ here in
+    elim (cases_lt j (end - 1)) [
+      | inl earlier ↦
+          let precedes : first_of range + count_of range ≤ first_of last =
+          rw here at (ordered j (end - 1) range earlier (omega arith)) in
+          omega (arith, covers)
+      | inr later ↦
+          let at_last : end - 1 ≡ j = omega arith in
+          let is : last ≡ range = ap (λ (i : ℕ). get_or ranges i range) at_last ∙ here in
           let ended' : first_of range + count_of range ≤ n = rw is at ended in
-          absurd (omega arith)
-      | inr (inl earlier) ↦
-          let precedes : Precedes (get_or ranges j range) last = ordered j (end - 1) range earlier (omega arith) in
-          let precedes' : first_of range + count_of range ≤ first_of last = rw here at precedes in
-          absurd (omega arith)
-      | inr (inr later) ↦ absurd (omega arith)
+          omega (arith, covers)
     ]
 
 -- the next range begins above the number, and those after it too
@@ -94,21 +84,17 @@ after_covers : (ranges : List Entry) (end k j : ℕ) (range : Entry) → AllPair
     → ((next : Entry) → slice_get ranges end ≡ Some next → k < first_of next)
     → end ≤ j → j < length ranges → get_or ranges j range ≡ range → ¬ EntryCovers range k
 after_covers ranges end k j range ordered above from inside here covers =
-    let low : first_of range ≤ k = covers.0 in
-    elim (cases_order end j) [
-      | inl same ↦
-          let next : k < first_of range =
-          above range (rw same (slice_get-get_or ranges j range inside ∙ ap (λ (r : Entry). Some r) here)) in
-          absurd (omega arith)
-      | inr (inl later) ↦
-          let next : k < first_of (get_or ranges end range) =
-          above (get_or ranges end range) (slice_get-get_or ranges end range (omega arith)) in
-          let precedes : Precedes (get_or ranges end range) (get_or ranges j range) =
-          ordered end j range later inside in
-          let precedes' : first_of (get_or ranges end range) + count_of (get_or ranges end range) ≤ first_of range =
-          rw here at precedes in
-          absurd (omega arith)
-      | inr (inr earlier) ↦ absurd (omega arith)
+    let next = above (get_or ranges end range) (slice_get-get_or ranges end range (omega arith)) in
+    elim (cases_lt end j) [
+      | inl later ↦
+          let precedes : first_of (get_or ranges end range) + count_of (get_or ranges end range) ≤ first_of range =
+          rw here at (ordered end j range later inside) in
+          omega (arith, next, covers)
+      | inr earlier ↦
+          let same : end ≡ j = omega arith in
+          let is : get_or ranges end range ≡ range = ap (λ (i : ℕ). get_or ranges i range) same ∙ here in
+          let next' : k < first_of range = rw is at next in
+          omega (arith, covers)
     ]
 
 pub IsStretch-kept : (specs : List IdMap) (direction : Direction) (table : Table) (n end : ℕ) (piece : Piece)
@@ -129,25 +115,18 @@ IsStretch-kept specs direction table n end piece has inside ends next first orde
   uncovered : (k : ℕ) → piece.first ≤ k → k ≤ piece.last → (range : Entry) → Contains has.ranges range
       → ¬ EntryCovers range k
   uncovered k from to range (j, below, here) covers =
-      elim (cases_order j end) [
-        | inl same ↦ at_end (omega arith)
-        | inr (inl before) ↦ before_covers has.ranges n end k j range has.ordered.ordered (omega (arith, counted))
+      elim (cases_lt j end) [
+        | inl before ↦ before_covers has.ranges n end k j range has.ordered.ordered (omega (arith, counted))
             (λ last is. ends last (omega arith) is) (omega arith) before here covers
-        | inr (inr above) ↦ at_end (omega arith)
-      ] where
-        at_end : end ≤ j → ⊥
-        at_end from' =
-            after_covers has.ranges end k j range has.ordered.ordered
-            (λ other is. let above : piece.last < first_of other = next other is in omega arith) from' below here
-            covers
+        | inr above ↦ after_covers has.ranges end k j range has.ordered.ordered
+            (λ other is. omega (arith, next other is)) above below here covers
+      ]
 
 -- there is no range from that index on
 pub no_next : (specs : List IdMap) (direction : Direction) (table : Table) (end : ℕ) (range : Entry)
     (has : HasRanges specs direction table) → table.count ≤ end → slice_get has.ranges end ≢ Some range
 no_next specs direction table end range has beyond here =
-    let counted : length has.ranges ≡ table.count = has.stand.counted in
-    let inside : end < length has.ranges = slice_get_within has.ranges end range here in
-    omega arith
+    omega (arith, has.stand.counted, slice_get_within has.ranges end range here)
 
 -- no range covers a number below the first range
 pub IsStretch-below : (specs : List IdMap) (direction : Direction) (table : Table) (n index : ℕ) (range : Entry)
@@ -160,24 +139,22 @@ IsStretch-below specs direction table n index range piece has searches here abov
     (λ next is. rw (same_Some _ _ (sym (rw at_first at here) ∙ is)) at last) first order within kept where
       at_first : index ≡ 0
       at_first =
-          elim (cases_order index 0) [
-            | inl same ↦ same
-            | inr (inl before) ↦ absurd (omega arith)
-            | inr (inr after) ↦
+          elim (cases_lt 0 index) [
+            | inl after ↦
                 let begins : first_of range ≤ n =
                 rw (get_or_from_slice_get has.ranges index range range here) at
-                ((searches has.ranges has.ordered has.stand).begins range (omega arith)) in
+                ((searches has.ranges has.ordered has.stand).begins range after) in
                 absurd (omega arith)
+            | inr none ↦ omega arith
           ]
 
 -- a range that begins at or below a number, and does not cover it, ends at or below it
 pub ends_before : (range : Entry) (n : ℕ) → first_of range ≤ n → (¬ EntryCovers range n)
     → first_of range + count_of range ≤ n
 ends_before range n begins beyond =
-    elim (cases_order n (first_of range + count_of range)) [
-      | inl same ↦ omega arith
-      | inr (inl before) ↦ absurd (beyond (begins, before))
-      | inr (inr after) ↦ omega arith
+    elim (cases_lt n (first_of range + count_of range)) [
+      | inl before ↦ absurd (beyond (begins, before))
+      | inr after ↦ after
     ]
 
 -- nor one after the range at which the search ended, and below the next one

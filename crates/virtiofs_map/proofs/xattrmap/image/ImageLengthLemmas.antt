@@ -1,23 +1,22 @@
 -- An image has 512 bytes, and 64 for each byte of the text of its rules, at most.
 use Rattle.std.proofs.Common.{◌≡◌, ◌≢◌, ℕ, ◌+◌, ◌-◌, ◌*◌, ◌≤◌, Bool, true, false, ◌&&◌, cond, eqb, List, [], ◌∷◌, ◌++◌}
-use Rattle.std.proofs.Common.{length, map, refl, ap, ◌∙◌, arith, append-nil, length-append}
+use Rattle.std.proofs.Common.{length, map, refl, ap, ◌∙◌, arith, length-append}
 use Rattle.std.specs.Char.{is_whitespace}
 use Rattle.std.specs.List.{filter}
 use Rattle.std.specs.Str.{IsUtf8, chars, drop_trailing_whitespace, encode_utf8_all, skip_leading_whitespace}
 use Rattle.std.proofs.lemmas.Bool.{cond_both}
-use Rattle.std.proofs.lemmas.List.Concat.{flat_map-append}
 use Rattle.std.proofs.lemmas.Str.{encodes-append, encodes-chars, length-le-encodes}
 use Rattle.virtiofs_map.specs.NodeParts.{patterns_on}
 use Rattle.virtiofs_map.specs.FirstRule.{acts, pattern}
 use Rattle.virtiofs_map.specs.NamesImage.{image_length, pattern_bytes}
 use Rattle.virtiofs_map.specs.PatternTrie.{longest_label}
 use Rattle.virtiofs_map.specs.Rule.{MappingRule, RuleType}
-use Rattle.virtiofs_map.specs.RuleText.{All, Client, Fields, Map, RuleAsWritten, RuleHead, RuleThen}
-use Rattle.virtiofs_map.specs.RuleText.{RulesThen, SaysRules, ScopeName, Server, Typed, expanded, rule_fields}
-use Rattle.virtiofs_map.specs.RuleText.{rules_of, trimmed}
+use Rattle.virtiofs_map.specs.RuleText.{All, Client, Fields, Map, RuleAsWritten, RuleHead, RuleThen, RulesThen}
+use Rattle.virtiofs_map.specs.RuleText.{SaysRules, ScopeName, Server, Typed, expanded, rule_fields, rules_of, trimmed}
 use Rattle.virtiofs_map.specs.declared.xattrmap.scopes.Side.{Side}
 use Rattle.virtiofs_map.specs.declared.xattrmap.scopes.Side.TheVariants as sides
 use Rattle.virtiofs_map.proofs.xattrmap.NodeCountLemmas.{held, text_nodes_most, sum_append, sum_of}
+use Rattle.virtiofs_map.proofs.ReadSoFarLemmas.{expanded_snoc}
 
 -- ---- what rules add
 
@@ -45,27 +44,24 @@ cost rules =
 patterns_append : (rules more : List MappingRule)
     → pattern_bytes (rules ++ more) ≡ pattern_bytes rules + pattern_bytes more
 patterns_append [] more = omega arith
-patterns_append (rule ∷ rules) more = let rest = patterns_append rules more in omega (arith, rest)
+patterns_append (rule ∷ rules) more = omega (arith, patterns_append rules more)
 
 cost_append : (rules more : List MappingRule) → cost (rules ++ more) ≡ cost rules + cost more
 cost_append rules more =
-    let client = sum_append (rule_worth sides.Client) rules more in
     let server = sum_append (rule_worth sides.Server) rules more in
-    let count = length-append rules more in
     let bytes = patterns_append rules more in
-    omega (arith, client, server, count, bytes)
+    omega (arith, sum_append (rule_worth sides.Client) rules more, server, length-append rules more, bytes)
 
 image_most : (rules : List MappingRule)
     → image_length rules
-    ≤ 96 + 24 * ((side_worth sides.Client rules - 6) + (side_worth sides.Server rules - 6) + length rules)
+    ≤ 104 + 24 * ((side_worth sides.Client rules - 6) + (side_worth sides.Server rules - 6) + length rules)
     + pattern_bytes rules
 unfolding image_length
 image_most rules =
-    let client = text_nodes_most longest_label (patterns_on sides.Client rules) in
     let server = text_nodes_most longest_label (patterns_on sides.Server rules) in
     let of_client = held_is sides.Client rules in
     let of_server = held_is sides.Server rules in
-    omega (arith, client, server, of_client, of_server)
+    omega (arith, text_nodes_most longest_label (patterns_on sides.Client rules), server, of_client, of_server)
 
 -- ---- how many bytes characters have
 
@@ -80,44 +76,37 @@ bytes_cons : (c : ℕ) (text : List ℕ) → bytes_of (c ∷ text) ≡ bytes_of 
 bytes_cons c text = bytes_append (c ∷ []) text
 
 bytes_some : (c : ℕ) (text : List ℕ) → 1 + bytes_of text ≤ bytes_of (c ∷ text)
-bytes_some c text = let split = bytes_cons c text in let one = length-le-encodes (c ∷ []) in omega (arith, split, one)
+bytes_some c text = omega (arith, bytes_cons c text, length-le-encodes (c ∷ []))
 
 bytes_skipped : (text : List ℕ) → bytes_of (skip_leading_whitespace text) ≤ bytes_of text
 bytes_skipped [] = omega arith
 bytes_skipped (c ∷ text) =
-    let rest = bytes_skipped text in
-    let more = bytes_some c text in
     cond_both (is_whitespace c) (skip_leading_whitespace text) (c ∷ text) (λ left. bytes_of left ≤ bytes_of (c ∷ text))
-    (λ _. omega (arith, rest, more)) (λ _. omega arith)
+    (λ _. omega (arith, bytes_skipped text, bytes_some c text)) (λ _. omega arith)
 
 bytes_dropped : (text : List ℕ) → bytes_of (drop_trailing_whitespace text) ≤ bytes_of text
 bytes_dropped [] = omega arith
 bytes_dropped (c ∷ text) =
     let rest = bytes_dropped text in
-    let whole = bytes_cons c text in
     let left = bytes_cons c (drop_trailing_whitespace text) in
     cond_both (is_whitespace c && eqb (length (drop_trailing_whitespace text)) 0) [] (c ∷ drop_trailing_whitespace text)
-    (λ kept. bytes_of kept ≤ bytes_of (c ∷ text)) (λ _. omega arith) (λ _. omega (arith, rest, whole, left))
+    (λ kept. bytes_of kept ≤ bytes_of (c ∷ text)) (λ _. omega arith) (λ _. omega (arith, rest, bytes_cons c text, left))
 
 -- ---- what rules have in a text
 
 fields_bytes : (d : ℕ) (text : List ℕ) (fields : List (List ℕ)) (rest : List ℕ) → Fields d text fields rest
     → sum_of (λ field. bytes_of field + 1) fields + bytes_of rest ≤ bytes_of text
-fields_bytes d text [] rest is = let same = ap bytes_of is in omega (arith, same)
+fields_bytes d text [] rest is = omega (arith, ap bytes_of is)
 fields_bytes d text (field ∷ fields) rest (after, is, lacks, more) =
-    let later = fields_bytes d after fields rest more in
-    let same = ap bytes_of is ∙ bytes_append field (d ∷ after) in
     let one = bytes_some d after in
-    omega (arith, later, same, one)
+    omega (arith, fields_bytes d after fields rest more, ap bytes_of is ∙ bytes_append field (d ∷ after), one)
 
 -- the fields of a rule, the delimiter before them, and one after each
 rule_bytes : (text : List ℕ) (rule : RuleAsWritten) (after : List ℕ) → RuleThen text rule after
     → 1 + sum_of (λ field. bytes_of field + 1) (rule_fields rule) + bytes_of after ≤ bytes_of text
 rule_bytes text rule after is =
-    let fields = fields_bytes is.delimiter is.body (rule_fields rule) after is.fields in
-    let same = ap bytes_of is.opens.0 in
     let one = bytes_some is.delimiter is.body in
-    omega (arith, fields, same, one)
+    omega (arith, fields_bytes is.delimiter is.body (rule_fields rule) after is.fields, ap bytes_of is.opens.0, one)
 
 typed_cost : (kind : RuleType) (scope : ScopeName) (key prepend : List ℕ)
     → cost (rules_of (Typed kind scope) key prepend) ≤ 320 + 64 * (bytes_of key + bytes_of prepend)
@@ -131,19 +120,17 @@ typed_bytes : (text : List ℕ) (head : RuleHead) (key prepend after : List ℕ)
     → cost (rules_of head key prepend) + 64 * bytes_of after ≤ 64 * bytes_of text
 typed_bytes text Map key prepend after is typed = absurd (typed refl)
 typed_bytes text (Typed kind scope) key prepend after is typed =
-    let fields = rule_bytes text record { head = Typed kind scope; key = key; prepend = prepend } after is in
     let costs = typed_cost kind scope key prepend in
-    omega (arith, fields, costs)
+    omega (arith, rule_bytes text record { head = Typed kind scope; key = key; prepend = prepend } after is, costs)
 
 rules_bytes : (text : List ℕ) (rules : List RuleAsWritten) (rest : List ℕ) → RulesThen text rules rest
     → cost (expanded rules) + 64 * bytes_of rest ≤ 64 * bytes_of text
-rules_bytes text [] rest is = let same = ap bytes_of is in omega (arith, same)
+rules_bytes text [] rest is = omega (arith, ap bytes_of is)
 rules_bytes text (rule ∷ rules) rest (blanks, next, is, typed, blank, more) =
-    let first = typed_bytes text rule.head rule.key rule.prepend (blanks ++ next) is typed in
     let later = rules_bytes next rules rest more in
     let gap = bytes_append blanks next in
     let both = cost_append (rules_of rule.head rule.key rule.prepend) (expanded rules) in
-    omega (arith, first, later, gap, both)
+    omega (arith, typed_bytes text rule.head rule.key rule.prepend (blanks ++ next) is typed, later, gap, both)
 
 -- ---- the whole text
 
@@ -153,30 +140,21 @@ last_bytes : (rules : List MappingRule) (rest : List ℕ) (head : RuleHead) (key
     → RuleThen rest record { head = head; key = key; prepend = prepend } []
     → image_length (rules ++ rules_of head key prepend) ≤ 512 + most
 last_bytes rules rest (Typed kind scope) key prepend most front is =
-    let own = typed_bytes rest (Typed kind scope) key prepend [] is (λ e. cc) in
     let all = image_most (rules ++ rules_of (Typed kind scope) key prepend) in
     let both = cost_append rules (rules_of (Typed kind scope) key prepend) in
-    omega (arith, front, own, all, both)
+    omega (arith, typed_bytes rest (Typed kind scope) key prepend [] is (λ e. cc), all, both)
 last_bytes rules rest Map [] prepend most front is =
-    let fields = rule_bytes rest record { head = Map; key = []; prepend = prepend } [] is in
     let all = image_most (rules ++ rules_of Map [] prepend) in
     let client = sum_append (rule_worth sides.Client) rules (rules_of Map [] prepend) in
     let server = sum_append (rule_worth sides.Server) rules (rules_of Map [] prepend) in
     let both = cost_append rules (rules_of Map [] prepend) in
-    omega (arith, front, fields, all, client, server, both)
+    omega (arith, rule_bytes rest record { head = Map; key = []; prepend = prepend } [] is, all, client, server, both)
 last_bytes rules rest Map (c ∷ cs) prepend most front is =
     let fields = rule_bytes rest record { head = Map; key = c ∷ cs; prepend = prepend } [] is in
-    let all = image_most (rules ++ rules_of Map (c ∷ cs) prepend) in
     let client = sum_append (rule_worth sides.Client) rules (rules_of Map (c ∷ cs) prepend) in
     let server = sum_append (rule_worth sides.Server) rules (rules_of Map (c ∷ cs) prepend) in
     let both = cost_append rules (rules_of Map (c ∷ cs) prepend) in
-    omega (arith, front, fields, all, client, server, both)
-
-expanded_last : (front : List RuleAsWritten) (last : RuleAsWritten)
-    → expanded (front ++ last ∷ []) ≡ expanded front ++ rules_of last.head last.key last.prepend
-expanded_last front last =
-    flat_map-append (λ (rule : RuleAsWritten). rules_of rule.head rule.key rule.prepend) front (last ∷ [])
-    ∙ ap (λ more. expanded front ++ more) (append-nil (rules_of last.head last.key last.prepend))
+    omega (arith, fields, image_most (rules ++ rules_of Map (c ∷ cs) prepend), client, server, both)
 
 pub image_enough : (text : List ℕ) (rules : List MappingRule) → IsUtf8 text → SaysRules (chars text) rules
     → image_length rules ≤ 512 + 64 * length text
@@ -184,8 +162,6 @@ image_enough text rules utf8 (written, says, are) =
     let front = rules_bytes (trimmed (chars text)) says.front says.rest says.before in
     let whole = last_bytes (expanded says.front) says.rest says.last.head says.last.key says.last.prepend
     (64 * bytes_of (trimmed (chars text))) front says.ends in
-    let skipped = bytes_skipped (chars text) in
-    let dropped = bytes_dropped (skip_leading_whitespace (chars text)) in
     let same = ap length (encodes-chars text utf8) in
-    let is = ap image_length (are ∙ ap expanded says.are ∙ expanded_last says.front says.last) in
-    omega (arith, whole, skipped, dropped, same, is)
+    let is = ap image_length (are ∙ ap expanded says.are ∙ expanded_snoc says.front says.last) in
+    omega (arith, whole, bytes_skipped (chars text), bytes_dropped (skip_leading_whitespace (chars text)), same, is)

@@ -1,2 +1,1 @@
 mod NamesImageLemmas
-mod TriesLemmas

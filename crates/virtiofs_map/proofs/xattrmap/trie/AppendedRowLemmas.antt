@@ -1,11 +1,10 @@
 -- Rows that are appended, of nodes whose numbers fit.
-use Rattle.std.proofs.Common.{◌≡◌, ℕ, ◌+◌, ◌*◌, ◌<◌, List, [], ◌∷◌, ◌++◌, All, length, sym, ap, subst, ◌∙◌}
-use Rattle.std.proofs.Common.{arith, append-nil}
+use Rattle.std.proofs.Common.{◌≡◌, ℕ, ◌+◌, ◌*◌, ◌<◌, List, [], ◌∷◌, ◌++◌, All, length, sym, ap, subst, ◌∙◌, arith}
+use Rattle.std.proofs.Common.{append-nil, flat_map}
 use Rattle.std.proofs.Math.Seq.{drop-append_seam, take-append_seam}
 use Rattle.std.proofs.lemmas.List.{length_push}
 use Rattle.std.proofs.lemmas.List.Concat.{flat_map-append}
 use Rattle.std.proofs.lemmas.List.Elements.{All-drop, All-head, All-nil, All-push, All-take}
-use Rattle.std.specs.List.{flat_map}
 use Rattle.virtiofs_map.specs.NodeParts.{AreRowsOf, HasBytes, IsSmall, IsSmallIn, placed, row_in, row_of}
 use Rattle.virtiofs_map.specs.declared.xattrmap.trie.node.Node.{Node}
 
@@ -27,10 +26,10 @@ pub rows_more : (old new : List ℕ) (first : ℕ) (nodes : List Node) (node the
     → (IsSmall there → new ≡ old ++ row_of there) → length new ≡ length old + 24
     → AreRowsOf new first (nodes ++ node ∷ [])
 rows_more old new first nodes node there of is_placed bytes row longer = record {
-  long = let long = of.long in let size = length_push nodes node in omega (arith, long, longer, size);
+  long = omega (arith, length_push nodes node);
   are = λ small.
       (let one : IsSmallIn first 0 node = all_last (IsSmallIn first 0) nodes node small in
-      let same : there ≡ placed first 0 node = is_placed (let base = one.base in omega (arith, base)) in
+      let same : there ≡ placed first 0 node = is_placed (omega (arith, one.base)) in
       row (subst IsSmall (sym same) one)
       ∙ ap (λ (l : List ℕ). l ++ row_of there) (of.are (all_before (IsSmallIn first 0) nodes node small))
       ∙ ap (λ (n : Node). flat_map (row_in first 0) nodes ++ row_of n) same

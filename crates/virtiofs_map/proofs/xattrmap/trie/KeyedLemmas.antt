@@ -1,14 +1,13 @@
 -- The order of patterns by the numbers of their first bytes is that of their bytes.
-use Rattle.std.proofs.Common.{◌≡◌, ◌⊎◌, ℕ, zero, suc, ◌+◌, ◌-◌, ◌<◌, ◌≤◌, false, List, length, take}
-use Rattle.std.proofs.Common.{drop, get_or, inl, inr, sym, ap, subst, ◌∙◌, arith}
+use Rattle.std.proofs.Common.{◌≡◌, ◌⊎◌, ℕ, zero, suc, ◌+◌, ◌-◌, ◌<◌, ◌≤◌, false, List, length, take, drop, get_or, inl}
+use Rattle.std.proofs.Common.{inr, sym, ap, subst, ◌∙◌, arith, w64, All, IsSortedBy, nat_cmp, is_lt, true≢false}
+use Rattle.std.proofs.Common.{get_or-take, get_or-drop, take-take}
 use Rattle.std.specs.Cmp.Lexicographic.{slice_cmp, nat_list_cmp_total}
-use Rattle.std.specs.Int.{w64, from_be_bytes}
-use Rattle.std.specs.List.{All}
-use Rattle.std.specs.List.Sorted.{IsSortedBy}
-use Rattle.std.specs.Ordering.{nat_cmp, ordering_then, is_lt}
+use Rattle.std.specs.Int.{from_be_bytes}
+use Rattle.std.specs.Ordering.{ordering_then}
 use Rattle.std.specs.declared.cmp.Ordering.{Ordering}
-use Rattle.std.proofs.lemmas.Bool.{true≢false, cases_lt}
-use Rattle.std.proofs.lemmas.List.{get_or-take, get_or-drop, drop-take, take-take}
+use Rattle.std.proofs.lemmas.Bool.{cases_lt}
+use Rattle.std.proofs.lemmas.List.{drop-take}
 use Rattle.std.proofs.lemmas.List.Elements.{All-contains}
 use Rattle.std.proofs.lemmas.List.Sorted.{ranks_by, sorted_far}
 use Rattle.std.proofs.lemmas.Option.{slice_get_within, get_or_from_slice_get}
@@ -27,7 +26,6 @@ shared_byte d i xs ys same below =
 same_word : (xs ys : List ℕ) → take 8 xs ≡ take 8 ys → word_of xs ≡ word_of ys
 unfolding word_of
 same_word xs ys same =
-    let e0 : get_or xs 0 0 ≡ get_or ys 0 0 = shared_byte 8 0 xs ys same (omega arith) in
     let e1 : get_or xs 1 0 ≡ get_or ys 1 0 = shared_byte 8 1 xs ys same (omega arith) in
     let e2 : get_or xs 2 0 ≡ get_or ys 2 0 = shared_byte 8 2 xs ys same (omega arith) in
     let e3 : get_or xs 3 0 ≡ get_or ys 3 0 = shared_byte 8 3 xs ys same (omega arith) in
@@ -35,7 +33,7 @@ same_word xs ys same =
     let e5 : get_or xs 5 0 ≡ get_or ys 5 0 = shared_byte 8 5 xs ys same (omega arith) in
     let e6 : get_or xs 6 0 ≡ get_or ys 6 0 = shared_byte 8 6 xs ys same (omega arith) in
     let e7 : get_or xs 7 0 ≡ get_or ys 7 0 = shared_byte 8 7 xs ys same (omega arith) in
-    omega (arith, e0, e1, e2, e3, e4, e5, e6, e7)
+    omega (arith, shared_byte 8 0 xs ys same (omega arith), e1, e2, e3, e4, e5, e6, e7)
 
 -- its first eight bytes have the same number
 pub front_word : (front bytes : List ℕ) → front ≡ take 8 bytes → from_be_bytes w64 front ≡ word_of bytes
@@ -47,77 +45,43 @@ lesser_word : (d : ℕ) (xs ys : List ℕ) → d < 8 → AreBytes xs → take d 
     → get_or xs d 0 < get_or ys d 0 → word_of xs < word_of ys
 unfolding word_of
 lesser_word zero xs ys few bytes same lesser =
-    let b1 : get_or xs 1 0 < 256 = bytes 1 in
-    let b2 : get_or xs 2 0 < 256 = bytes 2 in
-    let b3 : get_or xs 3 0 < 256 = bytes 3 in
-    let b4 : get_or xs 4 0 < 256 = bytes 4 in
-    let b5 : get_or xs 5 0 < 256 = bytes 5 in
-    let b6 : get_or xs 6 0 < 256 = bytes 6 in
-    let b7 : get_or xs 7 0 < 256 = bytes 7 in
-    omega (arith, lesser, b1, b2, b3, b4, b5, b6, b7)
+    omega (arith, lesser, bytes 1, bytes 2, bytes 3, bytes 4, bytes 5, bytes 6, bytes 7)
 lesser_word (suc zero) xs ys few bytes same lesser =
-    let e0 : get_or xs 0 0 ≡ get_or ys 0 0 = shared_byte 1 0 xs ys same (omega arith) in
-    let b2 : get_or xs 2 0 < 256 = bytes 2 in
-    let b3 : get_or xs 3 0 < 256 = bytes 3 in
-    let b4 : get_or xs 4 0 < 256 = bytes 4 in
-    let b5 : get_or xs 5 0 < 256 = bytes 5 in
-    let b6 : get_or xs 6 0 < 256 = bytes 6 in
     let b7 : get_or xs 7 0 < 256 = bytes 7 in
-    omega (arith, lesser, e0, b2, b3, b4, b5, b6, b7)
+    omega (arith, lesser, shared_byte 1 0 xs ys same (omega arith), bytes 2, bytes 3, bytes 4, bytes 5, bytes 6, b7)
 lesser_word (suc (suc zero)) xs ys few bytes same lesser =
-    let e0 : get_or xs 0 0 ≡ get_or ys 0 0 = shared_byte 2 0 xs ys same (omega arith) in
     let e1 : get_or xs 1 0 ≡ get_or ys 1 0 = shared_byte 2 1 xs ys same (omega arith) in
-    let b3 : get_or xs 3 0 < 256 = bytes 3 in
-    let b4 : get_or xs 4 0 < 256 = bytes 4 in
-    let b5 : get_or xs 5 0 < 256 = bytes 5 in
-    let b6 : get_or xs 6 0 < 256 = bytes 6 in
-    let b7 : get_or xs 7 0 < 256 = bytes 7 in
-    omega (arith, lesser, e0, e1, b3, b4, b5, b6, b7)
+    omega (arith, lesser, shared_byte 2 0 xs ys same (omega arith), e1, bytes 3, bytes 4, bytes 5, bytes 6, bytes 7)
 lesser_word (suc (suc (suc zero))) xs ys few bytes same lesser =
-    let e0 : get_or xs 0 0 ≡ get_or ys 0 0 = shared_byte 3 0 xs ys same (omega arith) in
     let e1 : get_or xs 1 0 ≡ get_or ys 1 0 = shared_byte 3 1 xs ys same (omega arith) in
     let e2 : get_or xs 2 0 ≡ get_or ys 2 0 = shared_byte 3 2 xs ys same (omega arith) in
-    let b4 : get_or xs 4 0 < 256 = bytes 4 in
-    let b5 : get_or xs 5 0 < 256 = bytes 5 in
-    let b6 : get_or xs 6 0 < 256 = bytes 6 in
-    let b7 : get_or xs 7 0 < 256 = bytes 7 in
-    omega (arith, lesser, e0, e1, e2, b4, b5, b6, b7)
+    omega (arith, lesser, shared_byte 3 0 xs ys same (omega arith), e1, e2, bytes 4, bytes 5, bytes 6, bytes 7)
 lesser_word (suc (suc (suc (suc zero)))) xs ys few bytes same lesser =
-    let e0 : get_or xs 0 0 ≡ get_or ys 0 0 = shared_byte 4 0 xs ys same (omega arith) in
     let e1 : get_or xs 1 0 ≡ get_or ys 1 0 = shared_byte 4 1 xs ys same (omega arith) in
     let e2 : get_or xs 2 0 ≡ get_or ys 2 0 = shared_byte 4 2 xs ys same (omega arith) in
     let e3 : get_or xs 3 0 ≡ get_or ys 3 0 = shared_byte 4 3 xs ys same (omega arith) in
-    let b5 : get_or xs 5 0 < 256 = bytes 5 in
-    let b6 : get_or xs 6 0 < 256 = bytes 6 in
-    let b7 : get_or xs 7 0 < 256 = bytes 7 in
-    omega (arith, lesser, e0, e1, e2, e3, b5, b6, b7)
+    omega (arith, lesser, shared_byte 4 0 xs ys same (omega arith), e1, e2, e3, bytes 5, bytes 6, bytes 7)
 lesser_word (suc (suc (suc (suc (suc zero))))) xs ys few bytes same lesser =
-    let e0 : get_or xs 0 0 ≡ get_or ys 0 0 = shared_byte 5 0 xs ys same (omega arith) in
     let e1 : get_or xs 1 0 ≡ get_or ys 1 0 = shared_byte 5 1 xs ys same (omega arith) in
     let e2 : get_or xs 2 0 ≡ get_or ys 2 0 = shared_byte 5 2 xs ys same (omega arith) in
     let e3 : get_or xs 3 0 ≡ get_or ys 3 0 = shared_byte 5 3 xs ys same (omega arith) in
     let e4 : get_or xs 4 0 ≡ get_or ys 4 0 = shared_byte 5 4 xs ys same (omega arith) in
-    let b6 : get_or xs 6 0 < 256 = bytes 6 in
-    let b7 : get_or xs 7 0 < 256 = bytes 7 in
-    omega (arith, lesser, e0, e1, e2, e3, e4, b6, b7)
+    omega (arith, lesser, shared_byte 5 0 xs ys same (omega arith), e1, e2, e3, e4, bytes 6, bytes 7)
 lesser_word (suc (suc (suc (suc (suc (suc zero)))))) xs ys few bytes same lesser =
-    let e0 : get_or xs 0 0 ≡ get_or ys 0 0 = shared_byte 6 0 xs ys same (omega arith) in
     let e1 : get_or xs 1 0 ≡ get_or ys 1 0 = shared_byte 6 1 xs ys same (omega arith) in
     let e2 : get_or xs 2 0 ≡ get_or ys 2 0 = shared_byte 6 2 xs ys same (omega arith) in
     let e3 : get_or xs 3 0 ≡ get_or ys 3 0 = shared_byte 6 3 xs ys same (omega arith) in
     let e4 : get_or xs 4 0 ≡ get_or ys 4 0 = shared_byte 6 4 xs ys same (omega arith) in
     let e5 : get_or xs 5 0 ≡ get_or ys 5 0 = shared_byte 6 5 xs ys same (omega arith) in
-    let b7 : get_or xs 7 0 < 256 = bytes 7 in
-    omega (arith, lesser, e0, e1, e2, e3, e4, e5, b7)
+    omega (arith, lesser, shared_byte 6 0 xs ys same (omega arith), e1, e2, e3, e4, e5, bytes 7)
 lesser_word (suc (suc (suc (suc (suc (suc (suc zero))))))) xs ys few bytes same lesser =
-    let e0 : get_or xs 0 0 ≡ get_or ys 0 0 = shared_byte 7 0 xs ys same (omega arith) in
     let e1 : get_or xs 1 0 ≡ get_or ys 1 0 = shared_byte 7 1 xs ys same (omega arith) in
     let e2 : get_or xs 2 0 ≡ get_or ys 2 0 = shared_byte 7 2 xs ys same (omega arith) in
     let e3 : get_or xs 3 0 ≡ get_or ys 3 0 = shared_byte 7 3 xs ys same (omega arith) in
     let e4 : get_or xs 4 0 ≡ get_or ys 4 0 = shared_byte 7 4 xs ys same (omega arith) in
     let e5 : get_or xs 5 0 ≡ get_or ys 5 0 = shared_byte 7 5 xs ys same (omega arith) in
     let e6 : get_or xs 6 0 ≡ get_or ys 6 0 = shared_byte 7 6 xs ys same (omega arith) in
-    omega (arith, lesser, e0, e1, e2, e3, e4, e5, e6)
+    omega (arith, lesser, shared_byte 7 0 xs ys same (omega arith), e1, e2, e3, e4, e5, e6)
 lesser_word (suc (suc (suc (suc (suc (suc (suc (suc d)))))))) xs ys few bytes same lesser = absurd (omega (arith, few))
 
 -- where the number of a row is not less, its byte after a shared front is not less, or all eight bytes are shared
@@ -144,7 +108,7 @@ word_step depth xs ys rest bytes same order = by (cases_lt depth 8) where
 -- ---- two numbers, and then all bytes
 
 bytes_after : (k : ℕ) (xs : List ℕ) → AreBytes xs → AreBytes (drop k xs)
-bytes_after k xs bytes = λ i. let e = get_or-drop k xs i 0 in let b = bytes (k + i) in omega (arith, e, b)
+bytes_after k xs bytes = λ i. omega (arith, get_or-drop k xs i 0, bytes (k + i))
 
 later_key : (depth : ℕ) (xs ys : List ℕ) → AreBytes ys → take depth xs ≡ take depth ys
     → is_lt (ordering_then (nat_cmp (word_of ys) (word_of xs))
@@ -168,10 +132,9 @@ later_key depth xs ys bytes same order =
               ⊎ ((8 ≤ depth - 8) × (is_lt (slice_cmp nat_cmp ys xs) ≡ false))
               → get_or xs depth 0 ≤ get_or ys depth 0
           next_word (inl above) =
-              let one = get_or-drop 8 xs (depth - 8) 0 in
               let other = get_or-drop 8 ys (depth - 8) 0 in
               let at : 8 + (depth - 8) ≡ depth = omega (arith, many) in
-              subst (λ (n : ℕ). get_or xs n 0 ≤ get_or ys n 0) at (omega (arith, one, other, above))
+              subst (λ (n : ℕ). get_or xs n 0 ≤ get_or ys n 0) at (omega (arith, get_or-drop 8 xs (depth - 8) 0, other))
           next_word (inr (far, last)) = later_byte xs ys depth same last
 
 -- ---- patterns
@@ -200,7 +163,7 @@ AreInOrder-keyed patterns each sorted = record {
       let is_other = get_or_from_slice_get patterns j other one there in
       let far =
       sorted_far (λ (a b : Pattern). is_lt (slice_cmp nat_cmp (key_of a) (key_of b)))
-      (ranks_by nat_list_cmp_total key_of) patterns sorted i j one (omega (arith, before)) inside in
+      (ranks_by nat_list_cmp_total key_of) patterns sorted i j one (omega arith) inside in
       let order : is_lt (slice_cmp nat_cmp (key_of other) (key_of one)) ≡ false =
       subst (λ (k : Pattern). is_lt (slice_cmp nat_cmp (key_of other) (key_of k)) ≡ false) is_one
       (subst (λ (k : Pattern). is_lt (slice_cmp nat_cmp (key_of k) (key_of (get_or patterns i one))) ≡ false)

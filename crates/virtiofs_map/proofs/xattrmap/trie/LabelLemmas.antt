@@ -7,16 +7,10 @@ use Rattle.std.proofs.lemmas.Bool.Decides.{Decides-eqb}
 use Rattle.std.proofs.lemmas.List.{take-append-drop, length-take, take_at, take_all, drop_at}
 use Rattle.virtiofs_map.specs.Names.{begins}
 use Rattle.virtiofs_map.specs.PatternTrie.{leads, common_of_two, common, label_after}
-use Rattle.virtiofs_map.proofs.BeginsLemmas.{begins_split, begins_from}
+use Rattle.virtiofs_map.proofs.BeginsLemmas.{begins_split, begins_from, begins_trans}
 use Rattle.virtiofs_map.proofs.xattrmap.trie.LevelOrderLemmas.{all_at}
 
 -- ---- what begins what
-
-pub begins_through : (a b c : List ℕ) → begins a b ≡ true → begins b c ≡ true → begins a c ≡ true
-begins_through a b c one other =
-    begins_from a c (drop (length a) b ++ drop (length b) c)
-    (begins_split b c other ∙ ap (λ m. m ++ drop (length b) c) (begins_split a b one)
-    ∙ append_assoc a (drop (length a) b) (drop (length b) c))
 
 begins_take : (front rest : List ℕ) (n : ℕ) → begins (front ++ take n rest) (front ++ rest) ≡ true
 begins_take front rest n =
@@ -65,8 +59,8 @@ all_fold text (other ∷ texts) =
     let both = common_of_two text other in
     let more = all_fold both texts in
     let all = fold common_of_two both texts in (
-      begins_through all both text more.0 (of_two_one text other),
-      (begins_through all both other more.0 (of_two_other text other), more.1),
+      begins_trans all both text more.0 (of_two_one text other),
+      (begins_trans all both other more.0 (of_two_other text other), more.1),
     )
 
 pub all_common : (texts : List (List ℕ)) → AllBegin (common texts) texts
@@ -138,7 +132,7 @@ module _ (most : ℕ) (texts : List (List ℕ)) (front : List ℕ) (led : leads 
       → AllBegin (front ++ label_after most texts front) left
   all_through [] all = tt
   all_through (text ∷ left) all = (
-    begins_through (front ++ label_after most texts front) (common (filter (begins front) texts)) text label_begins
+    begins_trans (front ++ label_after most texts front) (common (filter (begins front) texts)) text label_begins
         all.0,
     all_through left all.1,
   )
@@ -202,7 +196,7 @@ module _ (most : ℕ) (texts : List (List ℕ)) (front label one other : List �
       (through (filter (begins front) texts) (all_common (filter (begins front) texts)))) is.here is.starts where
         through : (left : List (List ℕ)) → AllBegin (common (filter (begins front) texts)) left → AllBegin more left
         through [] all = tt
-        through (t ∷ left) all = (begins_through more (common (filter (begins front) texts)) t begun all.0, through left all.1)
+        through (t ∷ left) all = (begins_trans more (common (filter (begins front) texts)) t begun all.0, through left all.1)
 
   pub label_only : label ≡ label_after most texts front
   unfolding label_after
@@ -231,7 +225,7 @@ module _ (most : ℕ) (texts : List (List ℕ)) (front label one other : List �
           apart l byte (of_text (front ++ label ++ byte ∷ []) one first more)
           (of_text (front ++ label ++ byte ∷ []) other second more))
       | inr g ↦
-          (let size : length label ≡ most = omega (arith, short, g) in
+          (let size : length label ≡ most = omega (arith, short) in
           sym (ap (take most) (after ∙ ap (λ r. label ++ r) is) ∙ take_at label (byte ∷ rest) most size))
     ]
 
@@ -245,5 +239,4 @@ label_leads most texts front led =
 pub label_short : (most : ℕ) (texts : List (List ℕ)) (front : List ℕ) → length (label_after most texts front) ≤ most
 unfolding label_after
 label_short most texts front =
-    let size = length-take most (drop (length front) (common (filter (begins front) texts))) in
-    omega (arith, size)
+    omega (arith, length-take most (drop (length front) (common (filter (begins front) texts))))

@@ -1,8 +1,7 @@
 -- Lists in the order of levels: some items, and then what is below each item of the list in turn.
-use Rattle.std.proofs.Common.{◌≡◌, ℕ, zero, suc, ◌+◌, ◌≤◌, List, [], ◌∷◌, ◌++◌, length, map, take, drop, Some, refl, sym}
-use Rattle.std.proofs.Common.{ap, subst, ◌∙◌, arith, append-nil, length-append}
-use Rattle.std.specs.List.{slice_get, flat_map, AllByRecursion}
-use Rattle.std.proofs.lemmas.List.{take_at}
+use Rattle.std.proofs.Common.{◌≡◌, ℕ, zero, suc, ◌+◌, ◌≤◌, List, [], ◌∷◌, ◌++◌, length, map, take, drop, Some, refl}
+use Rattle.std.proofs.Common.{sym, ap, subst, ◌∙◌, arith, append-nil, length-append, slice_get, flat_map, take_at}
+use Rattle.std.specs.List.{AllByRecursion}
 use Rattle.std.proofs.lemmas.List.Concat.{flat_map-append}
 use Rattle.virtiofs_map.specs.PatternTrie.{levels}
 
@@ -106,9 +105,9 @@ module _ {X : Type 0} (below : X → List X) where
 
     far_none : (n depth : ℕ) (level : List X) → most ≤ depth + n → AllByRecursion (IsDeep depth) level
         → far_below (suc n) level ≡ []
-    far_none zero depth level past deep = all_ended depth level (omega (arith, past)) deep
+    far_none zero depth level past deep = all_ended depth level (omega arith) deep
     far_none (suc n) depth level past deep =
-        far_none n (suc depth) (flat_map below level) (omega (arith, past)) (all_deeper depth level deep)
+        far_none n (suc depth) (flat_map below level) (omega arith) (all_deeper depth level deep)
 
     deep_anyway : (xs : List X) → xs ≡ flat_map below xs → (depth : ℕ) → AllByRecursion (IsDeep depth) xs
     deep_anyway xs order zero = all_some xs

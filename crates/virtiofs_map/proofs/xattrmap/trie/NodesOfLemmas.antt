@@ -1,5 +1,5 @@
 -- The nodes of the trie of patterns are a trie of the rules whose patterns they are.
-use Rattle.std.proofs.Common.{◌≡◌, ◌≢◌, ◌⊎◌, ℕ, zero, suc, ◌+◌, ◌-◌, ◌<◌, ◌≤◌, true, false, ◌||◌, cond, List, []}
+use Rattle.std.proofs.Common.{Bool, ◌≡◌, ◌≢◌, ◌⊎◌, ℕ, zero, suc, ◌+◌, ◌-◌, ◌<◌, ◌≤◌, true, false, ◌||◌, cond, List, []}
 use Rattle.std.proofs.Common.{◌∷◌, ◌++◌, length, take, drop, Contains, Option, Some, None, refl, sym, ap}
 use Rattle.std.proofs.Common.{get_or, lit≤, ltb, subst, ◌∙◌, arith, length-append, inl, inr, append_assoc}
 use Rattle.std.specs.List.{All, slice_get, find, list_any, flat_map, position_or_len, AllByRecursion}
@@ -13,7 +13,7 @@ use Rattle.virtiofs_map.specs.FirstRule.{acts, pattern}
 use Rattle.virtiofs_map.specs.Names.{begins, fits}
 use Rattle.virtiofs_map.specs.PatternTrie.{TextNode, root, leads, next_bytes, label_after, text_node_after, child, children}
 use Rattle.virtiofs_map.specs.PatternTrie.{are_sparse, slots, span, text_nodes}
-use Rattle.virtiofs_map.specs.Rule.{MappingRule, RuleType, Prefix, Okay, Bad, Unsupported, type_number}
+use Rattle.virtiofs_map.specs.Rule.{MappingRule}
 use Rattle.virtiofs_map.specs.PatternTrie.{longest_label}
 use Rattle.virtiofs_map.specs.TrieParts.{texts_of, lowest, label_place, node_for, nodes_from}
 use Rattle.virtiofs_map.specs.TrieParts.{IsTrieOf, nodes_of}
@@ -21,6 +21,7 @@ use Rattle.virtiofs_map.specs.declared.xattrmap.scopes.Side.{Side}
 use Rattle.virtiofs_map.specs.declared.xattrmap.trie.node.Node.{Node}
 use Rattle.virtiofs_map.specs.declared.xattrmap.trie.patterns.Pattern.{Pattern}
 use Rattle.virtiofs_map.proofs.BeginsLemmas.{begins_split}
+use Rattle.virtiofs_map.proofs.xattrmap.WalkAnswerLemmas.{type_small}
 use Rattle.virtiofs_map.proofs.xattrmap.trie.NextByteLemmas.{slots_small}
 use Rattle.virtiofs_map.proofs.xattrmap.trie.LabelLemmas.{label_leads, whole_label}
 use Rattle.virtiofs_map.proofs.xattrmap.trie.LevelOrderLemmas.{all_at, before}
@@ -31,22 +32,31 @@ use Rattle.virtiofs_map.proofs.xattrmap.SlotLemmas.{Rising, slots_has, slots_pla
 
 -- ---- patterns and their texts
 
--- a pattern whose text begins with a path
+-- the first pattern whose text begins with a path
 pub record Begun (patterns : List Pattern) (path : List ℕ) : Type 0 where
   pub at : ℕ
   pub one : Pattern
   pub here : slice_get patterns at ≡ Some one
   pub starts : begins path one.bytes.now ≡ true
+  pub found : find (λ one. begins path one.bytes.now) patterns ≡ Some one
 
 pub begun : (patterns : List Pattern) (path : List ℕ) → leads (texts_of patterns) path ≡ true → Begun patterns path
 unfolding leads
 begun [] path led = absurd (true≢false (sym led))
-begun (one ∷ patterns) path led = elim (cases_Bool (begins path one.bytes.now)) [
-  | inl e ↦ record { at = 0; one = one; here = refl; starts = e }
-  | inr e ↦
-      (let later = begun patterns path (sym (ap (λ b. b || list_any (begins path) (texts_of patterns)) e) ∙ led) in
-      record { at = suc later.at; one = later.one; here = later.here; starts = later.starts })
-]
+begun (one ∷ patterns) path led =
+    let first : Bool → Option Pattern = λ b. cond b (Some one) (find (λ one. begins path one.bytes.now) patterns) in
+    elim (cases_Bool (begins path one.bytes.now)) [
+      | inl e ↦ record { at = 0; one = one; here = refl; starts = e; found = ap first e }
+      | inr e ↦
+          (let later = begun patterns path (sym (ap (λ b. b || list_any (begins path) (texts_of patterns)) e) ∙ led) in
+          record {
+            at = suc later.at;
+            one = later.one;
+            here = later.here;
+            starts = later.starts;
+            found = ap first e ∙ later.found;
+          })
+    ]
 
 pub leads_by : (patterns : List Pattern) (path : List ℕ) (at : ℕ) (one : Pattern) → slice_get patterns at ≡ Some one
     → begins path one.bytes.now ≡ true → leads (texts_of patterns) path ≡ true
@@ -63,52 +73,15 @@ leads_by (other ∷ patterns) path (suc at) one here starts =
       | inr e ↦ ap (λ b. b || list_any (begins path) (texts_of patterns)) e ∙ later
     ]
 
--- the first of them is one
-record FoundBegun (patterns : List Pattern) (path : List ℕ) : Type 0 where
-  pub begun : Begun patterns path
-  pub found : find (λ one. begins path one.bytes.now) patterns ≡ Some begun.one
-
-found_begun : (patterns : List Pattern) (path : List ℕ) → leads (texts_of patterns) path ≡ true
-    → FoundBegun patterns path
-unfolding leads
-found_begun [] path led = absurd (true≢false (sym led))
-found_begun (one ∷ patterns) path led = elim (cases_Bool (begins path one.bytes.now)) [
-  | inl e ↦ record {
-    begun = record { at = 0; one = one; here = refl; starts = e };
-    found = ap (λ b. cond b (Some one) (find (λ (one : Pattern). begins path one.bytes.now) patterns)) e;
-  }
-  | inr e ↦
-      (let later = found_begun patterns path
-      (sym (ap (λ b. b || list_any (begins path) (texts_of patterns)) e) ∙ led) in
-      record {
-        begun = record {
-          at = suc later.begun.at;
-          one = later.begun.one;
-          here = later.begun.here;
-          starts = later.begun.starts;
-        };
-        found = ap (λ b. cond b (Some one) (find (λ (one : Pattern). begins path one.bytes.now) patterns)) e
-            ∙ later.found;
-      })
-]
-
 text_at : (P : List ℕ → Type 0) (patterns : List Pattern) (at : ℕ) (one : Pattern)
     → AllByRecursion P (texts_of patterns) → slice_get patterns at ≡ Some one → P one.bytes.now
-text_at P [] at one all here = absurd cc
-text_at P (other ∷ patterns) zero one all here =
-    let same : other ≡ one = cc in subst (λ (o : Pattern). P o.bytes.now) same all.0
-text_at P (other ∷ patterns) (suc at) one all here = text_at P patterns at one all.1 here
+text_at P patterns at one all here =
+    let text : Pattern → List ℕ = λ one. one.bytes.now in
+    all_at P (texts_of patterns) at (text one) all (slice_get-map text patterns at ∙ ap (option_map text) here)
 
 get_at : (path : List ℕ) (byte : ℕ) (rest : List ℕ) → slice_get (path ++ byte ∷ rest) (length path) ≡ Some byte
 get_at [] byte rest = refl
 get_at (x ∷ path) byte rest = get_at path byte rest
-
--- the number of a rule's type is small
-pub kind_small : (kind : RuleType) → type_number kind ≤ 3
-kind_small Prefix = omega arith
-kind_small Okay = omega arith
-kind_small Bad = omega arith
-kind_small Unsupported = omega arith
 
 -- ---- where a label stands
 
@@ -140,9 +113,8 @@ module _ (side : Side) (rules : List MappingRule) (patterns : List Pattern) wher
       (x, refl, sym same ∙ ap (λ n. node_for side rules patterns n x) here)
   node_is base (x ∷ xs) (suc at) node e =
       let later = node_is (base + length (below x)) xs at node e in
-      let front = length-append (below x) (flat_map below (take at xs)) in
       let same : base + length (below x) + before below xs at ≡ base + before below (x ∷ xs) (suc at) =
-      omega (arith, front) in
+      omega (arith, length-append (below x) (flat_map below (take at xs))) in
       (later.0, later.1, later.2 ∙ ap (λ n. node_for side rules patterns n later.0) same)
 
   pub node_at : (base : ℕ) (xs : List (Option TextNode)) (at : ℕ) (of : Option TextNode) → slice_get xs at ≡ Some of
@@ -155,11 +127,9 @@ module _ (side : Side) (rules : List MappingRule) (patterns : List Pattern) wher
       ap (λ n. Some (node_for side rules patterns n x)) here
       ∙ ap (λ (o : Option TextNode). Some (node_for side rules patterns (base + before below (x ∷ xs) 0) o)) same
   node_at base (x ∷ xs) (suc at) of e =
-      let later = node_at (base + length (below x)) xs at of e in
-      let front = length-append (below x) (flat_map below (take at xs)) in
       let same : base + length (below x) + before below xs at ≡ base + before below (x ∷ xs) (suc at) =
-      omega (arith, front) in
-      later ∙ ap (λ n. Some (node_for side rules patterns n of)) same
+      omega (arith, length-append (below x) (flat_map below (take at xs))) in
+      (node_at (base + length (below x)) xs at of e) ∙ ap (λ n. Some (node_for side rules patterns n of)) same
 
   pub length-nodes : (base : ℕ) (xs : List (Option TextNode))
       → length (nodes_from side rules patterns base xs) ≡ length xs
@@ -176,14 +146,7 @@ module _ (side : Side) (rules : List MappingRule) (patterns : List Pattern) wher
   answer_small few name =
       let place = position_or_len (fits side name) rules in
       cond_both (ltb place (length rules)) (Some place) None (λ found. answer_for rules found ≤ no_answer)
-      (λ e. let inside = ltb-true place (length rules) e in
-      let kind = type_small (slice_get rules place) in
-      omega (arith, inside, kind, few))
-      (λ _. omega arith) where
-        type_small : (rule : Option MappingRule)
-            → option_map_or (λ (rule : MappingRule). type_number rule.kind) rule 0 ≤ 3
-        type_small None = omega arith
-        type_small (Some rule) = kind_small rule.kind
+      (λ e. omega (arith, ltb-true place (length rules) e, type_small rules place)) (λ _. omega arith)
 
   -- ---- a label among the bytes
 
@@ -198,26 +161,23 @@ module _ (side : Side) (rules : List MappingRule) (patterns : List Pattern) wher
         → (label_place patterns (text_node_after path byte label) + length label ≤ length bytes)
         × (take (length label) (drop (label_place patterns (text_node_after path byte label)) bytes) ≡ label)
     label_stands path byte label led =
-        let found = found_begun patterns (path ++ byte ∷ label) led in
-        let one = found.begun.one in
-        let is = (is_pattern found.begun.at one found.begun.here).is in
+        let found = begun patterns (path ++ byte ∷ label) led in
+        let one = found.one in
+        let is = (is_pattern found.at one found.here).is in
         let text = one.bytes.now in
         let q = path ++ byte ∷ [] in
         let whole : text ≡ q ++ label ++ drop (length (path ++ byte ∷ label)) text =
-        begins_split (path ++ byte ∷ label) text found.begun.starts
+        begins_split (path ++ byte ∷ label) text found.starts
         ∙ ap (λ t. t ++ drop (length (path ++ byte ∷ label)) text) (sym (append_assoc path (byte ∷ []) label)) in
-        let long = length-append path (byte ∷ label) in
-        let short = length-append path (byte ∷ []) in
         let all = ap length whole
         ∙ length-append (q ++ label) (drop (length (path ++ byte ∷ label)) text) in
-        let most = length-append q label in
         let size : one.start + length (path ++ byte ∷ label) - length label ≡ one.start + length q =
-        omega (arith, long, short) in
+        omega (arith, length-append path (byte ∷ label), length-append path (byte ∷ [])) in
         let place : label_place patterns (text_node_after path byte label) ≡ one.start + length q =
         ap (λ o. option_map_or (λ (one : Pattern). one.start + length (path ++ byte ∷ label) - length label) o 0)
         found.found ∙ size in
         let within = is.within in (
-          omega (arith, place, within, all, most),
+          omega (arith, place, within, all, length-append q label),
           ap (λ n. take (length label) (drop n bytes)) place
               ∙ ap (take (length label)) (sym (drop-drop (length q) one.start bytes))
               ∙ label_inside (drop one.start bytes) text q label (drop (length (path ++ byte ∷ label)) text) is.among whole,
@@ -229,7 +189,7 @@ module _ (side : Side) (rules : List MappingRule) (patterns : List Pattern) wher
           → ((at : ℕ) (one : Pattern) → slice_get some at ≡ Some one → IsPattern side rules bytes one)
           → label_place some root ≤ length bytes
       by_first [] is = omega arith
-      by_first (one ∷ some) is = (let within = (is 0 one refl).is.within in omega (arith, within))
+      by_first (one ∷ some) is = omega (arith, (is 0 one refl).is.within)
 
     -- ---- a node of the trie
 
@@ -352,8 +312,8 @@ module _ (side : Side) (rules : List MappingRule) (patterns : List Pattern) wher
         kid_of next kid from_base before_end here some =
             let of = node_is 1 all next kid here in
             let k = next - base in
-            let inside : k < length (below (Some text_node)) = omega (arith, from_base, before_end) in
-            let same : next ≡ base + k = omega (arith, from_base) in
+            let inside : k < length (below (Some text_node)) = omega arith in
+            let same : next ≡ base + k = omega arith in
             let stands = sym (kid_at longest_label texts at text_node there k inside) ∙ ap (slice_get all) (sym same) ∙ of.1 in
             let slot = kid_is longest_label texts at text_node there k of.0 stands in
             (slot.0, kid_of_text_node next kid slot.0 of.0 slot.1 of.1 of.2 slot.2 some)
@@ -465,8 +425,7 @@ module _ (side : Side) (rules : List MappingRule) (patterns : List Pattern) wher
         placed dense some = by_next bytes_on refl where
           by_next : (next : List ℕ) → bytes_on ≡ next → AreInSlots (nodes_of side rules patterns) this
           by_next [] is = absurd
-              (let none = kids_counted longest_label texts at text_node there ∙ ap (λ b. length (slots b)) is in
-              omega (arith, none, some))
+              (omega (arith, kids_counted longest_label texts at text_node there ∙ ap (λ b. length (slots b)) is))
           by_next (low ∷ more) is =
               (let rising = subst (Rising 1 256) is (next_rising texts text_node.path) in
               let dense = sym (ap are_sparse is) ∙ dense in
@@ -477,22 +436,18 @@ module _ (side : Side) (rules : List MappingRule) (patterns : List Pattern) wher
                 low_byte = omega (arith, lowest_is, upto.0);
                 high = omega (arith, lowest_is, upto.1, count);
                 slots = λ k kid inside here some.
-                    (let found = kid_of (base + k) kid (omega arith) (omega (arith, inside)) here some in
+                    (let found = kid_of (base + k) kid (omega arith) (omega arith) here some in
                     let behind : base + k - base ≡ k = omega arith in
                     let slot = ap (slice_get (slots bytes_on)) (sym behind) ∙ found.1.slot in
                     let slot_in = ap (λ b. slice_get (slots b) k) (sym is) ∙ slot in
                     let ranged = ap (λ b. slice_get b k) (sym (slots_placed low more rising dense)) ∙ slot_in in
                     let at_place = range_is low (span low more) k found.0 ranged in
-                    let first_byte = kid_first_byte found.0 (base + k) kid found.1 in
-                    omega (arith, first_byte, at_place.0, lowest_is));
+                    omega (arith, kid_first_byte found.0 (base + k) kid found.1, at_place.0, lowest_is));
               })
 
         within : base + length (below (Some text_node)) ≤ length (nodes_of side rules patterns)
         unfolding nodes_of
-        within =
-            let inside = kids_within longest_label texts at text_node there in
-            let size = length-nodes 1 all in
-            omega (arith, inside, size)
+        within = omega (arith, kids_within longest_label texts at text_node there, length-nodes 1 all)
 
         led_by : IsLed longest_label texts (Some text_node)
         led_by = all_at (IsLed longest_label texts) all at (Some text_node) (text_nodes_led longest_label texts) there
@@ -500,13 +455,9 @@ module _ (side : Side) (rules : List MappingRule) (patterns : List Pattern) wher
         label_within : label_place patterns text_node + text_node.size ≤ length bytes
         label_within = elim led_by [
           | inl is ↦ (let low = root_stands in
-              let place = ap (label_place patterns) is in
-              let size = ap (λ (n : TextNode). n.size) is in
-              omega (arith, low, place, size))
+              omega (arith, low, ap (label_place patterns) is, ap (λ (n : TextNode). n.size) is))
           | inr after ↦ (let stands = (label_stands after.path after.byte after.label after.led).0 in
-              let place = ap (label_place patterns) after.is in
-              let size = ap (λ (n : TextNode). n.size) after.is in
-              omega (arith, stands, place, size))
+              omega (arith, stands, ap (label_place patterns) after.is, ap (λ (n : TextNode). n.size) after.is))
         ]
 
         front : (path at ≡ []) ⊎ BeginsPattern side rules (path at)
@@ -544,22 +495,18 @@ module _ (side : Side) (rules : List MappingRule) (patterns : List Pattern) wher
         size_small : text_node.size < 256
         unfolding longest_label
         size_small = elim led_by [
-          | inl is ↦ (let size = ap (λ (n : TextNode). n.size) is in omega (arith, size))
-          | inr after ↦
-              (let size = ap (λ (n : TextNode). n.size) after.is in
-              let short = after.short in
-              omega (arith, size, short))
+          | inl is ↦ omega (arith, ap (λ (n : TextNode). n.size) is)
+          | inr after ↦ omega (arith, ap (λ (n : TextNode). n.size) after.is)
         ]
 
         is_bounded : AreFew rules → IsBounded (nodes_of side rules patterns) bytes this
         is_bounded few = record {
           answer = answer_small few text_node.path;
-          label = let inside = label_within in omega (arith, inside);
+          label = omega (arith, label_within);
           size = size_small;
-          base = let inside = within in omega (arith, inside);
+          base = omega (arith, within);
           width = (let count = kids_counted longest_label texts at text_node there in
-              let small = slots_small bytes_on (next_rising texts text_node.path) in
-              omega (arith, count, small));
+              omega (arith, count, slots_small bytes_on (next_rising texts text_node.path)));
         }
 
       -- so all of them are a trie
@@ -568,11 +515,9 @@ module _ (side : Side) (rules : List MappingRule) (patterns : List Pattern) wher
       nodes_trie =
           let begun : slice_get all 0 ≡ Some (Some root) =
           ap (λ (l : List (Option TextNode)). slice_get l 0) (text_nodes_order longest_label texts) in
-          let count = length-nodes 1 all in
-          let some = slice_get_within all 0 (Some root) begun in
           record {
             path = path;
-            root = omega (arith, count, some);
+            root = omega (arith, length-nodes 1 all, slice_get_within all 0 (Some root) begun);
             begun = ap path_of begun;
             each = λ at node here real.
                 (let text_node = is_text_node at node here real in
@@ -585,14 +530,12 @@ module _ (side : Side) (rules : List MappingRule) (patterns : List Pattern) wher
           → node ≡ node_for side rules patterns (1 + before below all at) of
           → IsBounded (nodes_of side rules patterns) bytes node
       text_node_bounded few at None node there is =
-          let order = ap length (text_nodes_order longest_label texts) in
           let inside = before_within below all at None there in
-          let count = nodes_counted in
           subst (IsBounded (nodes_of side rules patterns) bytes) (sym is) record {
             answer = lit≤ tt;
             label = omega arith;
             size = omega arith;
-            base = omega (arith, order, inside, count);
+            base = omega (arith, ap length (text_nodes_order longest_label texts), inside, nodes_counted);
             width = omega arith;
           }
       text_node_bounded few at (Some text_node) node there is =

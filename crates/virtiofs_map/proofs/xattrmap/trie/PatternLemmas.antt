@@ -1,14 +1,12 @@
 -- The patterns of a side, gathered rule by rule, and in any order.
 use Rattle.std.proofs.Common.{◌≡◌, ◌≢◌, ◌⊎◌, ℕ, zero, suc, ◌+◌, ◌*◌, ◌<◌, ◌≤◌, Bool, true, false, cond, eqb, ltb, List}
 use Rattle.std.proofs.Common.{[], ◌∷◌, ◌++◌, length, take, get_or, Some, inl, inr, refl, sym, ap, subst, ◌∙◌, eq-eqb}
-use Rattle.std.proofs.Common.{arith}
+use Rattle.std.proofs.Common.{arith, All, Contains, slice_get, IsPermutation, nat_cmp, is_lt, true≢false, lt-ltb}
 use Rattle.std.specs.Cmp.Lexicographic.{slice_cmp}
-use Rattle.std.specs.List.{All, Contains, slice_get}
-use Rattle.std.specs.List.Sorted.{IsPermutation}
-use Rattle.std.specs.Ordering.{nat_cmp, ordering_then, is_lt}
+use Rattle.std.specs.Ordering.{ordering_then}
 use Rattle.std.specs.declared.cmp.Ordering.{Ordering}
 use Rattle.std.specs.declared.cmp.Ordering.TheVariants.{Less, Equal, Greater}
-use Rattle.std.proofs.lemmas.Bool.{true≢false, cases_lt, lt-ltb}
+use Rattle.std.proofs.lemmas.Bool.{cases_lt}
 use Rattle.std.proofs.lemmas.Bool.Decides.{nat_tests}
 use Rattle.std.proofs.lemmas.List.Sorted.{All-permutation, Contains-permutation}
 use Rattle.std.proofs.lemmas.List.Elements.{All-contains, All-push, Contains-append_left, Contains-push}
@@ -33,7 +31,7 @@ patterns_more side rules bytes place patterns one below is = record {
         (let (other, stored, same, answer) = below.every at rule earlier here acting in
         (other, Contains-append_left patterns (one ∷ []) other stored, same, answer))
     | inr later ↦
-        (let now : at ≡ place = omega (arith, before, later) in
+        (let now : at ≡ place = omega arith in
         let rule_is : is.rule ≡ rule = same_Some _ _ (sym is.here ∙ ap (slice_get rules) (sym now) ∙ here) in (
           one,
           Contains-push patterns one,
@@ -55,7 +53,7 @@ patterns_same side rules bytes place patterns below none = record {
   every = λ at rule before here acting. elim (cases_lt at place) [
     | inl earlier ↦ below.every at rule earlier here acting
     | inr later ↦
-        absurd (let now : at ≡ place = omega (arith, before, later) in
+        absurd (let now : at ≡ place = omega arith in
         true≢false (sym acting ∙ none rule (ap (slice_get rules) (sym now) ∙ here)))
   ];
 }
@@ -65,7 +63,7 @@ pub patterns_whole : (side : Side) (rules : List MappingRule) (bytes : List ℕ)
 patterns_whole side rules bytes end patterns below past = record {
   each = below.each;
   every = λ at rule here acting. elim (cases_lt at (length rules)) [
-    | inl before ↦ below.every at rule (omega (arith, before, past)) here acting
+    | inl before ↦ below.every at rule (omega arith) here acting
     | inr after ↦ absurd (cc (slice_get_past rules at after))
   ];
 }

@@ -16,7 +16,7 @@ use Rattle.virtiofs_map.proofs.xattrmap.trie.LevelOrderLemmas.{all_levels, all_m
 longer_false : (path text : List ℕ) → length text < length path → begins path text ≡ false
 longer_false path text l = elim (cases_Bool (begins path text)) [
   | inl e ↦ absurd (let le = front_fits text path _ ((starts_is Decides-eqb text path (begins path text) refl).0 e) in
-      omega (arith, le, l))
+      omega (arith, le))
   | inr e ↦ e
 ]
 
@@ -24,8 +24,8 @@ none_leads : (texts : List (List ℕ)) (path : List ℕ) → longest_of texts < 
 unfolding leads
 none_leads [] path l = refl
 none_leads (text ∷ texts) path l =
-    ap (λ b. b || leads texts path) (longer_false path text (omega (arith, l)))
-    ∙ none_leads texts path (omega (arith, l))
+    ap (λ b. b || leads texts path) (longer_false path text (omega arith))
+    ∙ none_leads texts path (omega arith)
 
 none_left : (p : ℕ → Bool) (xs : List ℕ) → ((x : ℕ) → p x ≡ false) → filter p xs ≡ []
 none_left p [] none = refl
@@ -46,7 +46,7 @@ module _ (most : ℕ) (texts : List (List ℕ)) where
       (let label = label_after most texts (text_node.path ++ byte ∷ []) in
       cond_both (leads texts (text_node.path ++ byte ∷ [])) (Some (text_node_after text_node.path byte label)) None
       (IsDeep (suc depth))
-      (λ _. let long = length-append text_node.path (byte ∷ label) in omega (arith, long, deep)) (λ _. tt)))
+      (λ _. omega (arith, length-append text_node.path (byte ∷ label))) (λ _. tt)))
       (slots (next_bytes texts text_node.path))
 
   ended : (depth : ℕ) (of : Option TextNode) → longest_of texts ≤ depth → IsDeep depth of → children most texts of ≡ []
@@ -56,7 +56,7 @@ module _ (most : ℕ) (texts : List (List ℕ)) where
       ap (λ bytes. map (child most texts text_node.path) (slots bytes))
       (none_left (λ byte. leads texts (text_node.path ++ byte ∷ [])) (range_with_len 1 255) (λ byte.
       none_leads texts (text_node.path ++ byte ∷ [])
-      (let long = length-append text_node.path (byte ∷ []) in omega (arith, long, past, deep))))
+      (omega (arith, length-append text_node.path (byte ∷ [])))))
 
   some : (of : Option TextNode) → IsDeep 0 of
   some None = tt

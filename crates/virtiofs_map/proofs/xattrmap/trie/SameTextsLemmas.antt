@@ -188,12 +188,12 @@ module _ (side : Side) (p : List ℕ → Bool) where
 
   passed_at : (patterns : List Pattern) (k : ℕ) (one : Pattern) → k < length patterns → get_or patterns k one ≡ one
       → p one.bytes.now ≡ true → list_any p (texts_of patterns) ≡ true
-  passed_at [] k one within is passes = absurd (omega (arith, within))
+  passed_at [] k one within is passes = absurd (omega arith)
   passed_at (other ∷ patterns) zero one within is passes =
       ap (λ b. b || list_any p (texts_of patterns)) (ap (λ (o : Pattern). p o.bytes.now) is ∙ passes)
   passed_at (other ∷ patterns) (suc k) one within is passes =
       or_right (p other.bytes.now) (list_any p (texts_of patterns))
-      (passed_at patterns k one (omega (arith, within)) is passes)
+      (passed_at patterns k one (omega arith) is passes)
 
   passed_among : (rules : List MappingRule) (bytes : List ℕ) (patterns : List Pattern)
       → AllByRecursion (IsPattern side rules bytes) patterns → list_any p (texts_of patterns) ≡ true

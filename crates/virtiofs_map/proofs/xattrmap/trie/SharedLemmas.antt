@@ -1,13 +1,12 @@
 -- How many bytes a name shares with patterns.
-use Rattle.std.proofs.Common.{◌≡◌, ◌≢◌, ℕ, zero, suc, ◌+◌, ◌<◌, ◌≤◌, true, false, ◌&&◌, cond, eqb, List, [], ◌∷◌, ◌++◌}
-use Rattle.std.proofs.Common.{length, get_or, take, drop, max, min, Contains, Option, Some, None, inl, inr, refl, sym}
-use Rattle.std.proofs.Common.{ap, subst, ◌∙◌, arith, append_assoc, append-nil}
-use Rattle.std.specs.List.{slice_get}
-use Rattle.std.specs.Option.{option_and_then, option_map_or}
-use Rattle.std.proofs.lemmas.Bool.{cases_Bool, cond_both, and_from, and_parts, eqb-true, ne_eqb, true≢false}
+use Rattle.std.proofs.Common.{◌≡◌, ℕ, zero, suc, ◌+◌, ◌≤◌, true, false, ◌&&◌, cond, eqb, List, [], ◌∷◌, ◌++◌, length}
+use Rattle.std.proofs.Common.{take, drop, max, min, Contains, Option, Some, None, inl, inr, refl, sym, ap, subst, ◌∙◌}
+use Rattle.std.proofs.Common.{arith, append_assoc, append-nil, slice_get, option_and_then, eqb-true, true≢false}
+use Rattle.std.proofs.Common.{length-drop}
+use Rattle.std.specs.Option.{option_map_or}
+use Rattle.std.proofs.lemmas.Bool.{cases_Bool, cond_both, and_from, and_parts}
 use Rattle.std.proofs.lemmas.Bool.Decides.{Decides-eqb}
-use Rattle.std.proofs.lemmas.List.{length-drop}
-use Rattle.std.proofs.lemmas.List.Sums.{common_prefix_len-le, common_prefix_len-drop_yes, common_prefix_len-drop_no}
+use Rattle.std.proofs.lemmas.List.Sums.{common_prefix_len-le}
 use Rattle.std.proofs.lemmas.Option.{get_or_from_slice_get, slice_get_read, slice_get_within}
 use Rattle.virtiofs_map.specs.FirstRule.{CountsLookup, acts, pattern, deciding_length, longest, shared, most_shared}
 use Rattle.virtiofs_map.specs.Names.{begins, deciding, first}
@@ -29,14 +28,13 @@ pub shared_past : (front one other : List ℕ) → shared (front ++ one) (front 
 shared_past [] one other = omega arith
 shared_past (x ∷ front) one other =
     ap (λ b. cond b (1 + shared (front ++ one) (front ++ other)) 0) ((Decides-eqb x x).1 refl)
-    ∙ (let more = shared_past front one other in omega (arith, more))
+    ∙ (omega (arith, shared_past front one other))
 
 -- all of a row that begins the other
 pub shared_whole : (one other : List ℕ) → begins one other ≡ true → shared one other ≡ length one
 shared_whole one other b =
-    let past = shared_past one [] (drop (length one) other) in
     let alone = ap (λ row. shared row (one ++ drop (length one) other)) (append-nil one) in
-    ap (shared one) (begins_split one other b) ∙ sym alone ∙ omega (arith, past)
+    ap (shared one) (begins_split one other b) ∙ sym alone ∙ omega (arith, shared_past one [] (drop (length one) other))
 
 -- where a label does not begin a row, what goes on after the label shares no more
 pub shared_label : (label more left : List ℕ) → begins label left ≡ false
@@ -57,34 +55,18 @@ shared_label (x ∷ label) more (y ∷ left) unlike =
 pub shared_front : (one other : List ℕ) (k : ℕ) → k ≤ shared one other → begins (take k other) one ≡ true
 shared_front one other zero low = refl
 shared_front one [] (suc k) low = refl
-shared_front [] (y ∷ other) (suc k) low = absurd (omega (arith, low))
+shared_front [] (y ∷ other) (suc k) low = absurd (omega arith)
 shared_front (x ∷ one) (y ∷ other) (suc k) low =
     cond_both (eqb x y) (1 + shared one other) 0 (λ n. suc k ≤ n → begins (take (suc k) (y ∷ other)) (x ∷ one) ≡ true)
     (λ e below. and_from (eqb y x) (begins (take k other) one) ((Decides-eqb y x).1 (sym (eqb-true x y e)))
-    (shared_front one other k (omega (arith, below))))
-    (λ _ below. absurd (omega (arith, below))) low
-
--- at a place up to which two rows are the same: they share a byte more there, or differ, or one of them has ended
-pub shared_more : (one other : List ℕ) (n : ℕ) → n < length one → n < length other → get_or one n 0 ≡ get_or other n 0
-    → n + shared (drop n one) (drop n other) ≡ shared one other
-    → n + 1 + shared (drop (n + 1) one) (drop (n + 1) other) ≡ shared one other
-shared_more one other n inside inside_other same so_far =
-    let step = common_prefix_len-drop_yes eqb one other n 0 0 inside inside_other
-    ((Decides-eqb (get_or one n 0) (get_or other n 0)).1 same) in
-    omega (arith, step, so_far)
-
-pub shared_differ : (one other : List ℕ) (n : ℕ) → n < length one → n < length other → get_or one n 0 ≢ get_or other n 0
-    → n + shared (drop n one) (drop n other) ≡ shared one other → n ≡ shared one other
-shared_differ one other n inside inside_other unlike so_far =
-    let step = common_prefix_len-drop_no eqb one other n 0 0 inside inside_other
-    (ne_eqb (get_or one n 0) (get_or other n 0) unlike) in
-    omega (arith, step, so_far)
+    (shared_front one other k (omega arith)))
+    (λ _ below. absurd (omega arith)) low
 
 pub shared_ended : (one other : List ℕ) (n : ℕ) → min (length one) (length other) ≤ n
     → n + shared (drop n one) (drop n other) ≡ shared one other → n ≡ shared one other
 shared_ended one other n past so_far =
     let within = shared_within (drop n one) (drop n other) in
-    omega (arith, within.0, within.1, length-drop n one, length-drop n other, past, so_far)
+    omega (arith, within.0, within.1, length-drop n one, length-drop n other)
 
 -- ---- a path and a label
 
@@ -145,7 +127,7 @@ most_below side (r ∷ rules) name top each =
     let later = most_below side rules name top (λ at rule e acting. each (suc at) rule e acting) in
     cond_both (acts side r) (max (shared (pattern side r) name) (most_shared side rules name))
     (most_shared side rules name) (λ n. n ≤ top)
-    (λ acting. let here = each 0 r refl acting in omega (arith, later, here)) (λ _. later)
+    (λ acting. omega (arith, later, each 0 r refl acting)) (λ _. later)
 
 pub most_at_most : (side : Side) (rules : List MappingRule) (name : List ℕ) (top : ℕ)
     → ((rule : MappingRule) → Contains rules rule → acts side rule ≡ true → shared (pattern side rule) name ≤ top)
@@ -170,9 +152,7 @@ module _ (side : Side) (rules : List MappingRule) (name : List ℕ) where
           let here : slice_get rules at ≡ Some rule = sym (ap (option_and_then (slice_get rules)) some) ∙ e in
           let both = and_parts (acts side rule) (begins (pattern side rule) name)
           (sym (fits_is side name rule) ∙ deciding_fits side rules name rule (sym e)) in
-          let whole = shared_whole (pattern side rule) name both.1 in
-          let low = most_at_place side rules name at rule here both.0 in
-          omega (arith, whole, low)
+          omega (arith, shared_whole (pattern side rule) name both.1, most_at_place side rules name at rule here both.0)
 
   most_within : most_shared side rules name ≤ length name
   most_within = most_below side rules name (length name)
@@ -182,19 +162,19 @@ module _ (side : Side) (rules : List MappingRule) (name : List ℕ) where
   most_longest =
       most_below side rules name (longest side rules)
       (λ at rule here acting. (let a = (shared_within (pattern side rule) name).0 in
-      let b = no_longer side rules at rule here acting in omega (arith, a, b)))
+      omega (arith, a, no_longer side rules at rule here acting)))
 
   -- so the count is between the least and the most
   pub lookup_counted : (before after : ℕ) → after ≡ count_after before (most_shared side rules name + 1)
       → CountsLookup side rules name before after
   lookup_counted before after e = record {
     steps = most_shared side rules name + 1;
-    at_least = let low = deciding_shared in omega (arith, low);
-    at_most = let a = most_within in let b = most_longest in omega (arith, a, b);
+    at_least = omega (arith, deciding_shared);
+    at_most = omega (arith, most_within, most_longest);
     counted = e;
   }
 
 -- a count that is added to another
 pub counted_on : (before none counted after n : ℕ) → none ≡ 0 → counted ≡ count_after none n
     → after ≡ count_after before counted → after ≡ count_after before n
-counted_on before none counted after n begun count added = omega (arith, begun, count, added)
+counted_on before none counted after n begun count added = omega arith

@@ -1,14 +1,13 @@
 -- What is at the places of the text nodes of a trie.
-use Rattle.std.proofs.Common.{◌≡◌, ◌≢◌, ◌⊎◌, ℕ, zero, suc, ◌+◌, ◌<◌, ◌≤◌, true, cond, List, [], ◌∷◌}
-use Rattle.std.proofs.Common.{◌++◌, length, take, drop, Option, Some, None, refl, sym, ap, subst, ◌∙◌, arith}
-use Rattle.std.proofs.Common.{length-append, inl, inr, append_assoc}
-use Rattle.std.specs.List.{slice_get, flat_map, AllByRecursion}
-use Rattle.std.specs.Option.{option_map}
+use Rattle.std.proofs.Common.{◌≡◌, ◌≢◌, ◌⊎◌, ℕ, zero, suc, ◌+◌, ◌<◌, ◌≤◌, true, cond, List, [], ◌∷◌, ◌++◌, length, take}
+use Rattle.std.proofs.Common.{drop, Option, Some, None, refl, sym, ap, subst, ◌∙◌, arith, length-append, inl, inr}
+use Rattle.std.proofs.Common.{append_assoc, slice_get, flat_map, option_map}
+use Rattle.std.specs.List.{AllByRecursion}
 use Rattle.std.proofs.lemmas.Bool.{cases_Bool}
 use Rattle.std.proofs.lemmas.List.{length-map}
 use Rattle.std.proofs.lemmas.Option.{slice_get-map}
-use Rattle.virtiofs_map.specs.PatternTrie.{TextNode, root, leads, next_bytes, label_after, text_node_after, child, children}
-use Rattle.virtiofs_map.specs.PatternTrie.{slots, text_nodes}
+use Rattle.virtiofs_map.specs.PatternTrie.{TextNode, root, leads, next_bytes, label_after, text_node_after, child}
+use Rattle.virtiofs_map.specs.PatternTrie.{children, slots, text_nodes}
 use Rattle.virtiofs_map.proofs.xattrmap.trie.LabelLemmas.{label_leads, label_short}
 use Rattle.virtiofs_map.proofs.xattrmap.trie.LevelOrderLemmas.{all_append, all_map, before, stand_at}
 use Rattle.virtiofs_map.proofs.xattrmap.trie.PatternTrieLemmas.{text_nodes_order}
@@ -23,10 +22,10 @@ slice_get-drop (suc m) (x ∷ xs) k =
     slice_get-drop m xs k ∙ (let up : suc (m + k) ≡ suc m + k = omega arith in ap (slice_get (x ∷ xs)) up)
 
 pub slice_get-take : {X : Type 0} (n : ℕ) (xs : List X) (k : ℕ) → k < n → slice_get (take n xs) k ≡ slice_get xs k
-slice_get-take zero xs k l = absurd (omega (arith, l))
+slice_get-take zero xs k l = absurd (omega arith)
 slice_get-take (suc n) [] k l = refl
 slice_get-take (suc n) (x ∷ xs) zero l = refl
-slice_get-take (suc n) (x ∷ xs) (suc k) l = slice_get-take n xs k (omega (arith, l))
+slice_get-take (suc n) (x ∷ xs) (suc k) l = slice_get-take n xs k (omega arith)
 
 all_flat : {X Y : Type 0} (P : Y → Type 0) (f : X → List Y) → ((x : X) → AllByRecursion P (f x)) → (xs : List X)
     → AllByRecursion P (flat_map f xs)
@@ -40,14 +39,10 @@ module _ {X : Type 0} (below : X → List X) where
   before_within [] at x e = absurd cc
   before_within (y ∷ xs) zero x e =
       let same : y ≡ x = cc in
-      let size = length-append (below y) (flat_map below xs) in
-      let alike = ap (λ (one : X). length (below one)) same in
-      omega (arith, size, alike)
+      omega (arith, length-append (below y) (flat_map below xs), ap (λ (one : X). length (below one)) same)
   before_within (y ∷ xs) (suc at) x e =
-      let more = before_within xs at x e in
-      let size = length-append (below y) (flat_map below xs) in
       let front = length-append (below y) (flat_map below (take at xs)) in
-      omega (arith, more, size, front)
+      omega (arith, before_within xs at x e, length-append (below y) (flat_map below xs), front)
 
 -- ---- text nodes
 
@@ -113,9 +108,8 @@ module _ (most : ℕ) (texts : List (List ℕ)) where
     -- as many places as it has children are there
     pub kids_within : from + length (children most texts (Some text_node)) ≤ length (text_nodes most texts)
     kids_within =
-        let order = ap length (text_nodes_order most texts) in
         let inside = before_within (children most texts) (text_nodes most texts) at (Some text_node) here in
-        omega (arith, order, inside)
+        omega (arith, ap length (text_nodes_order most texts), inside)
 
     -- and these have its children
     pub kid_at : (k : ℕ) → k < length (children most texts (Some text_node))
@@ -160,7 +154,7 @@ pub next_has : (texts : List (List ℕ)) (path : List ℕ) (byte : ℕ) → byte
     → leads texts (path ++ byte ∷ []) ≡ true → (k : ℕ) × (slice_get (next_bytes texts path) k ≡ Some byte)
 unfolding next_bytes
 next_has texts path byte nonzero small led =
-    filter_has (λ byte. leads texts (path ++ byte ∷ [])) 1 255 byte (omega (arith, nonzero)) (omega (arith, small)) led
+    filter_has (λ byte. leads texts (path ++ byte ∷ [])) 1 255 byte (omega arith) (omega arith) led
 
 -- the child of a byte that leads on
 module _ (most : ℕ) (texts : List (List ℕ)) (path : List ℕ) (byte : ℕ) where

@@ -12,7 +12,7 @@ use crate::xattrmap::image::fill::put;
 use crate::xattrmap::listed::Seen;
 
 /// Writes a name and a zero at a place, where there is room for them, and gives the place behind.
-fn put_name(out: &mut [u8], at: usize, name: &[u8]) -> usize
+pub fn put_name(out: &mut [u8], at: usize, name: &[u8]) -> usize
     requires fits { at + length name.now + 1 ≤ 18446744073709551615 }
     ensures behind { result ≡ at + length name.now + 1 }
     ensures same { length out.new ≡ length out.old }

@@ -28,14 +28,14 @@ pub(crate) struct Places {
 }
 
 /// Where a part ends that begins at `from` and has `count` elements of that size; `None` where no
-/// image reaches so far.
+/// image reaches so far. A number of eight bytes stands behind the last part.
 fn end_of(from: usize, count: usize, size: usize) -> Option<usize>
     ensures end { IfSome result (λ end. end ≡ from + count * size) }
-    ensures short { IfSome result (λ end. end ≤ longest_image) }
-    ensures long { IfNone result (longest_image < from + count * size) }
+    ensures short { IfSome result (λ end. end + 8 ≤ longest_image) }
+    ensures long { IfNone result (longest_image < from + count * size + 8) }
 {
     let end = from.saturating_add(count.saturating_mul(size));
-    if end < LIMIT { Some(end) } else { None }
+    if end < LIMIT - 8 { Some(end) } else { None }
 }
 
 /// Where the parts of an image stand, of tries whose rows have so many bytes and of rules; `None`
@@ -43,7 +43,7 @@ fn end_of(from: usize, count: usize, size: usize) -> Option<usize>
 fn places_of<A: Allocator>(client: usize, server: usize, rules: &Rules<A>) -> Option<Places>
     ensures laid { IfSome result (ArePlaces client server
         (length rules.now.list) (length rules.now.bytes)) }
-    ensures long { IfNone result (longest_image < 48 + client + server
+    ensures long { IfNone result (longest_image < 56 + client + server
         + 24 * length rules.now.list + length rules.now.bytes) }
 {
     let first = end_of(HEADER, client, 1)?;
@@ -72,12 +72,13 @@ pub(crate) fn image_of<A: Allocator + Copy>(
     let Some(places) = places_of(client.len(), server.len(), &rules) else {
         return Err(AllocError);
     };
-    let mut image = Vec::with_capacity(alloc, places.end)?;
+    let mut image = Vec::with_capacity(alloc, places.end + 8)?;
     push_header(&mut image, places)?;
     push_rows(&mut image, client.as_slice(), places.bytes)?;
     push_rows(&mut image, server.as_slice(), places.bytes)?;
     push_rules(&mut image, &rules)?;
     image.extend_from_slice(patterns)?;
+    push_le_u64(&mut image, KIND)?;
     // The memory that was taken last is freed last: then allocators give all of it back.
     drop(rules);
     Ok(image)

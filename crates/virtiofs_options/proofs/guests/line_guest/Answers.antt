@@ -1,4 +1,4 @@
-use Rattle.std.proofs.Common.{◌≡◌, ◌++◌, ℕ, List, map, refl, subst}
+use Rattle.std.proofs.Common.{◌≡◌, ◌++◌, List, map, refl, subst}
 use Rattle.virtiofs_options.specs.GuestOptions.{TakesIn}
 use Rattle.virtiofs_options.specs.Parts.{AreParts}
 use Rattle.virtiofs_options.specs.Unknown.{AreRight, told, unknown_of}
@@ -18,7 +18,7 @@ returns-clause-read c = (
           c.in_ok-parts.ensures.read,
     ),
     subst (AreRight c.args.options) c.as_slice-2.ensures.value (c.in_ok-check_line.ensures.right refl),
-    subst (TakesIn c.args.options c.args.first c.take_parts.new.self) c.as_slice-4.ensures.value c.in_ok-take_parts.ensures,
+    subst (TakesIn c.args.options c.args.first c.take_parts.new.self) c.as_slice-4.ensures.value c.in_ok-take_parts.ensures.takes,
     refl,
   ),
   subst (λ (it : List Part). map told c.push_unknown.new.unknown.items

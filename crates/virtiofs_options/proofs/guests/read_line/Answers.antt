@@ -9,6 +9,7 @@ returns-clause-read c =
       c.in_ok-guest.guest,
       here,
       subst (λ (n : ℕ). IsLine c.args.options (n + 1) c.args.first c.args.line.now c.in_ok-guest.guest here) same line,
+      c.in_ok-guest.ensures.starter,
       c.in_ok-push.ensures.items,
       told,
     )

@@ -1,14 +1,10 @@
-use Rattle.std.proofs.Common.{rules}
+use Rattle.virtiofs_map.specs.Audit.{HasFault}
+use Rattle.virtiofs_map.proofs.ForCallers.{answers_all, if_ok_weaker}
 use Rattle.virtiofs_findings.proofs.names.audits.least.Goals as goal
 
-pub returns-in-Lost : goal.returns-in-Lost
-returns-in-Lost g c = rw c.in-Lost.is (search rules)
-
-pub returns-in-Stray : goal.returns-in-Stray
-returns-in-Stray g c = rw c.in-Stray.is (search rules)
-
-pub returns-in-Seen : goal.returns-in-Seen
-returns-in-Seen g c = rw c.in-Seen.is (search rules)
-
-pub returns-in-Shared : goal.returns-in-Shared
-returns-in-Shared g c = rw c.in-Shared.is (search rules)
+pub returns : goal.returns
+returns g c =
+    let map = c.args.map.now in
+    let other = c.args.other.now in
+    if_ok_weaker c.ask.result _ _ (answers_all (HasFault c.args.fault map other))
+    (c.ask.ensures map other c.as_ref.ensures c.as_ref-2.ensures)

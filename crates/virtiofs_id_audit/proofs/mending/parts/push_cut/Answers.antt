@@ -27,69 +27,60 @@ push_parts-requires-clause-inside g c =
     c.meeting-bad.result.now c.requires.accepted (sym c.in-Some.ensures) c.first.ensures (omega (arith, some, c.end.ensures.end))
     c.meeting-bad.ensures.hold c.in_ok-kept.kept.items [] c.in_ok-kept.ensures.hold c.in_ok-kept.ensures.apart)
 
-pub returns-in_default-host_half-clause-cut : goal.returns-in_default-host_half-clause-cut
-returns-in_default-host_half-clause-cut g c =
-    let some = not_empty c.is_empty.result (count_of c.in-Some.entry) c.if-is_empty.false c.is_empty.ensures in
-    let (parts, out_is, are) = c.in_ok-push_parts.ensures in (
-      parts,
-      out_is,
-      AreCut-parts c.args.spec c.in-Some.entry (record { first = c.first.result; last = c.end.result - 1 }) c.args.bad.now
-          c.meeting-bad.result.now c.requires.accepted (sym c.in-Some.ensures) c.first.ensures (omega (arith, some, c.end.ensures.end))
-          c.meeting-bad.ensures.hold c.in_ok-kept.kept.items parts c.in_ok-kept.ensures.hold (rw c.deref.ensures.value at are) (omega arith)
-          c.in_default-host_half.ensures,
-    )
-
-pub returns-in_default-host_half-clause-clean : goal.returns-in_default-host_half-clause-clean
-returns-in_default-host_half-clause-clean g c =
-    let some = not_empty c.is_empty.result (count_of c.in-Some.entry) c.if-is_empty.false c.is_empty.ensures in
-    λ clean. absurd (met_covered c.args.spec c.in-Some.entry (record { first = c.first.result; last = c.end.result - 1 }) c.args.bad.now
-    c.meeting-bad.result.now c.requires.accepted (sym c.in-Some.ensures) c.first.ensures (omega (arith, some, c.end.ensures.end))
-    c.meeting-bad.ensures.hold (omega arith) (grind (arith, nat_tests)) c.meeting-bad.ensures.apart c.meeting-bad.ensures.meet clean)
-
-pub returns-clause-cut : goal.returns-clause-cut
-returns-clause-cut g c =
-    let some = not_empty c.is_empty.result (count_of c.in-Some.entry) c.if-is_empty.false c.is_empty.ensures in
-    let (parts, out_is, are) = c.in_ok-push_parts.ensures in (
-      parts ++ c.in-Some-host_half.half ∷ [],
-      c.in_ok-push-4.ensures.items ∙ ap (λ xs. xs ++ c.in-Some-host_half.half ∷ []) out_is
-          ∙ append_assoc c.args.out.now.items parts (c.in-Some-host_half.half ∷ []),
-      AreCut-half c.args.spec c.in-Some.entry (record { first = c.first.result; last = c.end.result - 1 }) c.args.bad.now
-          c.meeting-bad.result.now c.requires.accepted (sym c.in-Some.ensures) c.first.ensures (omega (arith, some, c.end.ensures.end))
-          c.meeting-bad.ensures.hold c.in_ok-kept.kept.items parts c.in_ok-kept.ensures.hold (rw c.deref.ensures.value at are) c.in-Some-host_half.half
-          c.in-Some-host_half.ensures,
-    )
-
-pub returns-clause-clean : goal.returns-clause-clean
-returns-clause-clean g c =
-    let some = not_empty c.is_empty.result (count_of c.in-Some.entry) c.if-is_empty.false c.is_empty.ensures in
-    λ clean. absurd (met_covered c.args.spec c.in-Some.entry (record { first = c.first.result; last = c.end.result - 1 }) c.args.bad.now
-    c.meeting-bad.result.now c.requires.accepted (sym c.in-Some.ensures) c.first.ensures (omega (arith, some, c.end.ensures.end))
-    c.meeting-bad.ensures.hold (omega arith) (grind (arith, nat_tests)) c.meeting-bad.ensures.apart c.meeting-bad.ensures.meet clean)
-
-pub returns-in_default-host_half-clause-remnants : goal.returns-in_default-host_half-clause-remnants
-returns-in_default-host_half-clause-remnants g c =
+pub returns-in_default-host_half : goal.returns-in_default-host_half
+returns-in_default-host_half g c =
     let some = not_empty c.is_empty.result (count_of c.in-Some.entry) c.if-is_empty.false c.is_empty.ensures in
     let (parts, out_is, are) = c.in_ok-push_parts.ensures in
-    added_remnants c.args.spec (Hold c.args.bad.now) c.args.out.now.items parts _ out_is
-    (parts_remnants c.args.spec c.in-Some.entry (record { first = c.first.result; last = c.end.result - 1 }) c.args.bad.now
-    c.meeting-bad.result.now c.requires.accepted (sym c.in-Some.ensures) c.first.ensures (omega (arith, some, c.end.ensures.end))
-    c.meeting-bad.ensures.hold c.in_ok-kept.kept.items parts c.in_ok-kept.ensures.hold (rw c.deref.ensures.value at are)
-    c.in_ok-kept.ensures.runs)
+    let are' = rw c.deref.ensures.value at are in
+    record {
+      cut = (
+        parts,
+        out_is,
+        AreCut-parts c.args.spec c.in-Some.entry (record { first = c.first.result; last = c.end.result - 1 }) c.args.bad.now
+            c.meeting-bad.result.now c.requires.accepted (sym c.in-Some.ensures) c.first.ensures (omega (arith, some, c.end.ensures.end))
+            c.meeting-bad.ensures.hold c.in_ok-kept.kept.items parts c.in_ok-kept.ensures.hold are' (omega arith)
+            c.in_default-host_half.ensures,
+      );
+      remnants = added_remnants c.args.spec (Hold c.args.bad.now) c.args.out.now.items parts _ out_is
+          (parts_remnants c.args.spec c.in-Some.entry (record { first = c.first.result; last = c.end.result - 1 }) c.args.bad.now
+          c.meeting-bad.result.now c.requires.accepted (sym c.in-Some.ensures) c.first.ensures (omega (arith, some, c.end.ensures.end))
+          c.meeting-bad.ensures.hold c.in_ok-kept.kept.items parts c.in_ok-kept.ensures.hold are' c.in_ok-kept.ensures.runs);
+      clean = λ clean. absurd
+          (met_covered c.args.spec c.in-Some.entry (record { first = c.first.result; last = c.end.result - 1 }) c.args.bad.now
+          c.meeting-bad.result.now c.requires.accepted (sym c.in-Some.ensures) c.first.ensures (omega (arith, some, c.end.ensures.end))
+          c.meeting-bad.ensures.hold (omega arith) (grind (arith, nat_tests)) c.meeting-bad.ensures.apart c.meeting-bad.ensures.meet
+          clean);
+    }
 
-pub returns-clause-remnants : goal.returns-clause-remnants
-returns-clause-remnants g c =
+pub returns : goal.returns
+returns g c =
     let some = not_empty c.is_empty.result (count_of c.in-Some.entry) c.if-is_empty.false c.is_empty.ensures in
     let (parts, out_is, are) = c.in_ok-push_parts.ensures in
-    added_remnants c.args.spec (Hold c.args.bad.now) c.args.out.now.items (parts ++ c.in-Some-host_half.half ∷ []) _
-    (c.in_ok-push-4.ensures.items ∙ ap (λ xs. xs ++ c.in-Some-host_half.half ∷ []) out_is
-    ∙ append_assoc c.args.out.now.items parts (c.in-Some-host_half.half ∷ []))
-    (with_half c.args.spec c.in-Some-host_half.half (Hold c.args.bad.now) parts
-    (parts_remnants c.args.spec c.in-Some.entry (record { first = c.first.result; last = c.end.result - 1 }) c.args.bad.now
-    c.meeting-bad.result.now c.requires.accepted (sym c.in-Some.ensures) c.first.ensures (omega (arith, some, c.end.ensures.end))
-    c.meeting-bad.ensures.hold c.in_ok-kept.kept.items parts c.in_ok-kept.ensures.hold (rw c.deref.ensures.value at are)
-    c.in_ok-kept.ensures.runs) c.in-Some-host_half.ensures
-    (half_covers c.args.spec c.in-Some-host_half.half c.in-Some.entry c.in-Some-host_half.ensures
-    (sym c.in-Some.ensures) some))
+    let are' = rw c.deref.ensures.value at are in
+    let half = c.in-Some-host_half.half in
+    let half_is = c.in-Some-host_half.ensures in
+    let added = c.in_ok-push-4.ensures.items ∙ ap (λ xs. xs ++ half ∷ []) out_is
+    ∙ append_assoc c.args.out.now.items parts (half ∷ []) in
+    record {
+      cut = (
+        parts ++ half ∷ [],
+        added,
+        AreCut-half c.args.spec c.in-Some.entry (record { first = c.first.result; last = c.end.result - 1 }) c.args.bad.now
+            c.meeting-bad.result.now c.requires.accepted (sym c.in-Some.ensures) c.first.ensures (omega (arith, some, c.end.ensures.end))
+            c.meeting-bad.ensures.hold c.in_ok-kept.kept.items parts c.in_ok-kept.ensures.hold are' half half_is,
+      );
+      remnants = added_remnants c.args.spec (Hold c.args.bad.now) c.args.out.now.items (parts ++ half ∷ []) _ added
+          (with_half c.args.spec half (Hold c.args.bad.now) parts
+          (parts_remnants c.args.spec c.in-Some.entry (record { first = c.first.result; last = c.end.result - 1 }) c.args.bad.now
+          c.meeting-bad.result.now c.requires.accepted (sym c.in-Some.ensures) c.first.ensures (omega (arith, some, c.end.ensures.end))
+          c.meeting-bad.ensures.hold c.in_ok-kept.kept.items parts c.in_ok-kept.ensures.hold are' c.in_ok-kept.ensures.runs)
+          half_is (half_covers c.args.spec half c.in-Some.entry half_is (sym c.in-Some.ensures) some));
+      clean = λ clean. absurd
+          (met_covered c.args.spec c.in-Some.entry (record { first = c.first.result; last = c.end.result - 1 }) c.args.bad.now
+          c.meeting-bad.result.now c.requires.accepted (sym c.in-Some.ensures) c.first.ensures (omega (arith, some, c.end.ensures.end))
+          c.meeting-bad.ensures.hold (omega arith) (grind (arith, nat_tests)) c.meeting-bad.ensures.apart c.meeting-bad.ensures.meet
+          clean);
+    }
 
 pub without-requires-clause-firsts : goal.without-requires-clause-firsts
 without-requires-clause-firsts g c = AreApart-firsts _ c.meeting-bad.ensures.apart

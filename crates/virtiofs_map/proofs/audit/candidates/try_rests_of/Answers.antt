@@ -3,8 +3,7 @@ use Rattle.std.proofs.lemmas.List.{take_rest}
 use Rattle.std.proofs.lemmas.Option.{slice_get_within}
 use Rattle.virtiofs_map.specs.AuditParts.{bad}
 use Rattle.virtiofs_map.proofs.audit.AuditLeastLemmas.{tries_nothing, tries_more, tries_fewer}
-use Rattle.virtiofs_map.proofs.audit.AuditTriedLemmas.{RestBelow, rests_none, rests_more, rests_same, rests_end}
-use Rattle.virtiofs_map.proofs.audit.AuditTriedLemmas.{rests_all}
+use Rattle.virtiofs_map.proofs.audit.AuditTriedLemmas.{RestBelow, some_same, some_all, rests_none, rests_more, rests_end}
 use Rattle.virtiofs_map.proofs.audit.candidates.try_rests_of.Goals as goal
 
 pub loop-place-init : goal.loop-place-init
@@ -32,7 +31,7 @@ loop-place-preserved-in_default g c = λ maps.
     let added = c.args.added.now in
     tries_fewer (bad c.args.question.now) (RestBelow patterns added place) (RestBelow patterns added (place + 1)) place
     (place + 1) c.args.tried.now c.loop-place.tried (c.loop-place.invariant maps)
-    (λ name one. rests_same patterns added place name (sym c.in_default.ensures) one) (omega arith)
+    (λ name one. some_same patterns place _ (sym c.in_default.ensures) one) (omega arith)
 
 pub returns-then-not-starts_with : goal.returns-then-not-starts_with
 returns-then-not-starts_with g c = λ maps.
@@ -54,6 +53,6 @@ returns g c = λ maps.
     let added = c.args.added.now in
     tries_fewer (bad c.args.question.now) (RestBelow patterns added place) _ place _ c.args.tried.now
     c.loop-place.tried (c.loop-place.invariant maps)
-    (λ name among. rests_all patterns added place name
+    (λ name among. some_all patterns place _
     (omega (arith, c.len-place-end.ensures.count, c.loop-place-test.false)) among)
     (omega (arith, c.len-place-end.ensures.count, c.count_before-start.ensures.at_most, c.loop-place.auto.place))

@@ -1,14 +1,14 @@
-use Rattle.std.proofs.Common.{◌+◌, sym, ◌∙◌, arith}
-use Rattle.virtiofs_map.specs.AuditParts.{bad, IsWholeOf}
+use Rattle.std.proofs.Common.{◌≡◌, ◌+◌, true, sym, ◌∙◌, arith}
+use Rattle.virtiofs_map.specs.AuditParts.{bad, is_cut, IsWhole, IsWholeOf}
 use Rattle.virtiofs_map.proofs.audit.AuditLeastLemmas.{finds_nothing, finds_join, finds_fewer}
-use Rattle.virtiofs_map.proofs.audit.AuditTriedLemmas.{CutWhole, cuts_none, cuts_more, cuts_same, cuts_repeated}
-use Rattle.virtiofs_map.proofs.audit.AuditTriedLemmas.{cuts_dead, cuts_all, wholes_not_bad}
+use Rattle.virtiofs_map.proofs.audit.AuditTriedLemmas.{CutWhole, some_none, some_same, some_repeated, some_all}
+use Rattle.virtiofs_map.proofs.audit.AuditTriedLemmas.{cuts_more, cuts_dead, wholes_not_bad}
 use Rattle.virtiofs_map.proofs.audit.candidates.try_wholes.Goals as goal
 
 pub loop-place-init : goal.loop-place-init
 loop-place-init g c = λ rules is maps.
     finds_nothing (bad c.args.question.now) (CutWhole rules c.args.cuts.now c.args.keys.now 0)
-    c.args.tried.now (λ name one. absurd (cuts_none rules c.args.cuts.now c.args.keys.now name one))
+    c.args.tried.now (λ name one. absurd (some_none c.args.cuts.now _ one))
 
 pub loop-place-preserved : goal.loop-place-preserved
 loop-place-preserved g c = λ rules is maps.
@@ -51,7 +51,7 @@ loop-place-preserved-in_default g c = λ rules is maps.
     let keys = c.args.keys.now in
     finds_fewer (bad c.args.question.now) (CutWhole rules cuts keys place) (CutWhole rules cuts keys (place + 1))
     c.args.tried.now c.loop-place.tried (c.loop-place.invariant rules is maps)
-    (λ name one. cuts_same rules cuts keys place name (sym c.in_default.ensures) one)
+    (λ name one. some_same cuts place _ (sym c.in_default.ensures) one)
 
 pub loop-place-preserved-then-is_repeated : goal.loop-place-preserved-then-is_repeated
 loop-place-preserved-then-is_repeated g c = λ rules is maps.
@@ -60,11 +60,13 @@ loop-place-preserved-then-is_repeated g c = λ rules is maps.
     let keys = c.args.keys.now in
     finds_fewer (bad c.args.question.now) (CutWhole rules cuts keys place) (CutWhole rules cuts keys (place + 1))
     c.args.tried.now c.loop-place.tried (c.loop-place.invariant rules is maps)
-    (λ name one. cuts_repeated rules cuts keys place name (c.is_repeated.ensures c.if-is_repeated.true) one)
+    (λ name one. some_repeated cuts place _ (c.is_repeated.ensures c.if-is_repeated.true) one)
 
 pub returns : goal.returns
 returns g c = λ rules is maps.
-    finds_fewer (bad c.args.question.now) (CutWhole rules c.args.cuts.now c.args.keys.now c.loop-place.place) _
-    c.args.tried.now c.loop-place.tried (c.loop-place.invariant rules is maps)
-    (λ name whole. cuts_all rules c.args.cuts.now c.args.keys.now c.loop-place.place name
-    (omega (arith, c.len-place-end.ensures.count, c.loop-place-test.false)) whole)
+    finds_fewer (bad c.args.question.now) (CutWhole rules c.args.cuts.now c.args.keys.now c.loop-place.place)
+    (IsWhole rules c.args.cuts.now c.args.keys.now) c.args.tried.now c.loop-place.tried
+    (c.loop-place.invariant rules is maps)
+    (λ name (cut, among, live, whole). some_all c.args.cuts.now c.loop-place.place
+    (λ cut. (is_cut rules cut ≡ true) × IsWholeOf cut c.args.keys.now name)
+    (omega (arith, c.len-place-end.ensures.count, c.loop-place-test.false)) (cut, among, (live, whole)))

@@ -1,14 +1,13 @@
 use Rattle.std.proofs.Common.{◌≡◌, ◌+◌, ◌++◌, sym, ◌∙◌, arith}
 use Rattle.virtiofs_map.specs.AuditParts.{bad}
 use Rattle.virtiofs_map.proofs.audit.AuditLeastLemmas.{finds_nothing, finds_more, finds_fewer}
-use Rattle.virtiofs_map.proofs.audit.AuditTriedLemmas.{WholeBelow, wholes_none, wholes_more, wholes_same, wholes_end}
-use Rattle.virtiofs_map.proofs.audit.AuditTriedLemmas.{wholes_all}
+use Rattle.virtiofs_map.proofs.audit.AuditTriedLemmas.{WholeBelow, some_none, some_same, some_all, wholes_more, wholes_end}
 use Rattle.virtiofs_map.proofs.audit.candidates.try_wholes_of.Goals as goal
 
 pub loop-place-init : goal.loop-place-init
 loop-place-init g c = λ maps.
     finds_nothing (bad c.args.question.now) (WholeBelow c.args.cut.now c.args.keys.now 0) c.args.tried.now
-    (λ name one. absurd (wholes_none c.args.cut.now c.args.keys.now name one))
+    (λ name one. absurd (some_none c.args.keys.now _ one))
 
 pub loop-place-preserved : goal.loop-place-preserved
 loop-place-preserved g c = λ maps.
@@ -29,7 +28,7 @@ loop-place-preserved-in_default g c = λ maps.
     let cut = c.args.cut.now in
     finds_fewer (bad c.args.question.now) (WholeBelow cut keys place) (WholeBelow cut keys (place + 1))
     c.args.tried.now c.loop-place.tried (c.loop-place.invariant maps)
-    (λ name one. wholes_same cut keys place name (sym c.in_default.ensures) one)
+    (λ name one. some_same keys place _ (sym c.in_default.ensures) one)
 
 pub returns-then-not-is_first : goal.returns-then-not-is_first
 returns-then-not-is_first g c = λ maps.
@@ -43,5 +42,5 @@ pub returns : goal.returns
 returns g c = λ maps.
     finds_fewer (bad c.args.question.now) (WholeBelow c.args.cut.now c.args.keys.now c.loop-place.place) _
     c.args.tried.now c.loop-place.tried (c.loop-place.invariant maps)
-    (λ name whole. wholes_all c.args.cut.now c.args.keys.now c.loop-place.place name
+    (λ name whole. some_all c.args.keys.now c.loop-place.place _
     (omega (arith, c.len-place-end.ensures.count, c.loop-place-test.false)) whole)

@@ -17,6 +17,3 @@ returns-clause-faulty g c = λ fault has.
     faulty specification_fault_of (Says text) (HasSpecificationFault text) _ c.read.ensures.read c.read.ensures.refused
     fault (λ spec says. Says-no_fault text spec fault says has)
     (λ other told. HasSpecificationFault-one text other fault told has)
-
-pub returns-clause-refused : goal.returns-clause-refused
-returns-clause-refused g c = c.read.ensures.refused

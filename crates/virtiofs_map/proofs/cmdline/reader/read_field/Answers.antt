@@ -1,5 +1,4 @@
-use Rattle.std.proofs.Common.{◌≡◌, rules, ap, string_bytes}
-use Rattle.std.specs.Str.{chars}
+use Rattle.std.proofs.Common.{◌≡◌, rules, ap, string_bytes, chars}
 use Rattle.virtiofs_map.specs.SpecificationText.{InvalidValue}
 use Rattle.virtiofs_map.proofs.cmdline.reader.read_field.Goals as goal
 

@@ -13,9 +13,6 @@ returns-in_err-range-clause-faulty c = λ fault has.
     let p = err_from_is_err_and c.from_residual.result c.from_residual.ensures.1 in
     rw (p.1, p.2) (HasNamespaceFault-one (chars c.args.text.now) _ fault c.in_err-range.ensures.refused has)
 
-pub returns-clause-read : goal.returns-clause-read
-returns-clause-read c = c.in_ok-range.ensures.read
-
 pub returns-clause-complete : goal.returns-clause-complete
 returns-clause-complete c =
     λ inside outside count says. SaysNamespace-one (chars c.args.text.now) _ _ _ inside outside count

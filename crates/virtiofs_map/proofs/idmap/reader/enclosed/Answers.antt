@@ -5,8 +5,7 @@ use Rattle.virtiofs_map.proofs.idmap.reader.enclosed.Goals as goal
 
 pub returns-in_default-clause-refused : goal.returns-in_default-clause-refused
 returns-in_default-clause-refused c =
-    let none = c.in_default.ensures.steps in
-    inl (rw (← c.chars-characters.ensures.rest) (chars-empty _ none.0))
+    inl (rw (← c.chars-characters.ensures.rest) (chars-empty _ c.in_default.ensures.steps.0))
 
 pub returns-then-is_alphanumeric-clause-refused : goal.returns-then-is_alphanumeric-clause-refused
 returns-then-is_alphanumeric-clause-refused c =
@@ -25,8 +24,7 @@ pub returns-clause-found : goal.returns-clause-found
 returns-clause-found c =
     let last = c.in-Some.ensures.steps in
     let before = IsBeforeLast-here _ _ _ c.utf8.text (search rules) (sym c.chars-characters.ensures.rest ∙ last) in
-    let first = c.next.ensures.steps in
     let same = same_option c.next.result c.in-Some.delimiter (sym c.ne.ensures ∙ c.if-ne.false) in
-    let begins = rw same at first.0 in
+    let begins = rw same at c.next.ensures.steps.0 in
     rw c.as_str.ensures
     (IsEnclosed-here _ _ _ _ before (sym c.is_alphanumeric.ensures ∙ c.if-is_alphanumeric.false) begins)

@@ -1,3 +1,4 @@
+use Rattle.std.proofs.Common.{rules}
 use Rattle.std.proofs.lemmas.Result.{err_from_is_err_and}
 use Rattle.virtiofs_map.specs.Build.{HasFirstFault}
 use Rattle.virtiofs_map.proofs.BuildFaultLemmas.{Accepted-no_fault, HasFirstFault-one}
@@ -24,20 +25,16 @@ returns-in_err-words-clause-faulty g c = λ fault has.
 pub invariant_of-result : goal.invariant_of-result
 invariant_of-result g c = IsImage-lent _ _ (rw c.deref.ensures.value at c.in_ok-words.ensures)
 
-pub returns-clause-accepted : goal.returns-clause-accepted
-returns-clause-accepted g c = (rw c.deref.ensures.value at c.in_ok-words.ensures).accepted
-
-pub returns-clause-faulty : goal.returns-clause-faulty
-returns-clause-faulty g c = λ fault has.
-    let held = rw c.deref.ensures.value at c.in_ok-words.ensures in
-    Accepted-no_fault c.args.specs.items fault held.accepted has
-
-pub returns-clause-order : goal.returns-clause-order
-returns-clause-order g c =
-    let held = rw c.deref.ensures.value at c.in_ok-words.ensures in
-    IsOrderFree-accepted c.args.specs.items held.accepted
-
-pub returns-clause-greatest : goal.returns-clause-greatest
-returns-clause-greatest g c =
-    let held = rw c.deref.ensures.value at c.in_ok-words.ensures in
-    KeepsGreatest-accepted c.args.specs.items held.accepted
+pub returns : goal.returns
+returns g c =
+    let specs = c.args.specs.items in
+    let accepted = (rw c.deref.ensures.value at c.in_ok-words.ensures).accepted in
+    record {
+      read = search rules;
+      accepted = accepted;
+      complete = search rules;
+      refused = search rules;
+      faulty = λ fault has. Accepted-no_fault specs fault accepted has;
+      order = IsOrderFree-accepted specs accepted;
+      greatest = KeepsGreatest-accepted specs accepted;
+    }

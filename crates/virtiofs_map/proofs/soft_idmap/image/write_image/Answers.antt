@@ -31,7 +31,7 @@ returns-in_err-guests-clause-faulty g c = λ fault has.
 pub returns-then-words-len-clause-written : goal.returns-then-words-len-clause-written
 returns-then-words-len-clause-written g c =
     let both = c.in_ok-guests in
-    IsWritten-none c.args.specs.now c.args.words.now (3 + 4 * c.len.result + 4 * c.len-2.result)
+    IsWritten-none c.args.specs.now c.args.words.now (4 + 4 * c.len.result + 4 * c.len-2.result)
     (image-length c.args.specs.now both.guests.items both.hosts.items _ both.ensures
     (rw (c.len.ensures, c.len-2.ensures, both.guests.ok.0, both.hosts.ok.0) refl)) c.if-words-len.true
 

@@ -1,5 +1,4 @@
-use Rattle.std.proofs.Common.{◌≡◌, sym, ap, ◌∙◌}
-use Rattle.std.proofs.lemmas.Bool.{true≢false}
+use Rattle.std.proofs.Common.{◌≡◌, sym, ap, ◌∙◌, true≢false}
 use Rattle.virtiofs_map.specs.FirstRule.{pattern}
 use Rattle.virtiofs_map.specs.Names.{first}
 use Rattle.virtiofs_map.specs.RuleParts.{rule_meant}
@@ -14,8 +13,7 @@ returns-in-Some-clause-names g c =
       λ e. record {
         name = c.pattern.result.now;
         is_name = c.is_first.ensures.is_name;
-        is_first =
-            c.is_first.ensures.first.0 e;
+        is_first = c.is_first.ensures.first.0 e;
       },
       λ decides. c.is_first.ensures.first.1
           (ap (first side rules) c.pattern.ensures
@@ -36,6 +34,3 @@ returns-in-None-clause-names g c = (
   λ e. absurd (true≢false (sym e)),
   λ decides. absurd (none_decided_past c.args.side c.args.self.now c.args.place (sym c.in-None.ensures.here) decides),
 )
-
-pub returns-in-None-clause-patterns : goal.returns-in-None-clause-patterns
-returns-in-None-clause-patterns g c = λ e rule here on. (let both = c.in-None.ensures.here ∙ here in absurd cc)

@@ -1,6 +1,5 @@
 use Rattle.std.proofs.lemmas.Result.{err_from_is_err_and}
-use Rattle.std.specs.Str.{chars}
-use Rattle.std.proofs.Common.{[], ◌∷◌, ◌∙◌, ap}
+use Rattle.std.proofs.Common.{chars, [], ◌∷◌, ◌∙◌, ap}
 use Rattle.virtiofs_map.specs.RuleText.{expanded}
 use Rattle.virtiofs_map.specs.MapRule.{map_rule}
 use Rattle.virtiofs_map.proofs.NoZeroLemmas.{read_no_zero}

@@ -1,15 +1,14 @@
 -- The list that is written name by name.
-use Rattle.std.proofs.Common.{◌≡◌, ◌≢◌, ℕ, zero, suc, ◌+◌, ◌<◌, ◌≤◌, true, false, if◌then◌else◌, List, [], ◌∷◌, ◌++◌}
-use Rattle.std.proofs.Common.{length, drop, Some, None, refl, sym, ap, subst, ◌∙◌, arith, append-nil, length-append}
+use Rattle.std.proofs.Common.{◌≡◌, ◌≢◌, ℕ, ◌+◌, ◌<◌, ◌≤◌, true, false, if◌then◌else◌, List, [], ◌∷◌, ◌++◌, length, drop}
+use Rattle.std.proofs.lemmas.List.{nil_from_length}
+use Rattle.std.proofs.Common.{Some, None, refl, sym, ap, subst, ◌∙◌, arith, append-nil, length-append, Bor}
 use Rattle.virtiofs_map.specs.Listing.{listing}
 use Rattle.virtiofs_map.specs.Names.{as_list, server_answer}
 use Rattle.virtiofs_map.specs.NamesImageParts.{Holds, IsFirstSeen}
 use Rattle.virtiofs_map.specs.declared.xattrmap.listed.Seen.TheVariants.{Undecided, Hidden, Listed}
-use Rattle.std.specs.Borrow.{Bor}
 use Rattle.virtiofs_map.specs.Rule.{MappingRule}
 use Rattle.virtiofs_map.proofs.xattrmap.ListingLemmas.{IsSoFar, IsSoFar-first, IsSoFar-name, Item, all_ok, names_of}
-use Rattle.virtiofs_map.proofs.xattrmap.ListingLemmas.{zeros_of}
-use Rattle.virtiofs_map.proofs.xattrmap.ListingLemmas.{list_of-listing, listing_seen}
+use Rattle.virtiofs_map.proofs.xattrmap.ListingLemmas.{zeros_of, list_of-listing, listing_seen}
 use Rattle.virtiofs_map.proofs.ServerListLemmas.{with_zeros}
 
 -- any type serves for the allocator that errors name
@@ -50,11 +49,10 @@ module _ (rules : List MappingRule) (list rest left : List ℕ) (count : ℕ) (o
       → Holds (so_far ++ shown.now ++ 0 ∷ []) first after)
       → IsListedSoFar rules list left next old after
   listed_shown shown next after first behind put =
-      let a = length-append so_far.so_far shown.now in
       let b = length-append (so_far.so_far ++ shown.now) (0 ∷ []) in
       record {
         so_far = so_far.so_far ++ shown.now ++ 0 ∷ [];
-        counted = omega (arith, behind, so_far.counted, a, b);
+        counted = omega (arith, so_far.counted, length-append so_far.so_far shown.now, b);
         holds = put so_far.so_far old so_far.holds so_far.counted;
         left = IsSoFar-name {A = ℕ} rules list so_far.so_far (so_far.so_far ++ shown.now ++ 0 ∷ []) shown.now
             (Items rules rest)
@@ -71,10 +69,6 @@ module _ (rules : List MappingRule) (list rest left : List ℕ) (count : ℕ) (o
 
 -- ---- the end
 
-nil_from : (l : List ℕ) → length l ≡ 0 → l ≡ []
-nil_from [] e = refl
-nil_from (x ∷ l) e = absurd (omega (arith, e))
-
 -- the whole list has so many bytes, and is held as far as there is room
 pub record IsWhole (rules : List MappingRule) (list : List ℕ) (count : ℕ) (old new : List ℕ) : Type 0 where
   pub answer : List ℕ
@@ -90,14 +84,12 @@ none_as_list : (parts : List (List ℕ)) → length (with_zeros parts) ≡ 0 →
 none_as_list [] none = refl
 none_as_list (part ∷ parts) none =
     absurd
-    (let a = length-append (part ++ 0 ∷ []) (with_zeros parts) in
-    let b = length-append part (0 ∷ []) in
-    omega (arith, none, a, b))
+    (omega (arith, length-append (part ++ 0 ∷ []) (with_zeros parts), length-append part (0 ∷ [])))
 
 module _ (rules : List MappingRule) (list rest : List ℕ) (count : ℕ) (old new : List ℕ)
     (so_far : IsListedSoFar rules list rest count old new) (none_left : length rest ≡ 0) where
   past : rest ≡ []
-  past = nil_from rest none_left
+  past = nil_from_length rest none_left
 
   abbrev all_names : List (List ℕ)
   all_names = names_of (Items rules list)
@@ -120,8 +112,7 @@ module _ (rules : List MappingRule) (list rest : List ℕ) (count : ℕ) (old ne
         answer = with_zeros all_names;
         is = answer_is ∙ ap Some same;
         counted = long;
-        holds =
-            subst (λ (l : List ℕ). Holds l old new) all_is so_far.holds;
+        holds = subst (λ (l : List ℕ). Holds l old new) all_is so_far.holds;
       }
 
   -- none was
@@ -132,14 +123,13 @@ module _ (rules : List MappingRule) (list rest : List ℕ) (count : ℕ) (old ne
   listed_no_name next after none behind put =
       let long : length (with_zeros all_names) ≡ 0 = ap length (sym all_is) ∙ sym so_far.counted ∙ none in
       let same : as_list all_names ≡ 0 ∷ [] = none_as_list all_names long in
-      let empty : so_far.so_far ≡ [] = nil_from so_far.so_far (sym so_far.counted ∙ none) in
-      let held = put so_far.so_far old so_far.holds (omega (arith, so_far.counted, none)) in
+      let empty : so_far.so_far ≡ [] = nil_from_length so_far.so_far (sym so_far.counted ∙ none) in
+      let held = put so_far.so_far old so_far.holds (omega (arith, so_far.counted)) in
       record {
         answer = 0 ∷ [];
         is = answer_is ∙ ap Some same;
         counted = behind;
-        holds =
-            subst (λ (l : List ℕ). Holds (l ++ [] ++ 0 ∷ []) old after) empty held;
+        holds = subst (λ (l : List ℕ). Holds (l ++ [] ++ 0 ∷ []) old after) empty held;
       }
 
 module _ (rules : List MappingRule) (list old new : List ℕ) (count : ℕ) (whole : IsWhole rules list count old new) where
@@ -148,31 +138,10 @@ module _ (rules : List MappingRule) (list old new : List ℕ) (count : ℕ) (who
       → (answer : List ℕ) × (server_answer rules list ≡ Some answer) × (count ≡ length answer)
       × (new ≡ answer ++ drop count old)
   whole_fits room =
-      let stands = whole.holds.are (omega (arith, whole.counted, room, whole.holds.same)) in
+      let stands = whole.holds.are (omega (arith, whole.counted, whole.holds.same)) in
       (whole.answer, whole.is, whole.counted, stands ∙ ap (λ (n : ℕ). whole.answer ++ drop n old) (sym whole.counted))
 
   -- else its length is told
   pub whole_too_long : length new < count
       → (answer : List ℕ) × (server_answer rules list ≡ Some answer) × (count ≡ length answer) × (length old < count)
-  whole_too_long long = (whole.answer, whole.is, whole.counted, omega (arith, long, whole.holds.same))
-
--- ---- how long it is
-
--- a name more, of a list with so many bytes left
-pub short_more : (count left rest list shown next : ℕ) → next ≡ count + shown + 1 → 0 < rest
-    → (0 < rest → count + rest ≤ list)
-    → shown + left ≤ rest → (0 < left → shown + left < rest) → next + left ≤ list + 1
-short_more count zero rest list shown next is some room within apart =
-    let b = room some in omega (arith, is, within, b)
-short_more count (suc left) rest list shown next is some room within apart =
-    let a = apart (omega arith) in
-    let b = room some in
-    omega (arith, is, a, b)
-
-pub shorter_more : (count left rest list shown next : ℕ) → next ≡ count + shown + 1 → 0 < rest
-    → (0 < rest → count + rest ≤ list)
-    → (0 < left → shown + left < rest) → 0 < left → next + left ≤ list
-shorter_more count left rest list shown next is some room apart more =
-    let a = apart more in
-    let b = room some in
-    omega (arith, is, a, b)
+  whole_too_long long = (whole.answer, whole.is, whole.counted, omega (arith, whole.holds.same))

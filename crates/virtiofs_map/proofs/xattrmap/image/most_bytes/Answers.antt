@@ -4,5 +4,4 @@ use Rattle.virtiofs_map.proofs.xattrmap.image.most_bytes.Goals as goal
 
 pub returns-clause-enough : goal.returns-clause-enough
 returns-clause-enough c = λ text rules utf8 says short.
-    (let enough = image_enough text rules utf8 says in
-    omega (arith, enough, short, c.saturating_mul.ensures, c.saturating_add.ensures))
+    (omega (arith, image_enough text rules utf8 says, c.saturating_mul.ensures, c.saturating_add.ensures))

@@ -1,8 +1,7 @@
 -- Where the row of a rule and its prepend stand in an image.
-use Rattle.std.proofs.Common.{◌≡◌, ℕ, ◌+◌, ◌-◌, ◌*◌, ◌%◌, ◌≤◌, List, Some, length, take, drop, sym, ap}
-use Rattle.std.proofs.Common.{subst, ◌∙◌, arith, length-take}
+use Rattle.std.proofs.Common.{◌≡◌, ℕ, ◌+◌, ◌-◌, ◌*◌, ◌%◌, ◌≤◌, List, Some, length, take, drop, sym, ap, subst, ◌∙◌}
+use Rattle.std.proofs.Common.{arith, length-take, slice_get}
 use Rattle.std.proofs.lemmas.Option.{slice_get_within}
-use Rattle.std.specs.List.{slice_get}
 use Rattle.virtiofs_map.specs.LeU64Parts.{le_u64_at}
 use Rattle.virtiofs_map.specs.NamesImage.{IsImage, part, part_end, part_start, rule_row}
 use Rattle.virtiofs_map.specs.NodeParts.{IsSpan}
@@ -42,12 +41,9 @@ module _ (rules : List MappingRule) (image : List ℕ) (place : ℕ) (rule : Map
       let fourth = is.parts 3 (omega arith) in
       let rising = third.rising in
       let within = third.within in
-      let rising_on = fourth.rising in
-      let last = is.last in
-      let most = is.short in
       let fits : place * 24 + 24 ≤ size = omega (arith, long, short, below) in
       let at : part_start image 2 + place * 24 ≡ from =
-      omega (arith, is_start, is_from, fits, rising, rising_on, last, most) in
+      omega (arith, fits, rising, fourth.rising, is.last, is.short) in
       let stands = rule_there rules (part image 2) (part image 3) place stored (omega (arith, long, below)) in
       let same : stands.rule ≡ rule = let other = stands.here in cc in
       let width : 24 ≡ place * 24 + 24 - place * 24 = omega arith in
@@ -75,15 +71,13 @@ module _ (rules : List MappingRule) (image : List ℕ) (place : ℕ) (rule : Map
       let words = words_of_row (part image 3) rule span has.is is.stored.few in
       let prepend : second ≡ span.prepend = is_second ∙ ap (λ (l : List ℕ). le_u64_at l 8) is_row ∙ words.second_is in
       let end : third ≡ span.end = is_third ∙ ap (λ (l : List ℕ). le_u64_at l 16) is_row ∙ words.third_is in
-      let short = length-take size (drop (part_start image 3) image) in
       let fourth = is.parts 3 (omega arith) in
       let rising = fourth.rising in
       let within = fourth.within in
       let last = is.last in
       let most = is.short in
       let up = has.is.rising_on in
-      let all = has.is.within in
-      let ends : span.end ≤ size = omega (arith, short, all) in
+      let ends : span.end ≤ size = omega (arith, length-take size (drop (part_start image 3) image), has.is.within) in
       let begins_at : part_start image 3 + span.prepend ≡ from =
       omega (arith, is_start, is_from, prepend, up, ends, rising, last, most) in
       let ends_at : part_start image 3 + span.end ≡ to =

@@ -1,15 +1,14 @@
 -- The parts of an image, and what is written as one.
-use Rattle.std.proofs.Common.{◌≡◌, ℕ, ◌+◌, ◌-◌, ◌*◌, ◌/◌, ◌^◌, ◌<◌, ◌≤◌, zero, suc, List, [], ◌∷◌, ◌++◌, All, length, get_or}
-use Rattle.std.proofs.Common.{take, drop, refl, ap, sym, subst, ◌∙◌, arith, append_assoc, append-nil, length-append}
+use Rattle.std.proofs.Common.{◌≡◌, ℕ, ◌+◌, ◌-◌, ◌*◌, ◌/◌, ◌^◌, ◌<◌, ◌≤◌, zero, suc, List, [], ◌∷◌, ◌++◌, All, length}
+use Rattle.std.proofs.Common.{get_or, take, drop, refl, ap, sym, subst, ◌∙◌, arith, append_assoc, append-nil}
+use Rattle.std.proofs.Common.{length-append, length-drop, length-take-le, flat_map}
 use Rattle.std.proofs.Math.Seq.{drop-append_seam, take-append_seam}
 use Rattle.std.proofs.lemmas.List.Elements.{All-cons, All-nil}
-use Rattle.std.proofs.lemmas.List.{length-drop, length-take-le}
-use Rattle.std.specs.List.{flat_map}
-use Rattle.virtiofs_map.specs.NodeParts.{AreSpans, HasBytes, IsBounded, IsSmallIn, IsTrie, IsTrieIn, IsTrieWith}
-use Rattle.virtiofs_map.specs.NodeParts.{row_in}
-use Rattle.virtiofs_map.specs.LeU64Parts.{le_u64_at}
-use Rattle.virtiofs_map.specs.NamesImage.{HasPart, IsImage, image_kind, image_length, part, part_end, part_start}
-use Rattle.virtiofs_map.specs.NamesImage.{longest_image, pattern_bytes, rule_rows}
+use Rattle.virtiofs_map.specs.NodeParts.{AreSpans, HasBytes, IsBounded, IsSmallIn, IsTrie, IsTrieIn, IsTrieWith, row_in}
+use Rattle.virtiofs_map.specs.NodeParts.{AreTrieRows}
+use Rattle.virtiofs_map.specs.LeU64Parts.{le_u64_at, le_u64_bytes}
+use Rattle.virtiofs_map.specs.NamesImage.{HasEnd, HasPart, IsImage, image_kind, image_length, part, part_end}
+use Rattle.virtiofs_map.specs.NamesImage.{part_start, longest_image, pattern_bytes, rule_rows}
 use Rattle.virtiofs_map.specs.NamesImageParts.{ArePlaces, IsWholeImage, header_of, numbers_of}
 use Rattle.virtiofs_map.specs.Rule.{MappingRule, HasNoZero}
 use Rattle.virtiofs_map.specs.declared.xattrmap.image.write.Places.{Places}
@@ -17,7 +16,8 @@ use Rattle.virtiofs_map.specs.declared.xattrmap.scopes.Side.{Side}
 use Rattle.virtiofs_map.specs.declared.xattrmap.scopes.Side.TheVariants.{Client, Server}
 use Rattle.virtiofs_map.specs.declared.xattrmap.trie.node.Node.{Node}
 use Rattle.virtiofs_map.specs.declared.xattrmap.spans.Span.{Span}
-use Rattle.virtiofs_map.proofs.LeU64Lemmas.{length-rows_in, length-words, word_of_words}
+use Rattle.virtiofs_map.proofs.LeU64Lemmas.{length-le_u64_bytes, length-rows_in, length-words, le_u64_at-front}
+use Rattle.virtiofs_map.proofs.LeU64Lemmas.{le_u64_at-past, word_of_words}
 use Rattle.virtiofs_map.proofs.RuleRowLemmas.{length-rule_rows}
 
 -- ---- parts, as they are written
@@ -26,7 +26,7 @@ use Rattle.virtiofs_map.proofs.RuleRowLemmas.{length-rule_rows}
 part_here : (front one back : List ℕ) (from to : ℕ) → from ≡ length front → to ≡ from + length one
     → take (to - from) (drop from ((front ++ one) ++ back)) ≡ one
 part_here front one back from to is_from is_to =
-    let size : to - from ≡ length one = omega (arith, is_to) in
+    let size : to - from ≡ length one = omega arith in
     ap (λ (n : ℕ). take n (drop from ((front ++ one) ++ back))) size
     ∙ ap (λ (n : ℕ). take (length one) (drop n ((front ++ one) ++ back))) is_from
     ∙ ap (λ (l : List ℕ). take (length one) (drop (length front) l)) (append_assoc front one back)
@@ -41,24 +41,18 @@ pub record IsPartAt (image : List ℕ) (which : ℕ) (bytes : List ℕ) : Type 0
 part_length : (image : List ℕ) (which : ℕ) → HasPart image which
     → length (part image which) ≡ part_end image which - part_start image which
 part_length image which has =
-    let long = length-drop (part_start image which) image in
-    let rising = has.rising in
-    let within = has.within in
     length-take-le (part_end image which - part_start image which) (drop (part_start image which) image)
-    (omega (arith, long, rising, within))
+    (omega (arith, length-drop (part_start image which) image))
 
 -- what stands between two places that the header names is that part
 part_laid : (image front one back : List ℕ) (which from to : ℕ) → image ≡ (front ++ one) ++ back
     → from ≡ length front → to ≡ from + length one → part_start image which ≡ from → part_end image which ≡ to
     → IsPartAt image which one
 part_laid image front one back which from to is is_from is_to starts ends =
-    let size = ap length is ∙ length-append (front ++ one) back in
-    let sizes = length-append front one in
     record {
       has = record {
-        rising = omega (arith, starts, ends, is_to);
-        within =
-            omega (arith, ends, is_to, is_from, size, sizes);
+        rising = omega arith;
+        within = omega (arith, ap length is ∙ length-append (front ++ one) back, length-append front one);
       };
       is = rw (starts, ends, is) (part_here front one back from to is_from is_to);
     }
@@ -68,8 +62,7 @@ numbers_fit : (places : Places) → places.server < 2 ^ 64 → places.rules < 2 
     → All (λ w. w < 2 ^ 64) (numbers_of places)
 numbers_fit places a b c d =
     let Fits : ℕ → Type 0 = λ w. w < 2 ^ 64 in
-    let one = All-cons Fits places.end [] d (All-nil Fits) in
-    let two = All-cons Fits places.bytes (places.end ∷ []) c one in
+    let two = All-cons Fits places.bytes (places.end ∷ []) c (All-cons Fits places.end [] d (All-nil Fits)) in
     let three = All-cons Fits places.rules (places.bytes ∷ places.end ∷ []) b two in
     let four = All-cons Fits places.server (places.rules ∷ places.bytes ∷ places.end ∷ []) a three in
     let five = All-cons Fits 48 (places.server ∷ places.rules ∷ places.bytes ∷ places.end ∷ []) (omega arith) four in
@@ -79,7 +72,8 @@ numbers_fit places a b c d =
 
 -- all that is written
 abbrev pub content : Places → List ℕ → List ℕ → List ℕ → List ℕ → List ℕ
-content places client server rows bytes = header_of places ++ client ++ server ++ rows ++ bytes
+content places client server rows bytes =
+    header_of places ++ client ++ server ++ rows ++ bytes ++ le_u64_bytes image_kind
 
 module _ (places : Places) (client server rows bytes : List ℕ) (rules : ℕ)
     (are : ArePlaces (length client) (length server) rules (length bytes) places)
@@ -87,13 +81,23 @@ module _ (places : Places) (client server rows bytes : List ℕ) (rules : ℕ)
   pub header_length : length (header_of places) ≡ 48
   header_length = length-words (numbers_of places)
 
-  pub content_length : length (content places client server rows bytes) ≡ places.end
-  content_length =
+  abbrev behind : List ℕ
+  behind = le_u64_bytes image_kind
+
+  abbrev patterns_end : List ℕ
+  patterns_end = header_of places ++ client ++ server ++ rows ++ bytes
+
+  patterns_length : length patterns_end ≡ places.end
+  patterns_length =
       let a = length-append (header_of places) client in
       let b = length-append (header_of places ++ client) server in
       let c = length-append (header_of places ++ client ++ server) rows in
       let d = length-append (header_of places ++ client ++ server ++ rows) bytes in
       omega (arith, a, b, c, d, header_length, are.first, are.second, are.third, are.last, long)
+
+  pub content_length : length (content places client server rows bytes) ≡ places.end + 8
+  content_length =
+      omega (arith, length-append patterns_end behind, patterns_length, length-le_u64_bytes image_kind)
 
   content_u64 : (k : ℕ) → k < 6
       → le_u64_at (content places client server rows bytes) (8 * k) ≡ get_or (numbers_of places) k 0
@@ -103,23 +107,34 @@ module _ (places : Places) (client server rows bytes : List ℕ) (rules : ℕ)
       (omega (arith, are.second, are.third, are.last, are.short)) (omega (arith, are.third, are.last, are.short))
       (omega (arith, are.last, are.short)) in
       let apart : content places client server rows bytes ≡ header_of places
-      ++ (client ++ (server ++ (rows ++ bytes))) = simp append_assoc in
+      ++ (client ++ (server ++ (rows ++ (bytes ++ behind)))) = simp append_assoc in
       ap (λ (l : List ℕ). le_u64_at l (8 * k)) apart
-      ∙ word_of_words (numbers_of places) (client ++ (server ++ (rows ++ bytes))) k below fit
+      ∙ word_of_words (numbers_of places) (client ++ (server ++ (rows ++ (bytes ++ behind)))) k below fit
 
   pub content_kind : le_u64_at (content places client server rows bytes) 0 ≡ image_kind
   content_kind = content_u64 0 (omega arith)
 
+  pub content_end : HasEnd (content places client server rows bytes)
+  content_end =
+      let ends : part_end (content places client server rows bytes) 3 ≡ places.end = content_u64 5 (omega arith) in
+      record {
+        within = omega (arith, ends, content_length);
+        is = ap (le_u64_at (patterns_end ++ behind)) (omega (arith, ends, patterns_length))
+            ∙ le_u64_at-past patterns_end behind 0
+            ∙ ap (λ (l : List ℕ). le_u64_at l 0) (sym (append-nil behind))
+            ∙ le_u64_at-front image_kind [] (omega arith);
+      }
+
   pub first_part : IsPartAt (content places client server rows bytes) 0 client
   first_part =
-      part_laid (content places client server rows bytes) (header_of places) client (server ++ rows ++ bytes) 0 48
+      part_laid (content places client server rows bytes) (header_of places) client (server ++ rows ++ bytes ++ behind) 0 48
       places.server
       (simp append_assoc) (sym header_length) are.first (content_u64 1 (omega arith)) (content_u64 2 (omega arith))
 
   pub second_part : IsPartAt (content places client server rows bytes) 1 server
   second_part =
       let a = length-append (header_of places) client in
-      part_laid (content places client server rows bytes) (header_of places ++ client) server (rows ++ bytes) 1
+      part_laid (content places client server rows bytes) (header_of places ++ client) server (rows ++ bytes ++ behind) 1
       places.server places.rules
       (simp append_assoc) (omega (arith, a, header_length, are.first)) are.second (content_u64 2 (omega arith))
       (content_u64 3 (omega arith))
@@ -128,9 +143,9 @@ module _ (places : Places) (client server rows bytes : List ℕ) (rules : ℕ)
   third_part =
       let a = length-append (header_of places) client in
       let b = length-append (header_of places ++ client) server in
-      part_laid (content places client server rows bytes) (header_of places ++ client ++ server) rows bytes 2
+      part_laid (content places client server rows bytes) (header_of places ++ client ++ server) rows (bytes ++ behind) 2
       places.rules places.bytes
-      refl (omega (arith, a, b, header_length, are.first, are.second)) (omega (arith, are.third, long))
+      (simp append_assoc) (omega (arith, a, b, header_length, are.first, are.second)) (omega (arith, are.third, long))
       (content_u64 3 (omega arith)) (content_u64 4 (omega arith))
 
   pub fourth_part : IsPartAt (content places client server rows bytes) 3 bytes
@@ -138,10 +153,9 @@ module _ (places : Places) (client server rows bytes : List ℕ) (rules : ℕ)
       let a = length-append (header_of places) client in
       let b = length-append (header_of places ++ client) server in
       let c = length-append (header_of places ++ client ++ server) rows in
-      part_laid (content places client server rows bytes) (header_of places ++ client ++ server ++ rows) bytes [] 3
+      part_laid (content places client server rows bytes) (header_of places ++ client ++ server ++ rows) bytes behind 3
       places.bytes places.end
-      (sym (append-nil (content places client server rows bytes)))
-      (omega (arith, a, b, c, header_length, are.first, are.second, are.third, long)) are.last
+      refl (omega (arith, a, b, c, header_length, are.first, are.second, are.third, long)) are.last
       (content_u64 4 (omega arith)) (content_u64 5 (omega arith))
 
   pub every_part : (which : ℕ) → which < 4 → HasPart (content places client server rows bytes) which
@@ -154,10 +168,9 @@ module _ (places : Places) (client server rows bytes : List ℕ) (rules : ℕ)
 -- what tries, rules and patterns have together
 pub parts_length : (rules : List MappingRule) (client server : List Node) (bytes : List ℕ)
     → IsTrieWith Client rules client bytes → IsTrieWith Server rules server bytes → length bytes ≡ pattern_bytes rules
-    → 48 + 24 * length client + 24 * length server + 24 * length rules + length bytes ≡ image_length rules
+    → 56 + 24 * length client + 24 * length server + 24 * length rules + length bytes ≡ image_length rules
 unfolding image_length
-parts_length rules client server bytes clients servers whole =
-    omega (arith, clients.counted, servers.counted, whole)
+parts_length rules client server bytes clients servers whole = omega arith
 
 -- the numbers of nodes fit into the rows of an image that is not too long
 pub rows_fit : (nodes : List Node) (bytes : List ℕ) (first labels : ℕ) → All (IsBounded nodes bytes) nodes
@@ -166,10 +179,10 @@ pub rows_fit : (nodes : List Node) (bytes : List ℕ) (first labels : ℕ) → A
 rows_fit nodes bytes first labels bounded rows texts = λ at d below.
     (let one = bounded at d below in
     record {
-      answer = let most = one.answer in omega (arith, most);
-      label = let most = one.label in omega (arith, most, texts);
+      answer = omega (arith, one.answer);
+      label = omega (arith, one.label);
       size = one.size;
-      base = let most = one.base in omega (arith, most, rows);
+      base = omega (arith, one.base);
       width = one.width;
     })
 
@@ -187,8 +200,6 @@ module _ (side : Side) (rules : List MappingRule) (image : List ℕ) (which firs
       part_length image which rows.has in
       let sized : length (part image which) ≡ 24 * length nodes = ap length rows.is
       ∙ length-rows_in first labels nodes in
-      let texts_rising = texts.has.rising in
-      let texts_within = texts.has.within in
       let texts_long : length (part image 3) ≡ part_end image 3 - part_start image 3 = part_length image 3 texts.has in
       record {
         first = first;
@@ -196,7 +207,7 @@ module _ (side : Side) (rules : List MappingRule) (image : List ℕ) (which firs
         begins_at = starts;
         ends_at = omega (arith, long, sized, rising);
         rows_of = record {
-          within = omega (arith, long, sized, rising, within, starts);
+          within = omega (arith, long, sized, rising, within);
           are = ap (λ n. take n (drop (8 * first) image)) (let n : 24 * length nodes ≡ part_end image which
               - part_start image which = omega (arith, long, sized) in n)
               ∙ ap (λ n. take (part_end image which - part_start image which) (drop n image)) (sym starts)
@@ -205,7 +216,7 @@ module _ (side : Side) (rules : List MappingRule) (image : List ℕ) (which firs
           bytes = are_bytes;
         };
         texts = record {
-          within = omega (arith, texts_long, texts_rising, texts_within);
+          within = omega (arith, texts_long);
           are = ap (λ n. take n (drop (part_start image 3) image)) texts_long;
         };
         trie = subst (IsTrie side rules nodes) (sym texts.is) of.trie;
@@ -228,16 +239,14 @@ module _ (rules : List MappingRule) (spans : List Span) (client server : List No
   rows_long : length (rule_rows rules spans) ≡ 24 * length rules
   rows_long = length-rule_rows rules spans stand.counted
 
-  ends_there : places.end ≡ image_length rules
+  ends_there : places.end + 8 ≡ image_length rules
   ends_there = omega (arith, parts_length rules client server bytes clients servers whole, are.first, are.second, are.third, are.last)
 
   laid : ArePlaces (length client_rows) (length server_rows) (length rules) (length bytes) places
   laid =
-      let one = length-rows_in 6 places.bytes client in
-      let two = length-rows_in (places.server / 8) places.bytes server in
       record {
-        first = omega (arith, are.first, one);
-        second = omega (arith, are.second, two);
+        first = omega (arith, are.first, length-rows_in 6 places.bytes client);
+        second = omega (arith, are.second, length-rows_in (places.server / 8) places.bytes server);
         third = are.third;
         last = are.last;
         short = are.short;
@@ -264,13 +273,12 @@ module _ (rules : List MappingRule) (spans : List Span) (client server : List No
       let size = content_length places client_rows server_rows rows bytes (length rules) laid rows_long in
       let starts = content_u64 places client_rows server_rows rows bytes (length rules) laid rows_long in
       record {
-        begun =
-            let rooted = clients.trie.root in
-            omega (arith, size, are.first, are.second, are.third, are.last, rooted);
+        begun = omega (arith, size, are.first, are.second, are.third, are.last, clients.trie.root);
         kind = content_kind places client_rows server_rows rows bytes (length rules) laid rows_long;
         parts = every_part places client_rows server_rows rows bytes (length rules) laid rows_long;
         first = starts 1 (omega arith);
-        last = starts 5 (omega arith) ∙ ends_there;
+        ended = content_end places client_rows server_rows rows bytes (length rules) laid rows_long;
+        last = ap (λ (n : ℕ). n + 8) (starts 5 (omega arith)) ∙ ends_there;
         short = omega (arith, ends_there, are.short);
         client =
             trie_laid Client rules _ 0 6 places.bytes client bytes clients client_fits client_bytes
@@ -295,16 +303,23 @@ module _ (rules : List MappingRule) (spans : List Span) (client server : List No
   }
 
 -- what was appended part by part
-pub content_is : (places : Places) (client server rows bytes none begun one two three all : List ℕ)
+pub content_is : (places : Places) (client server rows bytes none begun one two three four all : List ℕ)
     (clients servers patterns : List ℕ) → none ≡ [] → begun ≡ none ++ header_of places → one ≡ begun ++ clients
-    → two ≡ one ++ servers → three ≡ two ++ rows → all ≡ three ++ patterns → clients ≡ client → servers ≡ server
-    → patterns ≡ bytes
+    → two ≡ one ++ servers → three ≡ two ++ rows → four ≡ three ++ patterns → all ≡ four ++ le_u64_bytes image_kind
+    → clients ≡ client → servers ≡ server → patterns ≡ bytes
     → all ≡ content places client server rows bytes
-content_is places client server rows bytes none begun one two three all clients servers patterns a b c d e f g h i =
-    f ∙ ap (λ (l : List ℕ). l ++ patterns) e ∙ ap (λ (l : List ℕ). l ++ rows ++ patterns) d
-    ∙ ap (λ (l : List ℕ). l ++ servers ++ rows ++ patterns) c
-    ∙ ap (λ (l : List ℕ). l ++ clients ++ servers ++ rows ++ patterns) b
-    ∙ ap (λ (l : List ℕ). l ++ header_of places ++ clients ++ servers ++ rows ++ patterns) a
-    ∙ ap (λ (l : List ℕ). header_of places ++ l ++ servers ++ rows ++ patterns) g
-    ∙ ap (λ (l : List ℕ). header_of places ++ client ++ l ++ rows ++ patterns) h
-    ∙ ap (λ (l : List ℕ). header_of places ++ client ++ server ++ rows ++ l) i
+content_is places client server rows bytes none begun one two three four all clients servers patterns a b c d e f z g h i =
+    rw (z, f, e, d, c, b, a, g, h, i) refl
+
+-- ---- the rows of a trie that are not too long
+
+module _ (side : Side) (rules : List MappingRule) (bytes rows : List ℕ) (first : ℕ)
+    (of : AreTrieRows side rules bytes rows first) (within : 8 * first + length rows ≤ longest_image) where
+  -- their numbers fit
+  pub nodes_fit : (labels : ℕ) → labels + length bytes ≤ longest_image → All (IsSmallIn first labels) of.nodes
+  nodes_fit labels fits =
+      rows_fit of.nodes bytes first labels of.trie.bounded (omega (arith, within, of.rows_of.long)) fits
+
+  -- and the rows are theirs
+  pub rows_are : length bytes ≤ longest_image → rows ≡ flat_map (row_in first 0) of.nodes
+  rows_are fits = of.rows_of.are (nodes_fit 0 (omega arith))

@@ -1,6 +1,5 @@
-use Rattle.std.proofs.Common.{◌≡◌, ◌+◌, Some, None, take, drop, sym, ap, ◌∙◌, arith}
-use Rattle.std.specs.List.{position}
-use Rattle.std.proofs.lemmas.List.{take_rest, take_all, drop_all}
+use Rattle.std.proofs.Common.{◌≡◌, ◌+◌, Some, None, take, drop, sym, ap, ◌∙◌, arith, position, take_all}
+use Rattle.std.proofs.lemmas.List.{take_rest, drop_all}
 use Rattle.virtiofs_map.proofs.xattrmap.FirstNameLemmas.{no_zero_left, zero_at}
 use Rattle.virtiofs_map.proofs.ServerListLemmas.{is_zero, position-Some_is, position-None_is}
 use Rattle.virtiofs_map.proofs.xattrmap.listed.cut_name.Goals as goal

@@ -1,7 +1,6 @@
-use Rattle.std.proofs.Common.{◌≡◌, inr, subst, ap, ◌∙◌, rules}
+use Rattle.std.proofs.Common.{◌≡◌, inr, subst, ap, ◌∙◌, rules, chars}
 use Rattle.std.proofs.lemmas.Result.{err_from_is_err_and}
 use Rattle.std.proofs.lemmas.Str.{chars-nil}
-use Rattle.std.specs.Str.{chars}
 use Rattle.virtiofs_map.specs.RuleParts.{head_of, as_written, IsOpened}
 use Rattle.virtiofs_map.specs.RuleText as texts
 use Rattle.virtiofs_map.specs.declared.xattrmap.written.Head.TheVariants.{Map}

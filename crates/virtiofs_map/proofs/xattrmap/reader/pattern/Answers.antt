@@ -1,5 +1,4 @@
-use Rattle.std.proofs.Common.{inr, refl}
-use Rattle.std.specs.Str.{chars}
+use Rattle.std.proofs.Common.{inr, refl, chars}
 use Rattle.virtiofs_map.proofs.CutLemmas.{contains_match, field_here, lacks_text}
 use Rattle.virtiofs_map.proofs.xattrmap.reader.pattern.Goals as goal
 
@@ -18,9 +17,3 @@ returns-clause-ok g c = field_here _ _ _ _ c.in-Some.ensures.whole c.in-Some.ens
 
 pub returns-clause-no_nul : goal.returns-clause-no_nul
 returns-clause-no_nul g c = lacks_text 0 c.in-Some.field.now c.in-Some.ensures.text.0 c.if-contains.ensures.cases
-
-pub returns-in_default-clause-ok : goal.returns-in_default-clause-ok
-returns-in_default-clause-ok g c = tt
-
-pub returns-in_default-clause-no_nul : goal.returns-in_default-clause-no_nul
-returns-in_default-clause-no_nul g c = tt

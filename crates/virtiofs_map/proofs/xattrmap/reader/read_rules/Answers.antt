@@ -1,6 +1,5 @@
-use Rattle.std.proofs.Common.{length, inl, inr, ap, ◌∙◌, arith, rules, ◌+◌, length-append}
+use Rattle.std.proofs.Common.{length, inl, inr, ap, ◌∙◌, arith, rules, ◌+◌, length-append, chars}
 use Rattle.std.proofs.lemmas.Str.{chars-nil}
-use Rattle.std.specs.Str.{chars}
 use Rattle.virtiofs_map.specs.RuleParts.{as_written}
 use Rattle.virtiofs_map.proofs.ReadSoFarLemmas.{start, opened, refused_at, not_out_of_memory, step, finish, nothing}
 use Rattle.virtiofs_map.proofs.ReadSoFarLemmas.{rule_shorter, items_none, items_some}
@@ -26,19 +25,17 @@ returns-in-Err-clause-refused g c =
     elim c.in-Err.ensures.err [
       | inl memory ↦ rw (c.in_rule.ensures.cause, c.in_rule.ensures.memory memory, memory) tt
       | inr wrong ↦
-          (let not_memory = not_out_of_memory _ _ wrong in
-          rw (c.in_rule.ensures.cause, c.in_rule.ensures.rule not_memory)
+          (rw (c.in_rule.ensures.cause, c.in_rule.ensures.rule (not_out_of_memory _ _ wrong))
           (refused_at _ _ _ _ _ _ c.loop-number.invariant.1 more
           (ap (λ n. n + 1) (c.len-number.ensures ∙ search rules)) wrong))
     ]
 
 pub loop-number-smaller : goal.loop-number-smaller
 loop-number-smaller g c =
-    let shorter = rule_shorter _ _ _ c.in-Ok.ensures.ok in
     let skipped = skips _ _ c.trim_ascii_start-rest.utf8 c.trim_ascii_start-rest.ensures.value in
     omega (
       arith,
-      shorter,
+      rule_shorter _ _ _ c.in-Ok.ensures.ok,
       ap length skipped.spells,
       length-append skipped.blanks (chars c.trim_ascii_start-rest.result.now),
     )

@@ -1,7 +1,6 @@
-use Rattle.std.proofs.Common.{length}
+use Rattle.std.proofs.Common.{length, chars}
 use denote.Text.{Utf8}
 use denote.Shadow.{shadow}
-use Rattle.std.specs.Str.{chars}
 use Rattle.virtiofs_map.proofs.ReadSoFarLemmas.{ReadSoFar}
 use Rattle.virtiofs_map.proofs.xattrmap.reader.read_rules.Given as goal
 

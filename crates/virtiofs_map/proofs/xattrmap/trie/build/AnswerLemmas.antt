@@ -9,18 +9,18 @@ pub IsLeastOf-more : (patterns : List Pattern) (base low at value next : ℕ) �
     → IsLeastOf patterns base low at value → next ≡ min value (number patterns at)
     → IsLeastOf patterns base low (at + 1) next
 IsLeastOf-more patterns base low at value next l least e = record {
-  least = let h = least.least in omega (arith, h, e);
+  least = omega arith;
   below = λ i from upto. elim (cases_lt i at) [
-    | inl b ↦ (let h = least.below i from b in omega (arith, h, e))
-    | inr g ↦ (let same : i ≡ at = omega (arith, upto, g) in let h = ap (number patterns) same in omega (arith, h, e))
+    | inl b ↦ omega (arith, least.below i from b)
+    | inr g ↦ (let same : i ≡ at = omega arith in omega (arith, ap (number patterns) same))
   ];
   met = elim (cases_lt (number patterns at) value) [
-    | inl b ↦ inr (at, l, omega arith, omega (arith, b, e))
+    | inl b ↦ inr (at, l, omega arith, omega arith)
     | inr g ↦
-        (let same : next ≡ value = omega (arith, g, e) in
+        (let same : next ≡ value = omega arith in
         elim least.met [
           | inl h ↦ inl (same ∙ h)
-          | inr (i, from, upto, h) ↦ inr (i, from, omega (arith, upto), h ∙ sym same)
+          | inr (i, from, upto, h) ↦ inr (i, from, omega arith, h ∙ sym same)
         ])
   ];
 }
@@ -32,9 +32,9 @@ pub IsLeast-with : (patterns : List Pattern) (chosen more : ℕ → Type 0) (bas
     → ((i : ℕ) → more i → chosen i ⊎ ((low ≤ i) × (i < high)))
     → IsLeast patterns more value
 IsLeast-with patterns chosen more base low high value first then old new either = record {
-  top = let a = first.top in let b = then.least in omega (arith, a, b);
+  top = omega arith;
   below = λ i h. elim (either i h) [
-    | inl c ↦ (let a = first.below i c in let b = then.least in omega (arith, a, b))
+    | inl c ↦ omega (arith, first.below i c)
     | inr (l, u) ↦ then.below i l u
   ];
   met = elim then.met [

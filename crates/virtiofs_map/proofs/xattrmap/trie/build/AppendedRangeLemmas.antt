@@ -1,7 +1,6 @@
 -- Places that are appended to others.
 use Rattle.std.proofs.Common.{◌≡◌, ◌⊎◌, ℕ, zero, suc, ◌<◌, List, [], ◌∷◌, ◌++◌, length, Some, inl, inr, refl, ◌∙◌}
-use Rattle.std.proofs.Common.{arith}
-use Rattle.std.specs.List.{slice_get}
+use Rattle.std.proofs.Common.{arith, slice_get}
 use Rattle.std.proofs.lemmas.List.{length_push}
 use Rattle.virtiofs_map.specs.TrieBuildParts.{IsLonger}
 use Rattle.virtiofs_map.specs.declared.xattrmap.trie.build.PatternRange.{PatternRange}
@@ -17,9 +16,9 @@ push_cases (x ∷ xs) y (suc k) z e =
 
 pub push_keeps : {X : Type 0} (xs : List X) (y : X) (k : ℕ) → k < length xs
     → slice_get (xs ++ y ∷ []) k ≡ slice_get xs k
-push_keeps [] y k l = absurd (omega (arith, l))
+push_keeps [] y k l = absurd (omega arith)
 push_keeps (x ∷ xs) y zero l = refl
-push_keeps (x ∷ xs) y (suc k) l = push_keeps xs y k (omega (arith, l))
+push_keeps (x ∷ xs) y (suc k) l = push_keeps xs y k (omega arith)
 
 pub IsLonger-refl : (ranges : List PatternRange) → IsLonger ranges ranges
 IsLonger-refl ranges = record { longer = omega arith; same = λ at l. refl }
@@ -32,6 +31,6 @@ IsLonger-push ranges range = record {
 
 pub IsLonger-trans : (old mid new : List PatternRange) → IsLonger old mid → IsLonger mid new → IsLonger old new
 IsLonger-trans old mid new a b = record {
-  longer = let l = a.longer in let m = b.longer in omega (arith, l, m);
-  same = λ at l. let m = a.longer in b.same at (omega (arith, l, m)) ∙ a.same at l;
+  longer = omega arith;
+  same = λ at l. let m = a.longer in b.same at (omega (arith, m)) ∙ a.same at l;
 }

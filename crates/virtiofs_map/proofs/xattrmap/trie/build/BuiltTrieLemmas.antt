@@ -1,17 +1,16 @@
 -- The answers of nodes that were built from patterns.
-use Rattle.std.proofs.Common.{◌≡◌, ℕ, zero, suc, ◌+◌, ◌*◌, ◌<◌, ◌≤◌, Bool, true, not, cond, ltb, List}
-use Rattle.std.proofs.Common.{[], ◌∷◌, ◌++◌, Some, None, length, take, drop, get_or, inl, inr, refl, sym, ap, subst}
-use Rattle.std.proofs.Common.{◌∙◌, arith}
+use Rattle.std.proofs.Common.{◌≡◌, ℕ, zero, suc, ◌+◌, ◌*◌, ◌<◌, ◌≤◌, Bool, true, not, cond, ltb, List, [], ◌∷◌, ◌++◌}
+use Rattle.std.proofs.Common.{Some, None, length, take, drop, get_or, inl, inr, refl, sym, ap, subst, ◌∙◌, arith}
 use Rattle.std.specs.List.{slice_get, position_or_len}
 use Rattle.std.specs.Option.{option_map_or}
 use Rattle.std.proofs.lemmas.Bool.{cases_lt, cases_Bool, and_parts, and_from, cond_both, ltb-true, lt-ltb}
 use Rattle.std.proofs.lemmas.List.{take-append-drop, take-take, take_at}
 use Rattle.std.proofs.lemmas.List.Sums.{passes_at_first}
-use Rattle.std.proofs.lemmas.Option.{slice_get_cases, slice_get_within, slice_get_read}
-use Rattle.std.proofs.lemmas.Option.{slice_get-get_or}
+use Rattle.std.proofs.lemmas.Option.{slice_get_cases, slice_get_within, slice_get_read, slice_get-get_or}
 use Rattle.virtiofs_map.specs.NodeParts.{no_answer, answer_for, answer_of, AreFew, IsPattern, ArePatterns}
 use Rattle.virtiofs_map.specs.FirstRule.{acts, pattern}
-use Rattle.virtiofs_map.specs.TrieBuildParts.{text, number, start_of, AreReady, IsLeast, IsUpto, IsPatternRange, path_of_range}
+use Rattle.virtiofs_map.specs.TrieBuildParts.{text, number, start_of, AreReady, IsLeast, IsUpto, IsPatternRange}
+use Rattle.virtiofs_map.specs.TrieBuildParts.{path_of_range}
 use Rattle.virtiofs_map.specs.Names.{begins, fits}
 use Rattle.virtiofs_map.specs.Rule.{MappingRule, type_number}
 use Rattle.virtiofs_map.specs.declared.xattrmap.trie.build.PatternRange.{PatternRange}
@@ -19,7 +18,7 @@ use Rattle.virtiofs_map.specs.declared.xattrmap.trie.patterns.Pattern.{Pattern}
 use Rattle.virtiofs_map.specs.declared.xattrmap.scopes.Side.{Side}
 use Rattle.virtiofs_map.proofs.xattrmap.trie.build.AnswerLemmas.{IsLeast-same}
 use Rattle.virtiofs_map.proofs.BeginsLemmas.{begins_split, begins_from, begins_length}
-use Rattle.virtiofs_map.proofs.xattrmap.trie.NodesOfLemmas.{kind_small}
+use Rattle.virtiofs_map.proofs.RuleRowLemmas.{below_four}
 use Rattle.virtiofs_map.proofs.xattrmap.trie.build.PatternTextLemmas.{text-here, number-here, start_of-here}
 use Rattle.virtiofs_map.proofs.xattrmap.trie.build.RangeTextNodeLemmas.{path_size}
 use Rattle.virtiofs_map.proofs.xattrmap.FittingLemmas.{fits_is}
@@ -58,7 +57,7 @@ module _ (side : Side) (rules : List MappingRule) (bytes : List ℕ) (patterns :
     (of_rules : ArePatterns side rules bytes patterns) where
   rule_of : (i : ℕ) → i < length patterns → IsOf side rules bytes patterns i
   rule_of i l = elim (slice_get_cases patterns i).1 [
-    | inr (past, _) ↦ absurd (omega (arith, l, past))
+    | inr (past, _) ↦ absurd (omega (arith, past))
     | inl (one, _, here, _) ↦
         (let read : get_or patterns i one ≡ one = cc (slice_get-get_or patterns i one l) in
         let is = subst (IsPattern side rules bytes) read (of_rules.each i one l) in
@@ -108,7 +107,7 @@ module _ (side : Side) (rules : List MappingRule) (bytes : List ℕ) (patterns :
     answer_none : length rules ≤ position_or_len (fits side name) rules → answer_of side rules name ≡ no_answer
     answer_none g = elim (cases_Bool (ltb (position_or_len (fits side name) rules) (length rules))) [
       | inl e ↦ absurd
-          (let l = ltb-true (position_or_len (fits side name) rules) (length rules) e in omega (arith, l, g))
+          (omega (arith, ltb-true (position_or_len (fits side name) rules) (length rules) e))
       | inr e ↦ ap (λ b. answer_for rules (cond b (Some (position_or_len (fits side name) rules)) None)) e
     ]
 
@@ -128,21 +127,17 @@ module _ (side : Side) (rules : List MappingRule) (bytes : List ℕ) (patterns :
         let has = pattern_at (position_or_len (fits side name) rules) rule here acting in
         let low = least.below has.at (has.within, subst (λ w. begins w name ≡ true) (sym has.are) starts) in
         let number_is = has.stands_for in
-        let kind = kind_small rule.kind in
+        let kind = below_four rule.kind in
         elim least.met [
-          | inl none ↦ absurd (omega (arith, none, low, number_is, kind, l, few))
+          | inl none ↦ absurd (omega (arith, low, number_is, kind, few))
           | inr (j, (within, b), e) ↦
               (let of = rule_of j within in
-              let first_is = no_earlier j of b in
-              let other_kind = kind_small of.rule.kind in
-              let other_is = of.stands_for in
               let same : of.place ≡ position_or_len (fits side name) rules =
-              omega (arith, first_is, low, number_is, kind, other_kind, other_is, e) in
+              omega (arith, no_earlier j of b, low, number_is, kind, below_four of.rule.kind, of.stands_for, e) in
               let there = ap (slice_get rules) (sym same) ∙ of.here in
               let same_rule : of.rule ≡ rule = cc in
-              let same_kind = ap (λ (one : MappingRule). type_number one.kind) same_rule in
               let is = answer_there rule l here in
-              omega (arith, e, other_is, same, same_kind, is))
+              omega (arith, e, of.stands_for, same, ap (λ (one : MappingRule). type_number one.kind) same_rule, is))
         ]
 
     -- the least answer of the patterns that begin a name is that of the first rule that fits it
@@ -151,7 +146,7 @@ module _ (side : Side) (rules : List MappingRule) (bytes : List ℕ) (patterns :
         → value ≡ answer_of side rules name
     answer_is value least = elim (cases_lt (position_or_len (fits side name) rules) (length rules)) [
       | inl l ↦ elim (slice_get_cases rules (position_or_len (fits side name) rules)).1 [
-        | inr (past, _) ↦ absurd (omega (arith, l, past))
+        | inr (past, _) ↦ absurd (omega (arith, past))
         | inl (rule, _, here, read) ↦
             (let passes =
             subst (λ one. fits side name one ≡ true) read (passes_at_first (fits side name) rules rule l) in
@@ -163,9 +158,7 @@ module _ (side : Side) (rules : List MappingRule) (bytes : List ℕ) (patterns :
         | inl none ↦ none ∙ sym (answer_none g)
         | inr (j, (within, b), e) ↦ absurd (
             let of = rule_of j within in
-            let first_is = no_earlier j of b in
-            let inside = slice_get_within rules of.place of.rule of.here in
-            omega (arith, first_is, inside, g))
+            omega (arith, no_earlier j of b, slice_get_within rules of.place of.rule of.here))
       ]
     ]
 
@@ -195,7 +188,7 @@ answered side rules bytes patterns of_rules few ready range is value least =
       from : (i : ℕ) → (i < length patterns) × (begins (text patterns i) path ≡ true) → IsUpto patterns range i
       from i (within, b) =
           let long = begins_length (text patterns i) path b in
-          let size = path_size (length bytes) patterns ready range is in
+          let size = path_size ready is in
           let short : length (text patterns i) ≤ range.depth = omega (arith, long, size) in
           record {
             within = within;

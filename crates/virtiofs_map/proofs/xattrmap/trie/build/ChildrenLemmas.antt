@@ -11,31 +11,28 @@ use Rattle.virtiofs_map.proofs.xattrmap.trie.build.PatternOrderLemmas.{no_zero, 
 use Rattle.virtiofs_map.proofs.xattrmap.trie.build.AppendedRangeLemmas.{push_cases, IsLonger-refl, IsLonger-push}
 use Rattle.virtiofs_map.proofs.xattrmap.trie.build.AppendedRangeLemmas.{IsLonger-trans}
 
-module _ (most : ℕ) (patterns : List Pattern) (ready : AreReady most patterns) (range : PatternRange)
+module _ {most : ℕ} {patterns : List Pattern} (ready : AreReady most patterns) {range : PatternRange}
     (is : IsPatternRange patterns range) where
   -- the bytes after the path of a range rise
   pub row : (i j : ℕ) → range.low ≤ i → i ≤ j → j < range.high
       → get_or (text patterns i) range.depth 0 ≤ get_or (text patterns j) range.depth 0
   row i j l le u =
-      let w = is.within in
-      rising most patterns ready i j range.depth le (omega (arith, u, w))
-      (is.same i l (omega (arith, le, u)) ∙ sym (is.same j (omega (arith, l, le)) u))
+      rising ready i j range.depth le (omega (arith, is.within))
+      (is.same i l (omega arith) ∙ sym (is.same j (omega arith) u))
 
   -- from a pattern on that is longer than the path, all are
   pub longer_on : (from i : ℕ) → range.low ≤ from → from ≤ i → i < range.high → range.depth < length (text patterns from)
       → range.depth < length (text patterns i)
   longer_on from i l a u longer =
-      let w = is.within in
-      let full = no_zero most patterns ready from range.depth (omega (arith, a, u, w)) longer in
-      let r = row from i l a u in
-      goes_on most patterns ready i range.depth (λ z. full (omega (arith, r, z)))
+      let full = no_zero ready from range.depth (omega (arith, is.within)) longer in
+      goes_on ready i range.depth (λ z. full (omega (arith, row from i l a u)))
 
   -- none yet
   pub added_none : (ranges : List PatternRange) → AreAdded patterns ranges ranges range
   added_none ranges = record {
     longer = IsLonger-refl ranges;
-    places = λ at kid b e. absurd (let h = slice_get_within ranges at kid e in omega (arith, b, h));
-    deeper = λ at kid b e. absurd (let h = slice_get_within ranges at kid e in omega (arith, b, h));
+    places = λ at kid b e. absurd (omega (arith, slice_get_within ranges at kid e));
+    deeper = λ at kid b e. absurd (omega (arith, slice_get_within ranges at kid e));
   }
 
   -- holes before the next child
@@ -43,10 +40,9 @@ module _ (most : ℕ) (patterns : List Pattern) (ready : AreReady most patterns)
       → range.depth < length (text patterns upto) → AreHoles mid new (range.depth + 1) → AreAdded patterns old mid range
       → AreAdded patterns old new range
   added_holes old mid new upto u longer holes added =
-      let w = is.within in
       let place : IsRangeOrHole patterns (hole (range.depth + 1)) = record {
-        is = inr (record { deep = λ e. omega (arith, e); answer = refl; empty = refl; first_byte = refl });
-        deep = inr (record { at = upto; within = omega (arith, u, w); long = omega (arith, longer) });
+        is = inr (record { deep = λ e. omega arith; answer = refl; empty = refl; first_byte = refl });
+        deep = inr (record { at = upto; within = omega (arith, is.within); long = omega arith });
         label = omega arith;
         size = omega arith;
         answer = lit≤ tt;
@@ -60,7 +56,7 @@ module _ (most : ℕ) (patterns : List Pattern) (ready : AreReady most patterns)
         ];
         deeper = λ at kid b e. elim (cases_lt at (length mid)) [
           | inl in' ↦ added.deeper at kid b (sym (holes.longer.same at in') ∙ e)
-          | inr g ↦ (let d = ap (λ (p : PatternRange). p.depth) (holes.holes at kid g e) in omega (arith, d))
+          | inr g ↦ omega (arith, ap (λ (p : PatternRange). p.depth) (holes.holes at kid g e))
         ];
       }
 
@@ -71,11 +67,11 @@ module _ (most : ℕ) (patterns : List Pattern) (ready : AreReady most patterns)
     longer = IsLonger-trans old mid (mid ++ kid ∷ []) added.longer (IsLonger-push mid kid);
     places = λ at one b e. elim (push_cases mid kid at one e) [
       | inl (_, h) ↦ added.places at one b h
-      | inr (_, h) ↦ subst (IsRangeOrHole patterns) h (kid_is_place most patterns ready range kid answer is least cut)
+      | inr (_, h) ↦ subst (IsRangeOrHole patterns) h (kid_is_place ready is least cut)
     ];
     deeper = λ at one b e. elim (push_cases mid kid at one e) [
       | inl (_, h) ↦ added.deeper at one b h
-      | inr (_, h) ↦ (let d = ap (λ (p : PatternRange). p.depth) h in let k = cut.depth in omega (arith, d, k))
+      | inr (_, h) ↦ omega (arith, ap (λ (p : PatternRange). p.depth) h)
     ];
   }
 
@@ -96,37 +92,25 @@ module _ (most : ℕ) (patterns : List Pattern) (ready : AreReady most patterns)
       → IsCut patterns range kid answer
   cut_is kid answer upto high from some top is_low is_high answered first_byte depth size long same stops bytes other
       apart = record {
-        from = omega (arith, from, is_low);
-        some = omega (arith, some, is_low, is_high);
-        upto = omega (arith, top, is_high);
+        from = omega arith;
+        some = omega arith;
+        upto = omega arith;
         answered = answered;
         first_byte = first_byte ∙ here;
         depth = depth;
         size = size;
-        long = subst (λ n. kid.depth ≤ length (text patterns n)) (sym is_low) long;
-        same = subst
-            (λ n. take (range.depth + 1) (text patterns n) ≡ take (range.depth + 1) (text patterns (kid.high - 1))
-            → take kid.depth (text patterns n) ≡ take kid.depth (text patterns (kid.high - 1))) (sym is_low)
-            (subst (λ n. take (range.depth + 1) (text patterns upto) ≡ take (range.depth + 1) (text patterns (n - 1))
-            → take kid.depth (text patterns upto) ≡ take kid.depth (text patterns (n - 1))) (sym is_high) same);
-        stops = subst
-            (λ n. kid.length < 255 → kid.depth < length (text patterns n)
-            → kid.depth < length (text patterns (kid.high - 1))
-            → get_or (text patterns n) kid.depth 0 ≢ get_or (text patterns (kid.high - 1)) kid.depth 0) (sym is_low)
-            (subst (λ n. kid.length < 255 → kid.depth < length (text patterns upto)
-            → kid.depth < length (text patterns (n - 1))
-            → get_or (text patterns upto) kid.depth 0 ≢ get_or (text patterns (n - 1)) kid.depth 0) (sym is_high) stops);
-        bytes = λ i a b. bytes i (omega (arith, a, is_low)) (omega (arith, b, is_high)) ∙ here;
+        long = rw is_low long;
+        same = rw (is_low, is_high) same;
+        stops = rw (is_low, is_high) stops;
+        bytes = λ i a b. bytes i (omega arith) (omega arith) ∙ here;
         group = λ i a b e. elim (cases_lt i upto) [
           | inl l ↦ absurd
-              (let p = apart i a l in let q = e ∙ sym here in omega (arith, p, q))
+              (omega (arith, apart i a l, e ∙ sym here))
           | inr g ↦ elim (cases_lt i high) [
-            | inl l ↦ (omega (arith, g, is_low), omega (arith, l, is_high))
+            | inl l ↦ (omega arith, omega arith)
             | inr h ↦ absurd (
-                let r = row upto high from (omega (arith, some)) (omega (arith, h, b)) in
-                let t = row high i (omega (arith, from, some)) h b in
-                let q = e ∙ sym here in
-                other (omega (arith, h, b)) (omega (arith, r, t, q)))
+                let t = row high i (omega arith) h b in
+                other (omega arith) (omega (arith, row upto high from (omega arith) (omega arith), t, e ∙ sym here)))
           ]
         ];
       } where

@@ -40,10 +40,10 @@ find_first (p ∷ patterns) path (suc at) one here starts before = elim (cases_B
   | inl e ↦ absurd (before 0 p (omega arith) refl e)
   | inr e ↦
       ap (λ b. cond b (Some p) (find (λ (one : Pattern). begins path one.bytes.now) patterns)) e
-      ∙ find_first patterns path at one here starts (λ i other l. before (suc i) other (omega (arith, l)))
+      ∙ find_first patterns path at one here starts (λ i other l. before (suc i) other (omega arith))
 ]
 
-module _ (most : ℕ) (patterns : List Pattern) (ready : AreReady most patterns) (range : PatternRange)
+module _ {most : ℕ} {patterns : List Pattern} (ready : AreReady most patterns) {range : PatternRange}
     (is : IsPatternRange patterns range) where
   abbrev path : List ℕ
   path = path_of_range patterns range
@@ -56,7 +56,7 @@ module _ (most : ℕ) (patterns : List Pattern) (ready : AreReady most patterns)
   begins_in i l starts =
       is.whole i l
       (ap (take range.depth) (begins_split path (text patterns i) starts)
-      ∙ take_at path (drop (length path) (text patterns i)) range.depth (path_size most patterns ready range is))
+      ∙ take_at path (drop (length path) (text patterns i)) range.depth (path_size ready is))
 
   in_begins : (i : ℕ) → range.low ≤ i → i < range.high → begins path (text patterns i) ≡ true
   in_begins i l u =
@@ -68,18 +68,15 @@ module _ (most : ℕ) (patterns : List Pattern) (ready : AreReady most patterns)
       → label ≡ start_of patterns range.low + (range.depth - range.length) → label ≡ label_place patterns text_node
   label_is some short label at =
       let top = is.within in
-      let one = one_at most patterns ready range is range.low (omega (arith, some, top)) in
+      let one = one_at ready is range.low (omega (arith, top)) in
       let found = find_first patterns path range.low one.0 one.1
       (ap (begins path) (sym one.2) ∙ in_begins range.low (omega arith) some)
       (λ i other l there starts.
       let same = text-here patterns i other there in
-      let inside = begins_in i (omega (arith, l, some, top)) (ap (begins path) same ∙ starts) in
-      omega (arith, l, inside)) in
-      let start = start_of-here patterns range.low one.0 one.1 in
-      let size = path_size most patterns ready range is in
+      omega (arith, begins_in i (omega (arith, top)) (ap (begins path) same ∙ starts))) in
       let place : label_place patterns text_node ≡ one.0.start + length path - range.length =
       ap (λ o. option_map_or (λ (one : Pattern). one.start + length path - range.length) o 0) found in
-      omega (arith, at, start, size, place, short)
+      omega (arith, start_of-here patterns range.low one.0 one.1, path_size ready is, place)
 
   -- ---- bytes that lead on
 
@@ -90,11 +87,8 @@ module _ (most : ℕ) (patterns : List Pattern) (ready : AreReady most patterns)
       filter_is (λ byte. leads (texts_of patterns) (path ++ byte ∷ [])) 1 255 [] tt
       (λ x one. absurd (no_one x one))
       (λ x a b led. absurd (
-      let at = leads_in most patterns ready range is x led in
-      let e = at.3 in
-      let long = goes_on most patterns ready at.0 range.depth (λ z. omega (arith, a, z, e)) in
-      let size = ended at.0 at.1 at.2 in
-      omega (arith, long, size)))
+      let at = leads_in ready is x led in
+      omega (arith, goes_on ready at.0 range.depth (λ z. omega (arith, at.3)), ended at.0 at.1 at.2)))
 
   pub lowest_is : (from : ℕ) → range.low ≤ from → from < range.high
       → ((i : ℕ) → range.low ≤ i → i < from → length (text patterns i) ≡ range.depth)
@@ -103,25 +97,24 @@ module _ (most : ℕ) (patterns : List Pattern) (ready : AreReady most patterns)
   unfolding next_bytes
   lowest_is from l u ended longer small =
       by_next (next_bytes (texts_of patterns) path) refl (next_rising (texts_of patterns) path)
-      (next_has (texts_of patterns) path byte full small (in_leads most patterns ready range is from byte l u longer refl))
+      (next_has (texts_of patterns) path byte full small (in_leads ready is from byte l u longer refl))
     where
       byte : ℕ
       byte = get_or (text patterns from) range.depth 0
 
       full : byte ≢ 0
-      full = (let w = is.within in no_zero most patterns ready from range.depth (omega (arith, u, w)) longer)
+      full = (let w = is.within in no_zero ready from range.depth (omega (arith, u, w)) longer)
 
       lower_byte : (x : ℕ) → IsOne (next_bytes (texts_of patterns) path) x → 1 ≤ x → byte ≤ x
       lower_byte x one some =
           (let led = filter_passes (λ byte. leads (texts_of patterns) (path ++ byte ∷ [])) (range_with_len 1 255) one.0 x
           one.1 in
-          let at = leads_in most patterns ready range is x led in
+          let at = leads_in ready is x led in
           let e = at.3 in
           elim (cases_lt at.0 from) [
             | inl d ↦ absurd (let size = ended at.0 at.1 d in
-                let past = get_or_past (text patterns at.0) range.depth 0 (omega (arith, size)) in
-                omega (arith, past, e, some))
-            | inr g ↦ (let r = row most patterns ready range is from at.0 l g at.2 in omega (arith, r, e))
+                omega (arith, get_or_past (text patterns at.0) range.depth 0 (omega (arith, size)), e))
+            | inr g ↦ omega (arith, row ready is from at.0 l g at.2, e)
           ])
 
       by_next : (next : List ℕ) → next_bytes (texts_of patterns) path ≡ next → Rising 1 256 next
@@ -129,9 +122,8 @@ module _ (most : ℕ) (patterns : List Pattern) (ready : AreReady most patterns)
       by_next [] is_next rising one = absurd (no_one byte (subst (λ b. IsOne b byte) is_next one))
       by_next (x ∷ xs) is_next rising one =
           (let here = subst (λ b. IsOne b byte) is_next one in
-          let upper = (between 1 256 x xs here.0 byte rising here.1).0 in
           let lower = lower_byte x (subst (λ b. IsOne b x) (sym is_next) (zero, refl)) rising.0 in
-          ap lowest is_next ∙ omega (arith, upper, lower))
+          ap lowest is_next ∙ omega (arith, (between 1 256 x xs here.0 byte rising here.1).0, lower))
 
   -- ---- its node
 
@@ -203,8 +195,7 @@ none_there : (patterns : List Pattern) (range : PatternRange) → IsPatternRange
 none_there patterns range is bare flat some =
     let here : take range.depth (text patterns 0) ≡ take range.depth (text patterns range.low) =
     ap (λ n. take n (text patterns 0)) flat ∙ ap (λ n. take n (text patterns range.low)) (sym flat) in
-    let inside = is.whole 0 some here in
-    omega (arith, inside, bare)
+    omega (arith, is.whole 0 some here)
 
 root_label : (patterns : List Pattern) (range : PatternRange) → IsPatternRange patterns range → range.low ≡ range.high → range.depth ≡ 0
     → (text_node : TextNode) → 0 ≡ label_place patterns text_node
@@ -228,12 +219,11 @@ pub exact_bare : (most : ℕ) (patterns : List Pattern) → AreReady most patter
 exact_bare most patterns ready base range place bare = elim place.is [
   | inl is ↦ elim is.some [
     | inl flat ↦
-        (exact_ended most patterns ready range is range.answer base 0
-        (none_on most patterns ready range is (λ i l u. absurd (omega (arith, l, u, bare))))
+        (exact_ended ready is range.answer base 0 (none_on ready is (λ i l u. absurd (omega arith)))
         (root_label patterns range is bare flat
         (record { path = path_of_range patterns range; byte = range.first_byte; size = range.length }))
         ∙ ap (node_with patterns range.answer base) (sym (text_node_real patterns range (inl flat))))
-    | inr l ↦ absurd (omega (arith, l, bare))
+    | inr l ↦ absurd (omega arith)
   ]
   | inr hole ↦
       (let make : ℕ → ℕ → Node = λ size first_byte. record {
@@ -259,8 +249,8 @@ bare_children most patterns ready range place bare = elim place.is [
     | inl flat ↦
         (ap (children_of patterns) (text_node_real patterns range (inl flat))
         ∙ ap (λ next. map (child longest_label (texts_of patterns) (path_of_range patterns range)) (slots next))
-        (none_on most patterns ready range is (λ i l u. absurd (omega (arith, l, u, bare)))))
-    | inr l ↦ absurd (omega (arith, l, bare))
+        (none_on ready is (λ i l u. absurd (omega arith))))
+    | inr l ↦ absurd (omega arith)
   ]
   | inr hole ↦ ap (children_of patterns) (text_node_hole patterns range bare hole.deep)
 ]
@@ -273,4 +263,4 @@ unfolding children slots
 ended_children most patterns ready range is some ended =
     ap (children_of patterns) (text_node_real patterns range (inr some))
     ∙ ap (λ next. map (child longest_label (texts_of patterns) (path_of_range patterns range)) (slots next))
-    (none_on most patterns ready range is ended)
+    (none_on ready is ended)

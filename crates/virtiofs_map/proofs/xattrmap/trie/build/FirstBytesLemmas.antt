@@ -39,17 +39,15 @@ pub record HaveFirstBytes (patterns : List Pattern) (range : PatternRange) (lowe
   pub are : AreFirstBytes patterns range lowest low upto first_bytes
   pub holds : P first_bytes upto
 
-module _ (most : ℕ) (patterns : List Pattern) (ready : AreReady most patterns) (range : PatternRange)
+module _ {most : ℕ} {patterns : List Pattern} (ready : AreReady most patterns) {range : PatternRange}
     (is : IsPatternRange patterns range) (from : ℕ) (low_from : range.low ≤ from) (some_from : from < range.high)
     (ended : (i : ℕ) → range.low ≤ i → i < from → length (text patterns i) ≡ range.depth)
     (longer : range.depth < length (text patterns from)) where
   pub next_some : (i : ℕ) → from ≤ i → i < range.high → (range.depth < length (text patterns i))
       × (1 ≤ next_of patterns range i)
   next_some i a b =
-      let long = longer_on most patterns ready range is from i low_from a b longer in
-      let w = is.within in
-      let full = no_zero most patterns ready i range.depth (omega (arith, b, w)) long in
-      (long, omega (arith, full))
+      let long = longer_on ready is from i low_from a b longer in
+      (long, omega (arith, no_zero ready i range.depth (omega (arith, is.within)) long))
 
   pub first_bytes_none : AreFirstBytes patterns range (next_of patterns range from) from 1 []
   first_bytes_none = record {
@@ -57,7 +55,7 @@ module _ (most : ℕ) (patterns : List Pattern) (ready : AreReady most patterns)
     some = omega arith;
     small = omega arith;
     each = λ x one. absurd (let none = one.1 in cc);
-    before = λ i a b l. absurd (let e = ended i a b in omega (arith, e, l));
+    before = λ i a b l. absurd (omega (arith, ended i a b));
     after = λ i a b. (next_some i a b).1;
     none = λ _. refl;
     first = λ x xs e. absurd cc;
@@ -68,15 +66,11 @@ module _ (most : ℕ) (patterns : List Pattern) (ready : AreReady most patterns)
       → AreFirstBytes patterns range lowest low upto first_bytes → (i : ℕ) → range.low ≤ i → i < low
       → next_of patterns range i < next_of patterns range low
   first_bytes_apart lowest low upto first_bytes a l are i b c =
-      let above = are.after low (omega arith) l in
       elim (cases_lt range.depth (length (text patterns i))) [
         | inl more ↦
             (let below = one_below 1 upto first_bytes (next_of patterns range i) are.rising (are.before i b c more) in
-            omega (arith, above, below))
-        | inr short ↦
-            (let none = get_or_past (text patterns i) range.depth 0 short in
-            let some = (next_some low a l).1 in
-            omega (arith, none, some))
+            omega (arith, are.after low (omega arith) l, below))
+        | inr short ↦ omega (arith, get_or_past (text patterns i) range.depth 0 short, (next_some low a l).1)
       ]
 
   -- one group more
@@ -87,29 +81,26 @@ module _ (most : ℕ) (patterns : List Pattern) (ready : AreReady most patterns)
       → AreFirstBytes patterns range lowest low upto first_bytes
       → AreFirstBytes patterns range lowest end (byte + 1) (first_bytes ++ byte ∷ [])
   first_bytes_more lowest low upto end byte first_bytes a l u small here same other are =
-      let above = are.after low (omega arith) (omega (arith, l, u)) in
+      let above = are.after low (omega arith) (omega arith) in
       let some = are.some in
       record {
-        rising = rising_more 1 upto first_bytes byte (byte + 1) are.rising (omega (arith, above, here))
-            (omega (arith, above, here, some)) (omega arith);
+        rising = rising_more 1 upto first_bytes byte (byte + 1) are.rising (omega (arith, above))
+            (omega (arith, above, some)) (omega arith);
         some = omega arith;
-        small = omega (arith, small);
+        small = omega arith;
         each = λ x one. one_either first_bytes byte x
             (λ y. (i : ℕ) × (range.low ≤ i) × (i < range.high) × (range.depth < length (text patterns i))
             × (next_of patterns range i ≡ y)) one are.each
-            (low, omega (arith, low_from, a), omega (arith, l, u), (next_some low a (omega (arith, l, u))).0, here);
+            (low, omega (arith, low_from), omega arith, (next_some low a (omega arith)).0, here);
         before = λ i b c m. elim (cases_lt i low) [
           | inl d ↦ one_more first_bytes byte (next_of patterns range i) (are.before i b d m)
           | inr d ↦ (let is_byte = same i d c ∙ here in subst (IsOne (first_bytes ++ byte ∷ [])) (sym is_byte)
               (one_last first_bytes byte))
         ];
         after = λ i b c.
-            (let r = row most patterns ready range is end i (omega (arith, low_from, a, l)) b c in
-            let s = row most patterns ready range is low end (omega (arith, low_from, a)) (omega (arith, l))
-            (omega (arith, b, c)) in
-            let o = other (omega (arith, b, c)) in
-            omega (arith, r, s, o, here));
-        none = λ e. absurd (let size = length-append first_bytes (byte ∷ []) in let z = ap length e in omega (arith, size, z));
+            (let s = row ready is low end (omega (arith, low_from)) (omega arith) (omega arith) in
+            omega (arith, row ready is end i (omega (arith, low_from)) b c, s, other (omega arith)));
+        none = λ e. absurd (omega (arith, length-append first_bytes (byte ∷ []), ap length e));
         first = by_first first_bytes are;
       } where
         by_first : (first_bytes : List ℕ) → AreFirstBytes patterns range lowest low upto first_bytes → (x : ℕ) (xs : List ℕ)
@@ -134,7 +125,7 @@ module _ (most : ℕ) (patterns : List Pattern) (ready : AreReady most patterns)
   widen : (low high top : ℕ) (xs : List ℕ) → high ≤ top → Rising low high xs → Rising low top xs
   widen low high top [] l rising = tt
   widen low high top (x ∷ xs) l rising =
-      let b = rising.1 in (rising.0, omega (arith, b, l), widen (suc x) high top xs l rising.2)
+      let b = rising.1 in (rising.0, omega (arith, b), widen (suc x) high top xs l rising.2)
 
   -- at the end of the range they are all the bytes that lead on
   pub first_bytes_all : (lowest low upto : ℕ) (first_bytes : List ℕ) → range.high ≤ low
@@ -145,12 +136,10 @@ module _ (most : ℕ) (patterns : List Pattern) (ready : AreReady most patterns)
       filter_is (λ byte. leads (texts_of patterns) (path_of_range patterns range ++ byte ∷ [])) 1 255 first_bytes
       (widen 1 upto 256 first_bytes are.small are.rising)
       (λ x one. let at = are.each x one in
-      in_leads most patterns ready range is at.0 x at.1 at.2 at.3 at.4)
-      (λ x a b led. let at = leads_in most patterns ready range is x led in
-      let u = at.2 in
+      in_leads ready is at.0 x at.1 at.2 at.3 at.4) (λ x a b led. let at = leads_in ready is x led in
       let e = at.3 in
-      let long = goes_on most patterns ready at.0 range.depth (λ z. omega (arith, a, z, e)) in
-      subst (IsOne first_bytes) e (are.before at.0 at.1 (omega (arith, u, past)) long))
+      let long = goes_on ready at.0 range.depth (λ z. omega (arith, e)) in
+      subst (IsOne first_bytes) e (are.before at.0 at.1 (omega (arith, at.2)) long))
 
   -- the last of them is the byte of the last pattern
   pub first_bytes_last : (lowest low upto : ℕ) (first_bytes : List ℕ) → range.high ≤ low
@@ -158,7 +147,7 @@ module _ (most : ℕ) (patterns : List Pattern) (ready : AreReady most patterns)
   first_bytes_last lowest low upto first_bytes past are =
       let top = range.high - 1 in
       let long = (next_some top (omega (arith, some_from)) (omega (arith, some_from))).0 in
-      let one = are.before top (omega (arith, low_from, some_from)) (omega (arith, past, some_from)) long in
+      let one = are.before top (omega (arith, low_from, some_from)) (omega (arith, some_from)) long in
       let below = one_below 1 upto first_bytes (next_of patterns range top) are.rising one in
       by_first first_bytes are refl below one where
         by_first : (first_bytes' : List ℕ) → AreFirstBytes patterns range lowest low upto first_bytes' → first_bytes' ≡ first_bytes'
@@ -166,13 +155,10 @@ module _ (most : ℕ) (patterns : List Pattern) (ready : AreReady most patterns)
             → upto ≡ next_of patterns range (range.high - 1) + 1
         by_first [] are e below one = absurd (let none = one.1 in cc)
         by_first (x ∷ xs) are e below one =
-            (let first = are.first x xs refl in
-            let last = are.each (last_byte x xs) (last_one x xs) in
+            (let last = are.each (last_byte x xs) (last_one x xs) in
             let u = last.2 in
-            let r = row most patterns ready range is last.0 (range.high - 1) last.1 (omega (arith, u)) (omega (arith, u)) in
-            let same = last.4 in
-            let end = first.1 in
-            omega (arith, below, end, r, same))
+            let r = row ready is last.0 (range.high - 1) last.1 (omega (arith, u)) (omega (arith, u)) in
+            omega (arith, (are.first x xs refl).1, r, last.4))
 
   -- so bytes are sparse where the code finds them so
   pub first_bytes_sparse : (lowest low upto highest count : ℕ) (first_bytes : List ℕ) → range.high ≤ low
@@ -182,7 +168,7 @@ module _ (most : ℕ) (patterns : List Pattern) (ready : AreReady most patterns)
       ≡ are_sparse (next_bytes (texts_of patterns) (path_of_range patterns range))
   first_bytes_sparse lowest low upto highest count first_bytes past are is_high counted =
       by_first first_bytes are counted (first_bytes_all lowest low upto first_bytes past are) (first_bytes_last lowest low upto first_bytes past are)
-      (are.before from (omega (arith, low_from)) (omega (arith, past, some_from)) longer) where
+      (are.before from (omega (arith, low_from)) (omega (arith, some_from)) longer) where
         by_first : (first_bytes : List ℕ) → AreFirstBytes patterns range lowest low upto first_bytes → count ≡ length first_bytes
             → next_bytes (texts_of patterns) (path_of_range patterns range) ≡ first_bytes
             → upto ≡ next_of patterns range (range.high - 1) + 1 → IsOne first_bytes (next_of patterns range from)
@@ -191,8 +177,6 @@ module _ (most : ℕ) (patterns : List Pattern) (ready : AreReady most patterns)
         by_first [] are counted all last one = absurd (let none = one.1 in cc)
         by_first (x ∷ xs) are counted all last one =
             (let first = are.first x xs refl in
-            let low_is = first.0 in
-            let end = first.1 in
-            let size : highest + 1 - lowest ≡ span x xs = omega (arith, low_is, end, last, is_high) in
+            let size : highest + 1 - lowest ≡ span x xs = omega (arith, first.0, first.1, is_high) in
             ap (λ n. ltb (2 * n + 4) (highest + 1 - lowest)) counted
             ∙ ap (ltb (2 * length (x ∷ xs) + 4)) size ∙ ap are_sparse (sym all))

@@ -34,36 +34,30 @@ pub record IsCut (patterns : List Pattern) (range kid : PatternRange) (answer : 
 front_of : (s t : List ℕ) (m n : ℕ) → m ≤ n → (w : List ℕ) → take n s ≡ take n t → take m s ≡ w → take m t ≡ w
 front_of s t m n l w e f = sym (shorter s t n m l e) ∙ f
 
-module _ (most : ℕ) (patterns : List Pattern) (ready : AreReady most patterns) (range kid : PatternRange) (answer : ℕ)
+module _ {most : ℕ} {patterns : List Pattern} (ready : AreReady most patterns) {range kid : PatternRange} {answer : ℕ}
     (is : IsPatternRange patterns range) (least : IsLeast patterns (IsUpto patterns range) answer)
     (cut : IsCut patterns range kid answer) where
   inner : (i : ℕ) → kid.low ≤ i → i < kid.high → (range.low ≤ i) × (i < range.high)
-  inner i l u = let a = cut.from in let b = cut.upto in (omega (arith, a, l), omega (arith, b, u))
+  inner i l u = let a = cut.from in let b = cut.upto in (omega (arith, a), omega (arith, b))
 
   front : (i : ℕ) → kid.low ≤ i → i < kid.high
       → take range.depth (text patterns i) ≡ take range.depth (text patterns kid.low)
   front i l u =
       let a = inner i l u in
-      let s = cut.some in
-      let b = inner kid.low (omega arith) s in
+      let b = inner kid.low (omega arith) cut.some in
       is.same i a.0 a.1 ∙ sym (is.same kid.low b.0 b.1)
 
   deeper : range.depth < kid.depth
-  deeper = let d = cut.depth in omega (arith, d)
+  deeper = omega (arith, cut.depth)
 
   -- the last pattern shares the byte with the first
   one_more : (i : ℕ) → kid.low ≤ i → i < kid.high
       → take (range.depth + 1) (text patterns i) ≡ take (range.depth + 1) (text patterns kid.low)
   one_more i l u =
-      let d = deeper in
-      let s = cut.some in
-      let a = cut.upto in
-      let b = is.within in
-      let long = cut.long in
-      let below : range.depth < length (text patterns kid.low) = omega (arith, d, long) in
-      let full = no_zero most patterns ready kid.low range.depth (omega (arith, s, a, b)) below in
+      let below : range.depth < length (text patterns kid.low) = omega (arith, deeper, cut.long) in
+      let full = no_zero ready kid.low range.depth (omega (arith, cut.some, cut.upto, is.within)) below in
       let byte = cut.bytes i l u in
-      let more = goes_on most patterns ready i range.depth (λ z. full (sym byte ∙ z)) in
+      let more = goes_on ready i range.depth (λ z. full (sym byte ∙ z)) in
       take_more_same (text patterns i) (text patterns kid.low) range.depth 0 more below (front i l u) byte
 
   last : take kid.depth (text patterns kid.low) ≡ take kid.depth (text patterns (kid.high - 1))
@@ -73,17 +67,14 @@ module _ (most : ℕ) (patterns : List Pattern) (ready : AreReady most patterns)
       → (take kid.depth (text patterns i) ≡ take kid.depth (text patterns kid.low))
       × (kid.depth ≤ length (text patterns i))
   all_same i l u =
-      let a = cut.upto in
       let b = is.within in
-      between most patterns ready kid.depth kid.low i (kid.high - 1) l (omega (arith, u)) (omega (arith, a, b, u))
-      cut.long last
+      between ready kid.depth kid.low i (kid.high - 1) l (omega arith) (omega (arith, cut.upto, b)) cut.long last
 
   whole : (i : ℕ) → i < length patterns → take kid.depth (text patterns i) ≡ take kid.depth (text patterns kid.low)
       → (kid.low ≤ i) × (i < kid.high)
   whole i within e =
       let d = deeper in
-      let s = cut.some in
-      let k = inner kid.low (omega arith) s in
+      let k = inner kid.low (omega arith) cut.some in
       let less = shorter (text patterns i) (text patterns kid.low) kid.depth range.depth (omega (arith, d)) e in
       let here = is.whole i within (less ∙ is.same kid.low k.0 k.1) in
       cut.group i here.0 here.1 (same_byte (text patterns i) (text patterns kid.low) kid.depth range.depth d e)
@@ -91,7 +82,7 @@ module _ (most : ℕ) (patterns : List Pattern) (ready : AreReady most patterns)
   to_kid : (i : ℕ) → IsUpto patterns range i → IsInside patterns kid i
   to_kid i u = record {
     within = u.within;
-    short = let a = u.short in let d = deeper in omega (arith, a, d);
+    short = omega (arith, deeper);
     front = let s = cut.some in let k = inner kid.low (omega arith) s in
         front_of (text patterns range.low) (text patterns kid.low) (length (text patterns i)) range.depth u.short
         (text patterns i) (sym (is.same kid.low k.0 k.1)) u.front;
@@ -110,24 +101,21 @@ module _ (most : ℕ) (patterns : List Pattern) (ready : AreReady most patterns)
         absurd (
         let more : take (range.depth + 1) (text patterns i) ≡ take (range.depth + 1) (text patterns kid.low) =
         sym (ap (take (range.depth + 1)) n.front)
-        ∙ take-take (range.depth + 1) (length (text patterns i)) (text patterns kid.low) (omega (arith, longer)) in
-        let s = cut.some in
-        let k = inner kid.low (omega arith) s in
+        ∙ take-take (range.depth + 1) (length (text patterns i)) (text patterns kid.low) (omega arith) in
+        let k = inner kid.low (omega arith) cut.some in
         let less = shorter (text patterns i) (text patterns kid.low) (range.depth + 1) range.depth (omega arith) more in
         let here = is.whole i n.within (less ∙ is.same kid.low k.0 k.1) in
         let there =
         cut.group i here.0 here.1
         (same_byte (text patterns i) (text patterns kid.low) (range.depth + 1) range.depth (omega arith) more) in
-        let long = (all_same i there.0 there.1).1 in
-        let short = n.short in
-        omega (arith, long, short))
+        omega (arith, (all_same i there.0 there.1).1))
   ]
 
   pub kid_range : IsPatternRange patterns kid
   kid_range = record {
     some = inr cut.some;
-    rising = let s = cut.some in omega (arith, s);
-    within = let a = cut.upto in let b = is.within in omega (arith, a, b);
+    rising = omega (arith, cut.some);
+    within = omega (arith, cut.upto, is.within);
     long = λ i l u. (all_same i l u).1;
     same = λ i l u. (all_same i l u).0;
     whole = whole;
@@ -145,8 +133,8 @@ module _ (most : ℕ) (patterns : List Pattern) (ready : AreReady most patterns)
               omega (arith, a, b, s);
           long = cut.long;
         });
-    label = let d = cut.depth in omega (arith, d);
+    label = omega (arith, cut.depth);
     size = cut.size;
-    answer = let t = least.top in let e = cut.answered in omega (arith, t, e);
-    empty = λ e. absurd (let s = cut.some in omega (arith, s, e));
+    answer = omega (arith, least.top, cut.answered);
+    empty = λ e. absurd (omega (arith, cut.some));
   }

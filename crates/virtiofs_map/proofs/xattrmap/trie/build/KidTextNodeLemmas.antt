@@ -5,29 +5,28 @@ use Rattle.std.proofs.Common.{◌⊎◌, add-one, length-append, append_assoc, a
 use Rattle.std.specs.List.{slice_get, range_with_len, AllByRecursion}
 use Rattle.std.specs.Option.{option_map}
 use Rattle.std.proofs.lemmas.Bool.{cases_Bool, cases_lt}
+use Rattle.std.proofs.lemmas.List.FromFn.{length-range_with_len}
 use Rattle.std.proofs.lemmas.List.{take-append-drop, take-take, length-map, length-take-le, drop-take, map-append}
 use Rattle.std.proofs.lemmas.Option.{slice_get-map, slice_get_within}
 use Rattle.std.proofs.Math.Seq.{get_or-append_seam}
-use Rattle.virtiofs_map.specs.TrieBuildParts.{text, AreReady, IsLeast, IsUpto, IsPatternRange, AreHoles, hole, text_node_of}
-use Rattle.virtiofs_map.specs.TrieBuildParts.{path_of_range}
+use Rattle.virtiofs_map.specs.TrieBuildParts.{text, AreReady, IsLeast, IsUpto, IsPatternRange, AreHoles, hole}
+use Rattle.virtiofs_map.specs.TrieBuildParts.{text_node_of, path_of_range}
 use Rattle.virtiofs_map.specs.Names.{begins}
-use Rattle.virtiofs_map.specs.PatternTrie.{TextNode, leads, next_bytes, label_after, text_node_after, child, children, slots, span}
-use Rattle.virtiofs_map.specs.PatternTrie.{are_sparse, last_byte}
-use Rattle.virtiofs_map.specs.PatternTrie.{longest_label}
+use Rattle.virtiofs_map.specs.PatternTrie.{TextNode, leads, next_bytes, label_after, text_node_after, child, children}
+use Rattle.virtiofs_map.specs.PatternTrie.{slots, span, are_sparse, last_byte, longest_label}
 use Rattle.virtiofs_map.specs.TrieParts.{texts_of, children_of}
 use Rattle.virtiofs_map.specs.declared.xattrmap.trie.build.PatternRange.{PatternRange}
 use Rattle.virtiofs_map.specs.declared.xattrmap.trie.patterns.Pattern.{Pattern}
 use Rattle.virtiofs_map.proofs.xattrmap.trie.NextByteLemmas.{one_below}
-use Rattle.virtiofs_map.proofs.BeginsLemmas.{begins_split, begins_from}
-use Rattle.virtiofs_map.proofs.xattrmap.trie.LabelLemmas.{begins_through, IsText, label_only}
+use Rattle.virtiofs_map.proofs.BeginsLemmas.{begins_split, begins_from, begins_trans}
+use Rattle.virtiofs_map.proofs.xattrmap.trie.LabelLemmas.{IsText, label_only}
 use Rattle.virtiofs_map.proofs.xattrmap.trie.TextNodeLemmas.{child_some}
-use Rattle.virtiofs_map.proofs.xattrmap.SlotLemmas.{length-range}
 use Rattle.virtiofs_map.proofs.xattrmap.trie.build.ChildrenLemmas.{row}
 use Rattle.virtiofs_map.proofs.xattrmap.trie.build.PatternTextLemmas.{text-here}
 use Rattle.virtiofs_map.proofs.xattrmap.trie.build.FirstBytesLemmas.{AreFirstBytes, next_of}
 use Rattle.virtiofs_map.proofs.xattrmap.trie.build.KidLemmas.{IsCut, all_same}
-use Rattle.virtiofs_map.proofs.xattrmap.trie.build.RangeTextNodeLemmas.{text_node_real, text_node_hole, path_size, one_at, in_leads}
-use Rattle.virtiofs_map.proofs.xattrmap.trie.build.RangeTextNodeLemmas.{goes_in, leads_in}
+use Rattle.virtiofs_map.proofs.xattrmap.trie.build.RangeTextNodeLemmas.{text_node_real, text_node_hole, path_size}
+use Rattle.virtiofs_map.proofs.xattrmap.trie.build.RangeTextNodeLemmas.{one_at, in_leads, goes_in, leads_in}
 use Rattle.virtiofs_map.proofs.xattrmap.trie.build.PatternOrderLemmas.{goes_on}
 
 -- ---- rows of bytes
@@ -43,9 +42,9 @@ front_and_more d l s b =
       rest = subst (λ n. drop d (take n s) ≡ get_or s d 0 ∷ take l (drop (d + 1) s)) (omega arith)
           (drop-take d (suc l) s ∙ go d s b ∙ ap (λ n. get_or s d 0 ∷ take l (drop n s)) (sym (add-one d))) where
             go : (d : ℕ) (s : List ℕ) → d < length s → take (suc l) (drop d s) ≡ get_or s d 0 ∷ take l (drop (suc d) s)
-            go d [] b = absurd (omega (arith, b))
+            go d [] b = absurd (omega arith)
             go zero (x ∷ s) b = refl
-            go (suc d) (x ∷ s) b = go d s (omega (arith, b))
+            go (suc d) (x ∷ s) b = go d s (omega arith)
 
 -- a text that begins with a front and a byte has that byte there
 byte_there : (front text : List ℕ) (byte n : ℕ) → length front ≡ n → begins (front ++ byte ∷ []) text ≡ true
@@ -55,7 +54,7 @@ byte_there front text byte n size starts =
     let split : text ≡ front ++ (byte ∷ rest) = begins_split (front ++ byte ∷ []) text starts
     ∙ append_assoc front (byte ∷ []) rest in
     let long = ap length split ∙ length-append front (byte ∷ rest) in (
-      omega (arith, long, size),
+      omega (arith, long),
       ap (λ (s : List ℕ). get_or s n 0) split
           ∙ subst (λ m. get_or (front ++ (byte ∷ rest)) m 0 ≡ byte) size (get_or-append_seam front byte rest 0),
     )
@@ -67,7 +66,7 @@ all_texts P (one ∷ patterns) each = (each 0 one refl, all_texts P patterns (λ
 
 -- ---- the text node of a child
 
-module _ (most : ℕ) (patterns : List Pattern) (ready : AreReady most patterns) (range kid : PatternRange) (answer : ℕ)
+module _ {most : ℕ} {patterns : List Pattern} (ready : AreReady most patterns) {range kid : PatternRange} {answer : ℕ}
     (is : IsPatternRange patterns range) (least : IsLeast patterns (IsUpto patterns range) answer)
     (cut : IsCut patterns range kid answer) where
   abbrev path : List ℕ
@@ -80,15 +79,14 @@ module _ (most : ℕ) (patterns : List Pattern) (ready : AreReady most patterns)
   label = take kid.length (drop (range.depth + 1) (text patterns kid.low))
 
   inside : (i : ℕ) → kid.low ≤ i → i < kid.high → (range.low ≤ i) × (i < range.high)
-  inside i l u = let a = cut.from in let b = cut.upto in (omega (arith, a, l), omega (arith, b, u))
+  inside i l u = let a = cut.from in let b = cut.upto in (omega (arith, a), omega (arith, b))
 
   longer : range.depth < length (text patterns kid.low)
-  longer = let d = cut.depth in let l = cut.long in omega (arith, d, l)
+  longer = omega (arith, cut.depth, cut.long)
 
   kid_path : path_of_range patterns kid ≡ path ++ kid.first_byte ∷ label
   kid_path =
-      let some = cut.some in
-      let here = inside kid.low (omega arith) some in
+      let here = inside kid.low (omega arith) cut.some in
       ap (λ n. take n (text patterns kid.low)) cut.depth
       ∙ front_and_more range.depth kid.length (text patterns kid.low) longer
       ∙ ap (λ w. w ++ get_or (text patterns kid.low) range.depth 0 ∷ label) (is.same kid.low here.0 here.1)
@@ -96,46 +94,40 @@ module _ (most : ℕ) (patterns : List Pattern) (ready : AreReady most patterns)
 
   label_size : length label ≡ kid.length
   label_size =
-      let size = ap length kid_path ∙ length-append path (kid.first_byte ∷ label) in
       let all = length-take-le kid.depth (text patterns kid.low) cut.long in
-      let path_length = path_size most patterns ready range is in
-      let d = cut.depth in
-      omega (arith, size, all, path_length, d)
+      let path_length = path_size ready is in
+      omega (arith, ap length kid_path ∙ length-append path (kid.first_byte ∷ label), all, path_length, cut.depth)
 
   kid_led : leads (texts_of patterns) front ≡ true
   kid_led =
-      let some = cut.some in
-      let here = inside kid.low (omega arith) some in
-      in_leads most patterns ready range is kid.low kid.first_byte here.0 here.1 longer (sym cut.first_byte)
+      let here = inside kid.low (omega arith) cut.some in
+      in_leads ready is kid.low kid.first_byte here.0 here.1 longer (sym cut.first_byte)
 
   whole : (i : ℕ) → kid.low ≤ i → i < kid.high → begins (front ++ label) (text patterns i) ≡ true
   whole i l u =
       begins_from (front ++ label) (text patterns i) (drop kid.depth (text patterns i))
       (sym (take-append-drop kid.depth (text patterns i))
       ∙ ap (λ w. w ++ drop kid.depth (text patterns i))
-      ((all_same most patterns ready range kid answer is least cut i l u).0 ∙ kid_path
+      ((all_same ready is least cut i l u).0 ∙ kid_path
       ∙ sym (append_assoc path (kid.first_byte ∷ []) label)))
 
   goes_on_all : AllByRecursion (λ text. begins front text ≡ true → begins (front ++ label) text ≡ true) (texts_of patterns)
   goes_on_all = all_texts (λ text. begins front text ≡ true → begins (front ++ label) text ≡ true) patterns
       (λ i one here starts.
       let same = text-here patterns i one here in
-      let goes = goes_in most patterns ready range is i kid.first_byte (slice_get_within patterns i one here)
+      let goes = goes_in ready is i kid.first_byte (slice_get_within patterns i one here)
       (ap (begins front) same ∙ starts) in
       let group = cut.group i goes.0 goes.1 (goes.2 ∙ cut.first_byte) in
       ap (begins (front ++ label)) (sym same) ∙ whole i group.0 group.1)
 
   text_in : (i : ℕ) → kid.low ≤ i → i < kid.high → IsText (texts_of patterns) front (text patterns i)
   text_in i l u =
-      let top = is.within in
-      let range_in = inside i l u in
-      let below = range_in.1 in
-      let one = one_at most patterns ready range is i (omega (arith, below, top)) in
+      let one = one_at ready is i (omega (arith, (inside i l u).1, is.within)) in
       record {
         at = i;
         here = slice_get-map (λ (one : Pattern). one.bytes.now) patterns i
             ∙ ap (option_map (λ (one : Pattern). one.bytes.now)) one.1 ∙ ap Some (sym one.2);
-        starts = begins_through front (front ++ label) (text patterns i) (begins_from front (front ++ label) label refl)
+        starts = begins_trans front (front ++ label) (text patterns i) (begins_from front (front ++ label) label refl)
             (whole i l u);
       }
 
@@ -144,29 +136,26 @@ module _ (most : ℕ) (patterns : List Pattern) (ready : AreReady most patterns)
   kid_label =
       let some = cut.some in
       let size = label_size in
-      let short = cut.size in
-      let path_length = path_size most patterns ready range is in
-      let d = cut.depth in
+      let path_length = path_size ready is in
       let long = length-append front label in
       let first_byte = length-append path (kid.first_byte ∷ []) in
-      let at : length (front ++ label) ≡ kid.depth = omega (arith, size, path_length, d, long, first_byte) in
+      let at : length (front ++ label) ≡ kid.depth = omega (arith, size, path_length, cut.depth, long, first_byte) in
       label_only longest_label (texts_of patterns) front label (text patterns kid.low) (text patterns (kid.high - 1))
-      kid_led (omega (arith, size, short)) goes_on_all
+      kid_led (omega (arith, size, cut.size)) goes_on_all
       (text_in kid.low (omega arith) some)
       (text_in (kid.high - 1) (omega (arith, some)) (omega (arith, some)))
       (λ less byte one other.
       let first = byte_there (front ++ label) (text patterns kid.low) byte kid.depth at one in
       let second = byte_there (front ++ label) (text patterns (kid.high - 1)) byte kid.depth at other in
-      cut.stops (omega (arith, size, less)) first.0 second.0 (first.1 ∙ sym second.1))
+      cut.stops (omega (arith, size)) first.0 second.0 (first.1 ∙ sym second.1))
 
   -- it is the child of the range's path for the kid's byte
   pub kid_text_node : text_node_of patterns kid ≡ child longest_label (texts_of patterns) (path_of_range patterns range) kid.first_byte
   kid_text_node =
-      let label_is = kid_label in
       text_node_real patterns kid (inr cut.some)
       ∙ ap Some (as_text_node (path_of_range patterns kid) (path ++ kid.first_byte ∷ label) kid.length (length label) kid_path
       (sym label_size))
-      ∙ ap (λ l. Some (text_node_after path kid.first_byte l)) label_is
+      ∙ ap (λ l. Some (text_node_after path kid.first_byte l)) kid_label
       ∙ sym (child_some longest_label (texts_of patterns) path kid.first_byte kid_led) where
         as_text_node : (p q : List ℕ) (m n : ℕ) → p ≡ q → m ≡ n
             → ◌≡◌ {A = TextNode} (record { path = p; byte = kid.first_byte; size = m })
@@ -203,16 +192,16 @@ longer_by f g c [] (y ∷ ys) a (suc n) size same new is =
     let here : f y ≡ g a = new 0 y (omega arith) refl ∙ sym (is a (omega arith) (omega arith)) in
     ap (λ z. z ∷ map f ys) here
     ∙ ap (λ zs. g a ∷ zs)
-    (longer_by f g c [] ys (a + 1) n (omega (arith, size)) (λ at l. absurd (omega (arith, l)))
-    (λ at z l e. new (suc at) z (omega arith) e) (λ b l u. is b (omega (arith, l)) (omega (arith, u))))
+    (longer_by f g c [] ys (a + 1) n (omega (arith, size)) (λ at l. absurd (omega arith))
+    (λ at z l e. new (suc at) z (omega arith) e) (λ b l u. is b (omega arith) (omega arith)))
 longer_by f g c (x ∷ xs) [] a n size same new is = absurd (omega (arith, size))
 longer_by f g c (x ∷ xs) (y ∷ ys) a n size same new is =
     let first = same 0 (omega arith) in
     let here : y ≡ x = cc in
     ap (λ z. f z ∷ map f ys) here
     ∙ ap (λ zs. f x ∷ zs)
-    (longer_by f g c xs ys a n (omega (arith, size)) (λ at l. same (suc at) (omega (arith, l)))
-    (λ at z l e. new (suc at) z (omega (arith, l)) e) is)
+    (longer_by f g c xs ys a n (omega (arith, size)) (λ at l. same (suc at) (omega arith))
+    (λ at z l e. new (suc at) z (omega arith) e) is)
 
 -- the bytes that have a place so far
 abbrev pub so_far : Bool → ℕ → List ℕ → ℕ → List ℕ
@@ -224,7 +213,7 @@ HaveKidsOf patterns range old new bytes =
     map (text_node_of patterns) new
     ≡ map (text_node_of patterns) old ++ map (child longest_label (texts_of patterns) (path_of_range patterns range)) bytes
 
-module _ (most : ℕ) (patterns : List Pattern) (ready : AreReady most patterns) (range : PatternRange)
+module _ {most : ℕ} {patterns : List Pattern} (ready : AreReady most patterns) {range : PatternRange}
     (is : IsPatternRange patterns range) where
   abbrev kid_of : ℕ → Option TextNode
   kid_of = child longest_label (texts_of patterns) (path_of_range patterns range)
@@ -238,16 +227,14 @@ module _ (most : ℕ) (patterns : List Pattern) (ready : AreReady most patterns)
   no_kid lowest low upto b first_bytes from l are above below =
       elim (cases_Bool (leads (texts_of patterns) (path_of_range patterns range ++ b ∷ []))) [
         | inl led ↦ absurd (
-            let at = leads_in most patterns ready range is b led in
+            let at = leads_in ready is b led in
             let e = at.3 in
-            let some = are.some in
-            let long = goes_on most patterns ready at.0 range.depth (λ z. omega (arith, above, some, z, e)) in
+            let long = goes_on ready at.0 range.depth (λ z. omega (arith, e)) in
             elim (cases_lt at.0 low) [
               | inl d ↦ (let one = are.before at.0 at.1 d long in
-                  let under = one_below 1 upto first_bytes (next_of patterns range at.0) are.rising one in
-                  omega (arith, under, e, above))
+                  omega (arith, one_below 1 upto first_bytes (next_of patterns range at.0) are.rising one, e))
               | inr d ↦ (let u = at.2 in
-                  let r = row most patterns ready range is low at.0 from d u in omega (arith, r, e, below))
+                  omega (arith, row ready is low at.0 from d u, e))
             ])
         | inr none ↦ ap (λ t. cond t (Some (text_node_after (path_of_range patterns range) b
             (label_after longest_label (texts_of patterns) (path_of_range patterns range ++ b ∷ [])))) None) none
@@ -257,12 +244,10 @@ module _ (most : ℕ) (patterns : List Pattern) (ready : AreReady most patterns)
   pub kids_size : (old new : List PatternRange) (lowest n : ℕ) → HaveKids old new (range_with_len lowest n)
       → length new ≡ length old + n
   kids_size old new lowest n have =
-      let a = length-map new (text_node_of patterns) in
-      let b = length-map old (text_node_of patterns) in
       let c = length-map (range_with_len lowest n) kid_of in
-      let d = length-range lowest n in
+      let d = length-range_with_len lowest n in
       let e = ap length have ∙ length-append (map (text_node_of patterns) old) (map kid_of (range_with_len lowest n)) in
-      omega (arith, a, b, c, d, e)
+      omega (arith, length-map new (text_node_of patterns), length-map old (text_node_of patterns), c, d, e)
 
   -- holes up to the next byte
   pub kids_holes : (old mid new : List PatternRange) (lowest low upto : ℕ) (first_bytes : List ℕ) → range.low ≤ low
@@ -275,9 +260,8 @@ module _ (most : ℕ) (patterns : List Pattern) (ready : AreReady most patterns)
       let above = are.after low (omega arith) l in
       let n = byte - lowest - (upto - lowest) in
       let all : byte - lowest ≡ (upto - lowest) + n = omega (arith, above, least) in
-      let mid_size = kids_size old mid lowest (upto - lowest) have in
       let rest = longer_by (text_node_of patterns) kid_of None mid new (lowest + (upto - lowest)) n
-      (omega (arith, size, mid_size, all)) holes.longer.same
+      (omega (arith, size, kids_size old mid lowest (upto - lowest) have, all)) holes.longer.same
       (λ at range_there past e.
       let is_hole = holes.holes at range_there past e in
       ap (text_node_of patterns) is_hole ∙ text_node_hole patterns (hole (range.depth + 1)) refl (omega arith))
@@ -324,8 +308,7 @@ module _ (most : ℕ) (patterns : List Pattern) (ready : AreReady most patterns)
         by_first_bytes (x ∷ xs) sparse first some all =
             (let begun = first x xs refl in
             let low = begun.0 in
-            let end = begun.1 in
-            let size : upto - lowest ≡ span x xs = omega (arith, low, end) in
+            let size : upto - lowest ≡ span x xs = omega (arith, low, begun.1) in
             ap (λ t. cond t (x ∷ xs) (range_with_len lowest (upto - lowest))) (sparse ∙ ap are_sparse all)
             ∙ ap (λ a. cond (are_sparse (x ∷ xs)) (x ∷ xs) (range_with_len a (upto - lowest))) (sym low)
             ∙ ap (λ n. cond (are_sparse (x ∷ xs)) (x ∷ xs) (range_with_len x n)) size)
@@ -341,16 +324,12 @@ none_yet patterns range ranges is_sparse lowest some =
       nothing true = refl
       nothing false = (let size : 1 - lowest ≡ 0 = omega (arith, some) in ap (range_with_len lowest) size)
 
--- the bytes that have a place before the next one
-abbrev pub before_kid : Bool → ℕ → List ℕ → ℕ → List ℕ
-before_kid is_sparse lowest first_bytes byte = cond is_sparse first_bytes (range_with_len lowest (byte - lowest))
-
--- and with it
+-- the bytes that have a place before the next one, and with it
 pub with_kid : (is_sparse : Bool) (lowest byte : ℕ) (first_bytes : List ℕ) → lowest ≤ byte
-    → before_kid is_sparse lowest first_bytes byte ++ byte ∷ [] ≡ so_far is_sparse lowest (first_bytes ++ byte ∷ []) (byte + 1)
+    → so_far is_sparse lowest first_bytes byte ++ byte ∷ [] ≡ so_far is_sparse lowest (first_bytes ++ byte ∷ []) (byte + 1)
 with_kid true lowest byte first_bytes l = refl
 with_kid false lowest byte first_bytes l =
-    let from : byte ≡ lowest + (byte - lowest) = omega (arith, l) in
-    let size : (byte - lowest) + 1 ≡ byte + 1 - lowest = omega (arith, l) in
+    let from : byte ≡ lowest + (byte - lowest) = omega arith in
+    let size : (byte - lowest) + 1 ≡ byte + 1 - lowest = omega arith in
     ap (λ b. range_with_len lowest (byte - lowest) ++ b ∷ []) from
     ∙ sym (range_both lowest (byte - lowest) 1) ∙ ap (range_with_len lowest) size

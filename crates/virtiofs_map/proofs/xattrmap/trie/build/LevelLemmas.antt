@@ -1,14 +1,13 @@
 -- The nodes of a trie, level by level.
 use Rattle.std.proofs.Common.{◌≡◌, ℕ, ◌+◌, ◌-◌, ◌<◌, ◌≤◌, List, [], ◌∷◌, ◌++◌, Option, Some, length, drop, min, zero}
-use Rattle.std.proofs.Common.{suc, inl, inr, refl, sym, ap, subst, ◌∙◌, arith, lit≤}
-use Rattle.std.specs.List.{slice_get}
+use Rattle.std.proofs.Common.{suc, inl, inr, refl, sym, ap, subst, ◌∙◌, arith, lit≤, slice_get}
 use Rattle.std.specs.Option.{option_map_or}
 use Rattle.std.proofs.lemmas.Bool.{cases_lt}
 use Rattle.std.proofs.lemmas.List.{length_push}
 use Rattle.std.proofs.lemmas.Option.{slice_get_cases, slice_get_within}
 use Rattle.virtiofs_map.specs.NodeParts.{no_answer}
-use Rattle.virtiofs_map.specs.TrieBuildParts.{AreReady, IsPatternRange, IsRangeOrHole, AreRangesOrHoles, AreDeep, IsBuilt, AreBuilt}
-use Rattle.virtiofs_map.specs.TrieBuildParts.{IsExpanded}
+use Rattle.virtiofs_map.specs.TrieBuildParts.{AreReady, IsPatternRange, IsRangeOrHole, AreRangesOrHoles, AreDeep}
+use Rattle.virtiofs_map.specs.TrieBuildParts.{IsBuilt, AreBuilt, IsExpanded}
 use Rattle.virtiofs_map.specs.declared.xattrmap.trie.node.Node.{Node}
 use Rattle.virtiofs_map.specs.declared.xattrmap.trie.build.PatternRange.{PatternRange}
 use Rattle.virtiofs_map.specs.declared.xattrmap.trie.patterns.Pattern.{Pattern}
@@ -24,11 +23,11 @@ pub built_more : (patterns : List Pattern) (old new : List PatternRange) (nodes 
 built_more patterns old new nodes range node at is here built made =
     let below = slice_get_within old at range here in
     record {
-      counted = let s = length_push nodes node in let l = made.longer.longer in omega (arith, s, l, is, below);
+      counted = omega (arith, length_push nodes node, below);
       each = λ k one other e f. elim (push_cases nodes node k other f) [
-        | inl (l, h) ↦ built.each k one other (sym (made.longer.same k (omega (arith, l, is, below))) ∙ e) h
+        | inl (l, h) ↦ built.each k one other (sym (made.longer.same k (omega (arith, l, below))) ∙ e) h
         | inr (l, h) ↦
-            (let same : k ≡ at = omega (arith, l, is) in
+            (let same : k ≡ at = omega (arith, l) in
             let stands : slice_get old at ≡ Some one =
             sym (made.longer.same at below) ∙ ap (slice_get new) (sym same) ∙ e in
             let this : range ≡ one = cc in
@@ -42,8 +41,8 @@ pub deep_more : (patterns : List Pattern) (old new : List PatternRange) (range :
     → AreDeep new (at + 1) depth
 deep_more patterns old new range node at depth here made deep = record {
   deep = λ k one l e. elim (cases_lt k (length old)) [
-    | inl b ↦ deep.deep k one (omega (arith, l)) (sym (made.longer.same k b) ∙ e)
-    | inr g ↦ (let d = deep.deep at range (omega arith) here in let m = made.deeper.deep k one g e in omega (arith, d, m))
+    | inl b ↦ deep.deep k one (omega arith) (sym (made.longer.same k b) ∙ e)
+    | inr g ↦ omega (arith, deep.deep at range (omega arith) here, made.deeper.deep k one g e)
   ];
 }
 
@@ -54,13 +53,9 @@ pub deeper_more : (patterns : List Pattern) (old new : List PatternRange) (range
 deeper_more patterns old new range node at end depth here made deep deeper = record {
   deep = λ k one l e. elim (cases_lt k (length old)) [
     | inl b ↦ deeper.deep k one l (sym (made.longer.same k b) ∙ e)
-    | inr g ↦ (let d = deep.deep at range (omega arith) here in let m = made.deeper.deep k one g e in omega (arith, d, m))
+    | inr g ↦ omega (arith, deep.deep at range (omega arith) here, made.deeper.deep k one g e)
   ];
 }
-
-pub deep_none : (ranges : List PatternRange) (depth : ℕ) → AreDeep ranges (length ranges) depth
-deep_none ranges depth =
-    record { deep = λ at range b e. absurd (let h = slice_get_within ranges at range e in omega (arith, b, h)) }
 
 -- ---- the root
 
@@ -78,7 +73,7 @@ root_range patterns = record {
   whole = λ i l e. (omega arith, l);
   least = record {
     top = lit≤ tt;
-    below = λ i inside. absurd (let s = inside.short in omega (arith, s));
+    below = λ i inside. absurd (omega arith);
     met = inl refl;
   };
 }
@@ -106,15 +101,6 @@ root_built patterns ranges = record {
 
 -- ---- the end
 
--- patterns that end before one byte end before a later one
-pub ready_further : (few most : ℕ) (patterns : List Pattern) → few ≤ most → AreReady few patterns
-    → AreReady most patterns
-ready_further few most patterns l ready = record {
-  each = λ k d b.
-      record { within = let w = (ready.each k d b).within in omega (arith, w, l); full = (ready.each k d b).full };
-  order = ready.order;
-}
-
 -- the least depth of places, or a number that none exceeds
 abbrev pub shallowest : ℕ → List PatternRange → ℕ
 shallowest most [] = most
@@ -124,16 +110,14 @@ shallow_at : (most : ℕ) (ranges : List PatternRange) (k : ℕ) (range : Patter
     → shallowest most ranges ≤ range.depth
 shallow_at most [] k range e = absurd cc
 shallow_at most (p ∷ ranges) zero range e =
-    (let d = ap (λ (o : Option PatternRange). option_map_or (λ (one : PatternRange). one.depth) o 0) e in omega (arith, d))
-shallow_at most (p ∷ ranges) (suc k) range e = (let h = shallow_at most ranges k range e in omega (arith, h))
+    (omega (arith, ap (λ (o : Option PatternRange). option_map_or (λ (one : PatternRange). one.depth) o 0) e))
+shallow_at most (p ∷ ranges) (suc k) range e = omega (arith, shallow_at most ranges k range e)
 
 all_shallow : (most depth : ℕ) (ranges : List PatternRange) → depth ≤ most
     → ((k : ℕ) (range : PatternRange) → slice_get ranges k ≡ Some range → depth ≤ range.depth) → depth ≤ shallowest most ranges
 all_shallow most depth [] l deep = l
 all_shallow most depth (p ∷ ranges) l deep =
-    let h = all_shallow most depth ranges l (λ k range e. deep (suc k) range e) in
-    let d = deep 0 p refl in
-    omega (arith, h, d)
+    omega (arith, all_shallow most depth ranges l (λ k range e. deep (suc k) range e), deep 0 p refl)
 
 -- a level less is left: each place without a node is deeper than it was, and none is deeper than the bytes are long
 pub levels_fall : (most : ℕ) (patterns : List Pattern) (old new : List PatternRange) (from next : ℕ) → AreReady most patterns
@@ -142,17 +126,17 @@ pub levels_fall : (most : ℕ) (patterns : List Pattern) (old new : List Pattern
     → most + 1 - shallowest (most + 1) (drop next new) < most + 1 - shallowest (most + 1) (drop from old)
 levels_fall most patterns old new from next ready places below deeper =
     elim (slice_get_cases old from).1 [
-      | inr (past, _) ↦ absurd (omega (arith, below, past))
+      | inr (past, _) ↦ absurd (omega (arith, past))
       | inl (range, _, here, _) ↦
           (let deep : AreDeep old from (shallowest (most + 1) (drop from old)) = record {
-            deep = λ k one l e. let same : from + (k - from) ≡ k = omega (arith, l) in
+            deep = λ k one l e. let same : from + (k - from) ≡ k = omega arith in
                 shallow_at (most + 1) (drop from old) (k - from) one
                 (slice_get-drop from old (k - from) ∙ ap (slice_get old) same ∙ e);
           } in
           let first = deep.deep from range (omega arith) here in
           let reach : range.depth ≤ most = elim (places.each from range here).deep [
-            | inl z ↦ omega (arith, z)
-            | inr r ↦ (let e = ends most patterns ready r.at r.within in let h = r.long in omega (arith, e, h))
+            | inl z ↦ omega arith
+            | inr r ↦ omega (arith, ends ready r.at r.within)
           ] in
           let then = deeper (shallowest (most + 1) (drop from old)) deep in
           let low =

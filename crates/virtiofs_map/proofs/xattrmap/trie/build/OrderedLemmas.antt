@@ -1,11 +1,11 @@
 -- Nodes that are exactly those of the text nodes of a trie.
 use Rattle.std.proofs.Common.{◌≡◌, ℕ, zero, suc, ◌+◌, ◌<◌, ◌≤◌, List, [], ◌∷◌, ◌++◌, length, map, take, Some, inl, inr}
-use Rattle.std.proofs.Common.{Option, refl, sym, ap, subst, ◌∙◌, arith, append-nil, ◌≢◌, All, Contains, get_or, drop, true}
-use Rattle.std.specs.List.{slice_get, flat_map}
-use Rattle.std.specs.Option.{option_map}
-use Rattle.std.proofs.lemmas.List.{take-append-le, take_all, length-map, length_push, get_or-take, get_or-drop}
+use Rattle.std.proofs.Common.{Option, refl, sym, ap, subst, ◌∙◌, arith, append-nil, ◌≢◌, All, Contains, get_or, drop}
+use Rattle.std.proofs.Common.{true, slice_get, flat_map, option_map, take_all, get_or-take, get_or-drop}
+use Rattle.std.proofs.lemmas.List.{take-append-le, length-map, length_push}
 use Rattle.std.proofs.lemmas.List.Concat.{flat_map-append}
-use Rattle.std.proofs.lemmas.Option.{slice_get-map, slice_get_within, slice_get_cases, slice_get_read, get_or_from_slice_get}
+use Rattle.std.proofs.lemmas.Option.{slice_get-map, slice_get_within, slice_get_cases, slice_get_read}
+use Rattle.std.proofs.lemmas.Option.{get_or_from_slice_get}
 use Rattle.virtiofs_map.specs.NodeParts.{AreFew, ArePatterns, IsPattern}
 use Rattle.virtiofs_map.specs.FirstRule.{acts, pattern}
 use Rattle.virtiofs_map.specs.TrieBuildParts.{AreExact, AreBuilt, AreRangesOrHoles, AreReady, IsLonger, text_node_of}
@@ -13,8 +13,7 @@ use Rattle.virtiofs_map.specs.Rule.{MappingRule}
 use Rattle.virtiofs_map.specs.declared.xattrmap.scopes.Side.{Side}
 use Rattle.virtiofs_map.proofs.xattrmap.trie.NodesOfLemmas.{node_at, length-nodes}
 use Rattle.virtiofs_map.proofs.xattrmap.trie.build.BuiltTrieLemmas.{answered}
-use Rattle.virtiofs_map.specs.PatternTrie.{TextNode, root, text_nodes}
-use Rattle.virtiofs_map.specs.PatternTrie.{longest_label}
+use Rattle.virtiofs_map.specs.PatternTrie.{TextNode, root, text_nodes, longest_label}
 use Rattle.virtiofs_map.specs.TrieParts.{texts_of, children_of, node_with, answer_at, nodes_from, nodes_of}
 use Rattle.virtiofs_map.specs.declared.xattrmap.trie.node.Node.{Node}
 use Rattle.virtiofs_map.specs.declared.xattrmap.trie.build.PatternRange.{PatternRange}
@@ -44,8 +43,7 @@ module _ (patterns : List Pattern) where
       → node ≡ node_with patterns node.answer (length old) (of range)
       → AreExact patterns old nodes → AreExact patterns new (nodes ++ node ∷ [])
   exact_more old new nodes node at range is here longer text_nodes made are =
-      let size = length_push nodes node in
-      let more : length (nodes ++ node ∷ []) ≡ suc at = omega (arith, size, is) in
+      let more : length (nodes ++ node ∷ []) ≡ suc at = omega (arith, length_push nodes node, is) in
       let inside = slice_get_within old at range here in
       let old_size = length-map old of in
       let text_node_here : slice_get (map of old) at ≡ Some (of range) =
@@ -55,7 +53,7 @@ module _ (patterns : List Pattern) where
       let order : map of old ≡ Some root ∷ flat_map below (take at (map of old)) =
       are.order ∙ ap (λ n. Some root ∷ flat_map below (take n (map of old))) (sym is) in
       let count : length old ≡ suc (length (flat_map below (take at (map of old)))) =
-      (let e = ap length order in omega (arith, e, old_size)) in
+      (omega (arith, ap length order, old_size)) in
       record {
         order = text_nodes
             ∙ ap (λ ns. ns ++ below (of range)) order
@@ -101,18 +99,18 @@ module _ (patterns : List Pattern) where
       let size = length-map ranges of in
       text_nodes_only longest_label (texts_of patterns) (map of ranges)
       (are.order
-      ∙ ap (λ ns. Some root ∷ flat_map below ns) (take_all (length nodes) (map of ranges) (omega (arith, size, full))))
+      ∙ ap (λ ns. Some root ∷ flat_map below ns) (take_all (length nodes) (map of ranges) (omega (arith, size))))
 
 same_by_get : {X : Type 0} (xs ys : List X) → length xs ≡ length ys
     → ((k : ℕ) (x : X) → slice_get xs k ≡ Some x → slice_get ys k ≡ Some x) → xs ≡ ys
 same_by_get [] [] size each = refl
-same_by_get [] (y ∷ ys) size each = absurd (omega (arith, size))
-same_by_get (x ∷ xs) [] size each = absurd (omega (arith, size))
+same_by_get [] (y ∷ ys) size each = absurd (omega arith)
+same_by_get (x ∷ xs) [] size each = absurd (omega arith)
 same_by_get (x ∷ xs) (y ∷ ys) size each =
     let there = each 0 x refl in
     let first : y ≡ x = cc in
     ap (λ z. z ∷ xs) (sym first)
-    ∙ ap (λ zs. y ∷ zs) (same_by_get xs ys (omega (arith, size)) (λ k z e. each (suc k) z e))
+    ∙ ap (λ zs. y ∷ zs) (same_by_get xs ys (omega arith) (λ k z e. each (suc k) z e))
 
 module _ (side : Side) (rules : List MappingRule) (bytes : List ℕ) (patterns : List Pattern)
     (of_rules : ArePatterns side rules bytes patterns) (few : AreFew rules) (ready : AreReady (length bytes) patterns)
@@ -137,13 +135,12 @@ module _ (side : Side) (rules : List MappingRule) (bytes : List ℕ) (patterns :
   unfolding nodes_of
   exact_all =
       let text_nodes_are = all_text_nodes patterns ranges nodes are full in
-      let map_size = length-map ranges (text_node_of patterns) in
       let made_size = length-nodes side rules patterns 1 (map (text_node_of patterns) ranges) in
       same_by_get nodes (nodes_from side rules patterns 1 (map (text_node_of patterns) ranges))
-      (omega (arith, full, map_size, made_size))
+      (omega (arith, length-map ranges (text_node_of patterns), made_size))
       (λ k node here. let inside = slice_get_within nodes k node here in
       elim (slice_get_cases ranges k).1 [
-        | inr (past, _) ↦ absurd (omega (arith, inside, full, past))
+        | inr (past, _) ↦ absurd (omega (arith, inside, past))
         | inl (range, _, there, _) ↦
             (let of = text_node_of patterns range in
             let text_node_here : slice_get (map (text_node_of patterns) ranges) k ≡ Some of =
@@ -177,5 +174,4 @@ pattern_bytes side rules bytes patterns of_rules ready small rule inside acting 
     ap (λ (t : List ℕ). get_or t k 0) (sym stands.among)
     ∙ get_or-take (length one.bytes.now) (drop one.start bytes) k 0 within
     ∙ get_or-drop one.start bytes k 0 in
-    let low = small (one.start + k) in
-    ((λ z. full (is_byte ∙ z)), omega (arith, is_byte, among, low))
+    ((λ z. full (is_byte ∙ z)), omega (arith, is_byte, among, small (one.start + k)))

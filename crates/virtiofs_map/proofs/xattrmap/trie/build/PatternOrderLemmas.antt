@@ -1,9 +1,8 @@
 -- Patterns in order, and what those have in common that stand between two.
 use Rattle.std.proofs.Common.{◌≡◌, ◌≢◌, ℕ, zero, suc, ◌+◌, ◌<◌, ◌≤◌, List, length, take, get_or, Some, inl, inr, refl}
-use Rattle.std.proofs.Common.{sym, ap, subst, ◌∙◌, arith, add-one}
-use Rattle.std.specs.List.{All, slice_get}
+use Rattle.std.proofs.Common.{sym, ap, subst, ◌∙◌, arith, add-one, All, slice_get, take-take, get_or-take}
 use Rattle.std.proofs.lemmas.Bool.{cases_lt}
-use Rattle.std.proofs.lemmas.List.{take_more_same, take-take, get_or-take, get_or_past, length-take}
+use Rattle.std.proofs.lemmas.List.{take_more_same, get_or_past}
 use Rattle.std.proofs.lemmas.Option.{slice_get_cases, slice_get-get_or}
 use Rattle.virtiofs_map.specs.TrieBuildParts.{text, start_of, AreReady}
 use Rattle.virtiofs_map.specs.declared.xattrmap.trie.patterns.Pattern.{Pattern}
@@ -20,24 +19,16 @@ pub same_byte : (one other : List ℕ) (m k : ℕ) → k < m → take m one ≡ 
 same_byte one other m k l e = sym (get_or-take m one k 0 l) ∙ ap (λ (s : List ℕ). get_or s k 0) e
     ∙ get_or-take m other k 0 l
 
--- and are as long
-pub same_length : (one other : List ℕ) (m : ℕ) → m ≤ length one → take m one ≡ take m other → m ≤ length other
-same_length one other m l e =
-    let a = length-take m one in
-    let b = length-take m other in
-    let c = ap length e in
-    omega (arith, a, b, c, l)
-
 -- ---- patterns
 
-module _ (most : ℕ) (patterns : List Pattern) (ready : AreReady most patterns) where
+module _ {most : ℕ} {patterns : List Pattern} (ready : AreReady most patterns) where
   -- no pattern holds a zero
   pub no_zero : (i k : ℕ) → i < length patterns → k < length (text patterns i) → get_or (text patterns i) k 0 ≢ 0
   no_zero i k l m = elim (slice_get_cases patterns i).1 [
     | inl (one, _, here, _) ↦
         (let same = text-here patterns i one here in
         subst (λ (s : List ℕ). k < length s → get_or s k 0 ≢ 0) (sym same) (λ n. full i one here l k n) m)
-    | inr (past, _) ↦ absurd (omega (arith, l, past))
+    | inr (past, _) ↦ absurd (omega (arith, past))
   ] where
     full : (i : ℕ) (one : Pattern) → slice_get patterns i ≡ Some one → i < length patterns → (k : ℕ)
         → k < length one.bytes.now → get_or one.bytes.now k 0 ≢ 0
@@ -59,7 +50,7 @@ module _ (most : ℕ) (patterns : List Pattern) (ready : AreReady most patterns)
       → get_or (text patterns i) depth 0 ≤ get_or (text patterns j) depth 0
   rising i j depth l within e = elim (cases_lt i j) [
     | inl below ↦ apart below
-    | inr g ↦ (let same : i ≡ j = omega (arith, l, g) in let same_text =
+    | inr g ↦ (let same : i ≡ j = omega arith in let same_text =
         ap (λ n. get_or (text patterns n) depth 0) same in omega (arith, same_text))
   ] where
     apart : i < j → get_or (text patterns i) depth 0 ≤ get_or (text patterns j) depth 0
@@ -73,9 +64,7 @@ module _ (most : ℕ) (patterns : List Pattern) (ready : AreReady most patterns)
             let low =
             ready.order.rising i j depth one other below here there
             (ap (take depth) (sym a) ∙ e ∙ ap (take depth) b) in
-            let c = ap (λ (s : List ℕ). get_or s depth 0) a in
-            let d = ap (λ (s : List ℕ). get_or s depth 0) b in
-            omega (arith, low, c, d))
+            omega (arith, low, ap (λ (s : List ℕ). get_or s depth 0) a, ap (λ (s : List ℕ). get_or s depth 0) b))
       ]
     ]
 
@@ -99,12 +88,10 @@ module _ (most : ℕ) (patterns : List Pattern) (ready : AreReady most patterns)
   -- a pattern ends among the bytes
   pub ends : (i : ℕ) → i < length patterns → start_of patterns i + length (text patterns i) ≤ most
   ends i l = elim (slice_get_cases patterns i).1 [
-    | inr (past, _) ↦ absurd (omega (arith, l, past))
+    | inr (past, _) ↦ absurd (omega (arith, past))
     | inl (one, _, here, _) ↦
         (let a = text-here patterns i one here in
-        let b = start_of-here patterns i one here in
         let read : get_or patterns i one ≡ one = cc (slice_get-get_or patterns i one l) in
         let w = subst (λ (p : Pattern). p.start + length p.bytes.now ≤ most) read (ready.each i one l).within in
-        let d = ap (λ (s : List ℕ). length s) a in
-        omega (arith, b, d, w))
+        omega (arith, start_of-here patterns i one here, ap (λ (s : List ℕ). length s) a, w))
   ]

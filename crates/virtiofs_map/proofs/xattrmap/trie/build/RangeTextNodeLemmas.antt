@@ -1,7 +1,6 @@
 -- The text node that has the patterns of a range.
-use Rattle.std.proofs.Common.{◌≡◌, ◌≢◌, ◌⊎◌, ℕ, ◌+◌, ◌<◌, ◌≤◌, true, ◌&&◌, not, cond, eqb, List, []}
-use Rattle.std.proofs.Common.{◌∷◌, ◌++◌, length, take, drop, get_or, Some, None, sym, ap, subst, ◌∙◌}
-use Rattle.std.proofs.Common.{arith, append_assoc, inl, inr}
+use Rattle.std.proofs.Common.{◌≡◌, ◌≢◌, ◌⊎◌, ℕ, ◌+◌, ◌<◌, ◌≤◌, true, ◌&&◌, not, cond, eqb, List, [], ◌∷◌, ◌++◌, length}
+use Rattle.std.proofs.Common.{take, drop, get_or, Some, None, sym, ap, subst, ◌∙◌, arith, append_assoc, inl, inr}
 use Rattle.std.specs.List.{slice_get}
 use Rattle.std.proofs.lemmas.Bool.{cases_Bool, ne_eqb}
 use Rattle.std.proofs.lemmas.Bool.Decides.{Decides-eqb}
@@ -31,7 +30,7 @@ text_node_real patterns range some = elim some [
         | inr e ↦ ap (λ b. cond (b && not (eqb range.depth 0)) None (Some (is))) e
       ])
   | inr l ↦
-      (let apart = ne_eqb range.low range.high (λ e. omega (arith, l, e)) in
+      (let apart = ne_eqb range.low range.high (λ e. omega arith) in
       ap (λ b. cond (b && not (eqb range.depth 0)) None (Some (is))) apart)
 ] where
   is : TextNode
@@ -53,11 +52,11 @@ text_node_hole patterns range empty deep =
 split_at : (d : ℕ) (s : List ℕ) → d < length s → s ≡ take d s ++ get_or s d 0 ∷ drop (d + 1) s
 split_at d s l = sym (take-append-drop d s) ∙ ap (λ t. take d s ++ t) (drop_more s d 0 l)
 
-module _ (most : ℕ) (patterns : List Pattern) (ready : AreReady most patterns) (range : PatternRange)
+module _ {most : ℕ} {patterns : List Pattern} (ready : AreReady most patterns) {range : PatternRange}
     (is : IsPatternRange patterns range) where
   pub path_size : length (path_of_range patterns range) ≡ range.depth
   path_size = elim is.some [
-    | inl z ↦ let h = length-take range.depth (text patterns range.low) in omega (arith, h, z)
+    | inl z ↦ omega (arith, length-take range.depth (text patterns range.low))
     | inr l ↦ length-take-le range.depth (text patterns range.low) (is.long range.low (omega arith) l)
   ]
 
@@ -65,7 +64,7 @@ module _ (most : ℕ) (patterns : List Pattern) (ready : AreReady most patterns)
   pub one_at : (i : ℕ) → i < length patterns → (one : Pattern) × (slice_get patterns i ≡ Some one)
       × (text patterns i ≡ one.bytes.now)
   one_at i l = elim (slice_get_cases patterns i).1 [
-    | inr (past, _) ↦ absurd (omega (arith, l, past))
+    | inr (past, _) ↦ absurd (omega (arith, past))
     | inl (one, _, here, _) ↦ (one, here, text-here patterns i one here)
   ]
 
@@ -74,8 +73,7 @@ module _ (most : ℕ) (patterns : List Pattern) (ready : AreReady most patterns)
       → get_or (text patterns i) range.depth 0 ≡ byte
       → leads (texts_of patterns) (path_of_range patterns range ++ byte ∷ []) ≡ true
   in_leads i byte from upto longer next =
-      let w = is.within in
-      let one = one_at i (omega (arith, upto, w)) in
+      let one = one_at i (omega (arith, is.within)) in
       let rest = drop (range.depth + 1) (text patterns i) in
       let whole : text patterns i ≡ (path_of_range patterns range ++ byte ∷ []) ++ rest =
       split_at range.depth (text patterns i) longer
@@ -106,8 +104,7 @@ module _ (most : ℕ) (patterns : List Pattern) (ready : AreReady most patterns)
       → (i : ℕ) × (range.low ≤ i) × (i < range.high) × (get_or (text patterns i) range.depth 0 ≡ byte)
   leads_in byte led =
       let found = begun patterns (path_of_range patterns range ++ byte ∷ []) led in
-      let inside = slice_get_within patterns found.at found.one found.here in
       let here = text-here patterns found.at found.one found.here in
-      let goes = goes_in found.at byte inside
+      let goes = goes_in found.at byte (slice_get_within patterns found.at found.one found.here)
       (ap (begins (path_of_range patterns range ++ byte ∷ [])) here ∙ found.starts) in
       (found.at, goes.0, goes.1, goes.2)

@@ -1,13 +1,10 @@
 -- The node of a range, and the places of its children.
-use Rattle.std.proofs.Common.{◌≡◌, ◌≢◌, ◌⊎◌, ℕ, ◌+◌, ◌<◌, ◌≤◌, List, Some, length, take, get_or, inl, inr}
-use Rattle.std.proofs.Common.{refl, sym, ap, subst, ◌∙◌, arith}
-use Rattle.std.specs.List.{slice_get}
+use Rattle.std.proofs.Common.{◌≡◌, ◌≢◌, ◌⊎◌, ℕ, ◌+◌, ◌<◌, ◌≤◌, List, Some, length, take, get_or, inl, inr, refl, sym}
+use Rattle.std.proofs.Common.{ap, subst, ◌∙◌, arith, slice_get, take_all}
 use Rattle.std.proofs.lemmas.Bool.{cases_lt}
-use Rattle.std.proofs.lemmas.List.{take_all}
 use Rattle.std.proofs.lemmas.Option.{slice_get_read, slice_get_within}
 use Rattle.virtiofs_map.specs.TrieBuildParts.{text, AreReady, IsLeast, IsLeastOf, IsInside, IsUpto, IsPatternRange}
-use Rattle.virtiofs_map.specs.TrieBuildParts.{IsRangeOrHole, AreRangesOrHoles, AreAdded, AreDeep, IsBuilt}
-use Rattle.virtiofs_map.specs.TrieBuildParts.{IsExpanded}
+use Rattle.virtiofs_map.specs.TrieBuildParts.{IsRangeOrHole, AreRangesOrHoles, AreAdded, AreDeep, IsBuilt, IsExpanded}
 use Rattle.virtiofs_map.specs.declared.xattrmap.trie.node.Node.{Node}
 use Rattle.virtiofs_map.specs.declared.xattrmap.trie.build.PatternRange.{PatternRange}
 use Rattle.virtiofs_map.specs.declared.xattrmap.trie.patterns.Pattern.{Pattern}
@@ -30,13 +27,13 @@ in_range : (patterns : List Pattern) (range : PatternRange) → IsPatternRange p
     → range.depth ≤ length (text patterns i) → (range.low ≤ i) × (i < range.high)
 in_range patterns range is i upto l =
     let s = upto.short in
-    let size : length (text patterns i) ≡ range.depth = omega (arith, s, l) in
+    let size : length (text patterns i) ≡ range.depth = omega (arith, s) in
     is.whole i upto.within
     (take_all range.depth (text patterns i) s ∙ sym upto.front ∙ ap (λ n. take n (text patterns range.low)) size)
 
 upto_from_inside : (patterns : List Pattern) (range : PatternRange) (i : ℕ) → IsInside patterns range i → IsUpto patterns range i
 upto_from_inside patterns range i n =
-    record { within = n.within; short = let s = n.short in omega (arith, s); front = n.front }
+    record { within = n.within; short = omega arith; front = n.front }
 
 inside_from_upto : (patterns : List Pattern) (range : PatternRange) (i : ℕ) → IsUpto patterns range i
     → length (text patterns i) < range.depth → IsInside patterns range i
@@ -50,7 +47,7 @@ least_bare patterns range e is =
     (upto_from_inside patterns range) (λ i u.
     elim (cases_lt (length (text patterns i)) range.depth) [
       | inl l ↦ inside_from_upto patterns range i u l
-      | inr g ↦ absurd (let h = in_range patterns range is i u g in omega (arith, h, e))
+      | inr g ↦ absurd (omega (arith, in_range patterns range is i u g))
     ])
 
 -- the answer of the path of a range whose first patterns have ended
@@ -65,11 +62,10 @@ least_ended most patterns ready range from answer is l u ended other least =
       new : (i : ℕ) → range.low ≤ i → i < from → IsUpto patterns range i
       new i a b =
           let e = ended i a b in
-          let w = is.within in
           record {
-            within = omega (arith, b, u, w);
+            within = omega (arith, u, is.within);
             short = omega (arith, e);
-            front = ap (λ n. take n (text patterns range.low)) e ∙ sym (is.same i a (omega (arith, b, u)))
+            front = ap (λ n. take n (text patterns range.low)) e ∙ sym (is.same i a (omega (arith, u)))
                 ∙ take_all range.depth (text patterns i) (omega (arith, e));
           }
 
@@ -81,18 +77,15 @@ least_ended most patterns ready range from answer is l u ended other least =
             elim (cases_lt i from) [
               | inl b ↦ inr (here.0, b)
               | inr past ↦ absurd (
-                  let below : from < range.high = omega (arith, past, here) in
-                  let ne = other below in
+                  let below : from < range.high = omega (arith, here) in
                   let long = is.long from l below in
-                  let more = longer_on most patterns ready range is from i l past here.1 (omega (arith, long, ne)) in
-                  let short = n.short in
-                  omega (arith, more, short))
+                  omega (arith, longer_on ready is from i l past here.1 (omega (arith, long, other below))))
             ])
       ]
 
-none_deeper : (ranges : List PatternRange) (depth : ℕ) → AreDeep ranges (length ranges) depth
+pub none_deeper : (ranges : List PatternRange) (depth : ℕ) → AreDeep ranges (length ranges) depth
 none_deeper ranges depth =
-    record { deep = λ at range b e. absurd (let h = slice_get_within ranges at range e in omega (arith, b, h)) }
+    record { deep = λ at range b e. absurd (omega (arith, slice_get_within ranges at range e)) }
 
 -- a range that has no children
 pub expanded_here : (patterns : List Pattern) (ranges : List PatternRange) (range : PatternRange) (node : Node)
@@ -117,7 +110,7 @@ expanded_on patterns old new range node places added built = record {
     ];
   };
   built = built;
-  deeper = record { deep = λ k one b e. let d = added.deeper k one b e in omega (arith, d) };
+  deeper = record { deep = λ k one b e. omega (arith, added.deeper k one b e) };
 }
 
 -- the node of a range with no pattern
@@ -133,5 +126,5 @@ pub built_some : (patterns : List Pattern) (range : PatternRange) (node : Node) 
     → IsLeast patterns (IsUpto patterns range) answer → node.answer ≡ answer → IsBuilt patterns range node
 built_some patterns range node answer some least is = record {
   least = λ _. subst (IsLeast patterns (IsUpto patterns range)) (sym is) least;
-  bare = λ e. absurd (omega (arith, some, e));
+  bare = λ e. absurd (omega arith);
 }

@@ -1,9 +1,9 @@
--- The lowest bytes of a number of eight bytes are the first ones of its row.
-use Rattle.std.proofs.Common.{◌≡◌, ℕ, zero, suc, ◌+◌, ◌-◌, ◌*◌, ◌/◌, ◌%◌, ◌^◌, ◌<◌, ◌≤◌, List, [], ◌∷◌, length, take, get_or, refl, sym, ap, ◌∙◌, arith}
+-- Rows of bytes are the same where their numbers of eight bytes are, the lowest bytes of these, or both ends.
+use Rattle.std.proofs.Common.{get_or-drop, ◌≡◌, ℕ, zero, suc, ◌+◌, ◌-◌, ◌*◌, ◌/◌, ◌%◌, ◌^◌, ◌<◌, ◌≤◌, List, [], ◌∷◌, length, take}
+use Rattle.std.proofs.Common.{get_or, refl, sym, ap, ◌∙◌, arith, drop, ◌++◌}
 use Rattle.std.specs.Int.{w64, from_le_bytes}
 use Rattle.std.proofs.lemmas.Nat.{mod-pow-add}
-use Rattle.std.proofs.Common.{drop, ◌++◌}
-use Rattle.std.proofs.lemmas.List.{length-take-le, length-drop, drop-drop, drop-take, take-take}
+use Rattle.std.proofs.lemmas.List.{length-take-le, length-drop, drop-drop, drop-take, take-take, take-append-drop}
 use Rattle.virtiofs_map.specs.LeU64Parts.{le_u64_at}
 
 -- the number of a row of any length
@@ -37,24 +37,22 @@ step b n c small =
 pub there : (c : ℕ) (xs ys : List ℕ) → AreBytes xs → AreBytes ys → c ≤ length xs → c ≤ length ys
     → low xs % 2 ^ (8 * c) ≡ low ys % 2 ^ (8 * c) → take c xs ≡ take c ys
 there zero xs ys one other a b e = refl
-there (suc c) [] ys one other a b e = absurd (omega (arith, a))
-there (suc c) (x ∷ xs) [] one other a b e = absurd (omega (arith, b))
+there (suc c) [] ys one other a b e = absurd (omega arith)
+there (suc c) (x ∷ xs) [] one other a b e = absurd (omega arith)
 there (suc c) (x ∷ xs) (y ∷ ys) one other a b e =
     let same : (low xs % 2 ^ (8 * c)) * 256 + x ≡ (low ys % 2 ^ (8 * c)) * 256 + y =
     sym (step x (low xs) c (one 0)) ∙ e ∙ step y (low ys) c (other 0) in
-    let first : x < 256 = one 0 in
-    let second : y < 256 = other 0 in
-    let head : x ≡ y = omega (arith, same, first, second) in
+    let head : x ≡ y = omega (arith, same, one 0, other 0) in
     let tail : low xs % 2 ^ (8 * c) ≡ low ys % 2 ^ (8 * c) = omega (arith, same, head) in
     ap (λ z. z ∷ take c xs) head
     ∙ ap (λ zs. y ∷ zs)
-    (there c xs ys (λ k. one (suc k)) (λ k. other (suc k)) (omega (arith, a)) (omega (arith, b)) tail)
+    (there c xs ys (λ k. one (suc k)) (λ k. other (suc k)) (omega arith) (omega arith) tail)
 
 shorter : (c n : ℕ) (xs : List ℕ) → c ≤ n → take c (take n xs) ≡ take c xs
 shorter zero n xs le = refl
-shorter (suc c) zero xs le = absurd (omega (arith, le))
+shorter (suc c) zero xs le = absurd (omega arith)
 shorter (suc c) (suc n) [] le = refl
-shorter (suc c) (suc n) (x ∷ xs) le = ap (λ more. x ∷ more) (shorter c n xs (omega (arith, le)))
+shorter (suc c) (suc n) (x ∷ xs) le = ap (λ more. x ∷ more) (shorter c n xs (omega arith))
 
 front_bytes : (n : ℕ) (xs : List ℕ) → AreBytes xs → AreBytes (take n xs)
 front_bytes zero xs one k = omega arith
@@ -65,21 +63,17 @@ front_bytes (suc n) (x ∷ xs) one (suc k) = front_bytes n xs (λ i. one (suc i)
 -- ---- whole words
 
 bytes_behind : (k : ℕ) (xs : List ℕ) → AreBytes xs → AreBytes (drop k xs)
-bytes_behind zero xs all = all
-bytes_behind (suc k) [] all = λ i. omega arith
-bytes_behind (suc k) (x ∷ xs) all = bytes_behind k xs (λ j. all (suc j))
+bytes_behind k xs all = λ i. omega (arith, get_or-drop k xs i 0, all (k + i))
 
 -- eight bytes are the same where their numbers are
 pub same_word : (xs ys : List ℕ) (k : ℕ) → AreBytes xs → AreBytes ys → k + 8 ≤ length xs → k + 8 ≤ length ys
     → le_u64_at xs k ≡ le_u64_at ys k → take 8 (drop k xs) ≡ take 8 (drop k ys)
 unfolding le_u64_at
 same_word xs ys k one other a b e =
-    let size = length-drop k xs in
-    let size' = length-drop k ys in
     let long : 8 ≤ length (take 8 (drop k xs)) =
-    let n = length-take-le 8 (drop k xs) (omega (arith, size, a)) in omega (arith, n) in
+    omega (arith, length-take-le 8 (drop k xs) (omega (arith, length-drop k xs))) in
     let long' : 8 ≤ length (take 8 (drop k ys)) =
-    let n = length-take-le 8 (drop k ys) (omega (arith, size', b)) in omega (arith, n) in
+    omega (arith, length-take-le 8 (drop k ys) (omega (arith, length-drop k ys))) in
     let lows : low (take 8 (drop k xs)) ≡ low (take 8 (drop k ys)) =
     sym (eight_low (drop k xs)) ∙ e ∙ eight_low (drop k ys) in
     sym (shorter 8 8 (drop k xs) (omega arith))
@@ -108,9 +102,9 @@ pub same_sixteen : (xs ys : List ℕ) (k : ℕ) → AreBytes xs → AreBytes ys 
     → le_u64_at xs k ≡ le_u64_at ys k → le_u64_at xs (k + 8) ≡ le_u64_at ys (k + 8)
     → take 16 (drop k xs) ≡ take 16 (drop k ys)
 same_sixteen xs ys k one other a b first second =
-    take_on 8 8 (drop k xs) (drop k ys) (same_word xs ys k one other (omega (arith, a)) (omega (arith, b)) first)
+    take_on 8 8 (drop k xs) (drop k ys) (same_word xs ys k one other (omega arith) (omega arith) first)
     (ap (take 8) (drop-drop 8 k xs)
-    ∙ same_word xs ys (k + 8) one other (omega (arith, a)) (omega (arith, b)) second
+    ∙ same_word xs ys (k + 8) one other (omega arith) (omega arith) second
     ∙ ap (take 8) (sym (drop-drop 8 k ys)))
 
 -- and their numbers are the same where they are
@@ -136,20 +130,18 @@ second_of_sixteen xs ys k e =
 
 whole_end : (xs : List ℕ) (k : ℕ) → length xs ≤ k → take k xs ≡ xs
 whole_end [] k long = take-nil k
-whole_end (x ∷ xs) zero long = absurd (omega (arith, long))
-whole_end (x ∷ xs) (suc k) long = ap (λ l. x ∷ l) (whole_end xs k (omega (arith, long)))
+whole_end (x ∷ xs) zero long = absurd (omega arith)
+whole_end (x ∷ xs) (suc k) long = ap (λ l. x ∷ l) (whole_end xs k (omega arith))
 
 -- the last eight bytes
 pub same_last : (xs ys : List ℕ) → AreBytes xs → AreBytes ys → length xs ≡ length ys → 8 ≤ length xs
     → le_u64_at xs (length xs - 8) ≡ le_u64_at ys (length xs - 8)
     → drop (length xs - 8) xs ≡ drop (length ys - 8) ys
 same_last xs ys one other same long e =
-    let place : length xs - 8 ≡ length ys - 8 = omega (arith, same) in
-    let size = length-drop (length xs - 8) xs in
-    let size' = length-drop (length xs - 8) ys in
-    sym (whole_end (drop (length xs - 8) xs) 8 (omega (arith, size, long)))
-    ∙ same_word xs ys (length xs - 8) one other (omega (arith, long)) (omega (arith, long, same)) e
-    ∙ whole_end (drop (length xs - 8) ys) 8 (omega (arith, size', long, same))
+    let place : length xs - 8 ≡ length ys - 8 = omega arith in
+    sym (whole_end (drop (length xs - 8) xs) 8 (omega (arith, length-drop (length xs - 8) xs)))
+    ∙ same_word xs ys (length xs - 8) one other (omega arith) (omega arith) e
+    ∙ whole_end (drop (length xs - 8) ys) 8 (omega (arith, length-drop (length xs - 8) ys))
     ∙ ap (λ n. drop n ys) place
 
 -- rows that are the same up to a place, and in their last 16 bytes, which begin before it
@@ -164,3 +156,19 @@ same_to_end xs ys at same long near first last =
     sym (whole_end xs (length xs - 16 + 16) (omega (arith, all)))
     ∙ take_on (length xs - 16) 16 xs ys fronts last
     ∙ whole_end ys (length xs - 16 + 16) (omega (arith, all, same))
+
+-- ---- rows that share their first bytes and their last ones
+
+-- as much of both ends as there is at least
+pub same_by_ends : (n : ℕ) (xs ys : List ℕ) → length xs ≡ length ys → n ≤ length xs → length xs ≤ 2 * n
+    → take n xs ≡ take n ys → drop (length xs - n) xs ≡ drop (length ys - n) ys → xs ≡ ys
+same_by_ends n xs ys lengths long short firsts lasts =
+    sym (take-append-drop (length xs - n) xs)
+    ∙ ap (λ front. front ++ drop (length xs - n) xs) fronts
+    ∙ ap (λ back. take (length xs - n) ys ++ back) (lasts ∙ ap (λ k. drop (k - n) ys) (sym lengths))
+    ∙ take-append-drop (length xs - n) ys where
+      fronts : take (length xs - n) xs ≡ take (length xs - n) ys
+      fronts =
+          let less : length xs - n ≤ n = omega (arith, short) in
+          sym (take-take (length xs - n) n xs less) ∙ ap (take (length xs - n)) firsts
+          ∙ take-take (length xs - n) n ys less

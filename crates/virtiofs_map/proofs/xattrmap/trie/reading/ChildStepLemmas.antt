@@ -24,9 +24,8 @@ module _ (image : List ℕ) (first labels : ℕ) (nodes : List Node) (has : HasR
   row_there at node here =
       let below = slice_get_within nodes at node here in
       let is = get_or_from_slice_get nodes at node node here in
-      let within = has.within in
       let bytes = subst HasBytes is (has.bytes at node below) in (
-        omega (arith, below, within),
+        omega (arith, below, has.within),
         record {
           is = sym (inside image (8 * first) (24 * length nodes) (at * 24) 24 (omega (arith, below)))
               ∙ ap (λ (l : List ℕ). take 24 (drop (at * 24) l)) has.are
@@ -39,9 +38,9 @@ module _ (image : List ℕ) (first labels : ℕ) (nodes : List Node) (has : HasR
 
   -- a node below the count of them is there
   pub there_is_one : (xs : List Node) (at : ℕ) → at < length xs → (x : Node) × (slice_get xs at ≡ Some x)
-  there_is_one [] at below = absurd (omega (arith, below))
+  there_is_one [] at below = absurd (omega arith)
   there_is_one (x ∷ xs) zero below = (x, refl)
-  there_is_one (x ∷ xs) (suc at) below = there_is_one xs at (omega (arith, below))
+  there_is_one (x ∷ xs) (suc at) below = there_is_one xs at (omega arith)
 
   -- the row of the root
   pub root_there : (root : ℕ) → root ≡ 8 * first → 0 < length nodes
@@ -49,7 +48,7 @@ module _ (image : List ℕ) (first labels : ℕ) (nodes : List Node) (has : HasR
   root_there root is some =
       let there = there_is_one nodes 0 some in
       let row = row_there 0 there.0 there.1 in
-      let same : 8 * first + 0 * 24 ≡ root = omega (arith, is) in
+      let same : 8 * first + 0 * 24 ≡ root = omega arith in
       record {
         node = there.0;
         here = there.1;
@@ -62,13 +61,12 @@ module _ (image : List ℕ) (first labels : ℕ) (nodes : List Node) (has : HasR
       → (child : Node) × (slice_get nodes (parent.base + behind) ≡ Some child) × (place + 24 ≤ length image)
       × IsRow first labels child (take 24 (drop place image))
   child_there parent bytes start behind place readable below is_start is_place =
-      let within = readable.within in
-      let there = there_is_one nodes (parent.base + behind) (omega (arith, within, below)) in
+      let there = there_is_one nodes (parent.base + behind) (omega arith) in
       let row = row_there (parent.base + behind) there.0 there.1 in
-      let same : 8 * first + (parent.base + behind) * 24 ≡ place = omega (arith, is_start, is_place) in (
+      let same : 8 * first + (parent.base + behind) * 24 ≡ place = omega arith in (
         there.0,
         there.1,
-        (let long = row.0 in omega (arith, long, same)),
+        (omega (arith, row.0, same)),
         subst (λ n. IsRow first labels there.0 (take 24 (drop n image))) same row.1,
       )
 
@@ -79,7 +77,7 @@ pub label_there : (image bytes : List ℕ) (labels : ℕ) (node : Node) (from co
     → (from + count ≤ length image) × (take count (drop from image) ≡ label_of bytes node)
 label_there image bytes labels node from count has within is_from is_count =
     let whole = has.within in (
-      omega (arith, whole, within, is_from, is_count),
+      omega (arith, whole),
       ap (λ n. take n (drop from image)) is_count
           ∙ ap (λ n. take node.length (drop n image)) is_from
           ∙ sym (inside image labels (length bytes) node.label node.length within)
@@ -115,19 +113,13 @@ module _ (nodes : List Node) (bytes : List ℕ) (parent : Node) (byte : ℕ)
       let real : child.first_byte ≢ 0 = λ none. leads.real (sym leads.first_byte ∙ none) in
       let stands : child.first_byte ≡ parent.low_byte + (at - parent.base) =
       slots.slots (at - parent.base) child (omega (arith, from, below)) here real in
-      let first_byte = leads.first_byte in
-      let low = slots.low_byte in
-      let high = slots.high in
-      omega (arith, stands, first_byte, low, high, from, below, far, fits)
+      omega (arith, stands, leads.first_byte, slots.low_byte, slots.high, from, below, far, fits)
 
   -- no child stands there
   module _ (behind : ℕ) (flat : parent.is_sparse ≡ false) (fits : byte < 256)
       (far : behind ≡ (byte + (256 - parent.low_byte)) % 256) where
     pub past_slots : parent.width ≤ behind → LeadsNowhere nodes parent byte
-    past_slots past at child leads =
-        let place = slot_of at behind child flat fits far leads in
-        let below = leads.below in
-        omega (arith, place, below, past)
+    past_slots past at child leads = omega (arith, slot_of at behind child flat fits far leads)
 
     pub other_slot : (other : Node) → slice_get nodes (parent.base + behind) ≡ Some other → other.first_byte ≢ byte
         → LeadsNowhere nodes parent byte
@@ -140,17 +132,15 @@ module _ (nodes : List Node) (bytes : List ℕ) (parent : Node) (byte : ℕ)
     pub in_slot : (child : Node) → behind < parent.width → slice_get nodes (parent.base + behind) ≡ Some child
         → child.first_byte ≡ byte → LeadsTo nodes parent byte child
     in_slot child below here first_byte =
-        let slots = readable.placed flat (omega (arith, below)) in
-        let low = slots.low_byte in
-        let high = slots.high in
+        let slots = readable.placed flat (omega arith) in
         record {
           place = parent.base + behind;
           leads = record {
             from = omega arith;
-            below = omega (arith, below);
+            below = omega arith;
             here = here;
             first_byte = first_byte;
-            real = λ none. absurd (omega (arith, none, low, high, below, far));
+            real = λ none. absurd (omega (arith, slots.low_byte, slots.high, far));
           };
         }
 
@@ -161,22 +151,14 @@ module _ (nodes : List Node) (bytes : List ℕ) (parent : Node) (byte : ℕ)
       → LeadsNowhere nodes parent byte
   nowhere count all none at child leads =
       let from = leads.from in
-      let below = leads.below in
       let there : parent.base + (at - parent.base) ≡ at = omega (arith, from) in
-      none (at - parent.base) child (omega (arith, from, below, all)) (ap (slice_get nodes) there ∙ leads.here)
+      none (at - parent.base) child (omega (arith, from)) (ap (slice_get nodes) there ∙ leads.here)
       leads.first_byte
 
 -- ---- no step
 
 module _ (nodes : List Node) (bytes : List ℕ) (parent : Node) (rest : List ℕ) (whole : Bool)
     (before after : ℕ) where
-  -- nothing is left
-  pub stays_at_end : length rest ≡ 0 → after ≡ before → StaysAt nodes bytes parent rest whole before after
-  stays_at_end none same = inl (record {
-    nowhere = λ byte left split. absurd (let size = ap length split in omega (arith, size, none));
-    counted = same;
-  })
-
   module _ (byte : ℕ) (left : List ℕ) (split : rest ≡ byte ∷ left) where
     -- the first byte leads nowhere
     pub stays_nowhere : LeadsNowhere nodes parent byte → after ≡ before

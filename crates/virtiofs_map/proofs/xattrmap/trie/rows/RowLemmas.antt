@@ -1,11 +1,10 @@
 -- The numbers of a node are read back from its row.
 use Rattle.std.proofs.Common.{◌≡◌, ℕ, ◌+◌, ◌*◌, ◌/◌, ◌%◌, ◌<◌, Bool, true, false, nat_le, if◌then◌else◌, List, ◌++◌}
 use Rattle.std.proofs.Common.{All, [], ◌∷◌, ◌-◌, ◌≤◌, take, drop, get_or, length, subst, sym, ap, ◌∙◌, arith}
-use Rattle.std.proofs.Common.{append_assoc, append-nil, length-append}
+use Rattle.std.proofs.Common.{append_assoc, append-nil, length-append, take_all, flat_map}
 use Rattle.std.proofs.Math.Seq.{drop-append_seam}
-use Rattle.std.proofs.lemmas.List.{take_all, take_more}
+use Rattle.std.proofs.lemmas.List.{take_more}
 use Rattle.std.proofs.lemmas.List.Concat.{flat_map-append}
-use Rattle.std.specs.List.{flat_map}
 use Rattle.std.proofs.lemmas.Bool.Decides.{nat_tests}
 use Rattle.virtiofs_map.specs.NodeParts.{HasBytes, IsRowOf, IsSmall, IsSmallIn, placed, row_in, row_of}
 use Rattle.virtiofs_map.specs.LeU64Parts.{le_u64_at, le_u64_bytes}
@@ -48,97 +47,64 @@ module _ (node : Node) (row : List ℕ) (of : IsRowOf node row) where
   pub first_u64_of : le_u64_at row 0 ≡ first_u64 node
   unfolding row_of
   first_u64_of =
-      let label = of.small.label in
-      let size = of.small.size in
       let first_byte = of.bytes.first_byte in
       ap (λ (l : List ℕ). le_u64_at l 0) of.is
-      ∙ first_of_three _ (second_u64 node) node.answer (omega (arith, label, size, first_byte))
+      ∙ first_of_three _ (second_u64 node) node.answer (omega (arith, of.small.label, of.small.size, first_byte))
 
   pub second_u64_of : le_u64_at row 8 ≡ second_u64 node
   unfolding row_of
   second_u64_of =
       let first = flagged_fits node.base node.is_sparse of.small.base in
-      let width = of.small.width in
-      let low = of.bytes.low_byte in
       ap (λ (l : List ℕ). le_u64_at l 8) of.is
-      ∙ second_of_three (first_u64 node) _ node.answer (omega (arith, first, width, low))
+      ∙ second_of_three (first_u64 node) _ node.answer (omega (arith, first, of.small.width, of.bytes.low_byte))
 
   pub third_u64_of : le_u64_at row 16 ≡ node.answer
   unfolding row_of
   third_u64_of =
-      let answer = of.small.answer in
       ap (λ (l : List ℕ). le_u64_at l 16) of.is
-      ∙ third_of_three (first_u64 node) (second_u64 node) _ (omega (arith, answer))
+      ∙ third_of_three (first_u64 node) (second_u64 node) _ (omega (arith, of.small.answer))
 
   -- what is above the lower two bytes of the second number
   pub flagged_of : (n : ℕ) → n ≡ le_u64_at row 8 → n / 65536 ≡ flagged node.base node.is_sparse
-  flagged_of n is =
-      let word : n ≡ second_u64 node = is ∙ second_u64_of in
-      let width = of.small.width in
-      let low = of.bytes.low_byte in
-      omega (arith, word, width, low)
+  flagged_of n is = omega (arith, is ∙ second_u64_of, of.small.width, of.bytes.low_byte)
 
   -- ---- bytes that are read by themselves
 
   pub byte_of_length : get_or row 0 0 ≡ node.length
   unfolding row_of le_u64_bytes
-  byte_of_length =
-      let size = of.small.size in
-      let byte : get_or row 0 0 ≡ first_u64 node % 256 = ap (λ (l : List ℕ). get_or l 0 0) of.is in
-      omega (arith, byte, size)
+  byte_of_length = omega (arith, ap (λ (l : List ℕ). get_or l 0 0) of.is, of.small.size)
 
   pub byte_of_first : get_or row 1 0 ≡ node.first_byte
   unfolding row_of le_u64_bytes
-  byte_of_first =
-      let size = of.small.size in
-      let first_byte = of.bytes.first_byte in
-      let byte : get_or row 1 0 ≡ first_u64 node / 256 % 256 = ap (λ (l : List ℕ). get_or l 1 0) of.is in
-      omega (arith, byte, size, first_byte)
+  byte_of_first = omega (arith, ap (λ (l : List ℕ). get_or l 1 0) of.is, of.small.size, of.bytes.first_byte)
 
   pub byte_of_low : get_or row 8 0 ≡ node.low_byte
   unfolding row_of le_u64_bytes
-  byte_of_low =
-      let low = of.bytes.low_byte in
-      let byte : get_or row 8 0 ≡ second_u64 node % 256 = ap (λ (l : List ℕ). get_or l 8 0) of.is in
-      omega (arith, byte, low)
+  byte_of_low = omega (arith, ap (λ (l : List ℕ). get_or l 8 0) of.is, of.bytes.low_byte)
 
   pub byte_of_width : get_or row 9 0 ≡ node.width
   unfolding row_of le_u64_bytes
-  byte_of_width =
-      let width = of.small.width in
-      let low = of.bytes.low_byte in
-      let byte : get_or row 9 0 ≡ second_u64 node / 256 % 256 = ap (λ (l : List ℕ). get_or l 9 0) of.is in
-      omega (arith, byte, width, low)
+  byte_of_width = omega (arith, ap (λ (l : List ℕ). get_or l 9 0) of.is, of.small.width, of.bytes.low_byte)
 
   pub byte_of_flag : nat_le 128 (get_or row 15 0) ≡ node.is_sparse
   unfolding row_of le_u64_bytes
   byte_of_flag =
-      let width = of.small.width in
-      let low = of.bytes.low_byte in
       let byte : get_or row 15 0 ≡ second_u64 node / 72057594037927936 % 256 = ap (λ (l : List ℕ). get_or l 15 0) of.is in
       flag_of_byte node.base node.is_sparse (256 * node.width + node.low_byte) _ of.small.base
-      (omega (arith, width, low)) byte
+      (omega (arith, of.small.width, of.bytes.low_byte)) byte
 
 -- numbers that fit are not wrapped
 pub first_wrapped : (node : Node) → IsSmall node → HasBytes node
     → (65536 * node.label % 18446744073709551616 + (256 * node.first_byte + node.length)) % 18446744073709551616
     ≡ first_u64 node
-first_wrapped node small bytes =
-    let label = small.label in
-    let size = small.size in
-    let first_byte = bytes.first_byte in
-    omega (arith, label, size, first_byte)
+first_wrapped node small bytes = omega arith
 
 pub second_wrapped : (node : Node) (flag : ℕ) → flag ≡ (if node.is_sparse then 140737488355328 else 0) → IsSmall node
     → HasBytes node
     → (65536 * ((node.base + flag) % 18446744073709551616) % 18446744073709551616
     + (node.width * 256 % 18446744073709551616 + node.low_byte) % 18446744073709551616) % 18446744073709551616
     ≡ second_u64 node
-second_wrapped node flag is small bytes =
-    let base = flagged_fits node.base node.is_sparse small.base in
-    let width = small.width in
-    let low_byte = bytes.low_byte in
-    omega (arith, is, base, width, low_byte)
+second_wrapped node flag is small bytes = omega (arith, flagged_fits node.base node.is_sparse small.base)
 
 drop_eight : (n : ℕ) (rest : List ℕ) → drop 8 (le_u64_bytes n ++ rest) ≡ rest
 drop_eight n rest =
@@ -151,23 +117,13 @@ pub pushed_row : (node : Node) (rows one two : List ℕ) (first second : ℕ) �
     → two ++ le_u64_bytes node.answer ≡ rows ++ row_of node
 unfolding row_of
 pushed_row node rows one two first second begun more is_first is_second =
-    let whole : two ≡ (rows ++ le_u64_bytes (first_u64 node)) ++ le_u64_bytes (second_u64 node) =
-    more ∙ ap (λ (l : List ℕ). l ++ le_u64_bytes second) begun
-    ∙ ap (λ (n : ℕ). (rows ++ le_u64_bytes n) ++ le_u64_bytes second) is_first
-    ∙ ap (λ (n : ℕ). (rows ++ le_u64_bytes (first_u64 node)) ++ le_u64_bytes n) is_second in
-    rw whole (simp append_assoc)
+    rw (more, begun, is_first, is_second) (simp append_assoc)
 
 -- three words of eight bytes are a row
 pub pushed_length : (rows one two three : List ℕ) (first second third : ℕ) → one ≡ rows ++ le_u64_bytes first
     → two ≡ one ++ le_u64_bytes second → three ≡ two ++ le_u64_bytes third → length three ≡ length rows + 24
 pushed_length rows one two three first second third a b c =
-    let one_long = ap length a ∙ length-append rows (le_u64_bytes first) in
-    let two_long = ap length b ∙ length-append one (le_u64_bytes second) in
-    let three_long = ap length c ∙ length-append two (le_u64_bytes third) in
-    let one_size = length-le_u64_bytes first in
-    let two_size = length-le_u64_bytes second in
-    let three_size = length-le_u64_bytes third in
-    omega (arith, one_long, two_long, three_long, one_size, two_size, three_size)
+    rw (c, b, a) (simp (length-append, length-le_u64_bytes) (omega arith))
 
 -- the row of a node whose label has another place
 pub moved_row : (first labels : ℕ) (node : Node) (image one all rest row : List ℕ) (word : ℕ)
@@ -182,26 +138,20 @@ moved_row first labels node image one all rest row word is bytes small begun who
       is = is;
       small = record {
         answer = small.answer;
-        label = let label = small.label in omega (arith, label);
+        label = omega arith;
         size = small.size;
         base = small.base;
         width = small.width;
       };
       bytes = record { low_byte = bytes.low_byte; first_byte = bytes.first_byte };
     } in
-    let label = small.label in
-    let size = small.size in
-    let first_byte = bytes.first_byte in
-    let word_is : word ≡ first_u64 (placed first labels node) =
-    omega (arith, moved, here, label, size, first_byte) in
+    let word_is : word ≡ first_u64 (placed first labels node) = omega (arith, here) in
     let second = le_u64_bytes (second_u64 (placed first labels node)) in
     let third = le_u64_bytes node.answer in
     let behind : drop 8 row ≡ second ++ third =
     ap (drop 8) (is ∙ append_assoc (le_u64_bytes (first_u64 (placed first 0 node))) second third)
     ∙ drop_eight (first_u64 (placed first 0 node)) (second ++ third) in
-    whole ∙ ap (λ (l : List ℕ). one ++ l) (left ∙ behind) ∙ ap (λ (l : List ℕ). l ++ (second ++ third)) begun
-    ∙ ap (λ (n : ℕ). (image ++ le_u64_bytes n) ++ (second ++ third)) word_is
-    ∙ simp append_assoc
+    rw (whole, left, behind, begun, word_is) (simp append_assoc)
 
 -- the rows of the nodes so far, and one more
 pub rows_next : (first labels : ℕ) (nodes : List Node) (rows image one all row : List ℕ) (at : ℕ)
@@ -212,8 +162,7 @@ pub rows_next : (first labels : ℕ) (nodes : List Node) (rows image one all row
     → all ≡ one ++ row_in f labels node)
     → all ≡ image ++ flat_map (row_in first labels) (take (at + 1) nodes)
 rows_next first labels nodes rows image one all row at are bytes small here slice before after =
-    let long = ap length are ∙ length-rows_in first 0 nodes in
-    let below : at < length nodes = omega (arith, long, here) in
+    let below : at < length nodes = omega (arith, ap length are ∙ length-rows_in first 0 nodes, here) in
     let node = get_or nodes at nothing in
     let width : at * 24 + 24 - at * 24 ≡ 24 = omega arith in
     let is : row ≡ row_in first 0 node = slice ∙ ap (λ (n : ℕ). take n (drop (at * 24) rows)) width
@@ -246,6 +195,5 @@ pub rows_all : (first labels : ℕ) (nodes : List Node) (rows image all : List �
     → all ≡ image ++ flat_map (row_in first labels) (take at nodes)
     → all ≡ image ++ flat_map (row_in first labels) nodes
 rows_all first labels nodes rows image all at are past so_far =
-    let long = ap length are ∙ length-rows_in first 0 nodes in
     so_far ∙ ap (λ (ns : List Node). image ++ flat_map (row_in first labels) ns)
-    (take_all at nodes (omega (arith, long, past)))
+    (take_all at nodes (omega (arith, ap length are ∙ length-rows_in first 0 nodes)))

@@ -4,8 +4,8 @@ use Rattle.std.proofs.Common.{◌++◌, length, take, Contains, slice_get, Some,
 use Rattle.std.proofs.lemmas.Bool.{cases_lt, true≢false}
 use Rattle.std.proofs.lemmas.List.{append_assoc, length-append, take_at}
 use Rattle.std.proofs.lemmas.List.Elements.{All-same}
-use Rattle.virtiofs_map.specs.NodeParts.{IsNode, IsChild, IsReadable, IsReal, IsTrie, CountsWalk, Ends}
-use Rattle.virtiofs_map.specs.NodeParts.{Misses, Passes, StandsAt, StaysAt, StepsTo, answer_for, answer_of, label_of}
+use Rattle.virtiofs_map.specs.NodeParts.{IsNode, IsChild, IsReadable, IsReal, IsTrie, CountsWalk, Ends, Misses, Passes}
+use Rattle.virtiofs_map.specs.NodeParts.{StandsAt, StaysAt, StepsTo, answer_for, answer_of, label_of}
 use Rattle.virtiofs_map.specs.FirstRule.{acts, pattern, deciding_length, most_shared, shared}
 use Rattle.virtiofs_map.specs.Names.{begins, fits, first}
 use Rattle.virtiofs_map.specs.Rule.{MappingRule}
@@ -16,8 +16,7 @@ use Rattle.virtiofs_map.proofs.BeginsLemmas.{begins_length}
 use Rattle.virtiofs_map.proofs.xattrmap.FittingLemmas.{begins_front, deciding_within, fits_is, front_more, label_begins}
 use Rattle.virtiofs_map.proofs.xattrmap.FittingLemmas.{same_deciding, same_first}
 use Rattle.virtiofs_map.proofs.xattrmap.trie.SharedLemmas.{most_at_least, most_at_most, shared_front, shared_misses}
-use Rattle.virtiofs_map.proofs.xattrmap.trie.SharedLemmas.{shared_path}
-use Rattle.virtiofs_map.proofs.xattrmap.trie.SharedLemmas.{shared_whole, shared_within}
+use Rattle.virtiofs_map.proofs.xattrmap.trie.SharedLemmas.{shared_path, shared_whole, shared_within}
 use Rattle.virtiofs_map.proofs.xattrmap.PathLemmas.{path_no_zero, path_short}
 
 module _ (side : Side) (rules : List MappingRule) (nodes : List Node) (bytes : List ℕ)
@@ -48,7 +47,7 @@ module _ (side : Side) (rules : List MappingRule) (nodes : List Node) (bytes : L
       here = here;
       real = inl refl;
       split = ap (λ path. path ++ name) (sym trie.begun);
-      counted = let none = ap length trie.begun in omega (arith, counts, none);
+      counted = omega (arith, ap length trie.begun);
     }
 
     module _ (node : Node) (rest : List ℕ) (before : ℕ)
@@ -75,7 +74,7 @@ module _ (side : Side) (rules : List MappingRule) (nodes : List Node) (bytes : L
                 ∙ ap (λ front. front ++ left) (sym path);
             counted = let size = ap length path in let both =
                 length-append (trie.path stands.at) (step.byte ∷ label_of bytes child) in let was =
-                stands.counted in let now = step.counted in omega (arith, size, both, was, now);
+                stands.counted in omega (arith, size, both, was);
           }
 
       -- ---- the end of the path
@@ -88,16 +87,15 @@ module _ (side : Side) (rules : List MappingRule) (nodes : List Node) (bytes : L
           let split : name ≡ trie.path stands.at ++ byte ∷ left = stands.split
           ∙ ap (λ row. trie.path stands.at ++ row) some in
           ap (λ row. begins row (pattern side rule)) (sym (front_more (trie.path stands.at) left name byte split))
-          ∙ shared_front (pattern side rule) name (suc (length (trie.path stands.at))) (omega (arith, more))
+          ∙ shared_front (pattern side rule) name (suc (length (trie.path stands.at))) (omega arith)
 
       -- so the path that a pattern begins is shared
       path_shared : length (trie.path stands.at) ≤ most_shared side rules name
       path_shared = elim this.front [
-        | inl none ↦ (let size = ap length none in omega (arith, size))
+        | inl none ↦ omega (arith, ap length none)
         | inr of ↦
-            (let low = most_at_least side rules name of.rule of.inside of.acting in
-            let path = shared_path (trie.path stands.at) rest name (pattern side of.rule) stands.split of.starts in
-            omega (arith, low, path))
+            (let path = shared_path (trie.path stands.at) rest name (pattern side of.rule) stands.split of.starts in
+            omega (arith, most_at_least side rules name of.rule of.inside of.acting, path))
       ]
 
       module _ (after : ℕ) (ends : Ends nodes node rest before after) where
@@ -108,18 +106,15 @@ module _ (side : Side) (rules : List MappingRule) (nodes : List Node) (bytes : L
           at_rest : (left : List ℕ) → rest ≡ left → ⊥
           at_rest [] none =
               let whole = ap length (stands.split ∙ ap (λ row. trie.path stands.at ++ row) none) in
-              let both = length-append (trie.path stands.at) [] in
               let short = (shared_within (pattern side rule) name).1 in
-              absurd (omega (arith, whole, both, short, more))
+              absurd (omega (arith, whole, length-append (trie.path stands.at) [], short, more))
           at_rest (byte ∷ left) some =
               let there = this.complete byte rule within acting (next_byte byte left some rule more) in
               ends.nowhere byte left some there.0 there.1 there.2
 
         most_at_end : most_shared side rules name ≡ length (trie.path stands.at)
         most_at_end =
-            let low = path_shared in
-            let top = most_at_most side rules name (length (trie.path stands.at)) each in
-            omega (arith, low, top) where
+            omega (arith, path_shared, most_at_most side rules name (length (trie.path stands.at)) each) where
               each : (rule : MappingRule) → Contains rules rule → acts side rule ≡ true
                   → shared (pattern side rule) name ≤ length (trie.path stands.at)
               each rule within acting =
@@ -156,17 +151,16 @@ module _ (side : Side) (rules : List MappingRule) (nodes : List Node) (bytes : L
         most_at_miss : most_shared side rules name
             ≡ length (trie.path stands.at) + (1 + shared (label_of bytes misses.child) misses.left)
         most_at_miss =
-            let low = least in
             let top = most_at_most side rules name
             (length (trie.path stands.at) + (1 + shared (label_of bytes misses.child) misses.left)) each in
-            omega (arith, low, top) where
+            omega (arith, least, top) where
               each : (rule : MappingRule) → Contains rules rule → acts side rule ≡ true
                   → shared (pattern side rule) name ≤ length (trie.path stands.at)
                   + (1 + shared (label_of bytes misses.child) misses.left)
               each rule within acting =
                   elim (cases_lt (length (trie.path stands.at)) (shared (pattern side rule) name)) [
-                    | inl more ↦ (let is = label_shared rule (goes_on rule within acting more) in omega (arith, is))
-                    | inr low ↦ omega (arith, low)
+                    | inl more ↦ omega (arith, label_shared rule (goes_on rule within acting more))
+                    | inr low ↦ omega arith
                   ]
 
               -- the path of the child begins a pattern
@@ -175,14 +169,12 @@ module _ (side : Side) (rules : List MappingRule) (nodes : List Node) (bytes : L
               least = elim (child_is node misses.child misses.byte misses.to.place misses.to.leads).front [
                 | inl none ↦
                     absurd
-                    (let size = ap length (sym none ∙ path_on) in
-                    let both = length-append (trie.path stands.at) (misses.byte ∷ label_of bytes misses.child) in
-                    omega (arith, size, both))
+                    (let both = length-append (trie.path stands.at) (misses.byte ∷ label_of bytes misses.child) in
+                    omega (arith, ap length (sym none ∙ path_on), both))
                 | inr of ↦
                     (let is = label_shared of.rule (ap (λ row. begins row (pattern side of.rule)) (sym path_on)
                     ∙ of.starts) in
-                    let low = most_at_least side rules name of.rule of.inside of.acting in
-                    omega (arith, is, low))
+                    omega (arith, is, most_at_least side rules name of.rule of.inside of.acting))
               ]
 
       module _ (whole : Bool) (after : ℕ) (stays : StaysAt nodes bytes node rest whole before after) where
@@ -195,9 +187,8 @@ module _ (side : Side) (rules : List MappingRule) (nodes : List Node) (bytes : L
             → length (trie.path stands.at) < length (pattern side rule) → begins (pattern side rule) name ≡ true
             → ⊥
         none_longer rule within acting long fit =
-            let all = shared_whole (pattern side rule) name fit in
             let more : length (trie.path stands.at) < shared (pattern side rule) name =
-            omega (arith, all, long) in
+            omega (arith, shared_whole (pattern side rule) name fit) in
             elim stays [
               | inl ends ↦ stops after ends rule within acting more
               | inr misses ↦
@@ -223,7 +214,7 @@ module _ (side : Side) (rules : List MappingRule) (nodes : List Node) (bytes : L
               both_fail long false e false f = e ∙ sym f
               both_fail long false e true f =
                   absurd (let short = begins_length (pattern side rule) (trie.path stands.at) f in
-                  omega (arith, short, long))
+                  omega (arith, short))
               both_fail long true e b f = absurd (none_longer rule within acting long e)
 
         -- so a rule fits the name where it fits the path
@@ -260,8 +251,7 @@ module _ (side : Side) (rules : List MappingRule) (nodes : List Node) (bytes : L
                 answers = answers;
                 decided = omega (arith, size, decided);
                 within = omega (arith, size, path_within);
-                short =
-                    let low = path_short side rules (trie.path stands.at) this.front in omega (arith, size, low);
+                short = omega (arith, size, path_short side rules (trie.path stands.at) this.front);
               };
               no_zero = λ plain. All-same (λ byte. byte ≢ 0) _ (trie.path stands.at)
                   (ap (λ n. take n name) size ∙ front_is)
@@ -278,6 +268,6 @@ module _ (side : Side) (rules : List MappingRule) (nodes : List Node) (bytes : L
                 omega (arith, most, was, same))
             | inr misses ↦
                 (let most = most_at_miss whole after misses in let was = stands.counted in
-                let now = misses.counted is in omega (arith, most, was, now))
+                omega (arith, most, was, misses.counted is))
           ];
         }

@@ -1,6 +1,7 @@
 use Rattle.std.proofs.Common.{◌≡◌, ◌<◌, length, arith, rules}
 use Rattle.virtiofs_map_c.proofs.ShownLemmas.{no_map_unseen, then_hidden, then_named, then_undecided, fits}
-use Rattle.virtiofs_map_c.proofs.ShownLemmas.{too_long, short_more, shorter_more}
+use Rattle.virtiofs_map_c.proofs.ShownLemmas.{too_long}
+use Rattle.virtiofs_map.proofs.ForCallers.{short_more, shorter_more}
 use Rattle.virtiofs_map_c.proofs.names.shown.write_shown.Goals as goal
 
 pub names-preserved-in-Hidden : goal.names-preserved-in-Hidden

@@ -9,8 +9,8 @@ loop-part-preserved g c =
     Adds-more _ c.loop-part.self c.take_part.new.self c.args.parts.now c.loop-part.part-index _ c.loop-part-test.true
     c.loop-part.invariant c.in_ok-take_part.ensures
 
-pub returns : goal.returns
-returns g c =
+pub returns-clause-takes : goal.returns-clause-takes
+returns-clause-takes g c =
     let then = c.take_older.ensures in
     TakesIn-end c.args.options _ c.loop-part.self _ c.read_older.result _
     (subst (Adds _ c.loop-part.self) (take_all c.loop-part.part-index c.args.parts.now c.loop-part-test.false) c.loop-part.invariant)

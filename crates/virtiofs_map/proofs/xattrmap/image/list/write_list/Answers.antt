@@ -1,10 +1,19 @@
-use Rattle.std.proofs.Common.{◌≡◌, ◌<◌, length, arith, rules}
+use Rattle.std.proofs.Common.{◌≡◌, ◌<◌, length, refl, arith, rules}
 use Rattle.virtiofs_map.proofs.xattrmap.ListingLemmas.{no_map_unseen}
-use Rattle.virtiofs_map.proofs.xattrmap.image.list.NamesListLemmas.{IsWhole, listed_all, listed_hidden, listed_no_name}
-use Rattle.virtiofs_map.proofs.xattrmap.image.list.NamesListLemmas.{listed_shown, listed_undecided, short_more}
-use Rattle.virtiofs_map.proofs.xattrmap.image.list.NamesListLemmas.{shorter_more, whole_fits, whole_too_long}
+use Rattle.virtiofs_map.proofs.ServerListLemmas.{short_more, shorter_more}
+use Rattle.virtiofs_map.proofs.xattrmap.image.list.NamesListLemmas.{IsWhole, listed_all, listed_first, listed_hidden}
+use Rattle.virtiofs_map.proofs.xattrmap.image.list.NamesListLemmas.{listed_no_name, listed_shown, listed_undecided}
+use Rattle.virtiofs_map.proofs.xattrmap.image.list.NamesListLemmas.{whole_fits, whole_too_long}
 use Rattle.virtiofs_map.proofs.xattrmap.image.list.write_list.Goals as goal
 use Rattle.virtiofs_map.proofs.xattrmap.image.list.write_list.Goals.{then-end-eq0, else-end-eq0}
+
+pub names-init : goal.names-init
+names-init c = record {
+  listed = λ map is. listed_first map c.args.list.now c.args.out.now;
+  same = refl;
+  short = omega arith;
+  shorter = λ _. omega arith;
+}
 
 pub names-preserved-in-Hidden : goal.names-preserved-in-Hidden
 names-preserved-in-Hidden c = record {

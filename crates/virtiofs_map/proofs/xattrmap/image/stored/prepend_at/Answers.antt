@@ -6,16 +6,14 @@ use Rattle.virtiofs_map.proofs.xattrmap.image.stored.prepend_at.Goals.{else-prep
 
 pub returns-then-from-image : goal.returns-then-from-image
 returns-then-from-image c = λ rules rule is here.
-    (let begun = is.begun in
-    let long : 48 ≤ length c.args.image.now = omega (arith, begun) in
+    (let long : 48 ≤ length c.args.image.now = omega (arith, is.begun) in
     let row =
     row_there rules c.args.image.now c.args.place rule is here c.part_start.result _ (c.part_start.ensures long) refl in
     absurd (omega (arith, row.within, c.if-from-image.true)))
 
 pub returns-then-end-image : goal.returns-then-end-image
 returns-then-end-image c = λ rules rule is here.
-    (let begun = is.begun in
-    let long : 48 ≤ length c.args.image.now = omega (arith, begun) in
+    (let long : 48 ≤ length c.args.image.now = omega (arith, is.begun) in
     let row =
     row_there rules c.args.image.now c.args.place rule is here c.part_start.result _ (c.part_start.ensures long) refl in
     ap Some (prepend_there rules c.args.image.now c.args.place rule is here _ c.part_start-bytes.result
@@ -24,8 +22,7 @@ returns-then-end-image c = λ rules rule is here.
 
 pub returns-else-prepend-end : goal.returns-else-prepend-end
 returns-else-prepend-end c = λ rules rule is here.
-    (let begun = is.begun in
-    let long : 48 ≤ length c.args.image.now = omega (arith, begun) in
+    (let long : 48 ≤ length c.args.image.now = omega (arith, is.begun) in
     let row =
     row_there rules c.args.image.now c.args.place rule is here c.part_start.result _ (c.part_start.ensures long) refl in
     let prepend =

@@ -11,7 +11,7 @@ returns-then-end-bytes c = λ rule span are is few.
     words_told c.args.bytes.now rule span c.args.row.now _ _ _ are is few c.le_u64_at-first.ensures
     c.le_u64_at-prepend.ensures c.le_u64_at-end.ensures in
     ap Some (rule_from_words c.args.bytes.now rule span _ _ _ _ _ is few has (c.numbered.ensures (omega arith))
-    (let e = c.from_bits_retain.ensures tt in omega (arith, e)))
+    (omega (arith, c.from_bits_retain.ensures tt)))
 
 pub returns-else-key-prepend : goal.returns-else-key-prepend
 returns-else-key-prepend c = λ rule span are is few.

@@ -1,11 +1,9 @@
-use Rattle.std.proofs.Common.{◌≡◌, ◌*◌, ◌/◌, ◌+◌, ◌≤◌, length, refl, subst, sym, ap, ◌∙◌, arith}
-use Rattle.std.specs.List.{flat_map}
+use Rattle.std.proofs.Common.{◌≡◌, ◌*◌, ◌/◌, ◌+◌, ◌≤◌, length, refl, subst, sym, ap, ◌∙◌, arith, flat_map}
 use Rattle.virtiofs_map.specs.NodeParts.{AreTrieRows, row_in}
 use Rattle.virtiofs_map.specs.NamesImage.{longest_image, rule_rows}
 use Rattle.virtiofs_map.specs.NamesImageParts.{ArePlaces, IsWholeImage}
 use Rattle.virtiofs_map.specs.declared.xattrmap.scopes.Side.TheVariants.{Client, Server}
-use Rattle.virtiofs_map.proofs.xattrmap.image.write.NamesImageLemmas.{content_is, content_whole}
-use Rattle.virtiofs_map.proofs.xattrmap.image.write.TriesLemmas.{nodes_fit, rows_are}
+use Rattle.virtiofs_map.proofs.xattrmap.image.write.NamesImageLemmas.{content_is, content_whole, nodes_fit, rows_are}
 use Rattle.virtiofs_map.proofs.xattrmap.image.write.image_of.Goals as goal
 
 pub returns : goal.returns
@@ -23,12 +21,10 @@ returns g c =
     let clients : AreTrieRows Client rules.list rules.bytes client 6 = tries.client in
     let servers : AreTrieRows Server rules.list rules.bytes server (places.server / 8) =
     subst (AreTrieRows Server rules.list rules.bytes server) begins tries.server in
-    let client_size = clients.rows_of.long in
-    let server_size = servers.rows_of.long in
     let are : ArePlaces (24 * length clients.nodes) (24 * length servers.nodes) (length rules.list)
     (length rules.bytes) places = record {
-      first = omega (arith, laid.first, client_long, client_size);
-      second = omega (arith, laid.second, server_long, server_size);
+      first = omega (arith, laid.first, client_long, clients.rows_of.long);
+      second = omega (arith, laid.second, server_long, servers.rows_of.long);
       third = laid.third;
       last = laid.last;
       short = laid.short;
@@ -54,8 +50,8 @@ returns g c =
     (sym
     (content_is places (flat_map (row_in 6 places.bytes) clients.nodes)
     (flat_map (row_in (places.server / 8) places.bytes) servers.nodes) (rule_rows rules.list rules.spans) rules.bytes
-    _ _ _ _ _ _ _ _ _ c.in_ok-image.ensures.items c.in_ok-push_header.ensures client_pushed server_pushed
-    c.in_ok-push_rules.ensures c.in_ok-extend_from_slice.ensures.items refl refl c.bytes-patterns.ensures.bytes))
+    _ _ _ _ _ _ _ _ _ _ c.in_ok-image.ensures.items c.in_ok-push_header.ensures client_pushed server_pushed
+    c.in_ok-push_rules.ensures c.in_ok-extend_from_slice.ensures.items c.in_ok-push_le_u64.ensures refl refl c.bytes-patterns.ensures.bytes))
     (content_whole rules.list rules.spans clients.nodes servers.nodes rules.bytes places are
     c.bytes-patterns.ensures.spans c.bytes-patterns.ensures.whole c.requires clients.trie servers.trie
     clients.rows_of.bytes servers.rows_of.bytes)

@@ -1,5 +1,4 @@
-use Rattle.std.proofs.Common.{◌≡◌, List, ℕ, subst}
-use Rattle.std.specs.Result.{OnOk}
+use Rattle.std.proofs.Common.{◌≡◌, List, ℕ, subst, OnOk}
 use Rattle.virtiofs_map.specs.RuleParts.{rule_meant}
 use Rattle.virtiofs_map.proofs.RuleRowLemmas.{three_written}
 use Rattle.virtiofs_map.proofs.xattrmap.image.write.push_rule.Goals as goal

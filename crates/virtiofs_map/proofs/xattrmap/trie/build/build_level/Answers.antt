@@ -2,32 +2,31 @@ use Rattle.std.proofs.Common.{◌≡◌, ◌+◌, [], ◌∷◌, ◌++◌, lengt
 use Rattle.std.proofs.lemmas.List.{length_push}
 use Rattle.virtiofs_map.specs.TrieBuildParts.{AreDeep, AreMade}
 use Rattle.virtiofs_map.proofs.xattrmap.trie.AppendedRowLemmas.{rows_more}
-use Rattle.virtiofs_map.proofs.xattrmap.trie.build.TrieBuildLemmas.{place_here}
+use Rattle.virtiofs_map.proofs.xattrmap.trie.build.TrieBuildLemmas.{none_deeper, place_here}
 use Rattle.virtiofs_map.proofs.xattrmap.trie.build.OrderedLemmas.{exact_more}
-use Rattle.virtiofs_map.proofs.xattrmap.trie.build.LevelLemmas.{built_more, deep_more, deeper_more, deep_none}
+use Rattle.virtiofs_map.proofs.xattrmap.trie.build.LevelLemmas.{built_more, deep_more, deeper_more}
 use Rattle.virtiofs_map.proofs.xattrmap.trie.build.build_level.Goals as goal
 
 pub loop-at-init : goal.loop-at-init
 loop-at-init g c =
-    let ended : length c.args.ranges.now.items ≡ c.len-end.result = (let e = c.len-end.ensures in omega (arith, e)) in
+    let ended : length c.args.ranges.now.items ≡ c.len-end.result = (omega (arith, c.len-end.ensures)) in
     record {
       places = c.requires.places;
       made = λ made. made;
-      upto = let w = c.requires.within in omega (arith, ended, w);
+      upto = omega (arith, ended, c.requires.within);
       within = omega (arith, ended);
       deep = λ depth deep. deep;
       deeper =
           λ depth deep. subst (λ n. AreDeep c.args.ranges.now.items n (depth + 1)) ended
-          (deep_none c.args.ranges.now.items (depth + 1));
+          (none_deeper c.args.ranges.now.items (depth + 1));
     }
 
 pub node_of-requires-clause-place : goal.node_of-requires-clause-place
 node_of-requires-clause-place g c =
     let inv = c.loop-at.invariant in
-    let within = inv.within in
     inv.places.each c.loop-at.at c.index-range.result.now
     (place_here c.loop-at.ranges.items c.loop-at.at c.index-range.result.now
-    (let t = c.loop-at-test.true in omega (arith, t, within)) c.index-range.ensures)
+    (omega (arith, c.loop-at-test.true, inv.within)) c.index-range.ensures)
 
 pub loop-at-preserved : goal.loop-at-preserved
 loop-at-preserved g c =
@@ -41,14 +40,13 @@ loop-at-preserved g c =
     let new = c.node_of.new.ranges.items in
     let node = c.in_ok-node.node in
     let here = place_here old c.loop-at.at range (omega (arith, test, within)) c.index-range.ensures in
-    let more = expanded.longer.longer in
     record {
       places = expanded.places;
       made = λ before.
           (let made = inv.made before in
           record {
             nodes = made.nodes ++ node ∷ [];
-            counted = let count = made.counted in let size = length_push made.nodes node in omega (arith, count, size);
+            counted = omega (arith, made.counted, length_push made.nodes node);
             built = built_more patterns old new made.nodes range node c.loop-at.at made.counted here made.built expanded;
             exact =
                 exact_more patterns old new made.nodes node c.loop-at.at range made.counted here expanded.longer
@@ -59,7 +57,7 @@ loop-at-preserved g c =
                 c.in_ok-push_row.ensures.long;
           });
       upto = omega (arith, test);
-      within = omega (arith, within, more);
+      within = omega (arith, within, expanded.longer.longer);
       deep = λ depth deep. deep_more patterns old new range node c.loop-at.at depth here expanded (inv.deep depth deep);
       deeper =
           λ depth deep. deeper_more patterns old new range node c.loop-at.at c.len-end.result depth here expanded
@@ -70,6 +68,6 @@ pub returns-clause-made : goal.returns-clause-made
 returns-clause-made g c = λ before.
     (let inv = c.loop-at.invariant in
     let ended : c.loop-at.at ≡ c.len-end.result =
-    (let upto = inv.upto in let past = c.loop-at-test.false in omega (arith, upto, past)) in
+    (omega (arith, inv.upto, c.loop-at-test.false)) in
     subst (AreMade c.args.patterns.now c.loop-at.ranges.items c.loop-at.rows.items c.args.first) ended
     (inv.made before))

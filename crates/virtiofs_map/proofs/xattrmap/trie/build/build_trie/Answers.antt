@@ -29,7 +29,7 @@ pub loop-from-smaller : goal.loop-from-smaller
 loop-from-smaller g c =
     levels_fall (length c.args.bytes.now) c.args.patterns.now c.loop-from.ranges.items c.build_level.new.ranges.items
     c.loop-from.from _ c.requires c.loop-from.invariant.places
-    (let t = c.loop-from-test.true in omega (arith, t)) c.in_ok-from.ensures.deeper
+    (omega (arith, c.loop-from-test.true)) c.in_ok-from.ensures.deeper
 
 pub loop-from-preserved : goal.loop-from-preserved
 loop-from-preserved g c = record {
@@ -46,10 +46,8 @@ returns g c =
     record {
       nodes = made.nodes;
       trie = λ side rules of_rules few.
-          (let counted = made.counted in
-          let built = made.built.counted in
-          let full : length made.nodes ≡ length c.loop-from.ranges.items =
-          (let t = c.loop-from-test.false in omega (arith, t, counted, built)) in
+          (let full : length made.nodes ≡ length c.loop-from.ranges.items =
+          (omega (arith, c.loop-from-test.false, made.counted, made.built.counted)) in
           subst (IsTrieOf side rules bytes patterns)
           (sym (exact_all side rules bytes patterns of_rules few c.requires c.loop-from.ranges.items made.nodes
           c.loop-from.invariant.places made.built full made.exact))

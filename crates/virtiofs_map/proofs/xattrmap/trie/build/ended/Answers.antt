@@ -9,11 +9,10 @@ loop-at-preserved c = record {
   ended = λ i from upto. elim (cases_lt i c.loop-at.at) [
     | inl b ↦ c.loop-at.invariant.ended i from b
     | inr g ↦
-        (let same : i ≡ c.loop-at.at = omega (arith, upto, g) in
-        let here = ap length c.bytes_of.ensures in
-        ap (λ n. length (text c.args.patterns.now n)) same ∙ sym here ∙ omega arith)
+        (let same : i ≡ c.loop-at.at = omega (arith, g) in
+        ap (λ n. length (text c.args.patterns.now n)) same ∙ sym (ap length c.bytes_of.ensures) ∙ omega arith)
   ];
   least = IsLeastOf-more c.args.patterns.now c.args.range.answer c.args.range.low c.loop-at.at c.loop-at.answer
       c.min-answer.result (omega arith) c.loop-at.invariant.least
-      (let a = c.min-answer.ensures in let b = c.answer_at.ensures in omega (arith, a, b));
+      (omega (arith, c.min-answer.ensures, c.answer_at.ensures));
 }

@@ -24,32 +24,20 @@ ended-from-requires-clause-rising g c =
 pub start_at-requires : goal.start_at-requires
 start_at-requires g c =
     let is = range_of c.args.patterns.now c.args.range c.requires.place c.if-range.false in
-    let r = is.rising in
-    let w = is.within in
-    let ne = c.if-range.false in
-    omega (arith, r, w, ne)
-
-pub overflow_sub-label : goal.overflow_sub-label
-overflow_sub-label g c = c.requires.place.label
+    omega (arith, is.rising, is.within, c.if-range.false)
 
 pub overflow_add-label : goal.overflow_add-label
 overflow_add-label g c =
     let is = range_of c.args.patterns.now c.args.range c.requires.place c.if-range.false in
-    let r = is.rising in
-    let w = is.within in
-    let ne = c.if-range.false in
-    let some : c.args.range.low < c.args.range.high = omega (arith, r, ne) in
-    let e = ends 18446744073709551615 c.args.patterns.now c.requires.ready c.args.range.low (omega (arith, some, w)) in
-    let long = is.long c.args.range.low (omega arith) some in
-    let start = c.start_at.ensures in
-    omega (arith, e, long, start)
+    let some : c.args.range.low < c.args.range.high = omega (arith, is.rising, c.if-range.false) in
+    let e = ends c.requires.ready c.args.range.low (omega (arith, some, is.within)) in
+    omega (arith, e, is.long c.args.range.low (omega arith) some, c.start_at.ensures)
 
 pub byte_of-low_byte-requires : goal.byte_of-low_byte-requires
 byte_of-low_byte-requires g c =
-    let w = (range_of c.args.patterns.now c.args.range c.requires.place c.if-range.false).within in
     let u = c.ended-from.ensures.upto in
     let ne = c.if-from-range.false in
-    omega (arith, w, u, ne)
+    omega (arith, (range_of c.args.patterns.now c.args.range c.requires.place c.if-range.false).within, u, ne)
 
 pub are_children_sparse-is_sparse-requires-clause-range : goal.are_children_sparse-is_sparse-requires-clause-range
 are_children_sparse-is_sparse-requires-clause-range g c =
@@ -59,12 +47,8 @@ pub are_children_sparse-is_sparse-requires-clause-longer : goal.are_children_spa
 are_children_sparse-is_sparse-requires-clause-longer g c =
     let is = range_of c.args.patterns.now c.args.range c.requires.place c.if-range.false in
     let says = c.ended-from.ensures in
-    let u = says.upto in
-    let ne = c.if-from-range.false in
-    let below : c.ended-from.result.0 < c.args.range.high = omega (arith, u, ne) in
-    let long = is.long c.ended-from.result.0 says.from below in
-    let other = says.other below in
-    omega (arith, long, other)
+    let below : c.ended-from.result.0 < c.args.range.high = omega (arith, says.upto, c.if-from-range.false) in
+    omega (arith, is.long c.ended-from.result.0 says.from below, says.other below)
 
 pub add_children-requires-clause-range : goal.add_children-requires-clause-range
 add_children-requires-clause-range g c =
@@ -74,12 +58,8 @@ pub add_children-requires-clause-longer : goal.add_children-requires-clause-long
 add_children-requires-clause-longer g c =
     let is = range_of c.args.patterns.now c.args.range c.requires.place c.if-range.false in
     let says = c.ended-from.ensures in
-    let u = says.upto in
-    let ne = c.if-from-range.false in
-    let below : c.ended-from.result.0 < c.args.range.high = omega (arith, u, ne) in
-    let long = is.long c.ended-from.result.0 says.from below in
-    let other = says.other below in
-    omega (arith, long, other)
+    let below : c.ended-from.result.0 < c.args.range.high = omega (arith, says.upto, c.if-from-range.false) in
+    omega (arith, is.long c.ended-from.result.0 says.from below, says.other below)
 
 pub add_children-requires-clause-least : goal.add_children-requires-clause-least
 add_children-requires-clause-least g c =
@@ -106,7 +86,7 @@ returns-then-range-clause-text_nodes g c =
 pub returns-then-range-clause-exact : goal.returns-then-range-clause-exact
 returns-then-range-clause-exact g c =
     let made = c.childless.ensures in
-    let count : c.len-base.result ≡ length c.args.ranges.now.items = (let e = c.len-base.ensures in omega (arith, e)) in
+    let count : c.len-base.result ≡ length c.args.ranges.now.items = (omega (arith, c.len-base.ensures)) in
     made
     ∙ exact_bare 18446744073709551615 c.args.patterns.now c.requires.ready c.len-base.result c.args.range
     c.requires.place c.if-range.true
@@ -120,11 +100,10 @@ pub returns-then-from-range-clause-expanded : goal.returns-then-from-range-claus
 returns-then-from-range-clause-expanded g c =
     let range = c.args.range in
     let is = range_of c.args.patterns.now range c.requires.place c.if-range.false in
-    let r = is.rising in
     let ne = c.if-range.false in
     let says = c.ended-from.ensures in
     expanded_here c.args.patterns.now c.args.ranges.now.items range c.childless-bare.result c.requires.places
-    (built_some c.args.patterns.now range c.childless-bare.result c.ended-from.result.1 (omega (arith, r, ne))
+    (built_some c.args.patterns.now range c.childless-bare.result c.ended-from.result.1 (omega (arith, is.rising, ne))
     (least_ended 18446744073709551615 c.args.patterns.now c.requires.ready range c.ended-from.result.0
     c.ended-from.result.1 is says.from says.upto says.ended says.other says.least)
     (ap (λ (b : Node). b.answer) c.childless-bare.ensures))
@@ -135,32 +114,25 @@ returns-then-from-range-clause-text_nodes g c =
     let is = range_of c.args.patterns.now range c.requires.place c.if-range.false in
     let r = is.rising in
     let ne = c.if-range.false in
-    let says = c.ended-from.ensures in
-    let all = c.if-from-range.true in
     sym (append-nil (map (text_node_of c.args.patterns.now) c.args.ranges.now.items))
     ∙ ap (λ ns. map (text_node_of c.args.patterns.now) c.args.ranges.now.items ++ ns)
     (sym (ended_children 18446744073709551615 c.args.patterns.now c.requires.ready range is (omega (arith, r, ne))
-    (λ i a b. says.ended i a (omega (arith, b, all)))))
+    (λ i a b. c.ended-from.ensures.ended i a (omega (arith, c.if-from-range.true)))))
 
 pub returns-then-from-range-clause-exact : goal.returns-then-from-range-clause-exact
 returns-then-from-range-clause-exact g c =
     let range = c.args.range in
     let is = range_of c.args.patterns.now range c.requires.place c.if-range.false in
-    let r = is.rising in
-    let ne = c.if-range.false in
-    let some : range.low < range.high = omega (arith, r, ne) in
+    let some : range.low < range.high = omega (arith, is.rising, c.if-range.false) in
     let says = c.ended-from.ensures in
-    let all = c.if-from-range.true in
     let made = c.childless-bare.ensures in
-    let start = c.start_at.ensures in
-    let count : c.len-base.result ≡ length c.args.ranges.now.items = (let e = c.len-base.ensures in omega (arith, e)) in
+    let count : c.len-base.result ≡ length c.args.ranges.now.items = (omega (arith, c.len-base.ensures)) in
     made
-    ∙ exact_ended 18446744073709551615 c.args.patterns.now c.requires.ready range is c.ended-from.result.1
+    ∙ exact_ended c.requires.ready is c.ended-from.result.1
     c.len-base.result (c.start_at.result + (range.depth - range.length))
-    (none_on 18446744073709551615 c.args.patterns.now c.requires.ready range is
-    (λ i a b. says.ended i a (omega (arith, b, all))))
-    (label_is 18446744073709551615 c.args.patterns.now c.requires.ready range is some c.requires.place.label
-    (c.start_at.result + (range.depth - range.length)) (omega (arith, start)))
+    (none_on c.requires.ready is (λ i a b. says.ended i a (omega (arith, b, c.if-from-range.true))))
+    (label_is c.requires.ready is some c.requires.place.label
+    (c.start_at.result + (range.depth - range.length)) (omega (arith, c.start_at.ensures)))
     ∙ ap (node_with c.args.patterns.now c.ended-from.result.1 c.len-base.result)
     (sym (text_node_real c.args.patterns.now range (inr some)))
     ∙ ap (λ n. node_with c.args.patterns.now c.ended-from.result.1 n (text_node_of c.args.patterns.now range)) count
@@ -173,12 +145,10 @@ pub returns-clause-expanded : goal.returns-clause-expanded
 returns-clause-expanded g c =
     let range = c.args.range in
     let is = range_of c.args.patterns.now range c.requires.place c.if-range.false in
-    let r = is.rising in
-    let ne = c.if-range.false in
     let says = c.ended-from.ensures in
     expanded_on c.args.patterns.now c.args.ranges.now.items c.add_children.new.ranges.items range _ c.requires.places
     c.in_ok-add_children.ensures.added
-    (built_some c.args.patterns.now range _ c.ended-from.result.1 (omega (arith, r, ne))
+    (built_some c.args.patterns.now range _ c.ended-from.result.1 (omega (arith, is.rising, c.if-range.false))
     (least_ended 18446744073709551615 c.args.patterns.now c.requires.ready range c.ended-from.result.0
     c.ended-from.result.1 is says.from says.upto says.ended says.other says.least)
     (ap (λ (b : Node). b.answer) c.childless-bare.ensures))
@@ -189,19 +159,10 @@ returns-clause-exact g c =
     let patterns = c.args.patterns.now in
     let items = c.args.ranges.now.items in
     let is = range_of patterns range c.requires.place c.if-range.false in
-    let r = is.rising in
-    let ne = c.if-range.false in
-    let some : range.low < range.high = omega (arith, r, ne) in
+    let some : range.low < range.high = omega (arith, is.rising, c.if-range.false) in
     let says = c.ended-from.ensures in
-    let u = says.upto in
-    let full = c.if-from-range.false in
-    let below : c.ended-from.result.0 < range.high = omega (arith, u, full) in
-    let long = is.long c.ended-from.result.0 says.from below in
-    let other = says.other below in
-    let start = c.start_at.ensures in
-    let begun = c.len-base.ensures in
-    let ended = c.len.ensures in
-    let count : c.len-base.result ≡ length items = omega (arith, begun) in
+    let below : c.ended-from.result.0 < range.high = omega (arith, says.upto, c.if-from-range.false) in
+    let count : c.len-base.result ≡ length items = omega (arith, c.len-base.ensures) in
     let text_nodes = ap length c.in_ok-add_children.ensures.text_nodes
     ∙ length-append (map (text_node_of patterns) items) (children_of patterns (text_node_of patterns range)) in
     let new_size = length-map c.add_children.new.ranges.items (text_node_of patterns) in
@@ -219,16 +180,16 @@ returns-clause-exact g c =
       first_byte = b.first_byte;
       is_sparse = c.are_children_sparse-is_sparse.result;
     }) (node_with patterns b.answer (length items) (text_node_of patterns range))) (sym c.childless-bare.ensures)
-    (exact_on 18446744073709551615 patterns c.requires.ready range is c.ended-from.result.1 c.len-base.result
+    (exact_on c.requires.ready is c.ended-from.result.1 c.len-base.result
     (c.start_at.result + (range.depth - range.length)) (c.len.result - c.len-base.result) c.byte_of-low_byte.result
     c.are_children_sparse-is_sparse.result
-    (omega (arith, begun, ended, text_nodes, new_size, old_size, kids))
+    (omega (arith, c.len-base.ensures, c.len.ensures, text_nodes, new_size, old_size, kids))
     (c.byte_of-low_byte.ensures
-    ∙ sym (lowest_is 18446744073709551615 patterns c.requires.ready range is c.ended-from.result.0 says.from below
-    says.ended (omega (arith, long, other))
-    (let small = c.byte_of-low_byte.type_inv in let byte = c.byte_of-low_byte.ensures in omega (arith, small, byte))))
+    ∙ sym (lowest_is c.requires.ready is c.ended-from.result.0 says.from below
+    says.ended (omega (arith, is.long c.ended-from.result.0 says.from below, says.other below))
+    (omega (arith, c.byte_of-low_byte.type_inv, c.byte_of-low_byte.ensures))))
     c.are_children_sparse-is_sparse.ensures
-    (label_is 18446744073709551615 patterns c.requires.ready range is some c.requires.place.label
-    (c.start_at.result + (range.depth - range.length)) (omega (arith, start)))
+    (label_is c.requires.ready is some c.requires.place.label
+    (c.start_at.result + (range.depth - range.length)) (omega (arith, c.start_at.ensures)))
     ∙ ap (node_with patterns c.ended-from.result.1 c.len-base.result) (sym real)
     ∙ ap (λ n. node_with patterns c.ended-from.result.1 n (text_node_of patterns range)) count)

@@ -2,8 +2,7 @@ use Rattle.std.proofs.Common.{◌-◌, length, ap, sym, ◌∙◌, arith}
 use Rattle.std.proofs.Math.Facts.{Fits-lt-pow}
 use Rattle.std.proofs.lemmas.Bool.Decides.{Decides-eqb}
 use Rattle.virtiofs_map.specs.LeU64Parts.{le_u64_at}
-use Rattle.virtiofs_map.proofs.xattrmap.trie.compare.LowBytesLemmas.{same_last, same_word}
-use Rattle.virtiofs_map.proofs.xattrmap.trie.compare.SameEndsLemmas.{same_by_ends}
+use Rattle.virtiofs_map.proofs.xattrmap.trie.compare.LowBytesLemmas.{same_last, same_word, same_by_ends}
 use Rattle.virtiofs_map.proofs.xattrmap.trie.compare.are_medium_same.Goals as goal
 
 pub returns-then-le_u64_at : goal.returns-then-le_u64_at

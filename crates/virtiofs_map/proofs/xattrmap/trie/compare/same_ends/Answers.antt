@@ -1,7 +1,7 @@
 use Rattle.std.proofs.Common.{◌≡◌, ◌-◌, take, drop, length, ap, sym, ◌∙◌}
 use Rattle.std.proofs.lemmas.Bool.Decides.{Decides-eqb}
 use Rattle.std.proofs.lemmas.Slice.Eq.{slice_eq-Decides}
-use Rattle.virtiofs_map.proofs.xattrmap.trie.compare.SameEndsLemmas.{same_by_ends}
+use Rattle.virtiofs_map.proofs.xattrmap.trie.compare.LowBytesLemmas.{same_by_ends}
 use Rattle.virtiofs_map.proofs.xattrmap.trie.compare.same_ends.Goals as goal
 
 pub returns-then-eq : goal.returns-then-eq

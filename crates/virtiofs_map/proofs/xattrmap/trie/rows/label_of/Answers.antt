@@ -4,4 +4,4 @@ use Rattle.virtiofs_map.proofs.xattrmap.trie.rows.label_of.Goals as goal
 
 pub returns-clause-value : goal.returns-clause-value
 returns-clause-value c = λ node of.
-    (let word = c.le_u64_at.ensures ∙ first_u64_of node c.args.row.now of in omega (arith, word, of.small.size, of.bytes.first_byte))
+    (omega (arith, c.le_u64_at.ensures ∙ first_u64_of node c.args.row.now of, of.small.size, of.bytes.first_byte))

@@ -1,5 +1,4 @@
-use Rattle.std.proofs.Common.{◌≡◌, ◌++◌, ℕ, List, All, take}
-use Rattle.std.specs.List.{flat_map}
+use Rattle.std.proofs.Common.{◌≡◌, ◌++◌, ℕ, List, All, take, flat_map}
 use Rattle.virtiofs_map.specs.NodeParts.{HasBytes, IsSmallIn, row_in}
 use Rattle.virtiofs_map.specs.declared.xattrmap.trie.node.Node.{Node}
 use Rattle.virtiofs_map.proofs.xattrmap.trie.rows.push_rows.Given as goal

@@ -31,7 +31,7 @@ loop-child-preserved c = record {
         stands_on side rules inside.nodes bytes inside.trie c.args.name.now c.args.steps.now stands.0
             c.loop-child.rest.now c.loop-child.steps stands.2 step.child c.in-Some.left.now c.enter.new.steps step.step,
       ));
-  within = let less = c.in-Some.ensures.shorter in omega (arith, less);
+  within = omega (arith, c.in-Some.ensures.shorter);
 }
 
 pub returns-clause-passes : goal.returns-clause-passes

@@ -4,5 +4,4 @@ use Rattle.virtiofs_map.proofs.xattrmap.view.XattrMapRef.len.Goals as goal
 
 pub returns : goal.returns
 returns c = λ rules is.
-    (let begun = is.begun in
-    rw (c.part.ensures (omega (arith, begun)) (is.parts 2 (omega arith))) (as_many rules _ _ is.stored))
+    (rw (c.part.ensures (omega (arith, is.begun)) (is.parts 2 (omega arith))) (as_many rules _ _ is.stored))

@@ -33,10 +33,8 @@ returns-then-count-after-clause-step c = λ first labels nodes bytes node has te
     let differ : take count c.in_ok-byte.after.now ≡ label → ⊥ =
     elim c.then-count-after.branch [
       | then-count-after-via-then-count-after w ↦ λ same.
-          (let sizes = ap length same in
-          let most = length-take count c.in_ok-byte.after.now in
-          let less = w.if-count-after.true in
-          absurd (omega (arith, sizes, most, size, less)))
+          (let less = w.if-count-after.true in
+          absurd (omega (arith, ap length same, length-take count c.in_ok-byte.after.now, size, less)))
       | then-count-after-via-else-count-after+then-not-begins w ↦ λ same.
           (let fails : w.begins.result ≡ false = search rules in
           absurd (false≢true (sym fails ∙ (w.begins.ensures there.0).1 same)))
@@ -66,13 +64,11 @@ returns-clause-step c = λ first labels nodes bytes node has texts readable row.
     let size : length label ≡ count = length-take-le count (drop from image) (omega (arith, long, there.0)) in
     let holds : c.begins.result ≡ true = search rules in
     let front : take count after ≡ label_of bytes to.child = (c.begins.ensures there.0).0 holds ∙ there.1 in
-    let rest_long = length-drop count after in
     let left : take (length after - count) (drop count after) ≡ drop count after =
-    take_all (length after - count) (drop count after) (omega (arith, rest_long)) in
+    take_all (length after - count) (drop count after) (omega (arith, length-drop count after)) in
     let whole : after ≡ label_of bytes to.child ++ take (length after - count) (drop count after) =
     sym (take-append-drop count after) ∙ ap (λ (l : List ℕ). l ++ drop count after) front
     ∙ ap (λ (l : List ℕ). label_of bytes to.child ++ l) (sym left) in
-    let sized = ap length there.1 in
     record {
       child = to.child;
       is = to.is;
@@ -82,6 +78,6 @@ returns-clause-step c = λ first labels nodes bytes node has texts readable row.
         passed = c.in_ok-byte.ensures.cases.0 ∙ ap (λ (l : List ℕ). c.in_ok-byte.byte.now ∷ l) whole;
         counted = c.count_more-2.ensures
             ∙ ap (λ n. count_after c.args.steps.now (n + 1)) (let n : count ≡ length (label_of bytes to.child) =
-            omega (arith, sized, size) in n);
+            omega (arith, ap length there.1, size) in n);
       };
     })

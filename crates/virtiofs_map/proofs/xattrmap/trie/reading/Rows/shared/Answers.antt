@@ -6,6 +6,5 @@ pub returns-clause-within : goal.returns-clause-within
 returns-clause-within c =
     let size : ℕ = c.args.from + c.args.count - c.args.from in
     let label : List ℕ = take size (drop c.args.from c.args.self.image.now) in
-    let within = (shared_within label c.args.row.now).0 in
     let long = length-take size (drop c.args.from c.args.self.image.now) in
-    omega (arith, c.common_prefix_length.ensures, within, long)
+    omega (arith, c.common_prefix_length.ensures, (shared_within label c.args.row.now).0, long)

@@ -1,5 +1,4 @@
-use Rattle.std.proofs.Common.{◌≡◌, ◌+◌, ◌%◌, ◌<◌, inl, inr, ℕ, List, Some, refl, sym, ap, subst, ◌∙◌, arith}
-use Rattle.std.specs.List.{slice_get}
+use Rattle.std.proofs.Common.{◌≡◌, ◌+◌, ◌%◌, ◌<◌, inl, inr, ℕ, List, Some, refl, sym, ap, subst, ◌∙◌, arith, slice_get}
 use Rattle.std.proofs.lemmas.Bool.{cases_lt}
 use Rattle.virtiofs_map.specs.NodeParts.{IsRow, placed}
 use Rattle.virtiofs_map.specs.declared.xattrmap.trie.node.Node.{Node}
@@ -44,7 +43,7 @@ loop-behind-preserved c = λ first labels nodes bytes node has readable row k ch
     elim (cases_lt k c.loop-behind.behind) [
       | inl low ↦ c.loop-behind.invariant first labels nodes bytes node has readable row k child low here first_byte
       | inr high ↦
-          (let last : node.base + k ≡ node.base + c.loop-behind.behind = omega (arith, less, high) in
+          (let last : node.base + k ≡ node.base + c.loop-behind.behind = omega arith in
           let same : Some there.0 ≡ Some child = sym there.1 ∙ sym (ap (slice_get nodes) last) ∙ here in
           let first_bytes : there.0.first_byte ≡ child.first_byte =
           ap (λ (b : Node). b.first_byte) (let e : there.0 ≡ child = cc in e) in
@@ -53,7 +52,6 @@ loop-behind-preserved c = λ first labels nodes bytes node has readable row k ch
 
 pub returns : goal.returns
 returns c = λ first labels nodes bytes node has readable row.
-    (let width = c.width_of-width.ensures (placed first labels node) row in
-    nowhere nodes bytes node c.args.byte readable c.loop-behind.behind
-    (omega (arith, width, c.loop-behind-test.false))
+    (nowhere nodes bytes node c.args.byte readable c.loop-behind.behind
+    (omega (arith, c.width_of-width.ensures (placed first labels node) row, c.loop-behind-test.false))
     (c.loop-behind.invariant first labels nodes bytes node has readable row))

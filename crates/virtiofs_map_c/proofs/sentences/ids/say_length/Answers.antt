@@ -1,7 +1,0 @@
-use Rattle.virtiofs_map_c.proofs.FrontLemmas.{Writes-then}
-use Rattle.virtiofs_map_c.proofs.sentences.ids.say_length.Goals as goal
-
-pub returns : goal.returns
-returns c =
-    let front = Writes-then (Writes-then c.say.ensures c.say_number.ensures) c.say-2.ensures in
-    Writes-then (Writes-then front c.say_number-2.ensures) c.say-3.ensures

@@ -1,0 +1,6 @@
+use Rattle.virtiofs_map_c.specs.Front.{Goes}
+use Rattle.virtiofs_map_c.proofs.sentences.say.Given as goal
+
+-- what was written so far is one text
+abbrev pub invariant-loop-byte : goal.invariant-loop-byte
+invariant-loop-byte l = Goes l.fn.len l.fn.out l.len l.out

@@ -1,0 +1,54 @@
+//! A text that is written piece by piece into the caller's buffer, as far as there is room.
+ghost use Rattle.std.specs.Prelude.{◌≡◌};
+ghost use Rattle.std.specs.Str.Lossy.{utf8_valid_len};
+ghost use Rattle.virtiofs_map_c.specs.Front.{Goes, cut_text};
+
+use itoa::Buffer;
+use std::str::from_utf8;
+
+/// Writes a byte behind the text of that length, if there is room, and adds it to the length.
+fn put_byte(byte: u8, out: &mut [u8], len: &mut usize)
+    ensures { Goes len.old out.old len.new out.new }
+{
+    let at = *len;
+    *len = at.saturating_add(1);
+    if out.len() <= at {
+        return;
+    }
+    out[at] = byte;
+}
+
+/// Writes bytes, as [`put_byte`] does.
+pub fn put(bytes: &[u8], out: &mut [u8], len: &mut usize)
+    ensures { Goes len.old out.old len.new out.new }
+{
+    for byte in bytes {
+        put_byte(*byte, out, len);
+    }
+}
+
+/// Writes a number in decimal, as [`put_byte`] does.
+pub fn put_number(number: u64, out: &mut [u8], len: &mut usize)
+    ensures { Goes len.old out.old len.new out.new }
+{
+    let mut digits = Buffer::new();
+    put(digits.format(number).as_bytes(), out, len);
+}
+
+/// Puts spaces in the place of a character at the end that is not whole.
+pub fn cut_whole(out: &mut [u8])
+    ensures { out.new ≡ cut_text out.old }
+{
+    let (_, rest) = out.split_at_mut(text_len(out));
+    rest.fill(b' ');
+}
+
+/// How many of the first bytes are text.
+fn text_len(bytes: &[u8]) -> usize
+    ensures { result ≡ utf8_valid_len bytes.now }
+{
+    match from_utf8(bytes) {
+        Ok(_) => bytes.len(),
+        Err(error) => error.valid_up_to(),
+    }
+}

@@ -1,0 +1,84 @@
+//! What the command line of a process that runs says: whether it is a daemon's, and what that shares.
+ghost use Rattle.std.specs.Prelude.{◌≡◌, ◌<◌, length, IfSome, IfOk, IfErr};
+ghost use Rattle.virtiofs_options.specs.GuestOptions.{text_in};
+ghost use Rattle.virtiofs_options.specs.Lines.{is_daemon};
+ghost use Rattle.virtiofs_options.specs.Parts.{WrongOnly};
+ghost use Rattle.virtiofs_options.specs.Running.{first_zero, first_word, last_of, directory_in, Shares, IsWordFault};
+
+use crate::cluster::split_words;
+use crate::command::Part;
+use crate::fault::ReadError;
+use crate::line::{is_daemon, line_of};
+use crate::older::read_older;
+use crate::options::Options;
+use crate::parts::read_parts;
+use crate::values::values_in;
+use std::alloc::{AllocError, Global};
+
+/// Where the first zero byte stands.
+fn first_zero(text: &[u8]) -> Option<usize>
+    ensures first { result ≡ first_zero text.now }
+    ensures within { IfSome result (λ place. place < length text.now) }
+{
+    text.iter().position(|byte| *byte == 0)
+}
+
+/// The first word of a command line as the kernel shows it.
+fn first_word(cmdline: &[u8]) -> &[u8]
+    ensures { result.now ≡ first_word cmdline.now }
+{
+    match first_zero(cmdline) {
+        Some(end) => &cmdline[..end],
+        None => cmdline,
+    }
+}
+
+/// Whether a process is a daemon's, of which the kernel shows that command line: its first word is the
+/// daemon's. So no other program counts that has that word among its own, as `sudo`.
+pub fn runs_daemon(cmdline: &[u8]) -> bool
+    ensures { result ≡ is_daemon (first_word cmdline.now) }
+{
+    is_daemon(first_word(cmdline))
+}
+
+/// The last of some values.
+fn last_of<'a>(values: &[&'a str]) -> Option<&'a str>
+    ensures { result ≡ last_of values.now }
+{
+    values.last().copied()
+}
+
+/// The directory that is shared, if the parts say one.
+fn directory_in<'a>(
+    alloc: Global,
+    options: Options,
+    parts: &[Part<'a>],
+) -> Result<Option<&'a str>, AllocError>
+    ensures { IfOk result (λ it. text_in it ≡ directory_in options parts.now) }
+{
+    let newer = values_in(alloc, parts, "--shared-dir")?;
+    match read_older(options, parts).source {
+        Some(text) => Ok(Some(text)),
+        None => Ok(last_of(newer.as_slice())),
+    }
+}
+
+/// The directory that the words of a daemon say it shares: the older form counts more, and of each form
+/// the last. Only words before a `--` count.
+///
+/// # Errors
+///
+/// What is wrong with a word; or a request for memory was refused.
+pub fn shared_directory<'a>(
+    alloc: Global,
+    options: Options,
+    words: &[&'a str],
+) -> Result<Option<&'a str>, ReadError<'a>>
+    ensures read { IfOk result (λ it. Shares options words.now (text_in it)) }
+    ensures refused { IfErr result (WrongOnly (IsWordFault options words.now)) }
+{
+    let words = split_words(alloc, options, line_of(words))?;
+    let parts = read_parts(alloc, options, words.as_slice())?;
+    let directory = directory_in(alloc, options, parts.as_slice())?;
+    Ok(directory)
+}
