@@ -171,7 +171,7 @@ def opened(given, other):
             return f"other values of {option}"
     if has_acl(other) and not has_acl(given):
         return "ACLs"
-    if has_xattrs(other) and not has_xattrs(given):
+    if has_xattrs(other) != has_xattrs(given):
         return "xattrs"
     for option in ("--translate-uid", "--translate-gid"):
         before, after = values(option, given), values(option, other)

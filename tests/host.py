@@ -8,6 +8,7 @@ root, a C compiler (CC may name it) and user namespaces; the last part root, use
 uidmap). Where one is missing, a line that begins with LEFT OUT says so. The last line is 'N passed, N failed'.
 """
 import contextlib
+import grp
 import os
 import pwd
 import re
@@ -43,17 +44,20 @@ exec setpriv --reuid="$2" --regid="$3" --clear-groups sh -c '
     while [ "$(readlink /proc/$!/ns/user)" = "$here" ]; do sleep 0.01; done
     "$0" $! "$@"; status=$?; kill $!; exit $status' "$4" $5
 """
+# Puts a program into another user and group, where it keeps the capabilities that change these.
+CAPABLE = "setpriv --reuid=65534 --regid=65534 --clear-groups --inh-caps=+setuid,+setgid --ambient-caps=+setuid,+setgid --".split()
 FORBIDDEN = [f"--translate-{it}=forbid-guest:65536:4294901759" for it in ("uid", "gid")]
 
 
 @contextlib.contextmanager
-def daemon(program, options, ranges=None, user=0, name=None, forks=False):
-    """The process id of a stand-in with these options, run by that user and group, maybe under another name. With ranges it
-    is in a namespace that has them, for users and for groups. Where it forks, it is that of the child."""
-    words = [name or program, *options]
+def daemon(program, options, ranges=None, user=0, name=None, forks=False, by=(), cwd=None):
+    """The process id of a stand-in with these options, run by that user and group, maybe under another name, in another folder
+    or by another program. With ranges it is in a namespace that has them, for users and for groups. Where it forks, it is that
+    of the child."""
+    words = [*by, name or program, *options]
     if ranges:
         words = ["unshare", "--user", "--", *words]
-    started = subprocess.Popen(words, executable=program if name else None, env={**os.environ, **({"FORKS": "1"} if forks else {})},
+    started = subprocess.Popen(words, executable=program if name else None, env={**os.environ, **({"FORKS": "1"} if forks else {})}, cwd=cwd,
                                user=user, group=user, extra_groups=[], stdin=subprocess.DEVNULL, stdout=subprocess.DEVNULL)
     try:
         there = Path(f"/proc/{started.pid}")
@@ -71,8 +75,22 @@ def processes(room, stand_in):
     """What is audited, the words, the status, and a part of what is written to standard output or error."""
     ranges = [MAPPED, MAPPED_GROUPS, *FORBIDDEN]
     kernels = ("0 100000 65536\n",) * 2
+    nobody, nogroup = pwd.getpwuid(65534).pw_name, grp.getgrgid(65534).gr_name
     with daemon(stand_in, ["--xattr"], user=65534) as pid:
-        yield "a daemon of another user than root, in the host's namespace", ["--pid", pid], 5, "its 65534 is 65534 on the host"
+        yield "a daemon of another user than root, in the host's namespace", ["--pid", pid], 5, "the daemon acts as user 65534 alone"
+        yield "the names of its user and its group", ["--pid", pid], 5, f"  on this host: user 65534 ({nobody}); group 65534 ({nogroup})\n"
+        yield "the same as JSON", ["--json", "--pid", pid], 5, '"runs_as":{"group":65534,"user":65534}'
+    with daemon(stand_in, ["--xattr"], by=CAPABLE) as pid:
+        yield "one that may change its user and its group", ["--pid", pid], 5, f"process {pid} of user 65534\n  users: all are the host's own\n  groups: all are"
+    with daemon(stand_in, ["--xattr"], by=[it.replace("setuid,+", "") for it in CAPABLE]) as pid:
+        yield "one that may change its group", ["--pid", pid], 5, "the daemon acts as user 65534 alone\n  groups: all are the host's own\n"
+    with daemon(stand_in, ["--xattr"], by=[it.replace(",+setgid", "") for it in CAPABLE]) as pid:
+        yield "one that may change its user", ["--pid", pid], 5, "users: all are the host's own\n  groups: all keep their number; the daemon acts as group 65534 alone"
+    named = len({it.gr_gid for it in grp.getgrall() if 0 < it.gr_gid < 65536})
+    led = [f"--translate-uid={it}" for it in ("map:5:65534:1", "forbid-guest:0:5", "forbid-guest:6:4294967289")]
+    with daemon(stand_in, [*led, FORBIDDEN[1]]) as pid:
+        told = f"{named} named groups\n" if named > 8 else "groups "
+        yield "the name of a user to whom an id leads", ["--pid", pid], 5, f"  on this host: user 65534 ({nobody}); {told}"
     with daemon(stand_in, ranges, kernels) as pid:
         yield "a namespace as its options say", ["--pid", pid], 0, "its 0 to 65535 are 100000 to 165535 on the host"
         yield "an id of it, explained", ["--explain", "user=5", "--pid", pid], 0, f"guest 1, process {pid}\n  user 5 of the guest\n"
@@ -81,16 +99,28 @@ def processes(room, stand_in):
             yield "the number of each", ["--json", "--pid", pid, "--pid", other], 0, f'"process":{other}'
             yield "a command line beside them", ["--pid", pid, "--pid", other, "--", "virtiofsd", *ranges], 5, "guests 1 and 2"
             yield "what is found of that alone", ["--pid", pid, "--", "virtiofsd", "--translate-uid=map:0:7:7"], 5, "users 7 to 13 do not round-trip"
+    split = "0 100000 1000\n1000 101000 64536\n"
+    with daemon(stand_in, ranges, (split, split)) as pid:
+        yield "a range that is in two", ["--pid", pid], 0, "nothing found"
+    with daemon(stand_in, ["--uid-map=:1000:101000:64536:", "--uid-map=:0:100000:1000:", *ranges[1:]], kernels) as pid:
+        yield "two ranges that are in one", ["--pid", pid], 0, "nothing found"
+    with daemon(stand_in, ranges, ("0 100000 1000\n1000 101001 64536\n", kernels[1])) as pid:
+        yield "two ranges with an id between", ["--pid", pid], 5, "the kernel shows other ranges than --uid-map gives"
+    whole, halves = [f"--{it}-map=:0:0:4294967295:" for it in ("uid", "gid")], "0 0 2147483648\n2147483648 2147483648 2147483647\n"
+    with daemon(stand_in, whole, (halves, halves)) as pid:
+        yield "all ids, in two ranges", ["--json", "--pid", pid], 5, '"findings":[{"accepted":false,"groups":{'
+    with daemon(stand_in, whole, (halves[:-2] + "6\n", halves)) as pid:
+        yield "all ids but the last", ["--pid", pid], 5, "the kernel shows other ranges than --uid-map gives"
     with daemon(stand_in, ranges, ("0 100000 1000\n", "0 100000 65536\n")) as pid:
         yield "a namespace of other ranges", ["--pid", pid], 5, "the kernel shows other ranges than"
     with daemon(stand_in, ranges, ("0 100000 65536\n", "0 100000 1000\n")) as pid:
         yield "a namespace of other groups", ["--pid", pid], 5, "the kernel shows other ranges than --gid-map gives"
     with daemon(stand_in, [*ranges, "--nosuch"], kernels) as pid:
-        yield "a word that virtiofsd does not know", ["--pid", pid], 0, "unknown option of virtiofsd: '--nosuch'"
+        yield "a word that virtiofsd does not know", ["--pid", pid], 0, "unknown option '--nosuch': virtiofsd 1.13.2 refuses it and does not start"
     with daemon(stand_in, []) as pid:
         yield "root without a namespace", ["--pid", pid], 5, "root of the host"
     with daemon(stand_in, [], ("1234 1234 1\n",) * 2, user=1234) as pid:
-        yield "a user's own namespace", ["--pid", pid], 5, "its 1234 is 1234 on the host"
+        yield "a user's own namespace", ["--pid", pid], 5, "the daemon acts as user 1234 alone"
     with daemon(stand_in, [*ranges, *["--xattrmap=:bad:all:a:b:" + ":ok:all:::" * 9000] * 2], kernels) as pid:
         yield "a command line of 180 KB", ["--pid", pid], 5, "names: 9001 rules"
     with daemon(stand_in, ["--translate-uid", b"\xff"]) as pid:
@@ -115,7 +145,9 @@ def running(room, stand_in):
     ranges, kernels = [MAPPED, MAPPED_GROUPS, *FORBIDDEN], ("0 100000 65536\n",) * 2
     with daemon(stand_in, ["--shared-dir", one, "--xattr"], user=65534, forks=True) as pid:
         yield "of a daemon the child", ["--running"], 5, f"guest 1, process {pid} of user 65534\n"
-        yield "and no other guest", ["--running", "--json"], 5, f'"guests":[{{"groups":null,"guest":1,"names":null,"process":{pid},"users":null}}],'
+        told = f'"guests":[{{"groups":null,"guest":1,"names":null,"process":{pid},"runs_as":{{"group":65534,"user":65534}},"users":null}}],'
+        yield "and no other guest", ["--running", "--json"], 5, told
+        yield "one directory", ["--running"], 5, f"directory '{one}'\nguest 1"
         yield "a question", ["--running", "--explain", "user=5"], 0, f"guest 1, process {pid}\n  user 5 of the guest\n"
     with daemon(stand_in, ["--shared-dir", one, *ranges], kernels) as pid:
         with daemon(stand_in, [f"--shared-dir={two}", *ranges], kernels) as other:
@@ -128,10 +160,18 @@ def running(room, stand_in):
                 yield "the status is that of the worst directory", ["--running"], 5, f"directory '{two}'\nguest 1"
         with daemon(stand_in, ["virtiofsd"], name="sudo"):
             yield "another program that has the daemon's word", ["--running"], 0, "nothing found"
+        with daemon(stand_in, ["--shared-dir=two", *ranges], kernels, cwd=room, forks=True) as other:
+            yield "a directory that is not absolute", ["--running"], 0, f"directory '{two}'\nguest 1, process {other}"
+            with daemon(stand_in, [f"--shared-dir={two}", *ranges], kernels):
+                yield "the same as that of another daemon", ["--running"], 5, "guests 1 and 2 reach the same users"
         with daemon(stand_in, ["--translate-uid", b"\xff"]) as other:
-            yield "a word that is not UTF-8", ["--running"], 2, f"a word of process {other} is not UTF-8"
-        with daemon(stand_in, ["--sandbox=none2"]) as other:
-            yield "a value that virtiofsd refuses", ["--running"], 2, f"process {other}: virtiofsd refuses the value 'none2'"
+            yield "a word that is not UTF-8", ["--running"], 2, f"not checked: a word of process {other} is not UTF-8\n"
+            yield "the other daemon beside it", ["--running"], 2, f"directory '{one}'\nguest 1, process {pid} of user 0\n"
+            yield "the same as JSON", ["--running", "--json"], 2, f'"unread":["not checked: a word of process {other} is not UTF-8"]'
+            yield "where nothing is to be written", ["--running", "--quiet"], 2, f"not checked: a word of process {other} is not UTF-8\n"
+        with daemon(stand_in, ["--shared-dir", one, "--sandbox=none2"]) as other:
+            yield "a value that virtiofsd refuses", ["--running"], 2, f"not checked: process {other}: virtiofsd refuses the value 'none2'"
+            yield "in that directory the other daemon", ["--running"], 2, f"directory '{one}'\nguest 1, process {pid} of user 0\n"
         for beside in (["--pid", pid], ["--svg"], ["--mend"], ["--translate-uid=map:0:1:1"], ["--", "virtiofsd"]):
             yield f"{beside[0]} beside it", ["--running", *beside], 2, "'--running' goes with neither"
 

@@ -51,8 +51,8 @@ pub(super) mod ffi {
         pub safe fn virtiofs_map_ids_bound(count: usize) -> usize;
         pub fn virtiofs_map_ids_make(specs: *const Spec, count: usize, words: *mut u32, room: usize,
             wanted: &mut usize, fault: &mut Fault) -> u32;
-        pub fn virtiofs_map_ids_to_host(words: *const u32, count: usize, guest: u32, host: &mut u32) -> u32;
-        pub fn virtiofs_map_ids_to_guest(words: *const u32, count: usize, host: u32, guest: &mut u32) -> u32;
+        pub fn virtiofs_map_ids_to_host(words: *const u32, count: usize, guest: u32, host: *mut u32) -> u32;
+        pub fn virtiofs_map_ids_to_guest(words: *const u32, count: usize, host: u32, guest: *mut u32) -> u32;
         pub fn virtiofs_map_spec_read(text: *const u8, text_len: usize, spec: &mut Spec, fault: &mut Fault,
             quoted: *mut u8, quoted_room: usize) -> u32;
         pub fn virtiofs_map_fault_text(fault: &Fault, quoted: *const u8, quoted_len: usize, out: *mut u8, room: usize,
@@ -437,6 +437,7 @@ pub mod soft_idmap {
     use std::fmt::{self, Debug, Display, Formatter};
     use std::io;
     use std::marker::PhantomData;
+    use std::mem::MaybeUninit;
 
     /// A map of ids between guest and host. An id that no specification covers keeps its number.
     #[derive(Clone)]
@@ -447,10 +448,10 @@ pub mod soft_idmap {
     }
 
     // (lookups are in line: under a map with no specifications they call nothing)
-    type Lookup = unsafe extern "C" fn(*const u32, usize, u32, &mut u32) -> u32;
+    type Lookup = unsafe extern "C" fn(*const u32, usize, u32, *mut u32) -> u32;
 
     /// How many words a map has under which every id keeps its number. Any other has more.
-    const NO_RANGES: usize = 3;
+    const NO_RANGES: usize = 4;
 
     /// Why an id is not mapped.
     #[derive(Clone, Debug)]
@@ -524,6 +525,7 @@ pub mod soft_idmap {
                 // Sound: the list is lent for the call, which writes to `words` and to the two others alone.
                 unsafe { ffi::virtiofs_map_ids_make(specs.as_ptr(), specs.len(), to, room, wanted, fault) }
             })?;
+            debug_assert!(!specs.is_empty() || words.len() == NO_RANGES);
             Ok(IdMap { words, pair: PhantomData })
         }
 
@@ -540,8 +542,10 @@ pub mod soft_idmap {
         #[inline(always)]
         pub fn map_guest(&self, guest_id: Guest) -> Result<Host, MapError<Guest>> {
             match self.asked(ffi::virtiofs_map_ids_to_host, guest_id.into_inner().into()) {
-                (ffi::OK | ffi::NO_ID, host) => Ok(Host::from(host.into())),
-                _ => Err(MapError::ExplicitFailMapping { id: guest_id }),
+                Ok(host) => Ok(Host::from(host.into())),
+                Err(code) => unchanged(code)
+                    .map(|host| Host::from(host.into()))
+                    .ok_or(MapError::ExplicitFailMapping { id: guest_id }),
             }
         }
 
@@ -552,8 +556,10 @@ pub mod soft_idmap {
         #[inline(always)]
         pub fn map_host(&self, host_id: Host) -> Result<Guest, MapError<Host>> {
             match self.asked(ffi::virtiofs_map_ids_to_guest, host_id.into_inner().into()) {
-                (ffi::OK | ffi::NO_ID, guest) => Ok(Guest::from(guest.into())),
-                _ => Err(MapError::ExplicitFailMapping { id: host_id }),
+                Ok(guest) => Ok(Guest::from(guest.into())),
+                Err(code) => unchanged(code)
+                    .map(|guest| Guest::from(guest.into()))
+                    .ok_or(MapError::ExplicitFailMapping { id: host_id }),
             }
         }
 
@@ -561,9 +567,9 @@ pub mod soft_idmap {
         #[inline(always)]
         pub fn checked_map_guest(&self, guest_id: Guest) -> Result<Host, CheckedMapError<Guest>> {
             match self.asked(ffi::virtiofs_map_ids_to_host, guest_id.into_inner().into()) {
-                (ffi::OK, host) => Ok(Host::from(host.into())),
-                (ffi::NO_ID, _) => Err(CheckedMapError::NoId { id: guest_id }),
-                _ => Err(CheckedMapError::Forbidden { id: guest_id }),
+                Ok(host) => Ok(Host::from(host.into())),
+                Err(ffi::NO_ID) => Err(CheckedMapError::NoId { id: guest_id }),
+                Err(_) => Err(CheckedMapError::Forbidden { id: guest_id }),
             }
         }
 
@@ -571,24 +577,34 @@ pub mod soft_idmap {
         #[inline(always)]
         pub fn checked_map_host(&self, host_id: Host) -> Result<Guest, CheckedMapError<Host>> {
             match self.asked(ffi::virtiofs_map_ids_to_guest, host_id.into_inner().into()) {
-                (ffi::OK, guest) => Ok(Guest::from(guest.into())),
-                (ffi::NO_ID, _) => Err(CheckedMapError::NoId { id: host_id }),
-                _ => Err(CheckedMapError::Forbidden { id: host_id }),
+                Ok(guest) => Ok(Guest::from(guest.into())),
+                Err(ffi::NO_ID) => Err(CheckedMapError::NoId { id: host_id }),
+                Err(_) => Err(CheckedMapError::Forbidden { id: host_id }),
             }
         }
 
-        /// The code, and what the id becomes.
+        /// What the id becomes, or the code of the call.
         #[inline(always)]
-        fn asked(&self, call: Lookup, number: u32) -> (u32, u32) {
+        fn asked(&self, call: Lookup, number: u32) -> Result<u32, u32> {
             if self.words.len() == NO_RANGES {
-                return (if number == u32::MAX { ffi::NO_ID } else { ffi::OK }, number);
+                return if number == u32::MAX { Err(ffi::NO_ID) } else { Ok(number) };
             }
-            // (the call leaves this where the code is NO_ID)
-            let mut to = u32::MAX;
+            let mut to = MaybeUninit::uninit();
             // Sound: the words are lent for the call, a lookup of the library, which writes to `to` alone.
-            let code = unsafe { call(self.words.as_ptr(), self.words.len(), number, &mut to) };
-            (code, to)
+            match unsafe { call(self.words.as_ptr(), self.words.len(), number, to.as_mut_ptr()) } {
+                // Sound: the call wrote it.
+                ffi::OK => Ok(unsafe { to.assume_init() }),
+                code => Err(code),
+            }
         }
+    }
+
+    /// What virtiofsd answers where no id is to be had: 4294967295, unless the id is forbidden.
+    // (so a lookup with an id tests the code once)
+    #[cold]
+    #[inline(never)]
+    fn unchanged(code: u32) -> Option<u32> {
+        (code == ffi::NO_ID).then_some(u32::MAX)
     }
 
     impl<Guest, Host> TryFrom<Vec<cmdline::IdMap>> for IdMap<Guest, Host>
@@ -876,17 +892,21 @@ pub mod xattrmap {
         #[inline]
         pub fn map_client_xattr<'a>(&self, xattr_name: &'a CStr) -> Result<AppliedRule<'a>, Error> {
             let (mut out, mut len) = ([MaybeUninit::uninit(); ROOM], MaybeUninit::uninit());
-            // (the frequent answers are told apart here, and an owned name comes in two registers)
+            // (the answer is written in its place, so that one without a name copies none; an owned name comes in two
+            // registers)
+            let mut answer = MaybeUninit::new(Ok(AppliedRule::Deny));
             match self.client(xattr_name, &mut out[..ROOM - 1], &mut len) {
-                ffi::AS_IT_IS => Ok(AppliedRule::Pass(Cow::Borrowed(xattr_name))),
-                ffi::DENIED => Ok(AppliedRule::Deny),
-                ffi::UNSUPPORTED => Ok(AppliedRule::Unsupported),
+                ffi::DENIED => {}
+                ffi::AS_IT_IS => { answer.write(Ok(AppliedRule::Pass(Cow::Borrowed(xattr_name)))); }
+                ffi::UNSUPPORTED => { answer.write(Ok(AppliedRule::Unsupported)); }
                 // Sound: the call wrote the length.
-                code => match self.owned(code, xattr_name, &mut out, unsafe { len.assume_init() }) {
+                code => { answer.write(match self.owned(code, xattr_name, &mut out, unsafe { len.assume_init() }) {
                     Some(name) => Ok(AppliedRule::Pass(Cow::Owned(name))),
                     None => Err(ErrorKind::UnterminatedMapping.into()),
-                },
+                }); }
             }
+            // Sound: it was written at first.
+            unsafe { answer.assume_init() }
         }
 
         /// The name that the call wrote to `out`, or would have written if that were longer.

@@ -59,7 +59,7 @@ def over_archive(tally, room):
     flags, end, in_rust = [*C_FLAGS, INCLUDE], [*LINKED, "-pthread"], [rust, "-O", "-D", "warnings"]
     for it in LINKED:
         in_rust += ["-L", f"native={os.path.dirname(it)}", "-l", f"static={Path(it).stem[len('lib'):]}"]
-    by_sanitizing = ["-C", f"linker={sanitizing}", "-C", f"link-arg={SANITIZED[0]}"]
+    by_sanitizing = ["-C", "debug-assertions", "-C", f"linker={sanitizing}", "-C", f"link-arg={SANITIZED[0]}"]
     for how, files, before, after, *compilers in (
         ("", IN_C, [c, *flags], end, c),
         ("", DAEMON, [c, "-std=c99", *STRICT], end, c),

@@ -1,6 +1,6 @@
 -- Capabilities: their first fault is one, one that goes across has none, and under `map` specifications it comes back.
-use Rattle.std.proofs.Common.{◌≡◌, ◌≢◌, ◌⊎◌, inl, inr, ℕ, ◌+◌, ◌<◌, ◌≤◌, List, length, get_or, Some, refl, sym, ap, ◌∙◌}
-use Rattle.std.proofs.Common.{arith}
+use Rattle.std.proofs.Common.{◌≡◌, ◌≢◌, ◌⊎◌, inl, inr, ℕ, ◌<◌, ◌≤◌, List, length, get_or, Some, refl, sym, ap, ◌∙◌}
+use Rattle.std.proofs.Common.{arith, rules}
 use Rattle.std.proofs.lemmas.Bool.{cases_lt}
 use Rattle.std.proofs.lemmas.List.{ext_get_or, get_or_past}
 use Rattle.virtiofs_acl.specs.AclLaws.{AreBytes}
@@ -8,16 +8,15 @@ use Rattle.virtiofs_acl.specs.Capability.{revision_of, IsRevision, HasSize, root
 use Rattle.virtiofs_acl.specs.Capability.{HasRoot, RootGoesAcross, HasRootFault, HasCapabilityFault, RootComesBack}
 use Rattle.virtiofs_acl.specs.CapabilityParts.{IsFaultOfAny}
 use Rattle.virtiofs_acl.specs.declared.errors.CapabilityError.{CapabilityError}
-use Rattle.virtiofs_acl.specs.declared.errors.CapabilityError.TheVariants.{TooShort, Revision, Length, NoId}
-use Rattle.virtiofs_acl.specs.declared.errors.CapabilityError.TheVariants.{Forbidden, RootMoves}
+use Rattle.virtiofs_acl.specs.declared.errors.CapabilityError.TheVariants.{TooShort, Revision, Length, NoId, Forbidden}
+use Rattle.virtiofs_acl.specs.declared.errors.CapabilityError.TheVariants.{RootMoves}
 use Rattle.virtiofs_map.specs.Build.{Accepted}
 use Rattle.virtiofs_map.specs.Mapping.{Becomes}
 use Rattle.virtiofs_map.specs.MappingLaws.{IsMappedBothWays, opposite}
 use Rattle.virtiofs_map.specs.declared.cmdline.IdMap.{IdMap}
 use Rattle.virtiofs_map.specs.declared.soft_idmap.entry.Direction.{Direction}
 use Rattle.virtiofs_acl.proofs.AclLawLemmas.{same_byte}
-use Rattle.virtiofs_map.proofs.ForCallers.{Becomes-one, Becomes-forbidden, LeadsBack-mapped}
-use Rattle.virtiofs_map.proofs.ForCallers.{KeepsGreatest-accepted}
+use Rattle.virtiofs_map.proofs.ForCallers.{Becomes-one, Becomes-forbidden, LeadsBack-mapped, KeepsGreatest-accepted}
 
 -- a fault of the value itself is one whatever the map is
 pub HasRootFault-any : (users : List IdMap) (direction : Direction) (value : List ℕ) (error : CapabilityError)
@@ -56,12 +55,7 @@ HasSize-revision revision size (inr (inr three)) = inr (inr three.0)
 
 -- past the end of a list is 0
 pub root_of-none : (value : List ℕ) → length value ≤ 20 → root_of value ≡ 0
-root_of-none value ends =
-    let a : get_or value 20 0 ≡ 0 = get_or_past value 20 0 (omega arith) in
-    let b : get_or value (20 + 1) 0 ≡ 0 = get_or_past value (20 + 1) 0 (omega arith) in
-    let c : get_or value (20 + 2) 0 ≡ 0 = get_or_past value (20 + 2) 0 (omega arith) in
-    let d : get_or value (20 + 2 + 1) 0 ≡ 0 = get_or_past value (20 + 2 + 1) 0 (omega arith) in
-    omega arith
+root_of-none value ends = search (rules, get_or_past)
 
 -- revisions 1 and 2 have no field
 no_field : (revision size : ℕ) → HasSize revision size → revision ≢ 3 → size ≤ 20
@@ -118,8 +112,7 @@ no_root_moves users direction value accepted (inr becomes) moves =
 -- a number becomes one number
 pub to_id : (users : List IdMap) (direction : Direction) (n root : ℕ) → Accepted users
     → Becomes users direction n (Some root) → root ≢ 4294967295 → ¬ Becomes users direction n (Some 4294967295)
-to_id users direction n root accepted becomes is_id none =
-    is_id (Becomes-one users direction n root 4294967295 accepted becomes none)
+to_id users direction n root accepted becomes is_id none = search (rules, Becomes-one)
 
 pub HasCapabilityFault-one : (users : List IdMap) (direction : Direction) (value : List ℕ)
     (error other : CapabilityError) → Accepted users → HasCapabilityFault users direction value error
@@ -190,9 +183,7 @@ pub HasRootFault-one : (users : List IdMap) (direction : Direction) (value : Lis
     → Accepted users → HasRootFault users direction value error → HasRootFault users direction value other
     → error ≡ other
 HasRootFault-one users direction value error other accepted first second =
-    HasCapabilityFault-one users direction value error other accepted
-    (HasCapabilityFault-root users direction value error first)
-    (HasCapabilityFault-root users direction value other second)
+    search (rules, HasCapabilityFault-one, HasCapabilityFault-root)
 
 pub HasRoot-no_fault : (users : List IdMap) (direction : Direction) (value : List ℕ) (error : CapabilityError)
     → Accepted users → HasRoot users direction value → ¬ HasRootFault users direction value error
@@ -200,11 +191,7 @@ HasRoot-no_fault users direction value TooShort accepted has fault = omega (arit
 HasRoot-no_fault users direction value (Revision revision) accepted has fault =
     fault.2 (rw fault.1 (HasSize-revision _ _ has.capability.sized.sized))
 HasRoot-no_fault users direction value Length accepted has fault = fault.2 has.capability.sized.sized
-HasRoot-no_fault users direction value NoId accepted has fault =
-    elim fault.1 [
-      | inl is ↦ has.capability.is_id is
-      | inr becomes ↦ has.to_id becomes
-    ]
+HasRoot-no_fault users direction value NoId accepted has fault = search rules
 HasRoot-no_fault users direction value Forbidden accepted has fault =
     Becomes-forbidden users direction (root_of value) has.root accepted has.becomes fault.1
 HasRoot-no_fault users direction value RootMoves accepted has fault = fault
@@ -250,12 +237,7 @@ goes_back users direction old new accepted becomes front goes mapped =
     let back = root_back users direction old new accepted becomes mapped in
     record {
       has_root = record {
-        capability = record {
-          sized = sized;
-          is_id = λ greatest. goes.has_root.capability.is_id
-              (Becomes-one users (opposite direction) 4294967295 (root_of old) 4294967295 accepted (rw greatest at back)
-              (KeepsGreatest-accepted users accepted (opposite direction)));
-        };
+        capability = search (rules, Becomes-one, KeepsGreatest-accepted);
         root = root_of old;
         becomes = back;
         to_id = λ becomes. goes.has_root.capability.is_id
@@ -271,13 +253,7 @@ goes_back users direction old new accepted becomes front goes mapped =
 -- the bytes of revision 3 that hold root
 byte_back : (old back : List ℕ) (place : ℕ) → IsSized old → AreBytes old → AreBytes back → length back ≡ length old
     → root_of back ≡ root_of old → 20 ≤ place → place < length back → get_or back place 0 ≡ get_or old place 0
-byte_back old back place sized old_bytes back_bytes size root from below =
-    let whole : length old ≡ 24 = long (length old) sized.sized (omega arith) in
-    same_byte old back 20 place old_bytes back_bytes (omega arith) size root from (omega arith) where
-      long : (n : ℕ) → HasSize (revision_of old) n → 20 < n → n ≡ 24
-      long n (inl one) more = absurd (omega (arith, one.1))
-      long n (inr (inl two)) more = absurd (omega (arith, two.1))
-      long n (inr (inr three)) more = three.1
+byte_back old back place sized old_bytes back_bytes size root from below = search (rules, same_byte)
 
 pub RootComesBack-mapped : (users : List IdMap) (direction : Direction) (old new : List ℕ) → Accepted users
     → AreBytes old → RootBecomes users direction old new → KeepsFront old new → RootGoesAcross users direction old
@@ -290,8 +266,5 @@ RootComesBack-mapped users direction old new accepted old_bytes becomes front go
       (root_back users direction old new accepted becomes mapped) in
       let size : length back ≡ length old = back_front.size ∙ front.size in
       ext_get_or 0 back old size (λ place below.
-      elim (cases_lt place 20) [
-        | inl in_front ↦ back_front.front place in_front ∙ front.front place in_front
-        | inr from ↦ byte_back old back place goes.has_root.capability.sized old_bytes back_bytes size root from below
-      ]);
+      search (rules, cases_lt, byte_back));
 }

@@ -1,5 +1,5 @@
 -- What a call answers that changes the ids in a value: where it is done, and where it is refused.
-use Rattle.std.proofs.Common.{ℕ, List, Ok, Err, refl}
+use Rattle.std.proofs.Common.{ℕ, List, Ok, Err, refl, rules}
 use Rattle.virtiofs_acl.specs.Acl.{GoesAcross, HasAclFault}
 use Rattle.virtiofs_acl.specs.AclLaws.{IsTranslated, AreBytes}
 use Rattle.virtiofs_acl.specs.Capability.{RootBecomes, KeepsFront, IsInRevision3, HasRoot, RootGoesAcross, HasRootFault}
@@ -10,8 +10,7 @@ use Rattle.virtiofs_acl.specs.declared.errors.CapabilityError.{CapabilityError}
 use Rattle.virtiofs_map.specs.Build.{Accepted}
 use Rattle.virtiofs_map.specs.declared.cmdline.IdMap.{IdMap}
 use Rattle.virtiofs_map.specs.declared.soft_idmap.entry.Direction.{Direction}
-use Rattle.virtiofs_acl.proofs.AclCapabilityLemmas.{HasRoot-no_fault, RootGoesAcross-no_fault}
-use Rattle.virtiofs_acl.proofs.AclCapabilityLemmas.{HasCapabilityFault-one}
+use Rattle.virtiofs_acl.proofs.AclCapabilityLemmas.{HasRoot-no_fault, RootGoesAcross-no_fault, HasCapabilityFault-one}
 use Rattle.virtiofs_acl.proofs.AclCapabilityLemmas.{HasRootFault-one, RootComesBack-mapped}
 use Rattle.virtiofs_acl.proofs.AclFaultLemmas.{GoesAcross-no_fault, HasAclFault-one}
 use Rattle.virtiofs_acl.proofs.AclLawLemmas.{ComesBack-mapped}
@@ -89,14 +88,7 @@ ChangesRoot-refused users direction value error accepted has = record {
 pub WritesRevision3-done : (users : List IdMap) (direction : Direction) (value written : List ℕ) → Accepted users
     → RootBecomes users direction value written → IsInRevision3 value written → HasRoot users direction value
     → WritesRevision3 users direction value written (Ok tt)
-WritesRevision3-done users direction value written accepted root same has = record {
-  root = root;
-  same = same;
-  accepted = has;
-  complete = λ _. refl;
-  refused = tt;
-  faulty = λ fault wrong. absurd (HasRoot-no_fault users direction value fault accepted has wrong);
-}
+WritesRevision3-done users direction value written accepted root same has = search (rules, HasRoot-no_fault)
 
 pub WritesRevision3-refused : (users : List IdMap) (direction : Direction) (value written : List ℕ)
     (error : CapabilityError) → Accepted users → HasRootFault users direction value error

@@ -1,5 +1,5 @@
 -- The first fault of a list: it is one, and a list that goes across has none.
-use Rattle.std.proofs.Common.{◌≡◌, ◌⊎◌, inl, inr, ℕ, ◌≤◌, List, refl, sym, ap, ◌∙◌, subst, arith}
+use Rattle.std.proofs.Common.{◌≡◌, ◌⊎◌, inl, inr, ℕ, ◌≤◌, List, refl, sym, ap, ◌∙◌, arith, rules}
 use Rattle.std.proofs.lemmas.Bool.{cases_order}
 use Rattle.virtiofs_acl.specs.Acl.{entry_count, tag_of, id_of, IsTag, HasId, IsWhole, IsSound, AllSound, GoesAcross}
 use Rattle.virtiofs_acl.specs.Acl.{IsEntryFault, IsFirstUnsound, IsFirstMerged, HasAclFault}
@@ -7,8 +7,7 @@ use Rattle.virtiofs_acl.specs.AclParts.{IsSizeFault, IsUnsoundBelow}
 use Rattle.virtiofs_acl.specs.declared.errors.AclError.{AclError}
 use Rattle.virtiofs_acl.specs.declared.errors.AclError.TheVariants.{TooShort, Version, Length, Room, Entry}
 use Rattle.virtiofs_acl.specs.declared.errors.EntryFault.{EntryFault}
-use Rattle.virtiofs_acl.specs.declared.errors.EntryFault.TheVariants.{UnknownTag, Permission, NoId, Forbidden}
-use Rattle.virtiofs_acl.specs.declared.errors.EntryFault.TheVariants.{Merges}
+use Rattle.virtiofs_acl.specs.declared.errors.EntryFault.TheVariants.{UnknownTag, Permission, NoId, Forbidden, Merges}
 use Rattle.virtiofs_map.specs.Build.{Accepted}
 use Rattle.virtiofs_map.specs.declared.cmdline.IdMap.{IdMap}
 use Rattle.virtiofs_map.specs.declared.soft_idmap.entry.Direction.{Direction}
@@ -58,11 +57,7 @@ IsSound-no_fault users groups direction value k UnknownTag users_accepted groups
     wrong sound.known
 IsSound-no_fault users groups direction value k Permission users_accepted groups_accepted sound wrong =
     omega (arith, wrong.1, sound.permitted)
-IsSound-no_fault users groups direction value k NoId users_accepted groups_accepted sound wrong =
-    elim wrong.2 [
-      | inl is ↦ sound.is_id wrong.0 is
-      | inr becomes ↦ sound.to_id wrong.0 becomes
-    ]
+IsSound-no_fault users groups direction value k NoId users_accepted groups_accepted sound wrong = search rules
 IsSound-no_fault users groups direction value k Forbidden users_accepted groups_accepted sound wrong =
     Becomes-forbidden _ direction (id_of value k) (sound.goes wrong.0).0
     (Accepted-for users groups (tag_of value k) users_accepted groups_accepted) (sound.goes wrong.0).1 wrong.3
@@ -141,8 +136,7 @@ unsound_sound : (users groups : List IdMap) (direction : Direction) (room : ℕ)
     (fault : EntryFault) → Accepted users → Accepted groups → IsFirstUnsound users groups direction room value k fault
     → ¬ AllSound users groups direction room value
 unsound_sound users groups direction room value k fault users_accepted groups_accepted first sound =
-    IsSound-no_fault users groups direction value k fault users_accepted groups_accepted (sound.sound k first.is_entry)
-    first.wrong
+    search (rules, IsSound-no_fault)
 
 pub GoesAcross-no_fault : (users groups : List IdMap) (direction : Direction) (room : ℕ) (value : List ℕ)
     (error : AclError) → Accepted users → Accepted groups → GoesAcross users groups direction room value
@@ -169,18 +163,9 @@ first_unsound_one : (users groups : List IdMap) (direction : Direction) (room : 
     → IsFirstUnsound users groups direction room value k other → Entry j fault ≡ Entry k other
 first_unsound_one users groups direction room value j k fault other users_accepted groups_accepted first second =
     elim (cases_order j k) [
-      | inl same ↦
-          let here : IsEntryFault users groups direction value k fault =
-          subst (λ (n : ℕ). IsEntryFault users groups direction value n fault) same first.wrong in
-          let is : fault ≡ other =
-          IsEntryFault-one users groups direction value k fault other users_accepted groups_accepted here second.wrong in
-          cc
-      | inr (inl before) ↦ absurd
-          (IsSound-no_fault users groups direction value j fault users_accepted groups_accepted (second.before j before)
-          first.wrong)
-      | inr (inr after) ↦ absurd
-          (IsSound-no_fault users groups direction value k other users_accepted groups_accepted (first.before k after)
-          second.wrong)
+      | inl same ↦ search (rules, IsEntryFault-one)
+      | inr (inl before) ↦ search (rules, IsSound-no_fault)
+      | inr (inr after) ↦ search (rules, IsSound-no_fault)
     ]
 
 -- and so is the first that merges

@@ -1,6 +1,6 @@
 -- A list whose ids `map` specifications cover comes back as it was.
 use Rattle.std.proofs.Common.{◌≡◌, ◌≢◌, ◌⊎◌, inl, inr, ℕ, ◌+◌, ◌-◌, ◌*◌, ◌/◌, ◌%◌, ◌<◌, ◌≤◌, List, length, get_or, Some}
-use Rattle.std.proofs.Common.{sym, ap, ◌∙◌, subst, arith, Fits, w8}
+use Rattle.std.proofs.Common.{sym, ap, ◌∙◌, arith, Fits, w8, rules}
 use Rattle.std.proofs.lemmas.Bool.{cases_lt, cases_eq}
 use Rattle.std.proofs.lemmas.Grind.{get_or_default_zero}
 use Rattle.std.proofs.lemmas.List.{ext_get_or}
@@ -30,15 +30,11 @@ header_byte value count k place from below byte = omega (arith, byte.after, byte
 
 IsTranslated-tag : (users groups : List IdMap) (direction : Direction) (old new : List ℕ) (k : ℕ)
     → IsTranslated users groups direction old new → tag_of new k ≡ tag_of old k
-IsTranslated-tag users groups direction old new k translated =
-    same_two old new (4 + 8 * k) (translated.rest.rest (4 + 8 * k) (header_byte old _ k _ (omega arith) (omega arith)))
-    (translated.rest.rest (4 + 8 * k + 1) (header_byte old _ k _ (omega arith) (omega arith)))
+IsTranslated-tag users groups direction old new k translated = search (rules, same_two, header_byte)
 
 IsTranslated-permissions : (users groups : List IdMap) (direction : Direction) (old new : List ℕ) (k : ℕ)
     → IsTranslated users groups direction old new → permissions_of new k ≡ permissions_of old k
-IsTranslated-permissions users groups direction old new k translated =
-    same_two old new (6 + 8 * k) (translated.rest.rest (6 + 8 * k) (header_byte old _ k _ (omega arith) (omega arith)))
-    (translated.rest.rest (6 + 8 * k + 1) (header_byte old _ k _ (omega arith) (omega arith)))
+IsTranslated-permissions users groups direction old new k translated = search (rules, same_two, header_byte)
 
 -- each id becomes what its specifications make of it
 IsTranslated-becomes : (users groups : List IdMap) (direction : Direction) (old new : List ℕ) (k : ℕ)
@@ -159,10 +155,7 @@ one_four a b c d e f g h al bl cl dl el fl gl hl same = (omega arith, omega arit
 
 -- what fits in a byte is a byte
 pub are_bytes : (value : List ℕ) → ((k : ℕ) → Fits w8 (get_or value k 0)) → AreBytes value
-are_bytes value fits = λ k d below.
-    let same = get_or_default_zero value k d below in
-    let fit = fits k in
-    omega (arith, same, fit)
+are_bytes value fits = search (rules, get_or_default_zero)
 
 byte_below : (value : List ℕ) (k : ℕ) → AreBytes value → k < length value → get_or value k 0 < 256
 byte_below value k bytes below = bytes k 0 below
@@ -172,72 +165,21 @@ pub same_byte : (old back : List ℕ) (first place : ℕ) → AreBytes old → A
     → length back ≡ length old → four_bytes back first ≡ four_bytes old first → first ≤ place → place < first + 4
     → get_or back place 0 ≡ get_or old place 0
 same_byte old back first place old_bytes back_bytes within size same from below =
-    let parts =
-    one_four (get_or back first 0) (get_or back (first + 1) 0) (get_or back (first + 2) 0)
-    (get_or back (first + 2 + 1) 0) (get_or old first 0) (get_or old (first + 1) 0) (get_or old (first + 2) 0)
-    (get_or old (first + 2 + 1) 0) (byte_below back _ back_bytes (omega arith))
-    (byte_below back _ back_bytes (omega arith)) (byte_below back _ back_bytes (omega arith))
-    (byte_below back _ back_bytes (omega arith)) (byte_below old _ old_bytes (omega arith))
-    (byte_below old _ old_bytes (omega arith)) (byte_below old _ old_bytes (omega arith))
-    (byte_below old _ old_bytes (omega arith)) same in
-    elim (cases_eq place first) [
-      | inl is ↦ rw is parts.0
-      | inr one ↦
-          elim (cases_eq place (first + 1)) [
-            | inl is ↦ rw is parts.1
-            | inr two ↦
-                elim (cases_eq place (first + 2)) [
-                  | inl is ↦ rw is parts.2
-                  | inr three ↦ let is : place ≡ first + 2 + 1 = omega arith in rw is parts.3
-                ]
-          ]
-    ]
+    search (rules, one_four, byte_below, cases_eq)
 
 -- a byte is one of an id or not
 byte_cases : (value : List ℕ) (count place : ℕ) → IsIdByte value count place ⊎ (¬ IsIdByte value count place)
 byte_cases value count place =
-    elim (cases_lt place 8) [
-      | inl below ↦ inr (λ byte. omega (arith, byte.after))
-      | inr from ↦
-          elim (cases_lt ((place - 8) / 8) count) [
-            | inl is_entry ↦
-                elim (cases_lt ((place - 8) % 8) 4) [
-                  | inl inside ↦ in_entry (cases_eq (tag_of value ((place - 8) / 8)) 2)
-                      (cases_eq (tag_of value ((place - 8) / 8)) 8) from is_entry inside
-                  | inr outside ↦ inr (λ byte. omega (arith, byte.after, byte.before))
-                ]
-            | inr past ↦ inr (λ byte. omega (arith, byte.after, byte.before, byte.is_entry))
-          ]
-    ] where
+    search (rules, cases_lt, in_entry, cases_eq) where
       here : (byte : IsIdByte value count place) → byte.entry ≡ (place - 8) / 8
       here byte = omega (arith, byte.after, byte.before)
 
       in_entry : (tag_of value ((place - 8) / 8) ≡ 2) ⊎ (tag_of value ((place - 8) / 8) ≢ 2)
           → (tag_of value ((place - 8) / 8) ≡ 8) ⊎ (tag_of value ((place - 8) / 8) ≢ 8) → 8 ≤ place
           → (place - 8) / 8 < count → (place - 8) % 8 < 4 → IsIdByte value count place ⊎ (¬ IsIdByte value count place)
-      in_entry (inl user) other from is_entry inside =
-          inl (record {
-            entry = (place - 8) / 8;
-            is_entry = is_entry;
-            has_id = inl user;
-            after = omega arith;
-            before =
-                omega arith;
-          })
-      in_entry (inr user) (inl group) from is_entry inside =
-          inl (record {
-            entry = (place - 8) / 8;
-            is_entry = is_entry;
-            has_id = inr group;
-            after = omega arith;
-            before =
-                omega arith;
-          })
-      in_entry (inr user) (inr group) from is_entry inside =
-          inr (λ byte.
-          let tag : HasId (tag_of value ((place - 8) / 8)) =
-          subst (λ (k : ℕ). HasId (tag_of value k)) (here byte) byte.has_id in
-          elim tag [ inl two ↦ user two | inr eight ↦ group eight ])
+      in_entry (inl user) other from is_entry inside = search rules
+      in_entry (inr user) (inl group) from is_entry inside = search rules
+      in_entry (inr user) (inr group) from is_entry inside = search (rules, here)
 
 -- the id of an entry comes back
 same_id : (users groups : List IdMap) (direction : Direction) (old new back : List ℕ) (k : ℕ) → Accepted users
@@ -251,9 +193,7 @@ same_id users groups direction old new back k users_accepted groups_accepted tra
     (Some (id_of back k)) =
     rw tag at (IsTranslated-becomes users groups (opposite direction) new back k returned (rw count below)
     (rw tag has_id)) in
-    Becomes-one (specs_for users groups (tag_of old k)) (opposite direction) (id_of new k) (id_of back k) (id_of old k)
-    (Accepted-for users groups (tag_of old k) users_accepted groups_accepted) there
-    (leads_back users groups direction old new k users_accepted groups_accepted translated mapped below has_id)
+    search (rules, Becomes-one, Accepted-for, leads_back)
 
 bytes_back : (users groups : List IdMap) (direction : Direction) (old new back : List ℕ) (place : ℕ) → Accepted users
     → Accepted groups → IsWhole old → AreBytes old → AreBytes back → IsTranslated users groups direction old new

@@ -1,7 +1,7 @@
 -- Entries that would merge: what stands in the room, in what order, and why neighbours are enough.
 use Rattle.std.proofs.Common.{◌≡◌, ◌≢◌, ◌⊎◌, inl, inr, ℕ, ◌+◌, ◌-◌, ◌*◌, ◌<◌, ◌≤◌, List, [], ◌∷◌, ◌++◌, length, get_or}
-use Rattle.std.proofs.Common.{All, Contains, IsPermutation, Option, Some, None, IsSomeAnd, IfSome, IfNone, true, false}
-use Rattle.std.proofs.Common.{cond, eqb, sym, ap, ◌∙◌, subst, arith}
+use Rattle.std.proofs.Common.{All, Contains, IsPermutation, Option, Some, None, IsSomeAnd, IfSome, IfNone, false, sym}
+use Rattle.std.proofs.Common.{ap, ◌∙◌, subst, arith, rules}
 use Rattle.std.specs.Cmp.{IsTotalOrder}
 use Rattle.std.specs.Ordering.{nat_cmp, ordering_then, is_lt}
 use Rattle.std.specs.List.Sorted.{IsSorted}
@@ -28,32 +28,17 @@ use Rattle.virtiofs_map.proofs.ForCallers.{Becomes-one}
 -- the specifications for an id are accepted
 pub Accepted-for : (users groups : List IdMap) (tag : ℕ) → Accepted users → Accepted groups
     → Accepted (specs_for users groups tag)
-Accepted-for users groups tag users_accepted groups_accepted =
-    elim (eqb tag 2) as (λ b. Accepted (cond b users groups)) [ true ↦ users_accepted | false ↦ groups_accepted ]
+Accepted-for users groups tag users_accepted groups_accepted = search rules
 
 IsPlaced-more : (users groups : List IdMap) (direction : Direction) (value : List ℕ) (count : ℕ) (one : EntryRoom)
     → IsPlaced users groups direction value count one → IsPlaced users groups direction value (count + 1) one
-IsPlaced-more users groups direction value count one placed =
-    record {
-      is_entry = omega (arith, placed.is_entry);
-      has_id = placed.has_id;
-      tag = placed.tag;
-      becomes =
-          placed.becomes;
-    }
+IsPlaced-more users groups direction value count one placed = search rules
 
 pub Places-pass : (users groups : List IdMap) (direction : Direction) (value : List ℕ) (count : ℕ)
     (placed : List EntryRoom) → Places users groups direction value count placed → ¬ HasId (tag_of value count)
     → Places users groups direction value (count + 1) placed
-Places-pass users groups direction value count placed places without = record {
-  right = All-weaker (IsPlaced users groups direction value count) (IsPlaced users groups direction value (count + 1))
-      (IsPlaced-more users groups direction value count) placed places.right;
-  each = λ k below has_id.
-      elim (cases_eq k count) [
-        | inl same ↦ absurd (without (rw same at has_id))
-        | inr other ↦ places.each k (omega arith) has_id
-      ];
-}
+Places-pass users groups direction value count placed places without =
+    search (rules, All-weaker, IsPlaced-more, cases_eq)
 
 pub Places-push : (users groups : List IdMap) (direction : Direction) (value : List ℕ) (count : ℕ)
     (placed : List EntryRoom) (one : EntryRoom) → Places users groups direction value count placed → one.entry ≡ count
@@ -87,13 +72,11 @@ Places-permutation users groups direction value count placed sorted permutation 
 -- whatever ids are looked up in, the room holds entries of the value alone
 pub entries-more : (count : ℕ) (placed : List EntryRoom) → All (λ one. one.entry < count) placed
     → All (λ one. one.entry < count + 1) placed
-entries-more count placed below =
-    All-weaker (λ one. one.entry < count) (λ one. one.entry < count + 1) (λ one less. omega arith) placed below
+entries-more count placed below = search (rules, All-weaker)
 
 pub entries-push : (count : ℕ) (placed : List EntryRoom) (one : EntryRoom) → All (λ one. one.entry < count) placed
     → one.entry < count + 1 → All (λ one. one.entry < count + 1) (placed ++ one ∷ [])
-entries-push count placed one below here =
-    All-push (λ one. one.entry < count + 1) placed one (entries-more count placed below) here
+entries-push count placed one below here = search (rules, All-push, entries-more)
 
 pub in_value : (value : List ℕ) (count : ℕ) (placed sorted : List EntryRoom) → 4 + 8 * count ≤ length value
     → IsPermutation placed sorted → All (λ one. one.entry < count) placed
@@ -114,22 +97,7 @@ room_cmp-total =
     (then_total (on_total (λ a. a.id) nat_cmp_total) (on_total (λ a. a.entry) nat_cmp_total))
 
 IsNotAfter-from : (a b : EntryRoom) → is_lt (room_cmp b a) ≡ false → IsNotAfter a b
-IsNotAfter-from a b not_below =
-    elim (cases_order a.tag b.tag) [
-      | inl tag ↦
-          elim (cases_order a.id b.id) [
-            | inl id ↦
-                elim (cases_order a.entry b.entry) [
-                  | inl entry ↦ inr (inr (tag, id, omega arith))
-                  | inr (inl entry) ↦ inr (inr (tag, id, omega arith))
-                  | inr (inr entry) ↦ absurd (grind (arith, nat_tests))
-                ]
-            | inr (inl id) ↦ inr (inl (tag, id))
-            | inr (inr id) ↦ absurd (grind (arith, nat_tests))
-          ]
-      | inr (inl tag) ↦ inl tag
-      | inr (inr tag) ↦ absurd (grind (arith, nat_tests))
-    ]
+IsNotAfter-from a b not_below = search (rules, cases_order, nat_tests)
 
 pub AreInOrder-sorted : (placed : List EntryRoom) → IsSorted room_cmp placed → AreInOrder placed
 AreInOrder-sorted placed up i j d from below =
@@ -154,15 +122,7 @@ between one middle other (inr (inr a)) (inr (inr b)) tag id = (b.0, b.1, b.2)
 -- so it clashes with the second, or the first clashes with it
 clash_between : (value : List ℕ) (one middle other : EntryRoom) → IsNotAfter one middle → IsNotAfter middle other
     → Clashes value one other → Clashes value middle other ⊎ (Clashes value one middle × (middle.entry ≤ other.entry))
-clash_between value one middle other before after clashes =
-    let (tag, id, entry) = between one middle other before after clashes.tag clashes.id in
-    elim (cases_eq (id_of value middle.entry) (id_of value other.entry)) [
-      | inl same ↦ inr (
-        record { tag = clashes.tag ∙ sym tag; id = clashes.id ∙ sym id; differ = λ e. clashes.differ (e ∙ same) },
-        entry,
-      )
-      | inr differ ↦ inl (record { tag = tag; id = id; differ = differ })
-    ]
+clash_between value one middle other before after clashes = search (rules, between, cases_eq)
 
 -- what is no greater than a number is no greater than a greater one
 no_greater : (found : Option ℕ) (a b : ℕ) → a ≤ b → IsSomeAnd found (λ k. k ≤ a) → IsSomeAnd found (λ k. k ≤ b)
@@ -186,11 +146,7 @@ MeetsClashes-more value placed i e least found order from below meets kept near 
       | inr other ↦ kept (get_or placed b d).entry (meets a b d before (omega arith) within clashes)
     ] where
       apart : (a : ℕ) → a < i → Clashes value (get_or placed a e) (get_or placed (i - 1) e) → a < i - 1
-      apart a before first =
-          elim (cases_eq a (i - 1)) [
-            | inl same ↦ absurd (first.differ (ap (λ (k : ℕ). id_of value (get_or placed k e).entry) same))
-            | inr other ↦ omega arith
-          ]
+      apart a before first = search (rules, cases_eq)
 
       at_end : (a : ℕ) → a < i → Clashes value (get_or placed a e) (get_or placed i e)
           → IsSomeAnd found (λ k. k ≤ (get_or placed i e).entry)
@@ -206,20 +162,7 @@ MeetsClashes-more value placed i e least found order from below meets kept near 
 pub HasClash-here : (value : List ℕ) (placed : List EntryRoom) (i k : ℕ) (e : EntryRoom) → AreInOrder placed → 1 ≤ i
     → i < length placed → Clashes value (get_or placed (i - 1) e) (get_or placed i e) → k ≡ (get_or placed i e).entry
     → HasClash value placed k
-HasClash-here value placed i k e order from below clashes is = record {
-  one = get_or placed (i - 1) e;
-  other = get_or placed i e;
-  listed = Contains-get_or placed (i - 1) e (omega arith);
-  listed_too = Contains-get_or placed i e below;
-  clashes = clashes;
-  order = in_turn (order (i - 1) i e (omega arith) below);
-  is = sym is;
-} where
-  in_turn : IsNotAfter (get_or placed (i - 1) e) (get_or placed i e)
-      → (get_or placed (i - 1) e).entry ≤ (get_or placed i e).entry
-  in_turn (inl a) = absurd (omega (arith, clashes.tag))
-  in_turn (inr (inl a)) = absurd (omega (arith, clashes.id))
-  in_turn (inr (inr a)) = a.2
+HasClash-here value placed i k e order from below clashes is = search (rules, Contains-get_or)
 
 -- ---- what was found is the first entry that merges
 

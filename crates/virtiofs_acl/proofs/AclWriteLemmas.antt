@@ -1,6 +1,6 @@
 -- Writing ids one after the other: what stays readable, and what the whole comes to.
 use Rattle.std.proofs.Common.{◌≡◌, ◌⊎◌, inl, inr, ℕ, ◌+◌, ◌*◌, ◌<◌, ◌≤◌, List, length, get_or, Some, sym, ◌∙◌, subst}
-use Rattle.std.proofs.Common.{arith}
+use Rattle.std.proofs.Common.{arith, rules}
 use Rattle.std.proofs.lemmas.Bool.{cases_lt, cases_eq}
 use Rattle.virtiofs_acl.specs.Acl.{entry_count, tag_of, id_of, HasId, specs_for, IsIdByte}
 use Rattle.virtiofs_acl.specs.AclLaws.{IsTranslated}
@@ -17,14 +17,7 @@ same_two old new place low high = omega arith
 
 pub same_four : (old new : List ℕ) (place : ℕ) → ((k : ℕ) → k < 4 → get_or new (place + k) 0 ≡ get_or old (place + k) 0)
     → four_bytes new place ≡ four_bytes old place
-same_four old new place same =
-    let a : get_or new place 0 ≡ get_or old place 0 =
-    subst (λ (n : ℕ). get_or new n 0 ≡ get_or old n 0) (omega arith) (same 0 (omega arith)) in
-    let b : get_or new (place + 1) 0 ≡ get_or old (place + 1) 0 = same 1 (omega arith) in
-    let c : get_or new (place + 2) 0 ≡ get_or old (place + 2) 0 = same 2 (omega arith) in
-    let d : get_or new (place + 2 + 1) 0 ≡ get_or old (place + 2 + 1) 0 =
-    subst (λ (n : ℕ). get_or new n 0 ≡ get_or old n 0) (omega arith) (same 3 (omega arith)) in
-    omega arith
+same_four old new place same = search rules
 
 -- no byte from an entry that is still to be written is one of an id that was
 still_there : (value : List ℕ) (count place : ℕ) → 4 + 8 * count ≤ place → ¬ IsIdByte value count place
@@ -32,9 +25,7 @@ still_there value count place from byte = omega (arith, byte.is_entry, byte.befo
 
 pub IsWritten-tag : (users groups : List IdMap) (direction : Direction) (old new : List ℕ) (k : ℕ)
     → IsWritten users groups direction old new k → tag_of new k ≡ tag_of old k
-IsWritten-tag users groups direction old new k written =
-    same_two old new (4 + 8 * k) (written.rest (4 + 8 * k) (still_there old k _ (omega arith)))
-    (written.rest (4 + 8 * k + 1) (still_there old k _ (omega arith)))
+IsWritten-tag users groups direction old new k written = search (rules, same_two, still_there)
 
 pub IsWritten-id : (users groups : List IdMap) (direction : Direction) (old new : List ℕ) (k : ℕ)
     → IsWritten users groups direction old new k → id_of new k ≡ id_of old k
@@ -43,28 +34,12 @@ IsWritten-id users groups direction old new k written =
 
 -- a byte of an id below k is one below k + 1
 IsIdByte-more : (value : List ℕ) (k place : ℕ) → IsIdByte value k place → IsIdByte value (k + 1) place
-IsIdByte-more value k place byte =
-    record {
-      entry = byte.entry;
-      is_entry = omega (arith, byte.is_entry);
-      has_id = byte.has_id;
-      after =
-          byte.after;
-      before = byte.before;
-    }
+IsIdByte-more value k place byte = search rules
 
 pub IsWritten-pass : (users groups : List IdMap) (direction : Direction) (old new : List ℕ) (k : ℕ)
     → IsWritten users groups direction old new k → ¬ HasId (tag_of old k)
     → IsWritten users groups direction old new (k + 1)
-IsWritten-pass users groups direction old new k written without = record {
-  size = written.size;
-  written = λ j below has_id.
-      elim (cases_eq j k) [
-        | inl same ↦ absurd (without (rw same at has_id))
-        | inr other ↦ written.written j (omega arith) has_id
-      ];
-  rest = λ place no_id. written.rest place (λ byte. no_id (IsIdByte-more old k place byte));
-}
+IsWritten-pass users groups direction old new k written without = search (rules, cases_eq, IsIdByte-more)
 
 pub IsWritten-more : (users groups : List IdMap) (direction : Direction) (old now new : List ℕ) (k n : ℕ)
     → IsWritten users groups direction old now k → HasId (tag_of old k) → length new ≡ length now
@@ -96,15 +71,7 @@ IsWritten-more users groups direction old now new k n written has_id size number
         | inl below ↦ inl below
         | inr from ↦
             elim (cases_lt place (8 + 8 * k + 4)) [
-              | inl inside ↦ absurd
-                  (no_id (record {
-                    entry = k;
-                    is_entry = omega arith;
-                    has_id = has_id;
-                    after = from;
-                    before =
-                        omega arith;
-                  }))
+              | inl inside ↦ search (rules, before)
               | inr past ↦ inr past
             ]
       ]

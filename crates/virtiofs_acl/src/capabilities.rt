@@ -28,6 +28,7 @@ fn size_of(revision: u8) -> Option<usize>
 }
 
 /// The id of root, which is 0 where the value has no field for it.
+#[tactic(auto, using(crate::proofs::AclLawLemmas::are_bytes))]
 fn root_of(value: &[u8]) -> Result<u32, CapabilityError>
     ensures root { IfOk result (λ root. root ≡ root_of value.now) }
     ensures capability { OnOk result (IsCapability value.now) }

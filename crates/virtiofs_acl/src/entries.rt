@@ -41,6 +41,7 @@ pub(crate) fn entry_at(value: &[u8], k: usize) -> Entry
 }
 
 /// How many entries a value has; they fit into the room that is lent.
+#[tactic(auto, using(crate::proofs::AclLawLemmas::are_bytes))]
 pub(crate) fn count_entries(value: &[u8], room: usize) -> Result<usize, AclError>
     ensures count { IfOk result (λ count. count ≡ entry_count value.now) }
     ensures whole { OnOk result (IsWhole value.now) }

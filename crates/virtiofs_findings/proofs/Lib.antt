@@ -12,6 +12,7 @@ mod MeetingLemmas
 mod NameLemmas
 mod NarrowerLemmas
 mod NamespaceLemmas
+mod PassingLemmas
 mod RangeLemmas
 mod RefusalLemmas
 mod ReportLemmas

@@ -6,16 +6,13 @@ use Rattle.std.proofs.lemmas.Bool.{cases_eq, ltb-true}
 use Rattle.std.proofs.lemmas.List.Elements.{Contains-append_left, Contains-append_right, Contains-push, Contains-push_cases, All-append}
 use Rattle.virtiofs_map.specs.Audit.{Decides, IsLost, IsStray, IsSeen, IsShared}
 use Rattle.virtiofs_map.specs.Names.{fits, first}
-use Rattle.virtiofs_map.specs.Rule.{MappingRule, Okay}
-use Rattle.virtiofs_map.specs.RuleText.{All, RuleAsWritten, SaysRules, Typed}
-use Rattle.std.specs.Prelude.{codes}
-use Rattle.std.specs.Str.{chars}
+use Rattle.virtiofs_map.specs.Rule.{MappingRule}
 use Rattle.virtiofs_map.specs.declared.xattrmap.scopes.Side.{Side}
 use Rattle.std.specs.List.{position_or_len}
 use Rattle.virtiofs_findings.specs.Lists.{Adds, AreRising}
 use Rattle.virtiofs_findings.proofs.ListLemmas.{in_three, in_four}
 use Rattle.virtiofs_findings.specs.NameFindings.{DecidesWritten, FindsIdle, FindsLeast, FindsNames, FindsUnruled, idle_rule, name_found}
-use Rattle.virtiofs_findings.specs.PairFindings.{FindsNamesBetween, pair_name_found, passes_all}
+use Rattle.virtiofs_findings.specs.PairFindings.{FindsNamesBetween, pair_name_found}
 use Rattle.virtiofs_findings.specs.NameParts.{DecidesFrom}
 use Rattle.virtiofs_findings.specs.declared.finding.Finding.{Finding}
 use Rattle.virtiofs_findings.specs.declared.finding.Kind.TheVariants.{NotListed, ListedElsewhere, ShownToOther, NameOfBoth}
@@ -198,38 +195,3 @@ between_found (Ok x) number number_2 one other a b c d seen back shared = record
   added = in_three a seen.more back.more shared.more b c d seen.added back.added shared.added;
 }
 between_found (Err f) number number_2 one other a b c d seen back shared = tt
-
--- the text of the rule that passes each name
-pub says_passes_all : SaysRules (chars (codes ":ok:all:::")) passes_all
-unfolding chars
-says_passes_all = (
-  passing_rule ∷ [],
-  record {
-    front = [];
-    last = passing_rule;
-    rest = codes ":ok:all:::";
-    are = refl;
-    before = refl;
-    ends = record {
-      delimiter = 58;
-      body = codes "ok:all:::";
-      opens = (refl, refl);
-      fields = (
-        codes "all:::",
-        refl,
-        (omega arith, (omega arith, tt)),
-        (
-          codes "::",
-          refl,
-          (omega arith, (omega arith, (omega arith, tt))),
-          (codes ":", refl, tt, ([], refl, tt, refl)),
-        ),
-      );
-      no_nul = (tt, tt);
-    };
-  },
-  refl,
-)
-  where
-    passing_rule : RuleAsWritten
-    passing_rule = record { head = Typed Okay All; key = []; prepend = [] }

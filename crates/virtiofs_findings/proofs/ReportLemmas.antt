@@ -1,5 +1,5 @@
 -- What is found of guests.
-use Rattle.std.proofs.Common.{◌≡◌, ◌≢◌, ◌↔◌, ◌∙◌, ℕ, ◌+◌, ◌<◌, ◌≤◌, Bool, IsTrue, List, [], ◌∷◌, ◌++◌, length, take, get_or}
+use Rattle.std.proofs.Common.{◌≡◌, ◌∙◌, ℕ, ◌+◌, ◌<◌, ◌≤◌, Bool, List, [], ◌∷◌, ◌++◌, length, take, get_or}
 use Rattle.std.proofs.Common.{Option, Result, Ok, Err, OnOk, refl, sym, ap, subst, arith, append_assoc, append-nil}
 use Rattle.std.proofs.lemmas.List.{take_all, length-take-le}
 use Rattle.virtiofs_findings.proofs.ListLemmas.{in_two, more_at}
@@ -8,7 +8,7 @@ use Rattle.virtiofs_findings.specs.IdFindings.{FindsIds, FindsKept}
 use Rattle.virtiofs_findings.specs.Lists.{Adds}
 use Rattle.virtiofs_findings.specs.AclNames.{FindsAcl}
 use Rattle.virtiofs_findings.specs.Report.{FindsGuest, FindsKind, FindsIf, FindsRoot, FindsNamesOf, FindsWithEarlier, Finds}
-use Rattle.virtiofs_findings.specs.Report.{range_found, other_found, ids_found, start_found}
+use Rattle.virtiofs_findings.specs.Report.{range_found, other_found, ids_found, renumbers, start_found}
 use Rattle.virtiofs_findings.specs.declared.finding.Finding.{Finding}
 use Rattle.virtiofs_findings.specs.declared.finding.Kind.TheVariants.{NotBack, Lacking, Kept}
 use Rattle.virtiofs_findings.specs.declared.ids.found.IdFindings.{IdFindings}
@@ -70,7 +70,7 @@ adds_all Tells sets place before after over adds =
 pub kind_found : {A V E : Type 0} (r : Result V E) (number : ℕ) (kind : IdKind) (set : IdSetUp A)
     (ids : IdFindings A) (kept : Option (IdsFound A)) (in_namespace : Bool) (a b c d e f : List (Finding A))
     → FindsIds set.map set.ranges.items ids → FindsKept set.map set.ranges.items kept
-    → (IsTrue in_namespace ↔ (set.ranges.items ≢ []))
+    → in_namespace ≡ renumbers set.ranges.items
     → b ≡ a ++ range_found number kind set.fault → c ≡ b ++ other_found number kind set.differs
     → d ≡ c ++ ids_found number kind in_namespace NotBack ids.astray
     → e ≡ d ++ ids_found number kind in_namespace Lacking ids.lacking

@@ -7,6 +7,8 @@ use Rattle.virtiofs_findings.specs.declared.alike.Alike.{Alike}
 use Rattle.virtiofs_findings.specs.declared.guest.Guest.{Guest}
 use Rattle.virtiofs_host.specs.declared.runner.Runner.{Runner}
 use Rattle.virtiofs_options.specs.GuestOptions.{has_xattrs}
+use Rattle.virtiofs_options.specs.declared.starter.Starter.{Starter}
+use Rattle.virtiofs_options.specs.declared.starter.Starter.TheVariants.{ByRoot, ByOther, InNamespace}
 
 -- the texts are the same, one by one
 abbrev pub are_same : List (Bor (List ℕ)) → List (Bor (List ℕ)) → Bool
@@ -23,6 +25,13 @@ abbrev pub are_both : Bool → Bool → Bool
 are_both true other = other
 are_both false other = not other
 
+-- the words before the daemon's say the same of both
+abbrev pub is_same_starter : Starter → Starter → Bool
+is_same_starter ByRoot ByRoot = true
+is_same_starter ByOther ByOther = true
+is_same_starter InNamespace InNamespace = true
+is_same_starter one other = false
+
 -- one runner, or none is said in both places
 abbrev pub is_same_runner : {A : Type 0} → Option (Bor (Runner A)) → Option (Bor (Runner A)) → Bool
 is_same_runner None None = true
@@ -38,7 +47,7 @@ have_same_texts guest other =
     && are_same guest.options.gid_map.items other.options.gid_map.items
     && is_same guest.options.xattrmap other.options.xattrmap
 
--- the guests have the same options and one runner, and the words before both say another user or do not
+-- the guests have the same options and one runner, and the words before both say the same
 abbrev pub have_same_options : {A : Type 0} → Guest A → Guest A → Bool
 have_same_options guest other =
     have_same_texts guest other
@@ -46,7 +55,7 @@ have_same_options guest other =
     && are_both guest.options.acl_flag other.options.acl_flag
     && are_both (has_xattrs guest.options) (has_xattrs other.options)
     && is_same guest.options.sandbox other.options.sandbox
-    && are_both guest.options.by_other other.options.by_other
+    && is_same_starter guest.options.starter other.options.starter
     && is_same_runner guest.runner other.runner
 
 -- the numbers of those guests that have the same options as one; the first guest has that number

@@ -65,9 +65,10 @@ TellsKept it = it.host ≡ it.guest
 abbrev pub FindsKept : {A : Type 0} → List IdMap → List UidMap → Option (IdsFound A) → Type 0
 FindsKept specs ranges = FindsAll (IsKept specs ranges) TellsKept
 
--- some id of the guest is that id of the host, outside the namespace of these ranges
+-- some id of the guest is that id of the host, outside the namespace of these ranges; 4294967295 is none
 abbrev pub ReachedOutside : List IdMap → List UidMap → ℕ → Type 0
-ReachedOutside specs ranges outside = (guest : ℕ) × GoesInto specs (StandsFor ranges outside) guest
+ReachedOutside specs ranges outside =
+    (outside < 4294967295) × ((guest : ℕ) × GoesInto specs (StandsFor ranges outside) guest)
 
 -- outside the first namespace, the id inside it is one of the host that the other guest reaches
 abbrev pub Meets : List UidMap → List IdMap → List UidMap → ℕ → Type 0

@@ -7,6 +7,7 @@ use Rattle.virtiofs_map.specs.Names.{client_answer, IsDenied, IsUnterminated, ho
 use Rattle.virtiofs_map.specs.Rule.{Bad, MappingRule}
 use Rattle.virtiofs_map.specs.declared.cmdline.IdMap.{IdMap}
 use Rattle.virtiofs_map.specs.declared.soft_idmap.entry.Direction.TheVariants.{GuestToHost, HostToGuest}
+use Rattle.virtiofs_options.specs.GuestOptions.{has_xattrs}
 use Rattle.virtiofs_findings.specs.Guests.{SetsUp}
 use Rattle.virtiofs_findings.specs.declared.guest.Guest.{Guest}
 use Rattle.virtiofs_findings.specs.declared.setup.IdSetUp.{IdSetUp}
@@ -64,8 +65,8 @@ pub record SameSet {A : Type 0} (given other : SetUp A) : Type 0 where
   pub names : BothOrNone SameRules given.names other.names
 
 -- what is not about ids or names is as it was: who runs the daemon, its namespace, and how it is kept apart; there are
--- rules where there were, access control lists are on only where they were, and extended attributes and security labels
--- are asked for where they were
+-- rules where there were, access control lists are on only where they were, extended attributes are on where they were, and
+-- security labels are asked for where they were
 pub record SameRest {A : Type 0} (given other : Guest A) : Type 0 where
   pub runner : other.runner ≡ given.runner
   pub users : other.options.uid_map.items ≡ given.options.uid_map.items
@@ -74,9 +75,9 @@ pub record SameRest {A : Type 0} (given other : Guest A) : Type 0 where
   pub rules : (given.options.xattrmap ≡ None) ↔ (other.options.xattrmap ≡ None)
   pub lists : IsTrue other.options.posix_acl → IsTrue given.options.posix_acl
   pub flag : IsTrue other.options.acl_flag → IsTrue given.options.acl_flag
-  pub xattr : other.options.xattr ≡ given.options.xattr
+  pub xattrs : has_xattrs other.options ≡ has_xattrs given.options
   pub label : other.options.security_label ≡ given.options.security_label
-  pub starter : other.options.by_other ≡ given.options.by_other
+  pub starter : other.options.starter ≡ given.options.starter
 
 -- under the other options the guest can do no more than under the given ones
 pub record IsNarrower {A : Type 0} (given other : Guest A) : Type 0 where

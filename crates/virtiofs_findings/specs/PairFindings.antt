@@ -2,7 +2,8 @@
 use Rattle.std.specs.Prelude.{◌≡◌, ℕ, true, false, if◌then◌else◌, List, [], ◌∷◌, ◌++◌, Option, Some, None, option_map}
 use Rattle.std.specs.Option.{option_or}
 use Rattle.virtiofs_map.specs.Audit.{IsSeen, IsShared}
-use Rattle.virtiofs_map.specs.Rule.{MappingRule, Okay}
+use Rattle.virtiofs_map.specs.Rule.{Bad, MappingRule, Okay}
+use Rattle.virtiofs_findings.specs.AclNames.{acl_bytes}
 use Rattle.virtiofs_findings.specs.IdFindings.{FindsMeeting}
 use Rattle.virtiofs_findings.specs.Lists.{listed}
 use Rattle.virtiofs_findings.specs.NameFindings.{FindsLeast}
@@ -10,7 +11,10 @@ use Rattle.virtiofs_findings.specs.declared.finding.Finding.{Finding}
 use Rattle.virtiofs_findings.specs.Findings.{of_pair}
 use Rattle.virtiofs_findings.specs.declared.finding.Evidence.TheVariants.{Ids, Name}
 use Rattle.virtiofs_findings.specs.declared.finding.Kind.{Kind}
+use Rattle.virtiofs_findings.specs.declared.names.acl.AclName.{AclName}
+use Rattle.virtiofs_findings.specs.declared.names.acl.AclName.TheVariants.{Access, Default}
 use Rattle.virtiofs_findings.specs.declared.names.found.LeastName.{LeastName}
+use Rattle.virtiofs_findings.specs.declared.pairs.Passing.{Passing}
 use Rattle.virtiofs_findings.specs.declared.finding.Kind.TheVariants.{IdOfBoth, ShownToOther, NameOfBoth}
 use Rattle.virtiofs_findings.specs.declared.ids.found.IdsFound.{IdsFound}
 use Rattle.virtiofs_findings.specs.declared.ids.kind.IdKind.{IdKind}
@@ -49,10 +53,25 @@ pub record FindsNamesBetween {A : Type 0} (number number_2 : ℕ) (one other : L
 abbrev pub passes_all : List MappingRule
 passes_all = record { kind = Okay; client = true; server = true; key = []; prepend = [] } ∷ []
 
--- the rules that the names of a guest meet: its own, or else those that pass all names, where all pass
-abbrev pub rules_met : {A : Type 0} → List MappingRule → SetUp A → Option (List MappingRule)
-rules_met all set =
-    option_or (option_map (λ it. it.map) set.names) (if set.passes then Some all else None)
+-- the rule that refuses the name of an access control list, and hides it
+abbrev pub refuses : AclName → MappingRule
+refuses name = record { kind = Bad; client = true; server = true; key = acl_bytes name; prepend = acl_bytes name }
+
+-- the rules that pass each other name as it is
+abbrev pub passes_others : List MappingRule
+passes_others = refuses Access ∷ refuses Default ∷ passes_all
+
+-- these two lists of rules
+pub record IsPassing {A : Type 0} (passing : Passing A) : Type 0 where
+  pub all : passing.all ≡ passes_all
+  pub others : passing.others ≡ passes_others
+
+-- the rules that the names of a guest meet: its own, or else, where extended attributes are on, those that pass all names,
+-- but for those of access control lists that are off
+abbrev pub rules_met : {A : Type 0} → SetUp A → Option (List MappingRule)
+rules_met set =
+    option_or (option_map (λ it. it.map) set.names)
+    (if set.passes then Some (if set.posix_acl then passes_all else passes_others) else None)
 
 -- what is found between two guests, in order
 pub record FindsPair {A : Type 0} (number number_2 : ℕ) (first second : SetUp A) (found : List (Finding A)) : Type
@@ -62,6 +81,5 @@ pub record FindsPair {A : Type 0} (number number_2 : ℕ) (first second : SetUp 
   pub of_names : List (Finding A)
   pub users : FindsBoth (FindsIdsOfBoth number number_2 Users) first.users second.users of_users
   pub groups : FindsBoth (FindsIdsOfBoth number number_2 Groups) first.groups second.groups of_groups
-  pub names : FindsBoth (FindsNamesBetween number number_2) (rules_met passes_all first) (rules_met passes_all second)
-      of_names
+  pub names : FindsBoth (FindsNamesBetween number number_2) (rules_met first) (rules_met second) of_names
   pub whole : found ≡ of_users ++ of_groups ++ of_names

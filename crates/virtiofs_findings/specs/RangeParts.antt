@@ -1,7 +1,8 @@
--- Parts of the search for a range that is at fault. Only private functions cite these words.
-use Rattle.std.specs.Prelude.{ℕ, List}
+-- Parts of the search for a range that is at fault, and of the comparison of ranges. Only private functions cite these
+-- words.
+use Rattle.std.specs.Prelude.{◌≡◌, ℕ, ◌+◌, List}
 use Rattle.virtiofs_map.specs.declared.idmap.UidMap.{UidMap}
-use Rattle.virtiofs_findings.specs.Ranges.{MeetsOneAt, MeetInside, MeetOutside}
+use Rattle.virtiofs_findings.specs.Ranges.{MeetsOneAt, MeetInside, MeetOutside, outside_of}
 use Rattle.virtiofs_findings.specs.declared.ids.ranges.RangeFault.{RangeFault}
 use Rattle.virtiofs_findings.specs.declared.ids.ranges.RangeFault.TheVariants.{Empty, Beyond, TooMany, PastPage, NotGiven, MeetsInside, MeetsOutside}
 
@@ -19,3 +20,9 @@ MeetsAs before range Beyond = ⊥
 MeetsAs before range TooMany = ⊥
 MeetsAs before range PastPage = ⊥
 MeetsAs before range NotGiven = ⊥
+
+-- both lists lead the first id of the range to the same id outside, and the one behind its last
+abbrev pub AgreeAround : List UidMap → List UidMap → UidMap → Type 0
+AgreeAround shown written range =
+    (outside_of shown range.inside_uid ≡ outside_of written range.inside_uid)
+    × (outside_of shown (range.inside_uid + range.count) ≡ outside_of written (range.inside_uid + range.count))

@@ -1,7 +1,7 @@
 -- The ranges of a daemon's namespace, and what is wrong with those of its options: the daemon gets no namespace with
 -- such a range.
-use Rattle.std.specs.Prelude.{◌≡◌, ◌⊎◌, ℕ, ◌+◌, ◌<◌, ◌≤◌, Bool, true, false, ◌==◌, ◌&&◌, if◌then◌else◌, List, [], ◌∷◌, ◌++◌, All, Contains}
-use Rattle.std.specs.Prelude.{codes, flat_map, length, nat_lt, take, slice_get, Option, Some, None, MatchOption, option_map}
+use Rattle.std.specs.Prelude.{◌≡◌, ◌⊎◌, ℕ, ◌+◌, ◌-◌, ◌<◌, ◌≤◌, Bool, true, false, ◌==◌, ◌&&◌, if◌then◌else◌, List, [], ◌∷◌, ◌++◌}
+use Rattle.std.specs.Prelude.{codes, find, flat_map, length, nat_le, nat_lt, take, slice_get, Option, Some, None, MatchOption, option_map}
 use Rattle.std.specs.Fmt.{decimal}
 use Rattle.std.specs.Option.{option_and_then, option_map_or}
 use Rattle.virtiofs_map.specs.Mapping.{InRange}
@@ -84,6 +84,11 @@ abbrev pub own_of : {A : Type 0} → Option (Bounds A) → ℕ
 own_of None = 0
 own_of (Some bounds) = bounds.own
 
+-- it can act as that one alone, where no namespace has others
+abbrev pub is_alone : {A : Type 0} → Option (Bounds A) → Bool
+is_alone None = false
+is_alone (Some bounds) = bounds.is_alone
+
 -- the range has each id of the host, under its number
 abbrev pub is_host : UidMap → Bool
 is_host range = range.inside_uid == 0 && range.outside_uid == 0 && range.count == 4294967295
@@ -104,16 +109,25 @@ set_up_ranges true own [] = alone own ∷ []
 set_up_ranges false own [] = []
 set_up_ranges sets_up own (range ∷ written) = range ∷ written
 
--- the ranges of the namespace that the daemon runs in: those that the kernel shows, but of who is not root and in that
--- of the host the id that it runs as alone; or else those that it sets up
+-- the ranges of the namespace that the daemon runs in: those that the kernel shows, but in that of the host, of who can
+-- act as one id alone, that id; or else those that it sets up
 abbrev pub ranges_of : {A : Type 0} → Option (Bounds A) → Bool → List UidMap → List UidMap
 ranges_of bounds sets_up written =
-    option_map_or (λ shown. set_up_ranges (nat_lt 0 (own_of bounds)) (own_of bounds) (but_host shown)) (shown_of bounds)
+    option_map_or (λ shown. set_up_ranges (is_alone bounds) (own_of bounds) (but_host shown)) (shown_of bounds)
     (set_up_ranges sets_up (own_of bounds) written)
 
--- as many ranges as those of the options, and no others
+-- the range has that id inside
+abbrev pub has : UidMap → ℕ → Bool
+has range n = nat_le range.inside_uid n && nat_lt n (range.inside_uid + range.count)
+
+-- the id outside of an id inside, by the first of the ranges that has it
+abbrev pub outside_of : List UidMap → ℕ → Option ℕ
+outside_of ranges n = option_map (λ range. range.outside_uid + (n - range.inside_uid)) (find (λ range. has range n) ranges)
+
+-- the ranges of the options mean the same as those that the kernel shows: each id inside leads to the same id outside, or
+-- to none, in both. Linux takes up to 340 ranges
 abbrev pub AreSame : List UidMap → List UidMap → Type 0
-AreSame shown written = (length shown ≡ length written) × All (Contains written) shown
+AreSame shown written = (length written ≤ 340) × ((n : ℕ) → outside_of shown n ≡ outside_of written n)
 
 -- the kernel shows other ranges than those of the options, if there are any
 abbrev pub Differ : {A : Type 0} → Option (Bounds A) → List UidMap → Type 0

@@ -1,5 +1,6 @@
 -- What is found of guests, of what their options set up.
-use Rattle.std.specs.Prelude.{◌≡◌, ◌≢◌, ◌↔◌, ℕ, ◌-◌, Bool, IsTrue, List, [], ◌∷◌, ◌++◌, take, Option, Some, None}
+use Rattle.std.specs.Prelude.{◌≡◌, ℕ, ◌-◌, ◌==◌, not, Bool, List, [], ◌∷◌, ◌++◌, take, Option, Some, None}
+use Rattle.std.specs.List.{list_any}
 use Rattle.virtiofs_findings.specs.AclNames.{FindsAcl}
 use Rattle.virtiofs_findings.specs.Findings.{of_guest, Each}
 use Rattle.virtiofs_findings.specs.IdFindings.{FindsIds, FindsKept, ActAsRoot}
@@ -18,6 +19,7 @@ use Rattle.virtiofs_findings.specs.declared.ids.ranges.RangeFound.{RangeFound}
 use Rattle.virtiofs_findings.specs.declared.setup.IdSetUp.{IdSetUp}
 use Rattle.virtiofs_findings.specs.declared.setup.NamesSetUp.{NamesSetUp}
 use Rattle.virtiofs_findings.specs.declared.setup.SetUp.{SetUp}
+use Rattle.virtiofs_map.specs.declared.idmap.UidMap.{UidMap}
 
 -- what is found of what is set up; nothing of what is not
 abbrev pub FindsIf : {S F : Type 0} → (S → List F → Type 0) → Option S → List F → Type 0
@@ -37,6 +39,10 @@ abbrev pub ids_found : {A : Type 0} → ℕ → IdKind → Bool → Kind → Opt
 ids_found number kind in_namespace what ids =
     listed (λ it. of_guest number what (evidence.Ids kind in_namespace it)) ids
 
+-- some range gives ids other numbers inside the namespace than they have outside
+abbrev pub renumbers : List UidMap → Bool
+renumbers ranges = list_any (λ range. not (range.inside_uid == range.outside_uid)) ranges
+
 -- what is found of ids of one kind
 pub record FindsKind {A : Type 0} (number : ℕ) (kind : IdKind) (set : IdSetUp A)
     (found : List (Finding A)) : Type 0 where
@@ -45,7 +51,7 @@ pub record FindsKind {A : Type 0} (number : ℕ) (kind : IdKind) (set : IdSetUp 
   pub in_namespace : Bool
   pub finds_ids : FindsIds set.map set.ranges.items ids
   pub finds_kept : FindsKept set.map set.ranges.items kept
-  pub namespace : IsTrue in_namespace ↔ (set.ranges.items ≢ [])
+  pub namespace : in_namespace ≡ renumbers set.ranges.items
   pub whole : found ≡ range_found number kind set.fault ++ other_found number kind set.differs
       ++ ids_found number kind in_namespace kinds.NotBack ids.astray
       ++ ids_found number kind in_namespace kinds.Lacking ids.lacking

@@ -1,10 +1,11 @@
 //! Guests with the same options. What is said of one of them is true of all, and is said once.
 ghost use Rattle.std.specs.Prelude.{◌≡◌, ◌<◌, ◌++◌, ◌∷◌, [], List, ℕ, IfOk};
-ghost use Rattle.virtiofs_findings.specs.AlikeGuests.{are_both, is_same_runner, have_same_options, have_same_texts, alike_of, alike_to, likes_of, is_first, is_second, is_told};
+ghost use Rattle.virtiofs_findings.specs.AlikeGuests.{are_both, is_same_runner, is_same_starter, have_same_options, have_same_texts, alike_of, alike_to, likes_of, is_first, is_second, is_told};
 
 use crate::guest::Guest;
 use std::alloc::{AllocError, Allocator};
 use virtiofs_host::runner::Runner;
+use virtiofs_options::starter::Starter;
 
 /// The guests that have the same options as one of them.
 #[derive(Clone, Copy)]
@@ -22,6 +23,18 @@ fn are_both(one: bool, other: bool) -> bool
     ensures { result ≡ are_both one other }
 {
     if one { other } else { !other }
+}
+
+/// Whether the words before the daemon's say the same of both daemons.
+fn is_same_starter(one: Starter, other: Starter) -> bool
+    ensures { result ≡ is_same_starter one other }
+{
+    match (one, other) {
+        (Starter::ByRoot, Starter::ByRoot) => true,
+        (Starter::ByOther, Starter::ByOther) => true,
+        (Starter::InNamespace, Starter::InNamespace) => true,
+        _ => false,
+    }
 }
 
 /// Whether two guests have one runner, or none is said of both.
@@ -56,7 +69,7 @@ fn have_same_options<A: Allocator>(guest: &Guest<'_, A>, other: &Guest<'_, A>) -
     let flags = are_both(guest.options.acl_flag, other.options.acl_flag);
     let xattrs = are_both(guest.options.has_xattrs(), other.options.has_xattrs());
     let sandboxes = guest.options.sandbox == other.options.sandbox;
-    let starters = are_both(guest.options.by_other, other.options.by_other);
+    let starters = is_same_starter(guest.options.starter, other.options.starter);
     let runner = is_same_runner(guest.runner, other.runner);
     texts && lists && flags && xattrs && sandboxes && starters && runner
 }

@@ -3,12 +3,13 @@ ghost use Rattle.std.specs.Prelude.{◌↔◌, ◌≤◌, length, Contains, IfOk
 ghost use Rattle.virtiofs_findings.specs.Audited.{Audits};
 ghost use Rattle.virtiofs_findings.specs.Findings.{Each, IsFound, HasAccepted};
 ghost use Rattle.virtiofs_findings.specs.Lists.{Adds};
+ghost use Rattle.virtiofs_findings.specs.PairFindings.{IsPassing};
 ghost use Rattle.virtiofs_findings.specs.Report.{FindsGuest, FindsWithEarlier, Finds};
 
 use crate::finding::{Finding, Kind};
 use crate::guest::Guest;
 use crate::guests::set_up_all;
-use crate::pairs::push_pair;
+use crate::pairs::{Passing, passing_rules, push_pair};
 use crate::refusal::Refusal;
 use crate::report::push_guest;
 use crate::setup::SetUp;
@@ -32,14 +33,16 @@ fn push_pairs<A: Allocator + Copy>(
     sets: &[SetUp<A>],
     number: usize,
     set: &SetUp<A>,
+    passing: &Passing<A>,
 ) -> Result<(), AllocError>
+    requires passing { IsPassing passing.now }
     requires counted { 1 ≤ number }
     requires within { number ≤ length sets.now }
     ensures { OnOk result
         (Adds (FindsWithEarlier sets.now number set.now) found.old.items found.new.items) }
 {
     for place in 0..number - 1 {
-        push_pair(alloc, found, place + 1, number, &sets[place], set)?;
+        push_pair(alloc, found, place + 1, number, &sets[place], set, passing)?;
     }
     Ok(())
 }
@@ -64,12 +67,14 @@ fn push_each_two<A: Allocator + Copy>(
     alloc: A,
     found: &mut Vec<Finding<A>, A>,
     sets: &[SetUp<A>],
+    passing: &Passing<A>,
 ) -> Result<(), AllocError>
+    requires { IsPassing passing.now }
     ensures { OnOk result
         (Adds (Each (FindsWithEarlier sets.now) 1 sets.now) found.old.items found.new.items) }
 {
     for place in 0..sets.len() {
-        push_pairs(alloc, found, sets, place + 1, &sets[place])?;
+        push_pairs(alloc, found, sets, place + 1, &sets[place], passing)?;
     }
     Ok(())
 }
@@ -83,7 +88,8 @@ pub fn audit<A: Allocator + Copy>(
 {
     let mut found = Vec::new(alloc);
     push_guests(alloc, &mut found, sets)?;
-    push_each_two(alloc, &mut found, sets)?;
+    let passing = passing_rules(alloc)?;
+    push_each_two(alloc, &mut found, sets, &passing)?;
     Ok(found)
 }
 

@@ -73,7 +73,8 @@ pub enum Evidence<A: Allocator> {
     Ids {
         /// Whose ids they are.
         ids: IdKind,
-        /// Whether the daemon runs in a namespace of ranges. What the ids become is then inside it.
+        /// Whether some ids have other numbers in the daemon's namespace than outside. What the ids become is
+        /// then inside it.
         in_namespace: bool,
         /// The ids, and what the least of them becomes.
         found: IdsFound<A>,

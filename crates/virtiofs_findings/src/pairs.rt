@@ -4,7 +4,7 @@ ghost use Rattle.virtiofs_findings.specs.Findings.{of_pair};
 ghost use Rattle.virtiofs_findings.specs.Lists.{Adds};
 ghost use Rattle.virtiofs_findings.specs.NameFindings.{FindsLeast};
 ghost use Rattle.virtiofs_map.specs.Audit.{HasFault};
-ghost use Rattle.virtiofs_findings.specs.PairFindings.{FindsPair, FindsBoth, FindsIdsOfBoth, FindsNamesBetween, pair_name_found, passes_all, rules_met};
+ghost use Rattle.virtiofs_findings.specs.PairFindings.{FindsPair, FindsBoth, FindsIdsOfBoth, FindsNamesBetween, IsPassing, pair_name_found, rules_met};
 
 use crate::finding::{About, Evidence, Finding, Kind};
 use crate::ids::kind::IdKind;
@@ -105,24 +105,49 @@ fn push_between<A: Allocator + Copy>(
     push_name(alloc, found, first, second, shared, both, one, other)
 }
 
+/// The rules by which guests are compared that have none.
+#[derive(Drop)]
+pub(crate) struct Passing<A: Allocator> {
+    /// Each name passes as it is.
+    all: XattrMap<A>,
+    /// Each but those of access control lists does, as where these are off.
+    others: XattrMap<A>,
+}
+
 /// The rule that passes each name as it is.
-fn passing<A: Allocator + Copy>(alloc: A) -> Result<XattrMap<A>, AllocError>
-    ensures { IfOk result (λ map. map ≡ passes_all) }
+const ALL: &str = ":ok:all:::";
+
+/// The same, behind those that refuse the names of access control lists.
+const OTHERS: &str = ":bad:all:system.posix_acl_access:system.posix_acl_access:\
+    :bad:all:system.posix_acl_default:system.posix_acl_default::ok:all:::";
+
+/// Makes these rules.
+pub(crate) fn passing_rules<A: Allocator + Copy>(alloc: A) -> Result<Passing<A>, AllocError>
+    ensures { IfOk result IsPassing }
 {
-    match XattrMap::try_from(alloc, ":ok:all:::") {
-        Ok(map) => Ok(map),
-        Err(_) => Err(AllocError),
+    match (
+        XattrMap::try_from(alloc, ALL),
+        XattrMap::try_from(alloc, OTHERS),
+    ) {
+        (Ok(all), Ok(others)) => Ok(Passing { all, others }),
+        _ => Err(AllocError),
     }
 }
 
-/// The rules that the names of a guest meet: its own, or else `all`, where all names pass.
-fn rules_met<'s, A: Allocator>(all: &'s XattrMap<A>, set: &'s SetUp<A>) -> Option<&'s XattrMap<A>>
-    ensures { option_map (λ it. it.now) result ≡ rules_met all.now set.now }
+/// The rules that the names of a guest meet: its own, or else those by which it is compared, where
+/// names pass.
+fn rules_met<'s, A: Allocator>(
+    passing: &'s Passing<A>,
+    set: &'s SetUp<A>,
+) -> Option<&'s XattrMap<A>>
+    requires { IsPassing passing.now }
+    ensures { option_map (λ it. it.now) result ≡ rules_met set.now }
 {
     match &set.names {
         Some(names) => Some(&names.map),
-        None if set.passes => Some(all),
-        None => None,
+        None if !set.passes => None,
+        None if set.posix_acl => Some(&passing.all),
+        None => Some(&passing.others),
     }
 }
 
@@ -134,13 +159,13 @@ fn push_names<A: Allocator + Copy>(
     second: usize,
     one: &SetUp<A>,
     other: &SetUp<A>,
+    passing: &Passing<A>,
 ) -> Result<(), AllocError>
+    requires { IsPassing passing.now }
     ensures { OnOk result (Adds (FindsBoth (FindsNamesBetween first second)
-        (rules_met passes_all one.now) (rules_met passes_all other.now))
-        found.old.items found.new.items) }
+        (rules_met one.now) (rules_met other.now)) found.old.items found.new.items) }
 {
-    let all = passing(alloc)?;
-    let (Some(one), Some(other)) = (rules_met(&all, one), rules_met(&all, other)) else {
+    let (Some(one), Some(other)) = (rules_met(passing, one), rules_met(passing, other)) else {
         return Ok(());
     };
     push_between(alloc, found, first, second, one, other)
@@ -154,7 +179,9 @@ pub(crate) fn push_pair<A: Allocator + Copy>(
     second: usize,
     one: &SetUp<A>,
     other: &SetUp<A>,
+    passing: &Passing<A>,
 ) -> Result<(), AllocError>
+    requires { IsPassing passing.now }
     ensures { OnOk result
         (Adds (FindsPair first second one.now other.now) found.old.items found.new.items) }
 {
@@ -169,5 +196,5 @@ pub(crate) fn push_pair<A: Allocator + Copy>(
         &one.groups,
         &other.groups,
     )?;
-    push_names(alloc, found, first, second, one, other)
+    push_names(alloc, found, first, second, one, other, passing)
 }

@@ -1,9 +1,9 @@
 //! What is found of one guest by itself.
-ghost use Rattle.std.specs.Prelude.{◌≡◌, ◌↔◌, ◌≢◌, ◌++◌, ◌∷◌, [], IsTrue, OnOk, IfOk};
+ghost use Rattle.std.specs.Prelude.{◌≡◌, ◌++◌, ◌∷◌, [], OnOk, IfOk};
 ghost use Rattle.virtiofs_findings.specs.AclNames.{FindsAcl};
 ghost use Rattle.virtiofs_findings.specs.Findings.{of_guest};
 ghost use Rattle.virtiofs_findings.specs.Lists.{if_so, listed, Adds};
-ghost use Rattle.virtiofs_findings.specs.Report.{range_found, other_found, ids_found, root_found, FindsKind, FindsRootOf, FindsRoot, FindsNamesOf, FindsIf, FindsGuest, start_found};
+ghost use Rattle.virtiofs_findings.specs.Report.{range_found, other_found, ids_found, root_found, renumbers, FindsKind, FindsRootOf, FindsRoot, FindsNamesOf, FindsIf, FindsGuest, start_found};
 
 use crate::finding::{About, Evidence, Finding, Kind};
 use crate::ids::audits::{acting_as_root, audit_ids};
@@ -103,7 +103,7 @@ fn push_kind<A: Allocator + Copy>(
     let ranges = set.ranges.as_slice();
     let IdFindings { astray, lacking } = audit_ids(alloc, &set.map, ranges)?;
     let kept = kept_ids(alloc, set)?;
-    let inside = has_some(ranges);
+    let inside = renumbers(ranges);
     push_range(found, number, kind, set.fault)?;
     push_other(found, number, kind, set.differs)?;
     push_ids(found, number, kind, inside, Kind::NotBack, astray)?;
@@ -111,11 +111,13 @@ fn push_kind<A: Allocator + Copy>(
     push_ids(found, number, kind, inside, Kind::Kept, kept)
 }
 
-/// Whether there are ranges.
-fn has_some(ranges: &[UidMap]) -> bool
-    ensures { IsTrue result ↔ (ranges.now ≢ []) }
+/// Whether some id has another number inside the namespace of these ranges than outside.
+fn renumbers(ranges: &[UidMap]) -> bool
+    ensures { result ≡ renumbers ranges.now }
 {
-    !ranges.is_empty()
+    ranges
+        .iter()
+        .any(|range| range.inside_uid != range.outside_uid)
 }
 
 /// Adds what is found of ids of one kind, where no text for them is refused.

@@ -1,11 +1,11 @@
 -- Who runs a daemon, as the files of a host say.
-use Rattle.std.specs.Prelude.{◌≡◌, ◌==◌, ◌⊎◌, ⊤, ℕ, List, [], Bool, true, false, Option, Some, None, option_map, codes}
+use Rattle.std.specs.Prelude.{◌≡◌, ◌==◌, ◌⊎◌, ⊤, ◌&&◌, ℕ, List, [], Bool, true, false, not, nat_lt, Option, Some, None, option_map, codes}
 use Rattle.std.specs.Option.{option_or}
 use Rattle.std.specs.declared.vec.Vec.{Vec}
 use Rattle.virtiofs_map.specs.declared.idmap.UidMap.{UidMap}
 use Rattle.virtiofs_host.specs.IdMapText.{SaysRanges}
 use Rattle.virtiofs_host.specs.Lines.{lines, AllSaid, FirstSaid}
-use Rattle.virtiofs_host.specs.Status.{SaysEffective}
+use Rattle.virtiofs_host.specs.Status.{SaysEffective, MaySet, sets_uids, sets_gids}
 use Rattle.virtiofs_host.specs.SubordinateIds.{GivesIds}
 use Rattle.virtiofs_host.specs.declared.runner.Bounds.{Bounds}
 use Rattle.virtiofs_host.specs.declared.runner.NotShown.{NotShown}
@@ -41,6 +41,8 @@ pub record Starts {A : Type 0} (uid gid : ℕ) (user : Option User) (subuid subg
     : Type 0 where
   pub runs_as : runner.users.own ≡ uid
   pub in_group : runner.groups.own ≡ gid
+  pub as_one : runner.users.is_alone ≡ nat_lt 0 uid
+  pub in_one : runner.groups.is_alone ≡ nat_lt 0 gid
   pub given_users : Vec SubIds A
   pub given_groups : Vec SubIds A
   pub users_given : runner.users.given ≡ Some given_users
@@ -52,9 +54,14 @@ pub record Starts {A : Type 0} (uid gid : ℕ) (user : Option User) (subuid subg
   pub starts : runner.process ≡ None
   pub at : runner.place ≡ place
 
--- the bounds of a process that runs as that id, whose ranges the text says
-pub record BoundsShown {A : Type 0} (own : ℕ) (text : List ℕ) (bounds : Bounds A) : Type 0 where
+-- a process that runs as that id can act as that one alone: it is not root's, and may not change such ids
+abbrev pub is_alone : ℕ → Bool → Bool
+is_alone own may_change = nat_lt 0 own && not may_change
+
+-- the bounds of a process that runs as that id, alone or not, whose ranges the text says
+pub record BoundsShown {A : Type 0} (own : ℕ) (alone : Bool) (text : List ℕ) (bounds : Bounds A) : Type 0 where
   pub runs_as : bounds.own ≡ own
+  pub as_one : bounds.is_alone ≡ alone
   pub given : bounds.given ≡ None
   pub ranges : Vec UidMap A
   pub says : SaysRanges text ranges.items
@@ -77,8 +84,12 @@ pub record IsShown {A : Type 0} (process : ℕ) (shown : Shown) (place : ℕ) (r
   pub gid : ℕ
   pub user : IsUser shown.status.now (Some uid)
   pub group : IsGroup shown.status.now (Some gid)
-  pub users : BoundsShown uid shown.uid_map.now runner.users
-  pub groups : BoundsShown gid shown.gid_map.now runner.groups
+  pub sets_users : Bool
+  pub sets_groups : Bool
+  pub may_users : MaySet sets_uids shown.status.now sets_users
+  pub may_groups : MaySet sets_gids shown.status.now sets_groups
+  pub users : BoundsShown uid (is_alone uid sets_users) shown.uid_map.now runner.users
+  pub groups : BoundsShown gid (is_alone gid sets_groups) shown.gid_map.now runner.groups
   pub runs : runner.process ≡ Some process
   pub at : runner.place ≡ place
 

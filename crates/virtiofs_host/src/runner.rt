@@ -2,13 +2,13 @@
 ghost use Rattle.std.specs.Prelude.{◌≡◌, ◌⊎◌, ℕ, IfSome, IfNone, IfOk, IfErr};
 ghost use Rattle.virtiofs_host.specs.declared.runner.NotShown.TheVariants.{OutOfMemory};
 ghost use Rattle.virtiofs_host.specs.RunAs.{IsId, SaysUser};
-ghost use Rattle.virtiofs_host.specs.Runners.{name_of, is_own_group, GivesTo, group_of, Starts, BoundsShown, SaysNoRanges, IsShown, IsNotShown};
+ghost use Rattle.virtiofs_host.specs.Runners.{name_of, is_own_group, GivesTo, group_of, Starts, is_alone, BoundsShown, SaysNoRanges, IsShown, IsNotShown};
 
 use crate::cut::cut;
 use crate::decimal::decimal;
 use crate::error::ReadError;
 use crate::id_map::read_id_map;
-use crate::status::{effective_gid, effective_uid};
+use crate::status::{effective_gid, effective_uid, may_set_gids, may_set_uids};
 use crate::subordinate::{SubIds, read_subordinate};
 use crate::users::User;
 use std::alloc::{AllocError, Allocator};
@@ -19,6 +19,9 @@ use virtiofs_map::idmap::UidMap;
 pub struct Bounds<A: Allocator> {
     /// The user, or the group, that the daemon runs as.
     pub own: u32,
+    /// Whether it can act as that one alone, where no namespace has others: that is not root, and the
+    /// process may not change such ids.
+    pub is_alone: bool,
     /// The other ids that `newuidmap` (`newgidmap`) gives to its namespace; `None` where it is not
     /// asked, since the daemon runs already.
     pub given: Option<Vec<SubIds, A>>,
@@ -150,11 +153,13 @@ pub fn starting<A: Allocator + Copy>(
     Ok(Runner {
         users: Bounds {
             own: uid,
+            is_alone: uid > 0,
             given: Some(given_to(alloc, is_own, subuid, name, uid)?),
             shown: None,
         },
         groups: Bounds {
             own: gid,
+            is_alone: gid > 0,
             given: Some(given_to(alloc, is_own, subgid, name, uid)?),
             shown: None,
         },
@@ -187,19 +192,28 @@ pub enum NotShown {
     OutOfMemory,
 }
 
-/// The bounds of a process that runs as that id.
+/// Whether a process that runs as that id can act as that one alone, where it may change it or not.
+fn is_alone(own: u32, may_change: bool) -> bool
+    ensures { result ≡ is_alone own may_change }
+{
+    own > 0 && !may_change
+}
+
+/// The bounds of a process that runs as that id, alone or not.
 fn bounds_shown<A: Allocator>(
     alloc: A,
     own: u32,
+    is_alone: bool,
     text: &[u8],
     wrong: NotShown,
 ) -> Result<Bounds<A>, NotShown>
-    ensures shown { IfOk result (BoundsShown own text.now) }
+    ensures shown { IfOk result (BoundsShown own is_alone text.now) }
     ensures wrong { IfErr result (λ e. (e ≡ OutOfMemory) ⊎ ((e ≡ wrong) × SaysNoRanges text.now)) }
 {
     match read_id_map(alloc, text) {
         Ok(ranges) => Ok(Bounds {
             own,
+            is_alone,
             given: None,
             shown: Some(ranges),
         }),
@@ -227,9 +241,11 @@ pub fn running<A: Allocator + Copy>(
     let (Some(uid), Some(gid)) = ids else {
         return Err(NotShown::Status);
     };
+    let as_one = is_alone(uid, may_set_uids(shown.status));
+    let in_one = is_alone(gid, may_set_gids(shown.status));
     Ok(Runner {
-        users: bounds_shown(alloc, uid, shown.uid_map, NotShown::UidMap)?,
-        groups: bounds_shown(alloc, gid, shown.gid_map, NotShown::GidMap)?,
+        users: bounds_shown(alloc, uid, as_one, shown.uid_map, NotShown::UidMap)?,
+        groups: bounds_shown(alloc, gid, in_one, shown.gid_map, NotShown::GidMap)?,
         process: Some(process),
         place,
     })

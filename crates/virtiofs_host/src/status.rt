@@ -1,7 +1,8 @@
-//! The ids that a process runs as, and its parent, from the content of `/proc/PID/status`.
+//! The ids that a process runs as, whether it may change them, and its parent, from the content of
+//! `/proc/PID/status`.
 ghost use Rattle.std.specs.Prelude.{ℕ, IfSome, IfNone, codes};
 ghost use Rattle.virtiofs_host.specs.Lines.{lines, FirstSaid};
-ghost use Rattle.virtiofs_host.specs.Status.{SaysEffective, SaysParent};
+ghost use Rattle.virtiofs_host.specs.Status.{SaysEffective, SaysParent, SaysCapabilities, MaySet, sets_uids, sets_gids};
 
 use crate::cut::cut;
 use crate::decimal::decimal;
@@ -78,4 +79,53 @@ pub fn parent(text: &[u8]) -> Option<u32>
         rest = after;
     }
     None
+}
+
+/// The effective capabilities 4 to 7, as a digit, if a line says them.
+fn capabilities_of(line: &[u8]) -> Option<u32>
+    ensures says { IfSome result (SaysCapabilities line.now) }
+    ensures none { IfNone result ((digit : ℕ) → ¬ SaysCapabilities line.now digit) }
+{
+    let (begin, rest) = cut(line, b'\t');
+    let (mask, _) = cut(rest?, b'\t');
+    if begin != b"CapEff:".as_slice() || mask.len() < 2 {
+        return None;
+    }
+    char::from(mask[mask.len() - 2]).to_digit(16)
+}
+
+/// The same of the first line that says them.
+fn capabilities(text: &[u8]) -> Option<u32>
+    ensures { FirstSaid SaysCapabilities (lines text.now) result }
+{
+    let mut rest = Some(text);
+    while let Some(text) = rest {
+        let (line, after) = cut(text, b'\n');
+        let digit = capabilities_of(line);
+        if digit.is_some() {
+            return digit;
+        }
+        rest = after;
+    }
+    None
+}
+
+/// Whether a process may act as any user: its `status` says that `CAP_SETUID` is effective.
+pub fn may_set_uids(text: &[u8]) -> bool
+    ensures { MaySet sets_uids text.now result }
+{
+    match capabilities(text) {
+        Some(digit) => digit / 8 % 2 == 1,
+        None => false,
+    }
+}
+
+/// Whether a process may act as any group: its `status` says that `CAP_SETGID` is effective.
+pub fn may_set_gids(text: &[u8]) -> bool
+    ensures { MaySet sets_gids text.now result }
+{
+    match capabilities(text) {
+        Some(digit) => digit / 4 % 2 == 1,
+        None => false,
+    }
 }

@@ -1,6 +1,6 @@
 -- Spans that are apart, and whether they have an id.
-use Rattle.std.proofs.Common.{◌⊎◌, ◌↔◌, inl, inr, ◌≡◌, ℕ, ◌+◌, ◌<◌, ◌≤◌, List, [], ◌∷◌, ◌++◌, get_or, Contains}
-use Rattle.std.proofs.Common.{sym, ap, ◌∙◌, arith}
+use Rattle.std.proofs.Common.{◌⊎◌, ◌↔◌, inl, inr, ◌≡◌, ℕ, ◌+◌, ◌<◌, ◌≤◌, List, [], ◌∷◌, ◌++◌, get_or, Contains, sym}
+use Rattle.std.proofs.Common.{◌∙◌, arith, rules}
 use Rattle.std.specs.List.{All}
 use Rattle.std.specs.List.Sorted.{IsNonDecreasingBy}
 use Rattle.std.proofs.lemmas.Bool.{cases_lt, cases_order}
@@ -36,25 +36,13 @@ AreApart-push spans next span apart below from is = record {
 
 -- neither their first nor their last ids fall
 pub AreApart-firsts : (spans : List Span) → AreApart spans → IsNonDecreasingBy (λ span. span.first) spans
-AreApart-firsts spans are i j d up inside =
-    elim (cases_lt i j) [
-      | inl before ↦ omega (arith, are.apart i j d before inside, are.some i d (omega arith))
-      | inr after ↦ (let same : i ≡ j = omega arith in omega (arith, ap (λ (k : ℕ). (get_or spans k d).first) same))
-    ]
+AreApart-firsts spans are i j d up inside = search (rules, cases_lt)
 
 pub AreApart-lasts : (spans : List Span) → AreApart spans → IsNonDecreasingBy (λ span. span.last) spans
-AreApart-lasts spans are i j d up inside =
-    elim (cases_lt i j) [
-      | inl before ↦ omega (arith, are.apart i j d before inside, are.some j d inside)
-      | inr after ↦ (let same : i ≡ j = omega arith in omega (arith, ap (λ (k : ℕ). (get_or spans k d).last) same))
-    ]
+AreApart-lasts spans are i j d up inside = search (rules, cases_lt)
 
 pub AreInOrder-apart : (spans : List Span) → AreApart spans → AreInOrder spans
-AreInOrder-apart spans are = record {
-  some = All-weaker IsSpan (λ s. s.first ≤ s.last) (λ s is. is.0) spans are.some;
-  firsts = AreApart-firsts spans are;
-  lasts = AreApart-lasts spans are;
-}
+AreInOrder-apart spans are = search (rules, All-weaker, AreApart-firsts, AreApart-lasts)
 
 -- ---- with an id between each two
 
@@ -78,22 +66,7 @@ pub free_after : (spans : List Span) (span : Span) → AreRuns spans → Contain
     → ¬ Hold spans (span.last + 1)
 free_after spans span runs (i, inside, at) (other, (k, within, here), has) =
     let at' : get_or spans i other ≡ span = sym (get_or_default spans i span other inside) ∙ at in
-    let here' : get_or spans k span ≡ other = sym (get_or_default spans k other span within) ∙ here in
-    elim (cases_order i k) [
-      | inl same ↦ omega (
-        arith,
-        has,
-        ap (λ (s : Span). s.last)
-            (sym at' ∙ ap (λ (n : ℕ). get_or spans n other) same ∙ here),
-      )
-      | inr (inl before) ↦
-          (let gap : span.last + 1 < other.first = rw (here, at') at (runs.gaps i k other before within) in
-          omega (arith, has))
-      | inr (inr after) ↦
-          (let gap : other.last + 1 < span.first = rw (at, here') at (runs.gaps k i span after inside) in
-          let some : span.first ≤ span.last = rw at at (runs.some i span inside) in
-          omega (arith, has))
-    ]
+    search (rules, get_or_default, cases_order)
 
 -- ---- cut out twice
 

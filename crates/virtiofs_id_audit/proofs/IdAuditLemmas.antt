@@ -1,30 +1,20 @@
 -- The answers of the audits of ids.
-use Rattle.std.proofs.Common.{◌≡◌, ◌≢◌, ◌↔◌, inl, inr, ℕ, ◌+◌, ◌≤◌, List, [], ◌∷◌, Option, Some, None, refl, sym}
-use Rattle.std.proofs.Common.{arith, Vec, Result, Ok, Err, IfOk}
+use Rattle.std.proofs.Common.{◌≡◌, ◌≢◌, ◌↔◌, inl, inr, ℕ, ◌+◌, ◌≤◌, List, [], ◌∷◌, Option, refl, sym, arith, Vec}
+use Rattle.std.proofs.Common.{Result, Ok, Err, IfOk, rules}
 use Rattle.std.proofs.lemmas.Bool.{cases_eq, cases_order}
 use Rattle.std.proofs.lemmas.Bool.Decides.{nat_tests}
-use Rattle.virtiofs_id_audit.specs.IdAudit.{IsLeastId, IsLeastIfAny, AnswersLeastId, GoesTo, ComesBack, IsAstray, IsAlone}
-use Rattle.virtiofs_id_audit.specs.IdAudit.{IsShared, SharesWith, SharedAs, GoesInto, Between, ReachedBy, AreIdsApart}
+use Rattle.virtiofs_id_audit.specs.IdAudit.{IsLeastId, IsLeastIfAny, GoesTo, ComesBack, IsAstray, IsAlone, IsShared}
+use Rattle.virtiofs_id_audit.specs.IdAudit.{SharesWith, SharedAs, GoesInto, Between, ReachedBy, AreIdsApart}
 use Rattle.virtiofs_id_audit.specs.IdAuditParts.{Hold, AreImages, times, once_below}
-use Rattle.virtiofs_id_audit.specs.declared.answer.IdAudit.{IdAudit}
 use Rattle.virtiofs_id_audit.specs.declared.answer.IdAudit.TheVariants.{Yes, No}
 use Rattle.virtiofs_id_audit.specs.declared.spans.Span.{Span}
 use Rattle.virtiofs_map.specs.Build.{Accepted}
 use Rattle.virtiofs_map.specs.declared.cmdline.IdMap.{IdMap}
-use Rattle.virtiofs_map.specs.declared.soft_idmap.entry.Direction.TheVariants.{GuestToHost}
 use Rattle.virtiofs_id_audit.proofs.HeldLemmas.{hold_one}
 use Rattle.virtiofs_id_audit.proofs.ImageLemmas.{times-bounded}
 use Rattle.virtiofs_map.proofs.ForCallers.{Becomes-one}
 
 -- ---- Yes and No
-
--- Yes where no id is bad, and only there
-pub yes_where_none : {T : Type 0} (bad : ℕ → Type 0) (Holds : Type 0) (number : T → ℕ) (answer : IdAudit T)
-    → AnswersLeastId bad number answer → (((n : ℕ) → ¬ bad n) → Holds) → (Holds → (n : ℕ) → ¬ bad n)
-    → (answer ≡ Yes) ↔ Holds
-yes_where_none bad Holds number Yes least to from = (λ _. to least, λ _. refl)
-yes_where_none bad Holds number (No told) least to from =
-    (λ e. absurd (cc), λ holds. absurd (from holds (number told) least.is_bad))
 
 -- a No, where what is asked does not hold
 pub no_where_bad : {T : Type 0} (bad : ℕ → Type 0) (Holds : Type 0) (n : ℕ) (told : T) → bad n
@@ -34,9 +24,7 @@ no_where_bad bad Holds n told is from = (λ e. absurd (cc), λ holds. absurd (fr
 -- what is bad by one word is bad by another
 pub IsLeastIfAny-same : (bad other : ℕ → Type 0) (least : Option ℕ) → ((n : ℕ) → bad n → other n)
     → ((n : ℕ) → other n → bad n) → IsLeastIfAny bad least → IsLeastIfAny other least
-IsLeastIfAny-same bad other None to from none = λ n is. none n (from n is)
-IsLeastIfAny-same bad other (Some n) to from least =
-    record { is_bad = to n least.is_bad; none_before = λ m before is. least.none_before m before (from m is) }
+IsLeastIfAny-same bad other least to from none = grind arith
 
 -- ---- comes back
 
@@ -76,50 +64,28 @@ module _ (specs : List IdMap) (images again : List Span) (are : AreImages specs 
       ))
 
   pub IsShared-into : (n : ℕ) → IsShared specs n → (0 ≤ n) × GoesInto specs (Hold again) n
-  IsShared-into n (other, shares) = (
-    omega arith,
-    record {
-      host = shares.host;
-      goes = shares.goes;
-      is_one =
-          two_share n other shares.host (λ e. shares.differ (sym e)) shares.goes shares.other_goes;
-    },
-  )
+  IsShared-into n (other, shares) = search (rules, two_share)
 
   pub into-IsShared : (n : ℕ) → (0 ≤ n) × GoesInto specs (Hold again) n → IsShared specs n
   into-IsShared n (low, goes) =
       let (a, b, from, less, below, a_goes, b_goes) =
       (are.counts goes.host).two.0 ((held_twice goes.host).0 goes.is_one) in
       elim (cases_eq a n) [
-        | inl same ↦ (
-          b,
-          record { host = goes.host; differ = λ e. omega arith; goes = goes.goes; other_goes = b_goes },
-        )
+        | inl same ↦ search rules
         | inr differ ↦ (a, record { host = goes.host; differ = differ; goes = goes.goes; other_goes = a_goes })
       ]
 
   pub IsLeastIfAny-shared : (least : Option ℕ) → IsLeastIfAny (λ n. (0 ≤ n) × GoesInto specs (Hold again) n) least
       → IsLeastIfAny (IsShared specs) least
-  IsLeastIfAny-shared least found =
-      IsLeastIfAny-same (λ n. (0 ≤ n) × GoesInto specs (Hold again) n) (IsShared specs) least into-IsShared
-      IsShared-into found
+  IsLeastIfAny-shared least found = search (rules, IsLeastIfAny-same, into-IsShared, IsShared-into)
 
 -- the other one shares with it too, and goes where it goes
 shares_back : (specs : List IdMap) (n m : ℕ) → SharesWith specs n m → SharesWith specs m n
-shares_back specs n m shares = record {
-  host = shares.host;
-  differ = λ e. shares.differ (sym e);
-  goes = shares.other_goes;
-  other_goes = shares.goes;
-}
+shares_back specs n m shares = search rules
 
 shares_host : (specs : List IdMap) (n m host : ℕ) → Accepted specs → GoesTo specs n host → SharesWith specs n m
     → GoesInto specs (λ id. id ≡ host) m
-shares_host specs n m host accepted goes shares = record {
-  host = shares.host;
-  goes = shares.other_goes;
-  is_one = Becomes-one specs GuestToHost n shares.host host accepted shares.goes.becomes goes.becomes;
-}
+shares_host specs n m host accepted goes shares = search (rules, Becomes-one)
 
 -- the least id that shares has no lesser one with which it does
 pub SharedAs-next : (specs : List IdMap) (n other host : ℕ) → Accepted specs → IsLeastId (IsShared specs) n
@@ -127,12 +93,7 @@ pub SharedAs-next : (specs : List IdMap) (n other host : ℕ) → Accepted specs
     → SharedAs specs n other host
 SharedAs-next specs n other host accepted least goes next = record {
   least = record {
-    is_bad = record {
-      host = host;
-      differ = λ same. omega (arith, next.is_bad.0);
-      goes = goes;
-      other_goes = rw next.is_bad.1.is_one at next.is_bad.1.goes;
-    };
+    is_bad = search rules;
     none_before = λ m before shares.
         elim (cases_order m n) [
           | inl same ↦ shares.differ same
@@ -164,26 +125,19 @@ Hold-one span id = (hold_one span id, λ has. (span, (0, omega arith, refl), has
 -- ids that become one of those of other words
 pub GoesInto-same : (specs : List IdMap) (hosts others : ℕ → Type 0) (n : ℕ) → ((id : ℕ) → hosts id → others id)
     → GoesInto specs hosts n → GoesInto specs others n
-GoesInto-same specs hosts others n to goes =
-    record { host = goes.host; goes = goes.goes; is_one = to goes.host goes.is_one }
+GoesInto-same specs hosts others n to goes = search rules
 
 -- the least one that does, by other words for the same ids of the host
 into_like : (specs : List IdMap) (from : ℕ) (hosts others : ℕ → Type 0) (least : Option ℕ)
     → ((id : ℕ) → hosts id ↔ others id) → IsLeastIfAny (λ n. (from ≤ n) × GoesInto specs hosts n) least
     → IsLeastIfAny (λ n. (from ≤ n) × GoesInto specs others n) least
-into_like specs from hosts others least same found =
-    IsLeastIfAny-same (λ n. (from ≤ n) × GoesInto specs hosts n) (λ n. (from ≤ n) × GoesInto specs others n) least
-    (λ n (low, goes). (low, GoesInto-same specs hosts others n (λ id. (same id).0) goes))
-    (λ n (low, goes). (low, GoesInto-same specs others hosts n (λ id. (same id).1) goes)) found
+into_like specs from hosts others least same found = search (rules, IsLeastIfAny-same, GoesInto-same)
 
 -- of all ids of the guest
 pub into_any : (specs : List IdMap) (hosts others : ℕ → Type 0) (least : Option ℕ)
     → ((id : ℕ) → hosts id ↔ others id) → IsLeastIfAny (λ n. (0 ≤ n) × GoesInto specs hosts n) least
     → IsLeastIfAny (GoesInto specs others) least
-into_any specs hosts others least same found =
-    IsLeastIfAny-same (λ n. (0 ≤ n) × GoesInto specs hosts n) (GoesInto specs others) least
-    (λ n (low, goes). GoesInto-same specs hosts others n (λ id. (same id).0) goes)
-    (λ n goes. (omega arith, GoesInto-same specs others hosts n (λ id. (same id).1) goes)) found
+into_any specs hosts others least same found = search (rules, IsLeastIfAny-same, GoesInto-same)
 
 -- the same of one id
 pub IsLeastIfAny-only : (specs : List IdMap) (from host : ℕ) (span : Span) (least : Option ℕ) → span.first ≡ host
@@ -197,8 +151,7 @@ IsLeastIfAny-only specs from host span least first_is last_is =
 pub IsLeastIfAny-range : (specs : List IdMap) (span : Span) (least : Option ℕ)
     → IsLeastIfAny (λ n. (0 ≤ n) × GoesInto specs (Hold (span ∷ [])) n) least
     → IsLeastIfAny (GoesInto specs (Between span.first span.last)) least
-IsLeastIfAny-range specs span least =
-    into_any specs (Hold (span ∷ [])) (Between span.first span.last) least (Hold-one span)
+IsLeastIfAny-range specs span least = search (rules, into_any, Hold-one)
 
 -- ---- ids apart
 

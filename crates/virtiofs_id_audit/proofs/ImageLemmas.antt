@@ -1,7 +1,6 @@
 -- How often the guest reaches an id of the host.
 use Rattle.std.proofs.Common.{◌≡◌, inl, inr, ◌⊎◌, ℕ, ◌+◌, ◌-◌, ◌<◌, ◌≤◌, min, true, false, List, [], ◌∷◌, ◌++◌, Some}
-use Rattle.std.proofs.Common.{None, sym, ap, ◌∙◌, arith}
-use Rattle.std.proofs.Common.{◌↔◌}
+use Rattle.std.proofs.Common.{None, sym, ap, ◌∙◌, arith, ◌↔◌, rules}
 use Rattle.std.specs.List.{All, AllByRecursion}
 use Rattle.std.specs.List.Sorted.{IsPermutation, IsNonDecreasingBy}
 use Rattle.std.proofs.lemmas.Bool.{cases_lt, cases_order}
@@ -14,8 +13,7 @@ use Rattle.virtiofs_id_audit.specs.IdAudit.{GoesTo}
 use Rattle.virtiofs_id_audit.specs.IdAuditParts.{IsSpan, Has, Hold, has_times, times, CountsGuests, AreImages}
 use Rattle.virtiofs_id_audit.specs.declared.spans.Span.{Span}
 use Rattle.virtiofs_map.specs.Build.{Accepted}
-use Rattle.virtiofs_map.specs.Pieces.{is_one_to_one}
-use Rattle.virtiofs_map.specs.Pieces.{value_in, IsPiece, PiecesLeft, GivesPiece}
+use Rattle.virtiofs_map.specs.Pieces.{is_one_to_one, value_in, IsPiece, PiecesLeft, GivesPiece}
 use Rattle.virtiofs_map.specs.declared.cmdline.IdMap.{IdMap}
 use Rattle.virtiofs_map.specs.declared.soft_idmap.entry.Direction.TheVariants.{GuestToHost}
 use Rattle.virtiofs_map.specs.declared.soft_idmap.piece.Piece.{Piece}
@@ -27,14 +25,7 @@ use Rattle.virtiofs_map.proofs.ForCallers.{lookup_one_value}
 
 pub has_or_not : (span : Span) (id : ℕ)
     → ((has_times id span ≡ 1) × Has span id) ⊎ ((has_times id span ≡ 0) × (¬ Has span id))
-has_or_not span id =
-    elim (cases_lt id span.first) [
-      | inl before ↦ inr (grind (arith, nat_tests), λ has. omega (arith, has))
-      | inr low ↦ elim (cases_lt span.last id) [
-        | inl after ↦ inr (grind (arith, nat_tests), λ has. omega (arith, has))
-        | inr high ↦ inl (grind (arith, nat_tests), (low, high))
-      ]
-    ]
+has_or_not span id = search (rules, cases_lt, nat_tests)
 
 -- ---- counts of two stretches of ids are added
 
@@ -56,18 +47,10 @@ CountsGuests-append specs low mid high host a b up over first second =
       in_second (n, from, below, goes) = (n, omega arith, below, goes)
 
       one_of : 1 ≤ a + b → One specs low high host
-      one_of some =
-          elim (cases_lt a 1) [
-            | inl none ↦ in_second (second.one.0 (omega arith))
-            | inr more ↦ in_first (first.one.0 more)
-          ]
+      one_of some = search (rules, cases_lt, in_second, in_first)
 
       of_one : One specs low high host → 1 ≤ a + b
-      of_one (n, from, below, goes) =
-          elim (cases_lt n mid) [
-            | inl before ↦ omega (arith, first.one.1 (n, from, before, goes))
-            | inr after ↦ omega (arith, second.one.1 (n, after, below, goes))
-          ]
+      of_one (n, from, below, goes) = search (rules, cases_lt)
 
       both : One specs low mid host → One specs mid high host → Two specs low high host
       both (n, from, below, goes) (m, from', below', goes') = (n, m, from, omega arith, below', goes, goes')
@@ -79,12 +62,7 @@ CountsGuests-append specs low mid high host a b up over first second =
       two_second (n, m, from, less, below, goes, goes') = (n, m, omega arith, less, below, goes, goes')
 
       two_of : 2 ≤ a + b → Two specs low high host
-      two_of some =
-          elim (cases_order a 1) [
-            | inl one ↦ both (first.one.0 (omega arith)) (second.one.0 (omega arith))
-            | inr (inl none) ↦ two_second (second.two.0 (omega arith))
-            | inr (inr more) ↦ two_first (first.two.0 (omega arith))
-          ]
+      two_of some = search (rules, cases_order, both, two_second, two_first)
 
       of_two : Two specs low high host → 2 ≤ a + b
       of_two (n, m, from, less, below, goes, goes') =
@@ -196,13 +174,7 @@ module _ (specs : List IdMap) (piece : Piece) (low host : ℕ) (spans : List Spa
         elim (has_or_not span host) [
           | inl (once, has) ↦
               let goes = goes_there has piece.first (omega arith) (omega arith) (omega (arith, two)) in
-              with_more (spans ++ span ∷ []) 1 (omega arith) (record {
-                one = (λ _. (piece.first, omega arith, omega (arith, two), goes), λ _. omega arith);
-                two = (
-                  λ some. absurd (omega arith),
-                  λ (n, m, from, less, below, goes, goes'). omega (arith, two, goes'),
-                );
-              })
+              search (rules, with_more, two)
           | inr (never, not) ↦ none_more (spans ++ span ∷ []) (omega arith) (none_there not)
         ]
 
@@ -215,13 +187,7 @@ module _ (specs : List IdMap) (piece : Piece) (low host : ℕ) (spans : List Spa
           | inl (once, has) ↦
               let goes = goes_there has piece.first (omega arith) (omega arith) (omega arith) in
               let goes' = goes_there has (piece.first + 1) (omega arith) (omega arith) (omega arith) in
-              with_more ((spans ++ span ∷ []) ++ span ∷ []) 2 (omega arith) (record {
-                one = (λ _. (piece.first, omega arith, omega arith, goes), λ _. omega arith);
-                two = (
-                  λ _. (piece.first, piece.first + 1, omega arith, omega arith, omega arith, goes, goes'),
-                  λ _. omega arith,
-                );
-              })
+              search (rules, with_more, two)
           | inr (never, not) ↦ none_more ((spans ++ span ∷ []) ++ span ∷ []) (omega arith) (none_there not)
         ]
 
@@ -241,11 +207,7 @@ pub CountsSoFar-more : (specs : List IdMap) (spans more : List Span) (left after
     → CountsSoFar specs spans left → GivesPiece left (Some piece) after
     → ((host : ℕ) → CountsGuests specs 0 piece.first host (times spans host)
     → CountsGuests specs 0 (piece.last + 1) host (times more host)) → CountsSoFar specs more after
-CountsSoFar-more specs spans more left after piece so_far gives step = rw gives.2 (record {
-  specs_are = so_far.specs_are;
-  direction_is = so_far.direction_is;
-  counts = λ host. step host (rw gives.1 (so_far.counts host));
-})
+CountsSoFar-more specs spans more left after piece so_far gives step = search rules
 
 pub AreImages-sorted : (specs : List IdMap) (spans sorted : List Span) (left after : PiecesLeft)
     → CountsSoFar specs spans left → GivesPiece left None after → All IsSpan spans → IsPermutation spans sorted
@@ -279,13 +241,4 @@ times_hold (span ∷ spans) id =
     let all = sum_by-cons (has_times id) span spans in
     let rest = times_hold spans id in
     let front = hold_front span spans id in
-    elim (has_or_not span id) [
-      | inl (once, has) ↦ ((λ some. front.1 (inl has)), (λ held. omega (arith, all, once)))
-      | inr (none, not) ↦ (
-        (λ some. front.1 (inr (rest.0 (omega (arith, all, none, some))))),
-        (λ held. elim (front.0 held) [
-          | inl has ↦ absurd (not has)
-          | inr later ↦ (let more = rest.1 later in omega (arith, all, more))
-        ]),
-      )
-    ]
+    search (rules, has_or_not)

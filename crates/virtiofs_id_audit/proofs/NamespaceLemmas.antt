@@ -1,6 +1,6 @@
 -- Which ids the ranges of a namespace have.
-use Rattle.std.proofs.Common.{◌≡◌, ◌≢◌, ◌↔◌, inl, inr, ℕ, ◌+◌, ◌<◌, ◌≤◌, List, [], ◌∷◌, ◌++◌, length, take, get_or}
-use Rattle.std.proofs.Common.{Vec, Result, Ok, Err, IfOk, subst, refl, arith}
+use Rattle.std.proofs.Common.{◌≡◌, ◌≢◌, ◌↔◌, inl, inr, ℕ, ◌+◌, ◌<◌, ◌≤◌, List, [], ◌∷◌, ◌++◌, length, take, get_or, Vec}
+use Rattle.std.proofs.Common.{Result, Ok, Err, IfOk, subst, refl, arith, rules}
 use Rattle.std.proofs.lemmas.Bool.{cases_lt}
 use Rattle.std.proofs.lemmas.List.{take_more, take_all}
 use Rattle.std.proofs.lemmas.List.Elements.{Contains-get_or, Contains-push_cases}
@@ -19,8 +19,7 @@ pub has_rest : (ranges : List UidMap) (i : ℕ) (d : UidMap) (inside end : ℕ) 
     → Has (get_or ranges i d) inside
     → end ≡ (get_or ranges i d).inside_uid + (get_or ranges i d).count → (n : ℕ) → inside ≤ n → n < end
     → HasSome ranges n
-has_rest ranges i d inside end below has is n from before =
-    (get_or ranges i d, Contains-get_or ranges i d below, (omega (arith, has.0, from), omega (arith, is, before)))
+has_rest ranges i d inside end below has is n from before = search (rules, Contains-get_or)
 
 -- one more range that does not have the id
 pub none_more : (ranges : List UidMap) (i : ℕ) (d : UidMap) (n : ℕ) → i < length ranges → ¬ HasSome (take i ranges) n

@@ -1,6 +1,6 @@
 -- Ids that are moved into a namespace and out of it.
-use Rattle.std.proofs.Common.{◌≡◌, ◌≢◌, ◌⊎◌, ◌↔◌, inl, inr, ℕ, ◌+◌, ◌-◌, ◌<◌, ◌≤◌, min, max, List, [], ◌∷◌, ◌++◌, length}
-use Rattle.std.proofs.Common.{take, get_or, eqb, Bool, true, false, Option, Some, None, refl, ap, subst, sym, arith}
+use Rattle.std.proofs.Common.{◌≡◌, ◌≢◌, ◌⊎◌, ◌↔◌, inl, inr, ℕ, ◌+◌, ◌-◌, ◌<◌, ◌≤◌, min, max, List, [], ◌∷◌, ◌++◌}
+use Rattle.std.proofs.Common.{length, take, get_or, eqb, Bool, true, false, Option, Some, None, refl, arith, rules}
 use Rattle.std.proofs.lemmas.Bool.Decides.{nat_tests}
 use Rattle.std.proofs.lemmas.List.{nil_from_length, take_more}
 use Rattle.std.proofs.lemmas.List.Elements.{Contains-push, Contains-push_cases, Contains-append_left}
@@ -19,8 +19,7 @@ pub none_here : (ranges : List UidMap) (r : Bool) → r ≡ eqb (length ranges) 
 none_here ranges r e is_true = nil_from_length ranges (grind (arith, nat_tests))
 
 pub some_here : (ranges : List UidMap) (r : Bool) → r ≡ eqb (length ranges) 0 → r ≡ false → ranges ≢ []
-some_here ranges r e is_false none =
-    absurd (let zero : length ranges ≡ 0 = ap length none in grind (arith, nat_tests))
+some_here ranges r e is_false none = search (rules, nat_tests)
 
 -- ---- one span, moved
 
@@ -28,11 +27,7 @@ some_here ranges r e is_false none =
 pub moved_none : (span : Span) (from to count begin past : ℕ) → to ≤ 4294967295 → begin ≡ max span.first from
     → past ≡ min (min (span.last + 1) (from + count)) (min ((from + 4294967296) - to) 4294967296) → past ≤ begin
     → (moved : ℕ) → HasIf None moved ↔ ((id : ℕ) × Has span id × Moves from to count id moved)
-moved_none span from to count begin past bound begins ends over moved = (
-  (λ held. absurd held),
-  (λ (id, has, moves).
-      absurd (omega (arith, bound, begins, ends, over, has, moves))),
-)
+moved_none span from to count begin past bound begins ends over moved = search rules
 
 -- those from one to another are
 pub moved_some : (span there : Span) (from to count begin past : ℕ) → to ≤ 4294967295
@@ -54,28 +49,21 @@ same_moved : (r : Option Span) (span : Span) (P Q : ℕ → ℕ → Type 0) → 
     → ((id moved : ℕ) → Q id moved → P id moved)
     → ((moved : ℕ) → HasIf r moved ↔ ((id : ℕ) × Has span id × P id moved))
     → (moved : ℕ) → HasIf r moved ↔ ((id : ℕ) × Has span id × Q id moved)
-same_moved r span P Q from back each moved = (
-  (λ held. let (id, has, moves) = (each moved).0 held in (id, has, from id moved moves)),
-  (λ (id, has, moves). (each moved).1 (id, has, back id moved moves)),
-)
+same_moved r span P Q from back each moved = search rules
 
 -- out of the namespace
 pub moved_out : (r : Option Span) (range : UidMap) (span : Span)
     → ((moved : ℕ) → HasIf r moved
     ↔ ((id : ℕ) × Has span id × Moves range.inside_uid range.outside_uid range.count id moved))
     → (moved : ℕ) → HasIf r moved ↔ ((id : ℕ) × Has span id × MovesBy Outwards range id moved)
-moved_out r range span =
-    same_moved r span (Moves range.inside_uid range.outside_uid range.count) (MovesBy Outwards range)
-    (λ id moved moves. omega (arith, moves)) (λ id moved stands. omega (arith, stands))
+moved_out r range span = search (rules, same_moved)
 
 -- into it
 pub moved_in : (r : Option Span) (range : UidMap) (span : Span)
     → ((moved : ℕ) → HasIf r moved
     ↔ ((id : ℕ) × Has span id × Moves range.outside_uid range.inside_uid range.count id moved))
     → (moved : ℕ) → HasIf r moved ↔ ((id : ℕ) × Has span id × MovesBy Inwards range id moved)
-moved_in r range span =
-    same_moved r span (Moves range.outside_uid range.inside_uid range.count) (MovesBy Inwards range)
-    (λ id moved moves. omega (arith, moves)) (λ id moved stands. omega (arith, stands))
+moved_in r range span = search (rules, same_moved)
 
 -- ---- one id, moved
 
@@ -106,21 +94,13 @@ among_push way ranges range id moved = (
     | inl before ↦ inl (other, before, moves)
     | inr same ↦ inr (rw same moves)
   ]),
-  (λ some. elim some [
-    | inl (other, listed, moves) ↦ (other, Contains-append_left ranges (range ∷ []) other listed, moves)
-    | inr moves ↦ (range, Contains-push ranges range, moves)
-  ]),
+  search (rules, Contains-append_left, Contains-push),
 )
 
 -- no range moves any at first
 pub adds_none : (before : List Span) (way : Way) (ranges : List UidMap) (span : Span)
     → AddsMoved before way (take 0 ranges) span before
-adds_none before way ranges span = record {
-  each = λ moved. (
-    (λ held. inl held),
-    (λ some. elim some [ inl held ↦ held | inr (id, has, (range, listed, moves)) ↦ absurd (omega (arith, listed.1)) ]),
-  );
-}
+adds_none before way ranges span = search rules
 
 -- a range that moves what the spans have more
 pub adds_more : (before after more : List Span) (way : Way) (ranges : List UidMap) (span : Span) (r : Option Span) (i : ℕ)
@@ -154,17 +134,11 @@ adds_more before after more way ranges span r i d below so_far hold some = rw (t
 -- where there are ranges, one of them moves the id
 pub among_moves : (way : Way) (ranges : List UidMap) (id moved : ℕ) → ranges ≢ []
     → MovesAmong way ranges id moved ↔ MovesTo way ranges id moved
-among_moves Inwards [] id moved some = absurd (some refl)
-among_moves Outwards [] id moved some = absurd (some refl)
-among_moves Inwards (range ∷ ranges) id moved some = ((λ moves. moves), (λ moves. moves))
-among_moves Outwards (range ∷ ranges) id moved some = ((λ moves. moves), (λ moves. moves))
+among_moves way ranges id moved some = grind arith
 
 -- where there are none, it stays
 stays_moves : (way : Way) (ranges : List UidMap) (id moved : ℕ) → ranges ≡ [] → (id ≡ moved) ↔ MovesTo way ranges id moved
-stays_moves Inwards [] id moved none = ((λ same. sym same), (λ same. sym same))
-stays_moves Outwards [] id moved none = ((λ same. same), (λ same. same))
-stays_moves Inwards (range ∷ ranges) id moved none = absurd (cc)
-stays_moves Outwards (range ∷ ranges) id moved none = absurd (cc)
+stays_moves way ranges id moved none = grind arith
 
 pub adds_span : (before after : List Span) (way : Way) (ranges : List UidMap) (span : Span) → ranges ≢ []
     → AddsMoved before way ranges span after → AddsSpan before way ranges span after
@@ -174,10 +148,7 @@ adds_span before after way ranges span some adds = record {
       | inl old ↦ inl old
       | inr (id, has, moves) ↦ inr (id, has, (among_moves way ranges id moved some).0 moves)
     ]),
-    (λ any. (adds.each moved).1 (elim any [
-      | inl old ↦ inl old
-      | inr (id, has, moves) ↦ inr (id, has, (among_moves way ranges id moved some).1 moves)
-    ])),
+    (λ any. (adds.each moved).1 (search (rules, among_moves))),
   );
 }
 
@@ -189,23 +160,14 @@ adds_itself before way ranges span none = record {
       | inl old ↦ inl old
       | inr has ↦ inr (moved, has, (stays_moves way ranges moved moved none).0 refl)
     ]),
-    (λ any. push_hold before span moved (elim any [
-      | inl old ↦ inl old
-      | inr (id, has, moves) ↦
-          inr (subst (λ n. Has span n) ((stays_moves way ranges id moved none).1 moves) has)
-    ])),
+    (λ any. search (rules, push_hold, stays_moves)),
   );
 }
 
 -- ---- all spans
 
 pub moved_no_span : (way : Way) (ranges : List UidMap) (spans : List Span) → AreMoved way ranges (take 0 spans) []
-moved_no_span way ranges spans = record {
-  each = λ moved. (
-    (λ held. absurd (hold_none moved held)),
-    (λ (id, held, moves). absurd (hold_none id held)),
-  );
-}
+moved_no_span way ranges spans = search (rules, hold_none)
 
 pub moved_one_more : (way : Way) (ranges : List UidMap) (spans all more : List Span) (i : ℕ) (d : Span)
     → i < length spans → AreMoved way ranges (take i spans) all

@@ -1,6 +1,6 @@
 -- What ids of the guest come back as.
-use Rattle.std.proofs.Common.{◌≡◌, inl, inr, ℕ, ◌+◌, ◌-◌, ◌<◌, ◌≤◌, true, false, List, Option, Some, None}
-use Rattle.std.proofs.Common.{IsSomeAnd, refl, sym, ap, ◌∙◌, arith}
+use Rattle.std.proofs.Common.{◌≡◌, inl, inr, ℕ, ◌+◌, ◌-◌, ◌<◌, ◌≤◌, true, false, List, Option, Some, None, IsSomeAnd}
+use Rattle.std.proofs.Common.{refl, sym, ap, ◌∙◌, arith, rules}
 use Rattle.std.proofs.lemmas.Bool.{cases_eq, cases_lt}
 use Rattle.std.proofs.lemmas.Option.{same_Some}
 use Rattle.virtiofs_id_audit.specs.IdAudit.{IsLeastId, IsLeastIfAny, GoesTo, ComesBack, IsAstray}
@@ -8,11 +8,8 @@ use Rattle.virtiofs_id_audit.specs.IdAuditParts.{ComesBackAs, ReturnsBy, IsMoved
 use Rattle.virtiofs_map.specs.Build.{Accepted}
 use Rattle.virtiofs_map.specs.Mapping.{Becomes, entry_of, EntryCovers, target_of}
 use Rattle.virtiofs_map.specs.MappingLaws.{LeadsBack}
-use Rattle.virtiofs_map.specs.Pieces.{IsMade, IsStretch, is_one_to_one}
-use Rattle.virtiofs_map.specs.Pieces.{value_in, IsNamed}
+use Rattle.virtiofs_map.specs.Pieces.{IsMade, IsStretch, is_one_to_one, value_in, IsNamed}
 use Rattle.virtiofs_map.specs.declared.cmdline.IdMap.{IdMap}
-use Rattle.virtiofs_map.specs.declared.cmdline.IdMap.TheVariants.{Guest, Host, SquashGuest, SquashHost, Bidirectional}
-use Rattle.virtiofs_map.specs.declared.cmdline.IdMap.TheVariants.{ForbidGuest}
 use Rattle.virtiofs_map.specs.declared.soft_idmap.entry.Direction.TheVariants.{GuestToHost, HostToGuest}
 use Rattle.virtiofs_map.specs.declared.soft_idmap.entry.Entry.{Entry}
 use Rattle.virtiofs_map.specs.declared.soft_idmap.piece.Piece.{Piece}
@@ -27,31 +24,22 @@ IsForbidding o n = IsSomeAnd o (λ entry. EntryCovers entry n × (target_of entr
 
 -- no specification forbids an id of the host
 maps_to_some : (spec : IdMap) (n : ℕ) → ¬ IsForbidding (entry_of spec HostToGuest) n
-maps_to_some (Guest from to count) n maps = maps
-maps_to_some (Host from to count) n maps = let fails = maps.1 in absurd (cc)
-maps_to_some (SquashGuest from to count) n maps = maps
-maps_to_some (SquashHost from to count) n maps = let fails = maps.1 in absurd (cc)
-maps_to_some (Bidirectional guest host count) n maps = let fails = maps.1 in absurd (cc)
-maps_to_some (ForbidGuest from count) n maps = maps
+maps_to_some spec n maps = grind arith
 
 pub never_forbidden : (specs : List IdMap) (n : ℕ) → ¬ Becomes specs HostToGuest n None
-never_forbidden specs n (inl (spec, listed, maps)) = maps_to_some spec n maps
-never_forbidden specs n (inr (none, same)) = absurd (cc)
+never_forbidden specs n e = grind (arith, maps_to_some)
 
 -- ---- there and back
 
 pub ReturnsBy-forbidden : (specs : List IdMap) (there : Piece) → IsStretch specs GuestToHost there
     → None ≡ value_in there there.first → ReturnsBy specs there
-ReturnsBy-forbidden specs there stretch none n from to =
-    let fails : value_in there n ≡ None = value-forbidden there n none in
-    inl (rw fails at (stretch.becomes n from to), fails)
+ReturnsBy-forbidden specs there stretch none n from to = search (rules, value-forbidden)
 
 -- the host's piece goes on as far as the guest's does, or ends first
 returned : (specs : List IdMap) (there back : Piece) (n host : ℕ) (value : Option ℕ) → IsStretch specs GuestToHost there
     → IsStretch specs HostToGuest back → there.first ≤ n → n ≤ there.last → value_in there n ≡ Some host
     → back.first ≤ host → host ≤ back.last → value ≡ value_in back host → ComesBackAs specs n value
-returned specs there back n host value stretch back_stretch from to becomes low high is =
-    inr (host, rw becomes at (stretch.becomes n from to), rw is (back_stretch.becomes host low high))
+returned specs there back n host value stretch back_stretch from to becomes low high is = search rules
 
 -- all numbers become one
 pub ReturnsBy-all : (specs : List IdMap) (there back trip : Piece) (n host to : ℕ) → IsStretch specs GuestToHost there
@@ -87,8 +75,7 @@ ReturnsBy-each specs there back trip n host last value stretch back_stretch firs
 -- what the piece of the host says of an id above its first one
 pub back-each : (back : Piece) (to host d : ℕ) → back.first ≡ host → is_one_to_one back.becomes ≡ true
     → Some to ≡ value_in back back.first → Some (to + d) ≡ value_in back (host + d)
-back-each back to host d first each start =
-    ap (λ (k : ℕ). Some k) (omega arith) ∙ sym (value-each back to (host + d) each start (omega arith))
+back-each back to host d first each start = search (rules, value-each)
 
 pub back-all : (back : Piece) (to host d : ℕ) → is_one_to_one back.becomes ≡ false
     → IsNamed back.becomes back.first back.last → Some to ≡ value_in back back.first
@@ -165,23 +152,7 @@ ComeBackBelow-more specs trip next more accepted so_far returns first end none n
 IsMoved-below : (specs : List IdMap) (trip : Piece) (n : ℕ) → Accepted specs → ReturnsBy specs trip
     → trip.last ≤ 4294967295 → IsMoved trip n → n < 4294967295
 IsMoved-below specs trip n accepted returns within moved =
-    elim (cases_lt n 4294967295) [
-      | inl below ↦ below
-      | inr from ↦ absurd (stays (omega (arith, moved.to)) (returns n moved.from moved.to))
-    ] where
-      stays : n ≡ 4294967295 → ComesBackAs specs n (value_in trip n) → ⊥
-      stays greatest (inl (forbidden, none)) = let both : Some moved.value ≡ None = sym moved.becomes ∙ none in
-          absurd (cc)
-      stays greatest (inr (host, there, again)) =
-          let at_host : host ≡ 4294967295 =
-          same_Some _ _
-          (lookup_one_value specs accepted GuestToHost 4294967295 _ _ (rw greatest at there)
-          (KeepsGreatest-accepted specs accepted GuestToHost)) in
-          let value : moved.value ≡ 4294967295 =
-          same_Some _ _
-          (lookup_one_value specs accepted HostToGuest 4294967295 _ _ (rw (moved.becomes, at_host) at again)
-          (KeepsGreatest-accepted specs accepted HostToGuest)) in
-          moved.moved (value ∙ sym greatest)
+    search (rules, cases_lt, same_Some, lookup_one_value, KeepsGreatest-accepted)
 
 -- the least number that moves is the least id that is astray
 pub IsAstray-least : (specs : List IdMap) (trip : Piece) (next n : ℕ) → Accepted specs → ComeBackBelow specs next

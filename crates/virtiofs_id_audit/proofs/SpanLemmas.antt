@@ -1,6 +1,6 @@
 -- The least id of the guest that becomes an id in one of some spans.
 use Rattle.std.proofs.Common.{◌≡◌, inl, inr, ◌⊎◌, ℕ, ◌+◌, ◌-◌, ◌<◌, ◌≤◌, max, true, false, ltb, List, length, get_or}
-use Rattle.std.proofs.Common.{Some, None, sym, ◌∙◌, arith}
+use Rattle.std.proofs.Common.{Some, None, sym, ◌∙◌, arith, rules}
 use Rattle.std.specs.List.Sorted.{IsPartitionPoint}
 use Rattle.std.proofs.lemmas.Bool.{cases_lt}
 use Rattle.std.proofs.lemmas.Bool.Decides.{nat_tests}
@@ -29,26 +29,17 @@ pub held_after : (spans : List Span) (first at id : ℕ) (d : Span) → AreInOrd
     → Hold spans id → (at < length spans) × ((get_or spans at d).first ≤ id)
 held_after spans first at id d order splits from (span, (k, inside, here), has) =
     let here' : get_or spans k d ≡ span = get_or_default spans k d span inside ∙ here in
-    elim (cases_lt k at) [
-      | inl before ↦ absurd
-          (let ends : ltb span.last first ≡ true = rw here' at (splits.0 k d (omega arith) before) in
-          let high : id ≤ span.last = has.1 in
-          grind (arith, nat_tests))
-      | inr later ↦ (omega arith, omega (arith, rw here' at (order.firsts at k d later inside), has.0))
-    ]
+    search (rules, cases_lt, nat_tests)
 
 -- no span is left there
 pub least-none : (spans : List Span) (first last at : ℕ) → AreInOrder spans → SplitsAt spans first at
     → length spans ≤ at → IsLeastIfAny (λ id. Between first last id × Hold spans id) None
-least-none spans first last at order splits out id ((from, to), (span, listed, has)) =
-    omega (arith, held_after spans first at id span order splits from (span, listed, has))
+least-none spans first last at order splits out id ((from, to), (span, listed, has)) = search (rules, held_after)
 
 -- the span there has an id from first on, unless it begins above last
 pub held_at : (spans : List Span) (first at : ℕ) (d : Span) → AreInOrder spans → SplitsAt spans first at → at < length spans
     → ((get_or spans at d).first ≤ (get_or spans at d).last) × (first ≤ (get_or spans at d).last)
-held_at spans first at d order splits inside =
-    let ends : ltb (get_or spans at d).last first ≡ false = splits.1 at d (omega arith) inside in
-    (order.some at d inside, grind (arith, nat_tests))
+held_at spans first at d order splits inside = search (rules, nat_tests)
 
 pub least-there : (spans : List Span) (first last at least : ℕ) (span : Span) → AreInOrder spans
     → SplitsAt spans first at → at < length spans → get_or spans at span ≡ span → first ≤ least → span.first ≤ least
@@ -72,8 +63,7 @@ least-beyond spans first last at least span order splits inside here is above fr
 
 -- the greater of two numbers is one of them
 pub greater_is : (begins first least : ℕ) → least ≡ max begins first → (least ≡ first) ⊎ (least ≡ begins)
-greater_is begins first least is =
-    elim (cases_lt begins first) [ inl before ↦ inl (omega arith) | inr after ↦ inr (omega arith) ]
+greater_is begins first least is = search (rules, cases_lt)
 
 -- ---- the least number of a piece
 

@@ -1,21 +1,21 @@
 -- Names that fare alike: the longest of some patterns that begins a name is begun by the same patterns as the name.
 use Rattle.std.proofs.Common.{◌≡◌, zero, suc, ◌≢◌, ℕ, ◌+◌, ◌<◌, ◌≤◌, Bool, true, false, ◌&&◌, cond, eqb, List, [], ◌∷◌}
 use Rattle.std.proofs.Common.{◌++◌, map, length, drop, Option, Some, None, ◌⊎◌, inl, inr, refl, sym, ap, ◌∙◌, subst}
-use Rattle.std.proofs.Common.{append-nil, arith, flat_map, find, option_and_then, true≢false, eqb-true, eq-eqb}
+use Rattle.std.proofs.Common.{arith, flat_map, find, option_and_then, true≢false, eqb-true, eq-eqb, rules}
 use Rattle.std.specs.List.{AllByRecursion, cons_option, range_with_len}
 use Rattle.std.specs.Option.{option_map_or}
 use Rattle.std.proofs.lemmas.Bool.{and_parts, and_from, cond_both, cases_Bool, cases_lt, false≢true}
-use Rattle.virtiofs_map.specs.AuditParts.{added_prefix, rest_after, rest_of, rests, guest_names}
-use Rattle.virtiofs_map.specs.AuditParts.{whole_of, wholes, live_wholes, host_names, is_cut, cuts}
-use Rattle.virtiofs_map.specs.AuditParts.{one_byte, one_byte_names}
-use Rattle.virtiofs_map.specs.GatheredParts.{added_prefix_by, added_prefix_of, host_pattern}
+use Rattle.virtiofs_map.specs.AuditParts.{added_prefix, rest_after, rest_of, rests, guest_names, whole_of, wholes}
+use Rattle.virtiofs_map.specs.AuditParts.{live_wholes, host_names, is_cut, cuts, one_byte, one_byte_names}
+use Rattle.virtiofs_map.specs.GatheredParts.{added_prefix_of, host_pattern}
 use Rattle.virtiofs_map.specs.FirstRule.{acts}
 use Rattle.virtiofs_map.specs.Names.{begins, fits, deciding}
-use Rattle.virtiofs_map.specs.Rule.{RuleType, Prefix, Okay, Bad, Unsupported, MappingRule}
+use Rattle.virtiofs_map.specs.Rule.{MappingRule}
 use Rattle.virtiofs_map.specs.declared.xattrmap.scopes.Side.{Side}
 use Rattle.virtiofs_map.specs.declared.xattrmap.scopes.Side.TheVariants.{Client, Server}
-use Rattle.virtiofs_map.proofs.BeginsLemmas.{begins_trans, begins_split, begins_from, begins-append, deciding_fits}
-use Rattle.virtiofs_map.proofs.FirstRuleLemmas.{deciding-find}
+use Rattle.virtiofs_map.proofs.AuditAddedLemmas.{adds_by}
+use Rattle.virtiofs_map.proofs.BeginsLemmas.{begins_itself, begins_trans, begins_split, begins_from, begins-append}
+use Rattle.virtiofs_map.proofs.BeginsLemmas.{deciding_fits, deciding-find}
 
 -- ---- added prefixes of a name
 
@@ -35,18 +35,11 @@ begins-append_both [] p n = refl
 begins-append_both (x ∷ a) p n = ap (λ b. b && begins (a ++ p) (a ++ n)) (eq-eqb x x refl) ∙ begins-append_both a p n
 
 pub same_tests : (x y : Bool) → (x ≡ true → y ≡ true) → (y ≡ true → x ≡ true) → x ≡ y
-same_tests true true f g = refl
-same_tests true false f g = sym (f refl)
-same_tests false true f g = g refl
-same_tests false false f g = refl
+same_tests x y f g = grind arith
 
 -- a pattern that is no longer than a, or that a does not begin, begins a name after a only where it begins a
 begins_within : (a p n : List ℕ) → begins a p ≡ false → begins p (a ++ n) ≡ true → begins p a ≡ true
-begins_within a p n fails b =
-    elim (cases_lt (length a) (length p)) [
-      | inl l ↦ absurd (false≢true (sym fails ∙ shorter_begins a p (a ++ n) (begins-append a n) b (omega arith)))
-      | inr l ↦ shorter_begins p a (a ++ n) b (begins-append a n) l
-    ]
+begins_within a p n fails b = search (rules, cases_lt, false≢true, shorter_begins, begins-append)
 
 -- ---- members of a list
 
@@ -190,12 +183,7 @@ cover_within beginning patterns x xs l u b =
 
 pub fits_more : (side : Side) (front name : List ℕ) → begins front name ≡ true → (rule : MappingRule)
     → fits side front rule ≡ true → fits side name rule ≡ true
-fits_more Client front name b rule e =
-    let parts = and_parts rule.client (begins rule.key front) e in
-    and_from rule.client (begins rule.key name) parts.0 (begins_trans rule.key front name parts.1 b)
-fits_more Server front name b rule e =
-    let parts = and_parts rule.server (begins rule.prepend front) e in
-    and_from rule.server (begins rule.prepend name) parts.0 (begins_trans rule.prepend front name parts.1 b)
+fits_more side front name b rule e = grind (arith, and_parts, and_from, begins_trans)
 
 -- of fewer elements that pass, the first stays the first
 find_fewer : {X : Type 0} (p q : X → Bool) (xs : List X) (x : X) → ((y : X) → q y ≡ true → p y ≡ true)
@@ -219,10 +207,7 @@ find_fewer p q (y ∷ ys) x more e holds =
 pub decides_front : (side : Side) (rules : List MappingRule) (front name : List ℕ) (rule : MappingRule)
     → begins front name ≡ true → deciding side rules name ≡ Some rule → fits side front rule ≡ true
     → deciding side rules front ≡ Some rule
-decides_front side rules front name rule b e fit =
-    deciding-find side rules front
-    ∙ find_fewer (fits side name) (fits side front) rules rule (fits_more side front name b)
-    (sym (deciding-find side rules name) ∙ e) fit
+decides_front side rules front name rule b e fit = grind (arith, deciding-find, find_fewer, fits_more)
 
 -- ---- the same rule decides
 
@@ -268,8 +253,7 @@ rest_same added pattern name c f false fails met =
 
 first_option : {X : Type 0} (P : X → Type 0) (o : Option X) (xs : List X) → AllByRecursion P (cons_option o xs)
     → AllByRecursion P (cons_option o []) × AllByRecursion P xs
-first_option P None xs all = (tt, all)
-first_option P (Some x) xs all = ((all.0, tt), all.1)
+first_option P o xs all = grind arith
 
 -- the rule's pattern for host names begins both of them or neither, if the rule acts on that side
 abbrev pub BeginsBoth : Side → List ℕ → List ℕ → MappingRule → Type 0
@@ -343,18 +327,9 @@ fare_alike side rules others tried name c stands = record {
 }
 
 -- host names that the same prepends begin meet the same rule of the server
-fits_alike : (on one other : Bool) → (on ≡ true → one ≡ other) → (on && one) ≡ (on && other)
-fits_alike true one other same = same refl
-fits_alike false one other same = refl
-
 pub server_alike : (others : List MappingRule) (host other : List ℕ)
     → AllByRecursion (BeginsBoth Server host other) others → deciding Server others host ≡ deciding Server others other
-server_alike others host other all =
-    deciding-find Server others host
-    ∙ find_same (fits Server host) (fits Server other) others
-    (all_weaker (BeginsBoth Server host other) (λ rule. fits Server host rule ≡ fits Server other rule)
-    (λ rule both. fits_alike rule.server (begins rule.prepend host) (begins rule.prepend other)
-    (λ on. both on rule.prepend refl)) others all) ∙ sym (deciding-find Server others other)
+server_alike others host other all = search (rules, deciding-find, find_same, all_weaker)
 
 -- ---- the same for names of the host
 
@@ -363,37 +338,22 @@ front_is_cut : (rules : List MappingRule) (host cut : List ℕ) → added_prefix
     → is_cut rules cut ≡ true
 front_is_cut rules host [] e = refl
 front_is_cut rules host (x ∷ xs) e =
-    let (rule, decides, puts) = decided (deciding Server rules host) (x ∷ xs) e in
+    let by = adds_by (deciding Server rules host) (x ∷ xs) e in
+    let rule = by.rule in
     let fit = and_parts rule.server (begins rule.prepend host)
-    (deciding_fits Server rules host rule (sym decides)) in
-    let is = prepend_is rule.kind rule.prepend x xs puts in
+    (deciding_fits Server rules host rule (sym by.decides)) in
+    let is : rule.prepend ≡ x ∷ xs = elim by.how [ inl w ↦ absurd (cc) | inr w ↦ sym w.1 ] in
     let begun = subst (λ p. begins p host ≡ true) is fit.1 in
-    let itself = begins_from (x ∷ xs) (x ∷ xs) [] (sym (append-nil (x ∷ xs))) in
-    let alone = subst (λ p. begins p (x ∷ xs) ≡ true) (sym is) itself
-    in
+    let alone = subst (λ p. begins p (x ∷ xs) ≡ true) (sym is) (begins_itself (x ∷ xs)) in
     let same =
-    decides_front Server rules (x ∷ xs) host rule begun decides
+    decides_front Server rules (x ∷ xs) host rule begun by.decides
     (and_from rule.server (begins rule.prepend (x ∷ xs)) fit.0 alone) in
-    ap (λ o. cuts (x ∷ xs) (option_and_then added_prefix_of o)) same ∙ ap (cuts (x ∷ xs)) puts
+    ap (λ o. cuts (x ∷ xs) (option_and_then added_prefix_of o)) same ∙ ap (cuts (x ∷ xs)) by.puts
     ∙ eq-eqb (length (x ∷ xs)) (length (x ∷ xs)) refl
-  where
-    decided : (o : Option MappingRule) (cut : List ℕ) → option_and_then added_prefix_of o ≡ Some cut
-        → (rule : MappingRule) × (o ≡ Some rule) × (added_prefix_of rule ≡ Some cut)
-    decided None cut e = absurd (cc)
-    decided (Some rule) cut e = (rule, refl, e)
-
-    prepend_is : (kind : RuleType) (prepend : List ℕ) (x : ℕ) (xs : List ℕ) → added_prefix_by kind prepend ≡ Some (x ∷ xs)
-        → prepend ≡ x ∷ xs
-    prepend_is Okay prepend x xs e = absurd (cc)
-    prepend_is Prefix prepend x xs e = cc
-    prepend_is Bad prepend x xs e = absurd (cc)
-    prepend_is Unsupported prepend x xs e = absurd (cc)
 
 whole_same : (cut key name rest : List ℕ) → begins (cut ++ rest) (cut ++ name) ≡ true
     → Meets (cut ++ name) (cut ++ rest) (cut ++ key) → begins key name ≡ begins key rest
-whole_same cut key name rest f met =
-    sym (begins-append_both cut key name) ∙ met_same (cut ++ name) (cut ++ rest) (cut ++ key) f met
-    ∙ begins-append_both cut key rest
+whole_same cut key name rest f met = search (rules, begins-append_both, met_same)
 
 wholes_same : (others : List MappingRule) (cut name rest : List ℕ) → begins (cut ++ rest) (cut ++ name) ≡ true
     → AllByRecursion (Meets (cut ++ name) (cut ++ rest)) (wholes others cut)

@@ -1,15 +1,31 @@
--- A row of bytes that begins a name.
-use Rattle.std.proofs.Common.{◌≡◌, ℕ, ◌≤◌, Bool, true, List, [], ◌∷◌, ◌++◌, length, drop, Some, refl, sym, ap, ◌∙◌}
-use Rattle.std.proofs.Common.{append_assoc, find}
-use Rattle.std.proofs.lemmas.Bool.Decides.{Decides-eqb}
-use Rattle.std.proofs.lemmas.Slice.Eq.{starts_is}
-use Rattle.std.proofs.lemmas.Bool.{and_parts, cond_both}
-use Rattle.std.proofs.lemmas.List.Prefix.{front_fits}
+-- A row of bytes that begins a name, and the first rule that fits a name.
+use Rattle.std.proofs.Common.{◌≡◌, ℕ, Bool, cond, ltb, List, length, Some, None, refl, sym, ◌∙◌, ◌≤◌, true, [], ◌∷◌}
+use Rattle.std.proofs.Common.{◌++◌, drop, ap, append_assoc, append-nil, arith}
+use Rattle.std.specs.List.{slice_get, position_or_len, find}
+use Rattle.std.specs.Option.{option_and_then}
+use Rattle.std.proofs.lemmas.List.Folds.{find_at}
+use Rattle.std.proofs.lemmas.Bool.{cond_both, ltb-false, and_parts}
+use Rattle.std.proofs.lemmas.Option.{slice_get_past}
 use Rattle.virtiofs_map.specs.Rule.{MappingRule}
 use Rattle.virtiofs_map.specs.declared.xattrmap.scopes.Side.{Side}
+use Rattle.virtiofs_map.specs.Names.{fits, deciding, begins}
+use Rattle.std.proofs.lemmas.Bool.Decides.{Decides-eqb}
+use Rattle.std.proofs.lemmas.Slice.Eq.{starts_is}
+use Rattle.std.proofs.lemmas.List.Prefix.{front_fits}
 use Rattle.virtiofs_map.specs.declared.xattrmap.scopes.Side.TheVariants.{Server}
-use Rattle.virtiofs_map.specs.Names.{begins, fits, deciding}
-use Rattle.virtiofs_map.proofs.FirstRuleLemmas.{deciding-find}
+
+-- the element at a place, where past the end is no place
+within : {X : Type 0} (xs : List X) (i : ℕ)
+    → option_and_then (slice_get xs) (cond (ltb i (length xs)) (Some i) None) ≡ slice_get xs i
+within xs i =
+    cond_both (ltb i (length xs)) (Some i) None (λ o. option_and_then (slice_get xs) o ≡ slice_get xs i) (λ _. refl)
+    (λ e. sym (slice_get_past xs i (ltb-false i (length xs) e)))
+
+-- the rule at the first place that passes is the first rule that passes
+pub deciding-find : (side : Side) (rules : List MappingRule) (name : List ℕ)
+    → deciding side rules name ≡ find (fits side name) rules
+deciding-find side rules name =
+    within rules (position_or_len (fits side name) rules) ∙ sym (find_at (fits side name) rules)
 
 -- a name that p begins is p, and then the rest
 pub begins_split : (p n : List ℕ) → begins p n ≡ true → n ≡ p ++ drop (length p) n
@@ -20,6 +36,9 @@ begins_from p n rest e = (starts_is Decides-eqb n p (begins p n) refl).1 rest e
 
 pub begins-append : (p rest : List ℕ) → begins p (p ++ rest) ≡ true
 begins-append p rest = begins_from p (p ++ rest) rest refl
+
+pub begins_itself : (p : List ℕ) → begins p p ≡ true
+begins_itself p = begins_from p p [] (sym (append-nil p))
 
 pub begins_trans : (p q n : List ℕ) → begins p q ≡ true → begins q n ≡ true → begins p n ≡ true
 begins_trans p q n b d =
@@ -39,8 +58,7 @@ found_passes p (y ∷ ys) x e =
 -- the rule that decides a name fits it
 pub deciding_fits : (side : Side) (rules : List MappingRule) (name : List ℕ) (rule : MappingRule)
     → Some rule ≡ deciding side rules name → fits side name rule ≡ true
-deciding_fits side rules name rule e =
-    found_passes (fits side name) rules rule (sym (e ∙ deciding-find side rules name))
+deciding_fits side rules name rule e = grind (arith, found_passes, deciding-find)
 
 -- the prepend of the rule that decides a host's name is no longer than the name
 pub deciding_length : (rules : List MappingRule) (name : List ℕ) (rule : MappingRule)

@@ -1,16 +1,15 @@
 -- An accepted list has no fault, and a list has at most one first fault.
-use Rattle.std.proofs.Common.{◌≡◌, inl, inr, ℕ, ◌<◌, List, length, take, get_or, Option, Some, None, IsSomeAnd, IfSome}
-use Rattle.std.proofs.Common.{slice_get, refl, sym, ◌∙◌, subst, arith}
+use Rattle.std.proofs.Common.{◌≡◌, inl, inr, ℕ, ◌<◌, List, length, take, get_or, Option, Some, IsSomeAnd, IfSome}
+use Rattle.std.proofs.Common.{slice_get, refl, sym, ◌∙◌, subst, arith, rules}
 use Rattle.std.proofs.Math.Seq.{take-length}
 use Rattle.std.proofs.lemmas.Bool.{cases_order}
 use Rattle.std.proofs.lemmas.List.{get_or-take, get_or_default, length-take}
 use Rattle.std.proofs.lemmas.Option.{get_or_from_slice_get, slice_get_within, same_Some}
 use Rattle.virtiofs_map.specs.Mapping.{entry_of}
-use Rattle.virtiofs_map.specs.Build.{Accepted, HasSource, HasTarget, MeetsEarlier, Fits, IsReached, BuildFault}
-use Rattle.virtiofs_map.specs.Build.{RangeOverflow, Intersects, HasFirstFault}
+use Rattle.virtiofs_map.specs.Build.{Accepted, HasSource, MeetsEarlier, Fits, IsReached, BuildFault, RangeOverflow}
+use Rattle.virtiofs_map.specs.Build.{Intersects, HasFirstFault}
 use Rattle.virtiofs_map.specs.declared.cmdline.IdMap.{IdMap}
 use Rattle.virtiofs_map.specs.declared.soft_idmap.entry.Direction.{Direction}
-use Rattle.virtiofs_map.specs.declared.soft_idmap.entry.Direction.TheVariants.{GuestToHost, HostToGuest}
 use Rattle.virtiofs_map.specs.declared.soft_idmap.entry.Entry.{Entry}
 use Rattle.virtiofs_map.specs.declared.soft_idmap.errors.RangeEnd.TheVariants.{Source, Target}
 
@@ -43,29 +42,19 @@ record FaultAt (specs : List IdMap) (spec : IdMap) (index : ℕ) (direction : Di
 
 -- what an entry has, it does not lack
 not_broken : (P : Entry → Type 0) (o : Option Entry) → IfSome o P → ¬ IsSomeAnd o (λ entry. ¬ P entry)
-not_broken P None holds broken = broken
-not_broken P (Some entry) holds broken = broken holds
+not_broken P o holds broken = grind arith
 
 at_source : (specs : List IdMap) (spec : IdMap) (index : ℕ) (direction : Direction)
     → HasFirstFault specs (RangeOverflow spec index direction Source) → FaultAt specs spec index direction
-at_source specs spec index direction (reached, broken) = record {
-  reached = reached;
-  unfit = λ fits. not_broken HasSource (entry_of spec direction) fits.source broken;
-}
+at_source specs spec index direction (reached, broken) = search rules
 
 at_meeting : (specs : List IdMap) (spec : IdMap) (index : ℕ) (direction : Direction)
     → HasFirstFault specs (Intersects spec index direction) → FaultAt specs spec index direction
-at_meeting specs spec index direction (reached, source, meets) = record {
-  reached = reached;
-  unfit = λ fits. fits.apart meets;
-}
+at_meeting specs spec index direction (reached, source, meets) = search rules
 
 at_target : (specs : List IdMap) (spec : IdMap) (index : ℕ) (direction : Direction)
     → HasFirstFault specs (RangeOverflow spec index direction Target) → FaultAt specs spec index direction
-at_target specs spec index direction (reached, source, apart, broken) = record {
-  reached = reached;
-  unfit = λ fits. not_broken HasTarget (entry_of spec direction) fits.target broken;
-}
+at_target specs spec index direction (reached, source, apart, broken) = search rules
 
 accepted_faultless : (specs : List IdMap) (spec : IdMap) (index : ℕ) (direction : Direction) → Accepted specs
     → ¬ FaultAt specs spec index direction
@@ -86,8 +75,7 @@ Accepted-no_fault specs (Intersects spec index direction) accepted fault =
 -- no fault stands before another one
 not_before : (specs : List IdMap) (spec other : IdMap) (i j : ℕ) (direction way : Direction)
     → FaultAt specs spec i direction → FaultAt specs other j way → ¬ (i < j)
-not_before specs spec other i j direction way first second before =
-    first.unfit (Fits-accepted specs i j spec direction second.reached.before first.reached.here before)
+not_before specs spec other i j direction way first second before = search (rules, Fits-accepted)
 
 one_index : (specs : List IdMap) (spec other : IdMap) (i j : ℕ) (direction way : Direction)
     → FaultAt specs spec i direction → FaultAt specs other j way → i ≡ j
@@ -100,15 +88,11 @@ one_index specs spec other i j direction way first second =
 
 one_spec : (specs : List IdMap) (spec other : IdMap) (i : ℕ) (direction way : Direction)
     → FaultAt specs spec i direction → FaultAt specs other i way → spec ≡ other
-one_spec specs spec other i direction way first second =
-    same_Some spec other (sym first.reached.here ∙ second.reached.here)
+one_spec specs spec other i direction way first second = search (rules, same_Some)
 
 one_direction : (specs : List IdMap) (spec : IdMap) (i : ℕ) (direction way : Direction) → FaultAt specs spec i direction
     → FaultAt specs spec i way → direction ≡ way
-one_direction specs spec i GuestToHost GuestToHost first second = refl
-one_direction specs spec i GuestToHost HostToGuest first second = absurd (first.unfit (second.reached.guest_first refl))
-one_direction specs spec i HostToGuest GuestToHost first second = absurd (second.unfit (first.reached.guest_first refl))
-one_direction specs spec i HostToGuest HostToGuest first second = refl
+one_direction specs spec i direction way first second = grind arith
 
 -- two faults stand at one place
 record SamePlace (spec other : IdMap) (i j : ℕ) (direction way : Direction) : Type 0 where

@@ -1,7 +1,7 @@
 -- Where a text is cut at a character, in characters.
 use Rattle.std.proofs.Common.{◌≡◌, ℕ, ◌≤◌, eqb, List, [], ◌∷◌, ◌++◌, length, take, drop, Option, Some, None}
-use Rattle.std.proofs.Common.{MatchOption, Contains, IfSome, IfNone, refl, sym, ap, subst, ◌∙◌, arith, length-append}
-use Rattle.std.proofs.Common.{length-take, Bor, take-append-drop, chars, IsUtf8}
+use Rattle.std.proofs.Common.{MatchOption, Contains, IfSome, IfNone, refl, sym, ap, ◌∙◌, arith, length-append}
+use Rattle.std.proofs.Common.{length-take, Bor, take-append-drop, chars, IsUtf8, rules}
 use Rattle.std.proofs.Math.Seq.{get_or-append_seam}
 use Rattle.std.proofs.lemmas.Bool.Decides.{nat_tests}
 use Rattle.std.proofs.lemmas.Str.{IsUtf8-append, IsUtf8-encode, IsUtf8-take, IsUtf8-drop, IsCharBoundary-from_drop}
@@ -18,8 +18,7 @@ lacks_from_none d [] none = tt
 lacks_from_none d (c ∷ cs) none = (grind (arith, nat_tests, none.0), lacks_from_none d cs none.1)
 
 pub lacks_text : (d : ℕ) (s : List ℕ) → IsUtf8 s → NoCharPasses (λ c. eqb c d) s → Lacks d (chars s)
-lacks_text d s utf8 (cs, spells, none) =
-    subst (Lacks d) (chars_from_encodes cs s utf8 spells) (lacks_from_none d cs none)
+lacks_text d s utf8 (cs, spells, none) = search (rules, chars_from_encodes, lacks_from_none)
 
 -- a text at a place where d stands
 record CutAt (d : ℕ) (s before after : List ℕ) : Type 0 where
@@ -62,8 +61,7 @@ split_nowhere d s (Some p) utf8 splits = tt
 
 pub split_whole : (d : ℕ) (s : List ℕ) (r : Option (Bor (List ℕ) × Bor (List ℕ))) → IsScalar d → IsUtf8 s
     → SplitsOnce d s r → IfSome r (λ p. chars s ≡ chars p.0.now ++ d ∷ chars p.1.now)
-split_whole d s None scalar utf8 none = tt
-split_whole d s (Some p) scalar utf8 splits = (first_cut d s p.0.now p.1.now scalar utf8 splits).here.spells
+split_whole d s r scalar utf8 none = grind (arith, first_cut)
 
 pub split_first : (d : ℕ) (s : List ℕ) (r : Option (Bor (List ℕ) × Bor (List ℕ))) → IsScalar d → IsUtf8 s
     → SplitsOnce d s r → IfSome r (λ p. Lacks d (chars p.0.now))

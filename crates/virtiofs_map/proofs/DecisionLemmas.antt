@@ -1,6 +1,6 @@
 -- What is known of the prepend of the rule that decides a name.
-use Rattle.std.proofs.Common.{◌≡◌, ◌≢◌, ◌≤◌, ℕ, List, All, Option, Some, None, IsSomeAnd, refl, length, sym, ap, subst}
-use Rattle.std.proofs.Common.{◌∙◌, option_and_then}
+use Rattle.std.proofs.Common.{◌≡◌, ◌≢◌, ◌≤◌, ℕ, List, All, Option, Some, IsSomeAnd, length, ap, ◌∙◌, option_and_then}
+use Rattle.std.proofs.Common.{arith}
 use Rattle.virtiofs_map.specs.GatheredParts.{added_prefix_by, added_prefix_of}
 use Rattle.virtiofs_map.specs.Names.{deciding}
 use Rattle.virtiofs_map.specs.Rule.{HasNoZero, MappingRule, Prefix}
@@ -12,8 +12,7 @@ use Rattle.virtiofs_map.proofs.BeginsLemmas.{deciding_length}
 -- the rule that decides, of which something holds
 decider : (P : MappingRule → Type 0) (found : Option MappingRule) → IsSomeAnd found P
     → (rule : MappingRule) × (found ≡ Some rule) × P rule
-decider P None none = absurd none
-decider P (Some rule) holds = (rule, refl, holds)
+decider P found none = grind arith
 
 -- a prepend holds no zero where no pattern does
 pub prepend_no_zero : (side : Side) (rules : List MappingRule) (name prepend : List ℕ)
@@ -28,6 +27,4 @@ prepend_no_zero side rules name prepend says no_zero =
 pub prefix_within : (rules : List MappingRule) (name prepend : List ℕ)
     → IsSomeAnd (deciding Server rules name) (λ rule. (rule.kind ≡ Prefix) × (rule.prepend ≡ prepend))
     → length prepend ≤ length name
-prefix_within rules name prepend says =
-    let by = decider (λ rule. (rule.kind ≡ Prefix) × (rule.prepend ≡ prepend)) (deciding Server rules name) says in
-    subst (λ (p : List ℕ). length p ≤ length name) by.2.1 (deciding_length rules name by.0 (sym by.1))
+prefix_within rules name prepend says = grind (arith, decider, deciding_length)

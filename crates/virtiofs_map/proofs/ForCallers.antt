@@ -12,7 +12,7 @@ pub use Rattle.virtiofs_map.proofs.ServerListLemmas.{short_more, shorter_more}
 -- lists that go by pairs
 pub use Rattle.virtiofs_map.proofs.ZipLemmas.{AllZip-push, AllZip-one}
 -- the first rule that fits a name
-pub use Rattle.virtiofs_map.proofs.FirstRuleLemmas.{deciding-find}
+pub use Rattle.virtiofs_map.proofs.BeginsLemmas.{deciding-find}
 -- one value, no fault beside a value, and one fault: of numbers and of specifications
 pub use Rattle.virtiofs_map.proofs.NumeralLemmas.{IsNumeral-one as numeral_one_value}
 pub use Rattle.virtiofs_map.proofs.SpecificationLawLemmas.{Says-one as specification_one_value}

@@ -1,7 +1,8 @@
 -- A number of eight bytes is read back from its bytes, wherever they stand, and a row of three from its place among
 -- rows.
 use Rattle.std.proofs.Common.{◌≡◌, ℕ, ◌+◌, ◌*◌, ◌/◌, ◌%◌, ◌^◌, ◌<◌, zero, suc, List, [], ◌∷◌, ◌++◌, All, length, get_or}
-use Rattle.std.proofs.Common.{take, drop, refl, ap, subst, ◌∙◌, arith, append_assoc, append-nil, length-append}
+use Rattle.std.proofs.Common.{take, drop, refl, ap, subst, ◌∙◌, arith, append_assoc, append-nil, length-append, ◌-◌}
+use Rattle.std.proofs.Common.{◌≤◌, sym, rules}
 use Rattle.std.proofs.Math.Seq.{drop-append-add, take-append_seam}
 use Rattle.std.proofs.lemmas.Nat.{from_le_bytes-to_le_bytes_8}
 use Rattle.std.proofs.lemmas.List.Elements.{All-head, All-tail}
@@ -10,6 +11,7 @@ use Rattle.std.specs.List.{flat_map}
 use Rattle.virtiofs_map.specs.NodeParts.{placed, row_in, row_of}
 use Rattle.virtiofs_map.specs.LeU64Parts.{le_u64_at, le_u64_bytes}
 use Rattle.virtiofs_map.specs.declared.xattrmap.trie.node.Node.{Node}
+use Rattle.std.proofs.lemmas.List.{drop-drop, drop-take, take-take}
 
 pub length-le_u64_bytes : (n : ℕ) → length (le_u64_bytes n) ≡ 8
 unfolding le_u64_bytes
@@ -78,10 +80,7 @@ module _ {X : Type 0} (row : X → List ℕ) (size : (x : X) → length (row x) 
       omega arith
 
   drop_row : (x : X) (rows : List ℕ) (at : ℕ) → drop (suc at * 24) (row x ++ rows) ≡ drop (at * 24) rows
-  drop_row x rows at =
-      let one = size x in
-      let places : suc at * 24 ≡ length (row x) + at * 24 = omega arith in
-      ap (λ (n : ℕ). drop n (row x ++ rows)) places ∙ drop-append-add (row x) rows (at * 24)
+  drop_row x rows at = search (rules, drop-append-add)
 
   -- the row at a place is that of the element there
   pub row_at : (xs : List X) (at : ℕ) (d : X) → at < length xs
@@ -122,3 +121,13 @@ word_of_words (w ∷ ws) rest (suc k) below fit =
     ∙ ap (le_u64_at (le_u64_bytes w ++ (flat_map le_u64_bytes ws ++ rest))) place
     ∙ le_u64_at-next w (flat_map le_u64_bytes ws ++ rest) (8 * k)
     ∙ word_of_words ws rest k (omega arith) (All-tail (λ w. w < 2 ^ 64) w ws fit)
+
+pub inside : (xs : List ℕ) (start n i k : ℕ) → i + k ≤ n
+    → take k (drop i (take n (drop start xs))) ≡ take k (drop (start + i) xs)
+inside xs start n i k within =
+    let whole : i + (n - i) ≡ n = omega (arith, within) in
+    let less : k ≤ n - i = omega (arith, within) in
+    ap (λ m. take k (drop i (take m (drop start xs)))) (sym whole)
+    ∙ ap (take k) (drop-take i (n - i) (drop start xs))
+    ∙ take-take k (n - i) (drop i (drop start xs)) less
+    ∙ ap (take k) (drop-drop i start xs)

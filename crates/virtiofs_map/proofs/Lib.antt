@@ -6,8 +6,6 @@ mod BuildFaultLemmas
 mod LeU64Lemmas
 mod CutLemmas
 mod DecisionLemmas
-mod FirstRuleLemmas
-mod InsideLemmas
 mod MapRuleLemmas
 mod MappingLawLemmas
 mod NamespaceLemmas

@@ -1,18 +1,16 @@
 -- What one map rule means.
-use Rattle.std.proofs.Common.{◌≡◌, ℕ, ◌<◌, Bool, true, false, not, cond, List, [], ◌∷◌, ◌++◌, length, drop, filter}
-use Rattle.std.proofs.Common.{Option, Some, None, ◌⊎◌, inl, inr, refl, sym, ap, ◌∙◌, subst, arith, All, filter_map}
-use Rattle.std.proofs.Common.{encode_utf8_all, ne_eqb, append-nil, append_assoc, drop_at}
+use Rattle.std.proofs.Common.{◌≡◌, ℕ, Bool, true, false, not, cond, List, [], ◌∷◌, ◌++◌, length, drop, filter, Option}
+use Rattle.std.proofs.Common.{Some, None, ◌⊎◌, inl, inr, refl, sym, ap, ◌∙◌, subst, arith, All, filter_map}
+use Rattle.std.proofs.Common.{encode_utf8_all, ne_eqb, append-nil, append_assoc, drop_at, rules}
 use Rattle.std.specs.List.{cons_option, list_all}
 use Rattle.std.specs.Option.{option_map_or}
 use Rattle.virtiofs_map.specs.Rule.{RuleType, Prefix, Okay, Bad, MappingRule}
-use Rattle.virtiofs_map.specs.declared.xattrmap.scopes.Side.TheVariants.{Client, Server}
 use Rattle.virtiofs_map.specs.Names.{begins, Passes, IsDenied, IsUnterminated, answer_by, client_answer, HostAnswer}
 use Rattle.virtiofs_map.specs.Names.{IsListed, IsHidden, IsUndecided, host_answer_by, host_answer, is_decided}
 use Rattle.virtiofs_map.specs.Names.{listed_name, names, as_list, server_answer}
 use Rattle.virtiofs_map.specs.MapRule.{map_client, map_server, IsName, IsMapRule, map_rule, Agree, KeepsGuestsApart}
 use Rattle.virtiofs_map.specs.RuleText.{RuleText, expanded}
-use Rattle.virtiofs_map.proofs.FirstRuleLemmas.{deciding-find}
-use Rattle.virtiofs_map.proofs.BeginsLemmas.{begins_split, begins_from, begins-append}
+use Rattle.virtiofs_map.proofs.BeginsLemmas.{deciding-find, begins_split, begins_from, begins-append}
 use Rattle.virtiofs_map.proofs.ServerListLemmas.{is_name, is_zero}
 use Rattle.virtiofs_map.proofs.NoZeroLemmas.{IsNotZero, text_no_zero, text_no_nul}
 use Rattle.std.proofs.lemmas.Bool.{false_from_ne_true, false≢true}
@@ -40,39 +38,25 @@ client_by : (a b : Bool) (key prepend name : List ℕ)
     → option_map_or (λ rule. answer_by rule.kind rule.prepend name)
     (cond a (Some (both Prefix key prepend)) (cond b (Some (both Bad prepend key)) (Some (both Okay [] []))))
     IsUnterminated ≡ cond a (Passes (prepend ++ name)) (cond b IsDenied (Passes name))
-client_by true b key prepend name = refl
-client_by false true key prepend name = refl
-client_by false false key prepend name = refl
+client_by a b key prepend name = grind arith
 
 host_by : (a b : Bool) (key prepend name : List ℕ)
     → option_map_or (λ rule. host_answer_by rule.kind rule.prepend name)
     (cond a (Some (both Prefix key prepend)) (cond b (Some (both Bad prepend key)) (Some (both Okay [] []))))
     IsUndecided ≡ cond a (IsListed (drop (length prepend) name)) (cond b IsHidden (IsListed name))
-host_by true b key prepend name = refl
-host_by false true key prepend name = refl
-host_by false false key prepend name = refl
+host_by a b key prepend name = grind arith
 
 pub keyed_acts : (key prepend : List ℕ) → Acts key prepend (keyed key prepend)
-keyed_acts key prepend = record {
-  client =
-      λ name. rw (deciding-find Client (keyed key prepend) name)
-      (client_by (begins key name) (begins prepend name) key prepend name);
-  host = λ name. rw (deciding-find Server (keyed key prepend) name)
-      (host_by (begins prepend name) (begins key name) key prepend name);
-}
+keyed_acts key prepend = search (rules, deciding-find, client_by, host_by)
 
 keyless_host_by : (a : Bool) (prepend name : List ℕ)
     → option_map_or (λ rule. host_answer_by rule.kind rule.prepend name)
     (cond a (Some (both Prefix [] prepend)) (Some (both Bad [] []))) IsUndecided ≡ cond a
     (IsListed (drop (length prepend) name)) IsHidden
-keyless_host_by true prepend name = refl
-keyless_host_by false prepend name = refl
+keyless_host_by a prepend name = grind arith
 
 pub keyless_acts : (prepend : List ℕ) → Acts [] prepend (keyless prepend)
-keyless_acts prepend = record {
-  client = λ name. refl;
-  host = λ name. rw (deciding-find Server (keyless prepend) name) (keyless_host_by (begins prepend name) prepend name);
-}
+keyless_acts prepend = search (rules, deciding-find, keyless_host_by)
 
 -- ---- what follows from that
 
@@ -91,20 +75,16 @@ pub server_of : (rules : List MappingRule) (answer : List ℕ → HostAnswer)
     → ((name : List ℕ) → is_decided (host_answer rules name) ≡ true)
     → ((name : List ℕ) → host_answer rules name ≡ answer name) → (list : List ℕ)
     → server_answer rules list ≡ Some (as_list (filter_map (λ name. listed_name (answer name)) (names list)))
-server_of rules answer all same list =
-    rw (all_decided rules all (names list), same_listed (host_answer rules) answer same (names list)) refl
+server_of rules answer all same list = grind (arith, all_decided, same_listed)
 
 map_decided_by : (a b : Bool) (one other : List ℕ)
     → is_decided (cond a (IsListed one) (cond b IsHidden (IsListed other))) ≡ true
-map_decided_by true b one other = refl
-map_decided_by false true one other = refl
-map_decided_by false false one other = refl
+map_decided_by a b one other = grind arith
 
 -- what acts as one map rule decides each name
 pub decides : {key prepend : List ℕ} {rules : List MappingRule} → Acts key prepend rules → (name : List ℕ)
     → is_decided (host_answer rules name) ≡ true
-decides {key} {prepend} acts name = ap is_decided (acts.host name)
-    ∙ map_decided_by (begins prepend name) (begins key name) (drop (length prepend) name) name
+decides {key} {prepend} acts name = search (rules, map_decided_by)
 
 -- ---- a name that passes
 
@@ -112,9 +92,7 @@ decides {key} {prepend} acts name = ap is_decided (acts.host name)
 pub passes_by : (a b : Bool) (prepend name host : List ℕ)
     → cond a (Passes (prepend ++ name)) (cond b IsDenied (Passes name)) ≡ Passes host
     → ((a ≡ true) × (host ≡ prepend ++ name)) ⊎ ((a ≡ false) × (b ≡ false) × (host ≡ name))
-passes_by true b prepend name host e = inl (refl, cc)
-passes_by false true prepend name host e = absurd (cc)
-passes_by false false prepend name host e = inr (refl, refl, cc)
+passes_by a b prepend name host e = grind arith
 
 abbrev pub passes_cases : {key prepend : List ℕ} {rules : List MappingRule} → Acts key prepend rules
     → (name host : List ℕ) → client_answer rules name ≡ Passes host
@@ -124,8 +102,7 @@ passes_cases {key} {prepend} acts name host e =
     passes_by (begins key name) (begins prepend name) prepend name host (sym (acts.client name) ∙ e)
 
 prefixed_listed : (key prepend name : List ℕ) → map_server key prepend (prepend ++ name) ≡ IsListed name
-prefixed_listed key prepend name =
-    rw (begins-append prepend name) (ap IsListed (drop_at prepend name (length prepend) refl))
+prefixed_listed key prepend name = search (rules, begins-append, drop_at)
 
 apart_listed : (key prepend name : List ℕ) → begins key name ≡ false → begins prepend name ≡ false
     → map_server key prepend name ≡ IsListed name
@@ -134,11 +111,7 @@ apart_listed key prepend name k p = rw (p, k) refl
 -- what a name passes as is listed as that name
 passed_listed : {key prepend : List ℕ} {rules : List MappingRule} → Acts key prepend rules → (name host : List ℕ)
     → client_answer rules name ≡ Passes host → host_answer rules host ≡ IsListed name
-passed_listed {key} {prepend} acts name host e =
-    elim (passes_cases acts name host e) [
-      | inl way ↦ acts.host host ∙ ap (map_server key prepend) way.1 ∙ prefixed_listed key prepend name
-      | inr way ↦ acts.host host ∙ ap (map_server key prepend) way.2 ∙ apart_listed key prepend name way.0 way.1
-    ]
+passed_listed {key} {prepend} acts name host e = search (rules, prefixed_listed, apart_listed)
 
 -- it holds no zero
 passed_no_zero : {key prepend : List ℕ} {rules : List MappingRule} → Acts key prepend rules → (name host : List ℕ)
@@ -157,20 +130,12 @@ no_name_by (x ∷ xs) name e = cc
 -- it is empty only where the name is
 passed_empty : {key prepend : List ℕ} {rules : List MappingRule} → Acts key prepend rules → (name host : List ℕ)
     → client_answer rules name ≡ Passes host → host ≡ [] → name ≡ []
-passed_empty {key} {prepend} acts name host e none =
-    elim (passes_cases acts name host e) [
-      | inl way ↦ no_name_by prepend name (sym way.1 ∙ none)
-      | inr way ↦ sym way.2
-          ∙ none
-    ]
+passed_empty {key} {prepend} acts name host e none = search (rules, no_name_by)
 
 -- ---- the list of one name
 
 pub names_of_one : (name : List ℕ) → All IsNotZero name → names (name ++ 0 ∷ []) ≡ filter is_name (name ∷ [])
-names_of_one name no_zero =
-    ap (filter is_name)
-    (slice_split_at is_zero name 0 []
-    (All-weaker IsNotZero (λ byte. is_zero byte ≡ false) (λ byte h. ne_eqb byte 0 h) name no_zero) refl)
+names_of_one name no_zero = search (rules, is_name, slice_split_at, is_zero, All-weaker)
 
 pub some_name : (byte : ℕ) (bytes : List ℕ) → is_name (byte ∷ bytes) ≡ true
 some_name byte bytes = ap not (ne_eqb (length (byte ∷ bytes)) 0 (λ e. absurd (omega arith)))
@@ -187,15 +152,12 @@ lists_one rules (byte ∷ bytes) name all listed empty one =
     ∙ rw (one, some_name byte bytes, listed) (ap Some (append-nil (name ++ 0 ∷ [])))
 
 pub not_zero_name : (name : List ℕ) → IsName name → All IsNotZero name
-not_zero_name name is =
-    All-weaker (λ byte. (0 < byte) × (byte < 256)) IsNotZero (λ byte h e. absurd (omega (arith, h.0))) name is
+not_zero_name name is = search (rules, All-weaker)
 
 -- ---- all that one map rule means
 
 terminated_by : (a b : Bool) (x y : List ℕ) → cond a (Passes x) (cond b IsDenied (Passes y)) ≡ IsUnterminated → ⊥
-terminated_by true b x y e = cc
-terminated_by false true x y e = cc
-terminated_by false false x y e = cc
+terminated_by a b x y e = grind arith
 
 -- what passes begins with the prepend and the key, or with neither of them
 fronts_of : {key prepend : List ℕ} {rules : List MappingRule} → Acts key prepend rules → (name host : List ℕ)
@@ -213,17 +175,11 @@ fronts_of {key} {prepend} acts name host e =
 -- with no key, what a host name is listed as passes as that host name
 listed_back : (a : Bool) (prepend name host : List ℕ) → (a ≡ true → host ≡ prepend ++ drop (length prepend) host)
     → cond a (IsListed (drop (length prepend) host)) IsHidden ≡ IsListed name → prepend ++ name ≡ host
-listed_back true prepend name host split e = let rest : drop (length prepend) host ≡ name = cc in
-    ap (λ n. prepend ++ n) (sym rest) ∙ sym (split refl)
-listed_back false prepend name host split e = absurd (cc)
+listed_back a prepend name host split e = grind arith
 
 way_back_of : (key prepend : List ℕ) (rules : List MappingRule) → Acts key prepend rules → (name host : List ℕ)
     → key ≡ [] → host_answer rules host ≡ IsListed name → client_answer rules name ≡ Passes host
-way_back_of [] prepend rules acts name host none k =
-    acts.client name
-    ∙ ap Passes
-    (listed_back (begins prepend host) prepend name host (begins_split prepend host) (sym (acts.host host) ∙ k))
-way_back_of (x ∷ xs) prepend rules acts name host none k = absurd (cc)
+way_back_of key prepend rules acts name host none k = grind (arith, listed_back, begins_split)
 
 server_ends : (rules : List MappingRule) (list answer : List ℕ) → server_answer rules list ≡ Some answer
     → server_answer rules list ≡ None → ⊥
@@ -254,8 +210,7 @@ acts_mean key prepend rules no_zero acts = record {
 
 pub expanded_acts : (key prepend : List ℕ)
     → Acts (encode_utf8_all key) (encode_utf8_all prepend) (expanded (map_rule key prepend ∷ []))
-expanded_acts [] prepend = keyless_acts (encode_utf8_all prepend)
-expanded_acts (c ∷ cs) prepend = keyed_acts (encode_utf8_all (c ∷ cs)) (encode_utf8_all prepend)
+expanded_acts key prepend = grind (arith, keyless_acts, encode_utf8_all, keyed_acts)
 
 -- where a text is one map rule, and the rules are those that it stands for, they mean what it means
 pub map_rule_means : (text key prepend : List ℕ) (rules : List MappingRule) → RuleText text (map_rule key prepend ∷ [])

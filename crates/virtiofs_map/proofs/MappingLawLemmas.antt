@@ -1,6 +1,6 @@
 -- What holds of an accepted list of specifications: one value for a number, and `map` ranges that lead back.
 use Rattle.std.proofs.Common.{◌≡◌, inl, inr, ℕ, ◌+◌, ◌-◌, ◌<◌, List, length, get_or, Contains, IsPermutation, Option}
-use Rattle.std.proofs.Common.{Some, None, IsSomeAnd, IfSome, refl, sym, ap, ◌∙◌, subst, arith}
+use Rattle.std.proofs.Common.{Some, None, IsSomeAnd, IfSome, refl, ap, subst, arith, rules}
 use Rattle.std.proofs.lemmas.List.{get_or_default}
 use Rattle.std.proofs.lemmas.List.Elements.{All-contains}
 use Rattle.std.proofs.lemmas.List.Sorted.{All-permutation, Contains-permutation, IsPermutation-sym}
@@ -20,8 +20,7 @@ use Rattle.virtiofs_map.specs.declared.soft_idmap.entry.Entry.{Entry}
 -- two elements at one place are one
 at_one_place : {X : Type 0} (xs : List X) (i j : ℕ) (x y : X) → i ≡ j → i < length xs → get_or xs i x ≡ x
     → get_or xs j y ≡ y → x ≡ y
-at_one_place xs i j x y same below here there =
-    sym here ∙ get_or_default xs i x y below ∙ ap (λ (k : ℕ). get_or xs k y) same ∙ there
+at_one_place xs i j x y same below here there = search (rules, get_or_default)
 
 -- the earlier of two specifications meets no later one
 earlier_covers : (specs : List IdMap) (direction : Direction) (n i j : ℕ) (x y : IdMap) → Accepted specs → i < j
@@ -36,45 +35,26 @@ earlier_covers specs direction n i j x y accepted before below here there first 
 one_covers : (specs : List IdMap) (direction : Direction) (n : ℕ) (x y : IdMap) → Accepted specs → Contains specs x
     → Contains specs y → Covers x direction n → Covers y direction n → x ≡ y
 one_covers specs direction n x y accepted (i, below, here) (j, under, there) first second =
-    elim (cases_order i j) [
-      | inl same ↦ at_one_place specs i j x y same below here there
-      | inr (inl before) ↦ earlier_covers specs direction n i j x y accepted before under here there first second
-      | inr (inr later) ↦ sym (earlier_covers specs direction n j i y x accepted later below there here second first)
-    ]
+    search (rules, cases_order, at_one_place, earlier_covers)
 
 -- what a specification maps it covers
 pub Covers-maps : (spec : IdMap) (direction : Direction) (n : ℕ) (value : Option ℕ) → Maps spec direction n value
     → Covers spec direction n
-Covers-maps spec direction n value maps = covered (entry_of spec direction) maps where
-  covered : (o : Option Entry) → IsSomeAnd o (λ entry. EntryCovers entry n × (target_of entry n ≡ value))
-      → IsSomeAnd o (λ entry. EntryCovers entry n)
-  covered None maps = maps
-  covered (Some entry) maps = maps.0
+Covers-maps spec direction n value maps = search rules
 
 -- a specification makes one thing of a number
 one_target : (o : Option Entry) (n : ℕ) (value other : Option ℕ)
     → IsSomeAnd o (λ entry. EntryCovers entry n × (target_of entry n ≡ value))
     → IsSomeAnd o (λ entry. EntryCovers entry n × (target_of entry n ≡ other)) → value ≡ other
-one_target None n value other first second = absurd first
-one_target (Some entry) n value other first second = sym first.1 ∙ second.1
+one_target o n value other first second = grind arith
 
 pub HasOneValue-accepted : (specs : List IdMap) → Accepted specs → HasOneValue specs
-HasOneValue-accepted specs accepted direction n value other (inl (x, listed, first)) (inl (y, within, second)) =
-    let same : x ≡ y =
-    one_covers specs direction n x y accepted listed within (Covers-maps x direction n value first)
-    (Covers-maps y direction n other second) in
-    one_target (entry_of y direction) n value other (subst (λ (z : IdMap). Maps z direction n value) same first) second
-HasOneValue-accepted specs accepted direction n value other (inl (x, listed, first)) (inr (none, second)) =
-    absurd (none x listed (Covers-maps x direction n value first))
-HasOneValue-accepted specs accepted direction n value other (inr (none, first)) (inl (y, within, second)) =
-    absurd (none y within (Covers-maps y direction n other second))
-HasOneValue-accepted specs accepted direction n value other (inr (none, first)) (inr (_, second)) = first ∙ sym second
+HasOneValue-accepted specs accepted direction n value other e h = grind (arith, one_covers, Covers-maps, one_target)
 
 -- so it becomes one number
 pub Becomes-one : (specs : List IdMap) (direction : Direction) (n a b : ℕ) → Accepted specs
     → Becomes specs direction n (Some a) → Becomes specs direction n (Some b) → a ≡ b
-Becomes-one specs direction n a b accepted first second =
-    same_Some a b (HasOneValue-accepted specs accepted direction n (Some a) (Some b) first second)
+Becomes-one specs direction n a b accepted first second = search (rules, same_Some, HasOneValue-accepted)
 
 -- or its use fails, and not both
 pub Becomes-forbidden : (specs : List IdMap) (direction : Direction) (n a : ℕ) → Accepted specs
@@ -104,18 +84,8 @@ LeadsBack-mapped specs direction n value accepted mapped becomes =
     subst (λ (o : Option ℕ). IsSomeAnd o (LeadsBack specs direction n)) same (inl (spec, mapped.listed, back))
 
 -- no range ends past the greatest number
-below_greatest : (o : Option Entry) → IfSome o HasSource → ¬ IsSomeAnd o (λ entry. EntryCovers entry 4294967295)
-below_greatest None source covers = covers
-below_greatest (Some entry) source (low, high) = omega (arith, source (omega arith))
-
 pub KeepsGreatest-accepted : (specs : List IdMap) → Accepted specs → KeepsGreatest specs
-KeepsGreatest-accepted specs accepted direction =
-    inr (
-      (λ spec listed covers. below_greatest (entry_of spec direction)
-          (All-contains (λ (s : IdMap). IfSome (entry_of s direction) HasSource) specs spec (accepted.source direction)
-          listed) covers),
-      refl,
-    )
+KeepsGreatest-accepted specs accepted direction = search (rules, All-contains)
 
 -- the specifications of one list make the same of a number in any other list that has them all
 Becomes-listed : (specs others : List IdMap) (direction : Direction) (n : ℕ) (value : Option ℕ)

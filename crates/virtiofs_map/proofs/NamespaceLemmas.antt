@@ -1,7 +1,7 @@
 -- The delimiters and fields of a namespace's range, and what is wrong with them.
-use Rattle.std.proofs.Common.{◌≡◌, ◌≢◌, inl, inr, ◌==◌, ℕ, ◌<◌, true, false, not, List, [], ◌∷◌, ◌++◌, length}
-use Rattle.std.proofs.Common.{take, All, Contains, slice_get, Option, Some, None, nat_eq, refl, sym, ap, ◌∙◌, subst}
-use Rattle.std.proofs.Common.{eq-eqb, append_assoc, arith, encode_utf8, chars, IsUtf8, eqb-true, length-append}
+use Rattle.std.proofs.Common.{◌≡◌, ◌≢◌, inl, inr, ◌==◌, ℕ, ◌<◌, true, false, not, List, [], ◌∷◌, ◌++◌, length, take}
+use Rattle.std.proofs.Common.{All, Contains, slice_get, Option, Some, nat_eq, refl, sym, ap, ◌∙◌, subst, eq-eqb}
+use Rattle.std.proofs.Common.{append_assoc, arith, encode_utf8, chars, IsUtf8, eqb-true, length-append, rules}
 use Rattle.std.specs.Char.{IsScalar}
 use Rattle.std.specs.Option.{option_eq}
 use Rattle.std.proofs.Math.Seq.{take-append_seam}
@@ -34,9 +34,7 @@ split_at_each-three d inner x y z three =
 -- the delimiter of a text, and what it encloses, are determined
 enclosed_same : (text : List ℕ) (d e : ℕ) (inner other : List ℕ) → IsEnclosed text d inner → IsEnclosed text e other
     → (d ≡ e) × (inner ≡ other)
-enclosed_same text d e inner other one two =
-    let (front, last) = same_from_push (d ∷ inner) (e ∷ other) d e (sym one.whole ∙ two.whole) in
-    (last, cc)
+enclosed_same text d e inner other one two = search (rules, same_from_push)
 
 -- the fields of a text that says a range, between its delimiters
 record IsRangeInside (text : List ℕ) (inside outside count : ℕ) : Type 0 where
@@ -52,44 +50,12 @@ record IsRangeInside (text : List ℕ) (inside outside count : ℕ) : Type 0 whe
   third_says : IsNumeral third count
 
 range_inside : (text : List ℕ) (a b c : ℕ) → SaysNamespace text a b c → IsRangeInside text a b c
-range_inside text a b c says =
-    let d = says.delimiter in
-    let inner : List ℕ = says.first ++ d ∷ (says.second ++ d ∷ says.third) in
-    record {
-      delimiter = d;
-      inner = inner;
-      first = says.first;
-      second = says.second;
-      third = says.third;
-      enclosed = record { whole = says.whole ∙ simp append_assoc; delimits = says.delimits };
-      fields = split_at_each-three d inner says.first says.second says.third (record {
-        whole = refl;
-        first_free = says.first_says.free;
-        second_free = says.second_says.free;
-        third_free = says.third_says.free;
-      });
-      first_says = says.first_says.numeral;
-      second_says = says.second_says.numeral;
-      third_says = says.third_says.numeral;
-    }
+range_inside text a b c says = search (rules, append_assoc, split_at_each-three)
 
 -- three numerals between delimiters say a range
 pub SaysNamespace-parts : (text : List ℕ) (d : ℕ) (inner x y z : List ℕ) (a b c : ℕ) → IsEnclosed text d inner
     → IsThreeFields d inner x y z → IsNumeral x a → IsNumeral y b → IsNumeral z c → SaysNamespace text a b c
-SaysNamespace-parts text d inner x y z a b c enclosed three one two last =
-    let opened : text ≡ d ∷ (x ++ d ∷ (y ++ d ∷ z)) ++ d ∷ [] = enclosed.whole
-    ∙ ap (λ (cs : List ℕ). d ∷ cs ++ d ∷ []) three.whole in
-    record {
-      delimiter = d;
-      first = x;
-      second = y;
-      third = z;
-      whole = opened ∙ simp append_assoc;
-      delimits = enclosed.delimits;
-      first_says = record { free = three.first_free; numeral = one };
-      second_says = record { free = three.second_free; numeral = two };
-      third_says = record { free = three.third_free; numeral = last };
-    }
+SaysNamespace-parts text d inner x y z a b c enclosed three one two last = search (rules, append_assoc)
 
 -- one of the three fields is no numeral
 pub HasOtherField-parts : (text : List ℕ) (d : ℕ) (inner x y z field : List ℕ) → IsEnclosed text d inner
@@ -139,9 +105,7 @@ delimiter_of_enclosed text d inner enclosed none =
 
 -- and is not empty
 some_of_enclosed : (text : List ℕ) (d : ℕ) (inner : List ℕ) → IsEnclosed text d inner → text ≢ []
-some_of_enclosed text d inner enclosed empty =
-    let whole : [] ≡ d ∷ inner ++ d ∷ [] = sym empty ∙ enclosed.whole in
-    cc
+some_of_enclosed text d inner enclosed empty = search rules
 
 -- the count of its fields is determined
 count_of_enclosed : (text : List ℕ) (d e : ℕ) (inner other : List ℕ) → IsEnclosed text d inner → IsEnclosed text e other
@@ -205,19 +169,8 @@ apart_from_delimiter text none fault =
 -- a text has one fault at most
 pub HasNamespaceFault-one : (text : List ℕ) (e f : NamespaceFault) → HasNamespaceFault text e → HasNamespaceFault text f
     → e ≡ f
-HasNamespaceFault-one text InvalidDelimiter InvalidDelimiter one two = refl
-HasNamespaceFault-one text InvalidDelimiter IncompleteMap one two = absurd (apart_from_delimiter text one two)
-HasNamespaceFault-one text InvalidDelimiter InvalidValue one two =
-    absurd (delimiter_of_enclosed text two.delimiter two.inner two.enclosed one)
-HasNamespaceFault-one text IncompleteMap InvalidDelimiter one two = absurd (apart_from_delimiter text two one)
-HasNamespaceFault-one text IncompleteMap IncompleteMap one two = refl
-HasNamespaceFault-one text IncompleteMap InvalidValue one two =
-    absurd (apart_from_incomplete text two.delimiter two.inner two.enclosed two.three one)
-HasNamespaceFault-one text InvalidValue InvalidDelimiter one two =
-    absurd (delimiter_of_enclosed text one.delimiter one.inner one.enclosed two)
-HasNamespaceFault-one text InvalidValue IncompleteMap one two =
-    absurd (apart_from_incomplete text one.delimiter one.inner one.enclosed one.three two)
-HasNamespaceFault-one text InvalidValue InvalidValue one two = refl
+HasNamespaceFault-one text e f one two =
+    grind (arith, apart_from_delimiter, delimiter_of_enclosed, apart_from_incomplete)
 
 -- a text before its last character
 pub record IsBeforeLast (bs rest : List ℕ) (c : ℕ) : Type 0 where
@@ -241,8 +194,7 @@ chars-empty bs empty = rw (nil_from_length bs empty) chars-nil
 -- the last character is alphanumeric
 pub HasNoDelimiter-letter : (bs rest : List ℕ) (c : ℕ) → IsBeforeLast bs rest c → is_alphanumeric c ≡ true
     → HasNoDelimiter (chars bs)
-HasNoDelimiter-letter bs rest c before letter =
-    record { front = chars rest; last = c; ends = before.whole; wrong = inl letter }
+HasNoDelimiter-letter bs rest c before letter = search rules
 
 -- the first of what stands before the last character is not that character
 pub HasNoDelimiter-first : (bs rest : List ℕ) (c : ℕ) → IsBeforeLast bs rest c → slice_get (chars rest) 0 ≢ Some c
@@ -259,18 +211,14 @@ HasNoDelimiter-first bs rest c before other = record {
 -- it is that character
 pub IsEnclosed-here : (bs rest inner : List ℕ) (c : ℕ) → IsBeforeLast bs rest c → is_alphanumeric c ≡ false
     → rest ≡ encode_utf8 c ++ inner → IsEnclosed (chars bs) c (chars inner)
-IsEnclosed-here bs rest inner c before delimits begins =
-    let opened : chars rest ≡ c ∷ chars inner = chars_past_char rest inner c before.is_text begins in
-    record { whole = before.whole ∙ ap (λ (cs : List ℕ). cs ++ c ∷ []) opened; delimits = delimits }
+IsEnclosed-here bs rest inner c before delimits begins = search (rules, chars_past_char)
 
 -- what `!=` answers of the character
 pub same_option : (r : Option ℕ) (c : ℕ) → not (option_eq nat_eq r (Some c)) ≡ false → r ≡ Some c
-same_option None c same = cc
-same_option (Some d) c same = ap Some (eqb-true d c (not-false (nat_eq d c) same))
+same_option r c same = grind (arith, eqb-true, not-false)
 
 pub other_option : (r : Option ℕ) (c : ℕ) → not (option_eq nat_eq r (Some c)) ≡ true → r ≢ Some c
-other_option r c differs same =
-    true≢false (sym (eq-eqb c c refl) ∙ not-true (nat_eq c c) (rw same at differs))
+other_option r c differs same = search (rules, true≢false, eq-eqb, not-true)
 
 -- where the delimiter is not in the text, the text is one field
 pub one_field : (d : ℕ) (inner : List ℕ) → Lacks d inner → length (split_at_each d inner) ≢ 3
@@ -279,18 +227,12 @@ one_field d inner none = rw (split_at_each-last d inner none) (omega arith)
 -- where it is in it once, it is two
 pub two_fields : (d : ℕ) (inner x rest : List ℕ) → inner ≡ x ++ d ∷ rest → Lacks d x → Lacks d rest
     → length (split_at_each d inner) ≢ 3
-two_fields d inner x rest whole first none =
-    rw (split_at_each-cut d inner x rest whole first, split_at_each-last d rest none) (omega arith)
+two_fields d inner x rest whole first none = search (rules, split_at_each-cut, split_at_each-last)
 
 -- where it is in it twice, it is three
 pub IsThreeFields-here : (d : ℕ) (inner x rest y z : List ℕ) → inner ≡ x ++ d ∷ rest → Lacks d x → rest ≡ y ++ d ∷ z
     → Lacks d y → Lacks d z → IsThreeFields d inner x y z
-IsThreeFields-here d inner x rest y z whole first cut second third = record {
-  whole = whole ∙ ap (λ (cs : List ℕ). x ++ d ∷ cs) cut;
-  first_free = first;
-  second_free = second;
-  third_free = third;
-}
+IsThreeFields-here d inner x rest y z whole first cut second third = search rules
 
 -- there is always a field
 length-split_at_each : (d : ℕ) (cs : List ℕ) → 0 < length (split_at_each d cs)

@@ -1,5 +1,5 @@
 -- No pattern of a rule that was read holds a zero.
-use Rattle.std.proofs.Common.{◌≢◌, ℕ, ◌<◌, ltb, List, [], ◌∷◌, ◌++◌, sym, subst, arith, All, encode_utf8_all}
+use Rattle.std.proofs.Common.{◌≢◌, ℕ, ◌<◌, List, [], ◌∷◌, ◌++◌, arith, All, encode_utf8_all, rules}
 use Rattle.std.specs.List.{AllByRecursion}
 use Rattle.std.proofs.lemmas.Bool.{cond_both}
 use Rattle.std.proofs.lemmas.List.Elements.{All-nil, All-append, All-same, All-from_recursion}
@@ -7,8 +7,8 @@ use lib.Utf8.{encode}
 use Rattle.virtiofs_map.specs.Rule.{RuleType, Prefix, Okay, Bad, MappingRule, HasNoZero}
 use Rattle.virtiofs_map.specs.RuleText.{ScopeName, RuleHead, Typed, Map, RuleAsWritten, HasNoNul, RulesThen, RuleText}
 use Rattle.virtiofs_map.specs.RuleText.{rule_of, rules_of, expanded, SaysRules}
-use Rattle.virtiofs_map.specs.RuleText as texts
 use Rattle.virtiofs_map.specs.Separator.{Lacks}
+use Rattle.virtiofs_map.specs.RuleText as texts
 
 abbrev pub IsNotZero : ℕ → Type 0
 IsNotZero byte = byte ≢ 0
@@ -19,17 +19,7 @@ not_zero n l e = absurd (omega arith)
 -- the bytes of a character hold a zero only where it is U+0000
 char_no_zero : (c : ℕ) → c ≢ 0 → All IsNotZero (encode c)
 unfolding encode
-char_no_zero c some =
-    All-from_recursion IsNotZero _
-    (cond_both (ltb c 128) _ _ (AllByRecursion IsNotZero) (λ _. (some, tt))
-    (λ _. cond_both (ltb c 2048) _ _ (AllByRecursion IsNotZero)
-    (λ _. (not_zero _ (omega arith), (not_zero _ (omega arith), tt)))
-    (λ _. cond_both (ltb c 65536) _ _ (AllByRecursion IsNotZero)
-    (λ _. (not_zero _ (omega arith), (not_zero _ (omega arith), (not_zero _ (omega arith), tt))))
-    (λ _. (
-      not_zero _ (omega arith),
-      (not_zero _ (omega arith), (not_zero _ (omega arith), (not_zero _ (omega arith), tt))),
-    )))))
+char_no_zero c some = search (rules, All-from_recursion, cond_both, not_zero)
 
 pub text_no_zero : (text : List ℕ) → Lacks 0 text → All IsNotZero (encode_utf8_all text)
 text_no_zero [] lacks = All-nil IsNotZero
@@ -67,10 +57,7 @@ front_no_nul text (rule ∷ rules) rest last (blanks, next, whole, _, _, others)
     (whole.no_nul, front_no_nul next rules rest last others none)
 
 pub text_no_nul : (text : List ℕ) (rules : List RuleAsWritten) → RuleText text rules → AllByRecursion HasNoNul rules
-text_no_nul text rules read =
-    subst (AllByRecursion HasNoNul) (sym read.are)
-    (front_no_nul _ read.front read.rest read.last read.before read.ends.no_nul)
+text_no_nul text rules read = grind (arith, front_no_nul)
 
 pub read_no_zero : (text : List ℕ) (rules : List MappingRule) → SaysRules text rules → All HasNoZero rules
-read_no_zero text rules (written, read, are) =
-    All-same HasNoZero rules (expanded written) are (expanded_no_zero written (text_no_nul text written read))
+read_no_zero text rules (written, read, are) = search (rules, All-same, expanded_no_zero, text_no_nul)

@@ -1,7 +1,7 @@
 -- What `parse` reads as a number is a numeral, over characters, and nothing else is.
-use Rattle.std.proofs.Common.{◌≡◌, ◌≢◌, ◌⊎◌, ℕ, zero, suc, ◌^◌, ◌<◌, List, [], ◌∷◌, length, get_or, All, Result, Ok}
-use Rattle.std.proofs.Common.{Err, MatchResult, IfOk, IfErr, IsOkAnd, IsErr, refl, sym, ap, ◌∙◌, subst, inl, inr, arith}
-use Rattle.std.proofs.Common.{decimal, chars, IsUtf8, IsAscii}
+use Rattle.std.proofs.Common.{◌≡◌, ◌⊎◌, ℕ, ◌^◌, ◌<◌, List, [], ◌∷◌, length, get_or, All, Result, Ok, Err, MatchResult}
+use Rattle.std.proofs.Common.{IfOk, IfErr, IsOkAnd, IsErr, refl, sym, ◌∙◌, subst, inl, arith, decimal, chars, IsUtf8}
+use Rattle.std.proofs.Common.{IsAscii, rules}
 use Rattle.std.specs.Char.{IsAsciiDigit}
 use Rattle.std.specs.Int.{IsInRange}
 use Rattle.std.specs.Str.Parse.{AllDigits, digits_value, without_leading_plus, IsNumeral as IsDigits, ParsesUnsigned}
@@ -26,8 +26,7 @@ All-AllDigits : (ds : List ℕ) → AllDigits 10 ds → All IsAsciiDigit ds
 All-AllDigits ds digits = All-from_get_or IsAsciiDigit ds 0 (by_index.from ds digits)
 
 IsAscii-cons : (c : ℕ) (cs : List ℕ) → c < 128 → IsAscii cs → IsAscii (c ∷ cs)
-IsAscii-cons c cs small ascii zero = small
-IsAscii-cons c cs small ascii (suc i) = ascii i
+IsAscii-cons c cs small ascii e = grind arith
 
 IsAscii-digits : (ds : List ℕ) → All IsAsciiDigit ds → IsAscii ds
 IsAscii-digits [] decimal = λ i. omega arith
@@ -37,12 +36,7 @@ IsAscii-digits (d ∷ ds) decimal =
 
 -- the characters of a numeral are ASCII
 IsAscii-numeral : (text : List ℕ) (value : ℕ) → IsNumeral text value → IsAscii text
-IsAscii-numeral text value numeral =
-    elim numeral.written [
-      | inl bare ↦ subst (λ (xs : List ℕ). IsAscii xs) (sym bare) (IsAscii-digits numeral.digits numeral.decimal)
-      | inr signed ↦ subst (λ (xs : List ℕ). IsAscii xs) (sym signed)
-          (IsAscii-cons 43 numeral.digits (omega arith) (IsAscii-digits numeral.digits numeral.decimal))
-    ]
+IsAscii-numeral text value numeral = search (rules, IsAscii-digits, IsAscii-cons)
 
 -- so they are its bytes
 bytes-numeral : (bs : List ℕ) (value : ℕ) → IsUtf8 bs → IsNumeral (chars bs) value → chars bs ≡ bs
@@ -52,43 +46,20 @@ bytes-numeral bs value text numeral =
 -- the digits of a text, and the text again
 written_from_plus : (bs : List ℕ) → 0 < length (without_leading_plus bs)
     → (bs ≡ without_leading_plus bs) ⊎ (bs ≡ 43 ∷ without_leading_plus bs)
-written_from_plus [] some = absurd (omega arith)
-written_from_plus (b ∷ bs) some =
-    elim (eqb_tells b 43) [
-      | inl plus ↦ inr (rw (without_leading_plus_plus (b ∷ bs) plus.1, plus.1) refl)
-      | inr other ↦ inl (sym (without_leading_plus_none (b ∷ bs) other.1))
-    ]
+written_from_plus bs some = grind (arith, eqb_tells, without_leading_plus_plus, without_leading_plus_none)
 
 -- a text that `parse` reads is a numeral
 numeral_from_digits : (bs : List ℕ) → IsDigits 10 (without_leading_plus bs)
     → digits_value 10 (without_leading_plus bs) < 2 ^ 32 → IsNumeral bs (digits_value 10 (without_leading_plus bs))
-numeral_from_digits bs digits small = record {
-  digits = without_leading_plus bs;
-  written = written_from_plus bs digits.0;
-  some = digits.0;
-  decimal = All-AllDigits _ digits.1;
-  worth = refl;
-  fits = omega arith;
-}
+numeral_from_digits bs digits small = search (rules, written_from_plus, decimal, All-AllDigits)
 
 -- the digits of a numeral are what follows its plus
 digits_of_numeral : (bs : List ℕ) (value : ℕ) (n : IsNumeral bs value) → without_leading_plus bs ≡ n.digits
-digits_of_numeral bs value n =
-    elim n.written [
-      | inl bare ↦
-          let first : IsInRange 48 57 (get_or n.digits 0 0) = All-get_or IsAsciiDigit n.digits 0 0 n.some n.decimal in
-          let no_plus : get_or bs 0 0 ≢ 43 = rw bare (omega arith) in
-          without_leading_plus_none bs no_plus ∙ bare
-      | inr signed ↦
-          let plus : get_or bs 0 0 ≡ 43 = rw signed refl in
-          without_leading_plus_plus bs plus ∙ rw signed refl
-    ]
+digits_of_numeral bs value n = search (rules, All-get_or, without_leading_plus_none, without_leading_plus_plus)
 
 -- a text has one value
 pub IsNumeral-one : (text : List ℕ) (v w : ℕ) → IsNumeral text v → IsNumeral text w → v ≡ w
-IsNumeral-one text v w a b =
-    let same : a.digits ≡ b.digits = sym (digits_of_numeral text v a) ∙ digits_of_numeral text w b in
-    sym a.worth ∙ ap (digits_value 10) same ∙ b.worth
+IsNumeral-one text v w a b = search (rules, digits_of_numeral)
 
 numeral_from_parse : {E : Type 0} (bs : List ℕ) (r : Result ℕ E) → IsUtf8 bs → ParsesUnsigned 32 10 bs r
     → MatchResult r (λ value. IsNumeral (chars bs) value) (λ _. (value : ℕ) → IsNumeral (chars bs) value → ⊥)
@@ -107,8 +78,7 @@ numeral_from_parse bs (Err e) text refused =
 -- so what `parse` answers is told both ways
 pub numeral_read : {E : Type 0} (bs : List ℕ) (r : Result ℕ E) → IsUtf8 bs → ParsesUnsigned 32 10 bs r
     → IfOk r (λ value. IsNumeral (chars bs) value)
-numeral_read {E} bs (Ok value) text parsed = numeral_from_parse {E = E} bs (Ok value) text parsed
-numeral_read {E} bs (Err e) text parsed = tt
+numeral_read bs r e text = grind (arith, numeral_from_parse)
 
 pub numeral_complete : {E : Type 0} (bs : List ℕ) (r : Result ℕ E) → IsUtf8 bs → ParsesUnsigned 32 10 bs r → (value : ℕ)
     → IsNumeral (chars bs) value → IsOkAnd r (λ read. read ≡ value)
@@ -124,9 +94,7 @@ numeral_refused {E} bs (Err e) text parsed = numeral_from_parse {E = E} bs (Err 
 
 pub numeral_faulty : {E : Type 0} (bs : List ℕ) (r : Result ℕ E) → IsUtf8 bs → ParsesUnsigned 32 10 bs r
     → ((value : ℕ) → ¬ IsNumeral (chars bs) value) → IsErr r
-numeral_faulty {E} bs (Ok value) text parsed none =
-    absurd (none value (numeral_from_parse {E = E} bs (Ok value) text parsed))
-numeral_faulty {E} bs (Err e) text parsed none = refl
+numeral_faulty bs r e text parsed = grind (arith, numeral_from_parse)
 
 -- a number in decimal is nothing but digits
 pub All-decimal : (n : ℕ) → n < 2 ^ 32 → All IsAsciiDigit (decimal n)
@@ -134,9 +102,7 @@ All-decimal n small = All-AllDigits (decimal n) (decimal_is_IsNumeral n (omega a
 
 -- so it holds no colon
 pub decimal_lacks_colon : (n : ℕ) → n < 2 ^ 32 → Lacks 58 (decimal n)
-decimal_lacks_colon n small =
-    recursion_from_All (λ c. c ≢ 58) (decimal n)
-    (All-weaker IsAsciiDigit (λ c. c ≢ 58) (λ c digit. omega arith) (decimal n) (All-decimal n small))
+decimal_lacks_colon n small = search (rules, recursion_from_All, decimal, All-weaker, All-decimal)
 
 -- and is a numeral of the number
 pub IsNumeral-decimal : (n : ℕ) → n < 2 ^ 32 → IsNumeral (decimal n) n

@@ -1,6 +1,6 @@
 -- What each two elements of a list keep when the list is put in another order.
 use Rattle.std.proofs.Common.{◌≡◌, inl, inr, ℕ, ◌<◌, List, length, get_or, AllPairs, IsPermutation, refl, sym, ap, ◌∙◌}
-use Rattle.std.proofs.Common.{arith, swap}
+use Rattle.std.proofs.Common.{arith, swap, rules}
 use Rattle.std.proofs.lemmas.Bool.{cases_order, cases_eq}
 use Rattle.std.proofs.lemmas.List.Edits.{Swapped, swapped_from_swap, length-swap}
 use Rattle.std.proofs.lemmas.List.Sorted.{IsPermutation-keeps}
@@ -55,12 +55,7 @@ origins_differ a b i j s t differ i_first i_second i_unmoved j_first j_second j_
 -- where the relation has no order, the two places may come in either order
 either_order : {X : Type 0} (R : X → X → Type 0) (flips : (x y : X) → R x y → R y x) (xs : List X) (i j : ℕ) (d : X)
     → AllPairs R xs → (i ≡ j → ⊥) → i < length xs → j < length xs → R (get_or xs i d) (get_or xs j d)
-either_order R flips xs i j d pairs differ below under =
-    elim (cases_order i j) [
-      | inl same ↦ absurd (differ same)
-      | inr (inl before) ↦ pairs i j d before under
-      | inr (inr later) ↦ flips (get_or xs j d) (get_or xs i d) (pairs j i d later below)
-    ]
+either_order R flips xs i j d pairs differ below under = search (rules, cases_order)
 
 AllPairs-swap : {X : Type 0} (R : X → X → Type 0) (flips : (x y : X) → R x y → R y x) (xs : List X) (a b : ℕ)
     → a < length xs → b < length xs → AllPairs R xs → AllPairs R (swap xs a b)

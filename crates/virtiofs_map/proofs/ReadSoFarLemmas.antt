@@ -1,7 +1,7 @@
 -- What is known of a text of rules of which a front was read.
 use Rattle.std.proofs.Common.{◌≡◌, ◌≢◌, ℕ, ◌+◌, ◌<◌, Bool, true, false, eqb, List, [], ◌∷◌, ◌++◌, length, Option, Some}
 use Rattle.std.proofs.Common.{None, IsSomeAnd, ◌⊎◌, inl, inr, refl, sym, ap, subst, ◌∙◌, arith, append_assoc}
-use Rattle.std.proofs.Common.{length-append, append-nil}
+use Rattle.std.proofs.Common.{length-append, append-nil, rules}
 use Rattle.std.proofs.lemmas.Bool.Decides.{nat_tests}
 use Rattle.std.proofs.lemmas.Grind.{flat_map-append}
 use Rattle.std.specs.List.{AllByRecursion}
@@ -9,7 +9,7 @@ use Rattle.std.specs.Option.{option_map_or}
 use Rattle.std.specs.Str.{drop_trailing_whitespace}
 use Rattle.virtiofs_map.specs.Rule.{MappingRule}
 use Rattle.virtiofs_map.specs.RuleText.{RuleHead, Typed, Map, RuleAsWritten, Fields, RuleThen, RulesThen, RuleText}
-use Rattle.virtiofs_map.specs.RuleText.{IsBlank, trimmed, rule_fields, rules_of, expanded, SaysRules, CountsRules}
+use Rattle.virtiofs_map.specs.RuleText.{IsBlank, trimmed, rules_of, expanded, SaysRules, CountsRules}
 use Rattle.virtiofs_map.specs.Refusal.{OutOfMemoryOr}
 use Rattle.virtiofs_map.specs.RulesFault.{RuleFault, InRule, NotOfText, HasRulesFault, rule_fault_of, rules_fault_of}
 use Rattle.virtiofs_map.specs.RuleParts.{IsOpened, BeginsWithFault}
@@ -35,16 +35,12 @@ fields_end d text (field ∷ fields) rest (after, spells, lacks, others) =
 
 pub rule_end : (text : List ℕ) (rule : RuleAsWritten) (after : List ℕ) → RuleThen text rule after
     → (d : ℕ) × (front : List ℕ) × (text ≡ d ∷ front ++ after)
-rule_end text rule after whole =
-    let back = fields_end whole.delimiter whole.body (rule_fields rule) after whole.fields in
-    (whole.delimiter, back.front, whole.opens.0 ∙ ap (λ x. whole.delimiter ∷ x) back.are)
+rule_end text rule after whole = search (rules, fields_end)
 
 -- a rule takes at least its delimiter
 pub rule_shorter : (text : List ℕ) (rule : RuleAsWritten) (after : List ℕ) → RuleThen text rule after
     → length after < length text
-rule_shorter text rule after whole =
-    let (d, front, e) = rule_end text rule after whole in
-    omega (arith, ap length e, length-append front after)
+rule_shorter text rule after whole = search (rules, rule_end, length-append)
 
 -- ---- rules, one after another
 
@@ -60,9 +56,7 @@ rules_snoc text (first ∷ rules) middle rule blanks rest (between, next, here, 
 
 pub expanded_snoc : (rules : List RuleAsWritten) (rule : RuleAsWritten)
     → expanded (rules ++ rule ∷ []) ≡ expanded rules ++ rules_of rule.head rule.key rule.prepend
-expanded_snoc rules rule =
-    flat_map-append (λ (r : RuleAsWritten). rules_of r.head r.key r.prepend) rules (rule ∷ [])
-    ∙ ap (λ x. expanded rules ++ x) (append-nil (rules_of rule.head rule.key rule.prepend))
+expanded_snoc rules rule = search (rules, flat_map-append, append-nil)
 
 -- a text that is nothing but rules with blanks after each, and does not end in a blank, is a text of rules
 text_of_rules : (text : List ℕ) (rules : List RuleAsWritten) → RulesThen text rules []
@@ -110,16 +104,7 @@ pub record ReadSoFar (text rest : List ℕ) (items : List MappingRule) (count : 
 
 pub start : (text rest : List ℕ) (items : List MappingRule) → rest ≡ trimmed text → items ≡ []
     → ReadSoFar text rest items 0
-start text rest items e none = record {
-  written = [];
-  are = none;
-  counted = refl;
-  state = inl record {
-    before = sym e;
-    opened = subst (λ r. (r ≡ []) ⊎ IsOpened r) (sym e) (trimmed_opened text);
-    count = ap length none;
-  };
-}
+start text rest items e none = search (rules, trimmed_opened)
 
 going : (text rest : List ℕ) (items : List MappingRule) (count : ℕ) (so_far : ReadSoFar text rest items count)
     → rest ≢ [] → Going text rest so_far.written items
@@ -214,9 +199,7 @@ step text rest items more_items count number rule after next so_far is_number mo
 
 some_rules : (head : RuleHead) (key prepend : List ℕ) (others : List MappingRule)
     → rules_of head key prepend ++ others ≢ []
-some_rules (Typed kind scope) key prepend others e = (cc)
-some_rules Map [] prepend others e = (cc)
-some_rules Map (c ∷ cs) prepend others e = (cc)
+some_rules head key prepend others e = grind arith
 
 expanded_none : (rules : List RuleAsWritten) → expanded rules ≡ [] → rules ≡ []
 expanded_none [] e = refl
@@ -226,33 +209,12 @@ expanded_none (rule ∷ rules) e = absurd (some_rules rule.head rule.key rule.pr
 pub finish : (text rest : List ℕ) (items : List MappingRule) (count : ℕ) → ReadSoFar text rest items count → rest ≡ []
     → items ≢ []
     → SaysRules text items × CountsRules text count
-finish text rest items count so_far over some =
-    let w = so_far.written in
-    let whole : Going text rest w items → RuleText text w = λ state.
-    (let all : RulesThen (trimmed text) w [] = subst (RulesThen (trimmed text) w) over state.before in
-    elim (text_of_rules (trimmed text) w all (trimmed_solid text)) [
-      | inl none ↦ absurd (some (so_far.are ∙ ap expanded none))
-      | inr (front, last, last_rest, are, before, ends) ↦ record {
-        front = front;
-        last = last;
-        rest = last_rest;
-        are = are;
-        before = before;
-        ends = ends;
-      }
-    ]) in
-    let is : RuleText text w = elim so_far.state [ inl state ↦ whole state | inr done ↦ done.1 ] in
-    ((w, is, so_far.are), (w, is, so_far.counted))
+finish text rest items count so_far over some = search (rules, text_of_rules, trimmed_solid)
 
 -- the rest is empty, and no rule was read
 pub nothing : (text rest : List ℕ) (items : List MappingRule) (count : ℕ) → ReadSoFar text rest items count → rest ≡ []
     → items ≡ [] → trimmed text ≡ []
-nothing text rest items count so_far over none =
-    let no_rules : so_far.written ≡ [] = expanded_none so_far.written (sym so_far.are ∙ none) in
-    elim so_far.state [
-      | inl state ↦ subst (λ w. RulesThen (trimmed text) w rest) no_rules state.before ∙ over
-      | inr done ↦ absurd (let e = nothing_after done.1.front (done.1.last ∷ []) (sym done.1.are ∙ no_rules) in (cc))
-    ]
+nothing text rest items count so_far over none = search (rules, expanded_none, nothing_after)
 
 -- ---- whether a `Vec` is empty, as its items
 
@@ -261,6 +223,4 @@ items_none [] n r long e is_true = refl
 items_none (x ∷ xs) n r long e is_true = absurd (let f : eqb n 0 ≡ true = sym e ∙ is_true in grind (arith, nat_tests))
 
 pub items_some : {A : Type 0} (xs : List A) (n : ℕ) (r : Bool) → length xs ≡ n → r ≡ eqb n 0 → r ≡ false → xs ≢ []
-items_some xs n r long e is_false none =
-    absurd (let f : eqb n 0 ≡ false = sym e ∙ is_false in let z : length xs ≡ 0 = ap length none in
-    grind (arith, nat_tests))
+items_some xs n r long e is_false none = search (rules, nat_tests)

@@ -1,7 +1,6 @@
 -- Fields of rules, and the fault of a rule that is not whole.
-use Rattle.std.proofs.Common.{◌≡◌, ℕ, List, [], ◌∷◌, ◌++◌, Option, Some, None, IsSomeAnd, ◌⊎◌, inl, inr, refl, sym}
-use Rattle.std.proofs.Common.{subst, ◌∙◌, codes, false}
-use Rattle.std.specs.Char.{is_ascii_whitespace}
+use Rattle.std.proofs.Common.{◌≡◌, ℕ, List, [], ◌∷◌, ◌++◌, Option, IsSomeAnd, ◌⊎◌, inl, inr, refl, sym, subst, codes}
+use Rattle.std.proofs.Common.{rules, arith}
 use Rattle.virtiofs_map.specs.Rule.{RuleType}
 use Rattle.virtiofs_map.specs.RuleText.{All, RuleHead, Typed, Map, Fields, Opens, head_fields, type_word}
 use Rattle.virtiofs_map.specs.RulesFault.{RuleFault, IsUnfinished, HasRuleFault}
@@ -96,9 +95,7 @@ prepend_fault d text middle rest head key cause before found no_nul (inr (e, pre
 
 -- a text that some delimiter opens is opened by its first character
 pub opens_at : (text : List ℕ) (d : ℕ) (body : List ℕ) → IsOpened text → text ≡ d ∷ body → Opens text d body
-opens_at text d body (first, others, (e, solid)) f =
-    let same : first ≡ d = let g : first ∷ others ≡ d ∷ body = sym e ∙ f in (cc) in
-    (f, subst (λ x. is_ascii_whitespace x ≡ false) same solid)
+opens_at text d body (first, others, (e, solid)) f = search rules
 
 pub empty_is_not_opened : IsOpened [] → ⊥
 empty_is_not_opened (first, others, (e, solid)) = (cc)
@@ -106,8 +103,7 @@ empty_is_not_opened (first, others, (e, solid)) = (cc)
 -- what P says of the fault that is told, Q says of it
 pub some_and : (told : Option RuleFault) (P Q : RuleFault → Type 0) → ((fault : RuleFault) → P fault → Q fault)
     → IsSomeAnd told P → IsSomeAnd told Q
-some_and None P Q all none = none
-some_and (Some fault) P Q all holds = all fault holds
+some_and told P Q all none = grind arith
 
 -- a fault of the fields, unless something else holds, is one of the text
 pub fault_from : (text : List ℕ) (d : ℕ) (body : List ℕ) (told : Option RuleFault) (Other : Type 0)

@@ -1,8 +1,8 @@
 -- A text has one reading: the rule or the fault that it begins with is found by reading it once, field by field.
 use Rattle.std.proofs.Common.{◌≡◌, ◌≢◌, ℕ, Bool, true, false, cond, eqb, nat_eq, ◌||◌, List, [], ◌∷◌, ◌++◌, Contains}
 use Rattle.std.proofs.Common.{Option, Some, None, Result, Ok, Err, codes, ◌⊎◌, inl, inr, refl, sym, ap, subst, ◌∙◌}
-use Rattle.std.proofs.Common.{arith, zero, suc}
-use Rattle.std.proofs.lemmas.Bool.Decides.{nat_tests, Decides-eqb}
+use Rattle.std.proofs.Common.{arith, zero, suc, rules}
+use Rattle.std.proofs.lemmas.Bool.Decides.{nat_tests}
 use Rattle.std.proofs.lemmas.Slice.Eq.{slice_eq-Decides}
 use lib.Pointwise.{pointwise}
 use Rattle.std.proofs.lemmas.Bool.{false_from_ne_true}
@@ -99,11 +99,7 @@ record OneField (d : ℕ) (text field : List ℕ) (fields : List (List ℕ)) (re
 
 one_field : (d : ℕ) (text field : List ℕ) (fields : List (List ℕ)) (rest : List ℕ) → Fields d text (field ∷ fields) rest
     → OneField d text field fields rest
-one_field d text field fields rest (after, spells, lacks, others) = record {
-  after = after;
-  found = ap (cut d) spells ∙ cut_here d field after lacks;
-  others = others;
-}
+one_field d text field fields rest (after, spells, lacks, others) = search (rules, cut, cut_here)
 
 no_nul_here : (s : List ℕ) → Lacks 0 s → has_nul s ≡ false
 unfolding has_nul
@@ -124,10 +120,7 @@ nul_here (c ∷ cs) (suc k, short, e) = or_later (eqb c 0) (has_nul cs) (nul_her
 
 type_at-word : (kind : RuleType) → type_at (type_word kind) ≡ Some (Some kind)
 unfolding type_at same
-type_at-word Prefix = refl
-type_at-word Okay = refl
-type_at-word Bad = refl
-type_at-word Unsupported = refl
+type_at-word kind = grind arith
 
 type_at-map : type_at (codes "map") ≡ Some None
 unfolding type_at same
@@ -135,15 +128,11 @@ type_at-map = refl
 
 scope_at-word : (word : ScopeName) → scope_at (scope_word word) ≡ Some word
 unfolding scope_at same
-scope_at-word All = refl
-scope_at-word Client = refl
-scope_at-word Server = refl
+scope_at-word word = grind arith
 
 not_same : (s word : List ℕ) → s ≢ word → same s word ≡ false
 unfolding same
-not_same s word differ =
-    false_from_ne_true _
-    (λ e. differ ((slice_eq-Decides (λ a b. Decides-eqb a b) s word (pointwise nat_eq s word) refl).0 e))
+not_same s word differ = search (rules, false_from_ne_true, slice_eq-Decides, pointwise)
 
 type_at-none : (w : List ℕ) → ((kind : RuleType) → w ≢ type_word kind) → w ≢ codes "map" → type_at w ≡ None
 unfolding type_at
@@ -306,9 +295,7 @@ unfinished : (d : ℕ) (text : List ℕ) (head : RuleHead) (key prepend : List �
     → Fields d text fields rest → fields ++ missing ≡ head_fields head ++ key ∷ prepend ∷ [] → missing ≢ []
     → Lacks 0 key → Lacks d rest
     → reading d text ≡ Err IncompleteRule
-unfinished d text (Typed kind word) key prepend fields missing rest =
-    unfinished_typed d text kind word key prepend fields missing rest
-unfinished d text Map key prepend fields missing rest = unfinished_map d text key prepend fields missing rest
+unfinished d text head key prepend fields missing rest = grind (arith, unfinished_typed, unfinished_map)
 
 -- something follows a map rule
 record Follows (d : ℕ) (text : List ℕ) (cause : RuleFault) : Type 0 where
@@ -347,11 +334,7 @@ reading_fault d text MapRuleViolation (rule, rest, is_map, found, no_nul, some) 
 
 same_reading : (text : List ℕ) (d e : ℕ) (body other : List ℕ) → text ≡ d ∷ body → text ≡ e ∷ other
     → reading d body ≡ reading e other
-same_reading text d e body other f g =
-    let both : d ∷ body ≡ e ∷ other = sym f ∙ g in
-    let first : d ≡ e = (cc) in
-    let last : body ≡ other = (cc) in
-    ap (λ x. reading x body) first ∙ ap (reading e) last
+same_reading text d e body other f g = search (rules, reading)
 
 abbrev Read : Type 0
 Read = Result (RuleAsWritten × List ℕ) RuleFault
@@ -361,8 +344,7 @@ reads_rule : (text : List ℕ) (rule : RuleAsWritten) (after : List ℕ) (whole 
 reads_rule text rule after whole = reading_whole whole.delimiter whole.body rule after whole.fields whole.no_nul
 
 both_read : (a b : RuleAsWritten) (x y : List ℕ) → ◌≡◌ {A = Read} (Ok (a, x)) (Ok (b, y)) → (a ≡ b) × (x ≡ y)
-both_read a b x y e = let both : ◌≡◌ {A = RuleAsWritten × List ℕ} (a, x) (b, y) = (cc) in
-    (ap (λ (p : RuleAsWritten × List ℕ). p.0) both, ap (λ (p : RuleAsWritten × List ℕ). p.1) both)
+both_read a b x y e = search rules
 
 -- one rule stands there, and one text follows it
 pub rule_again : (text : List ℕ) (a b : RuleAsWritten) (x y : List ℕ) → RuleThen text a x → RuleThen text b y

@@ -1,8 +1,7 @@
 -- A rule is read back from its row, and the row at a place is that of the rule there.
-use Rattle.std.proofs.Common.{◌≡◌, ℕ, ◌+◌, ◌-◌, ◌*◌, ◌/◌, ◌%◌, ◌^◌, ◌<◌, ◌≤◌, zero, suc, Bool, true, false}
-use Rattle.std.proofs.Common.{if◌then◌else◌, List, [], ◌∷◌, ◌++◌, Some, None, length, get_or, slice_get, take, drop}
-use Rattle.std.proofs.Common.{min, cond, eqb, refl, ap, sym, subst, ◌∙◌, arith, append_assoc, append-nil, length-append}
-use Rattle.std.proofs.Common.{length-take}
+use Rattle.std.proofs.Common.{◌≡◌, ℕ, ◌+◌, ◌-◌, ◌*◌, ◌/◌, ◌%◌, ◌<◌, ◌≤◌, zero, suc, Bool, if◌then◌else◌, List, [], ◌∷◌}
+use Rattle.std.proofs.Common.{◌++◌, Some, None, length, get_or, slice_get, take, drop, min, cond, eqb, refl, ap, sym}
+use Rattle.std.proofs.Common.{subst, ◌∙◌, arith, append_assoc, append-nil, length-append, length-take, rules}
 use Rattle.std.proofs.Math.Seq.{drop-append-add, take-append_seam}
 use Rattle.std.proofs.lemmas.List.{take_more}
 use Rattle.std.proofs.lemmas.Option.{get_or_from_slice_get, slice_get_past, slice_get_within}
@@ -13,8 +12,8 @@ use Rattle.virtiofs_map.specs.declared.xattrmap.scopes.Side.TheVariants.{Client,
 use Rattle.virtiofs_map.specs.Rule.{MappingRule, RuleType, Prefix, Okay, Bad, Unsupported, type_number}
 use Rattle.virtiofs_map.specs.LeU64Parts.{le_u64_at, le_u64_bytes}
 use Rattle.virtiofs_map.specs.declared.xattrmap.spans.Span.{Span}
-use Rattle.virtiofs_map.proofs.LeU64Lemmas.{first_of_three, second_of_three, third_of_three, length-three}
-use Rattle.virtiofs_map.proofs.LeU64Lemmas.{shared_low, shared_high, shared_fits}
+use Rattle.virtiofs_map.proofs.LeU64Lemmas.{first_of_three, second_of_three, third_of_three, length-three, shared_low}
+use Rattle.virtiofs_map.proofs.LeU64Lemmas.{shared_high, shared_fits}
 
 pub length-rule_row : (rule : MappingRule) (span : Span) → length (rule_row rule span) ≡ 24
 unfolding rule_row
@@ -23,20 +22,14 @@ length-rule_row rule span = length-three (span.key + 281474976710656 * acts_numb
 -- ---- what a rule does, as a number
 
 pub below_four : (kind : RuleType) → type_number kind < 4
-below_four Prefix = omega arith
-below_four Okay = omega arith
-below_four Bad = omega arith
-below_four Unsupported = omega arith
+below_four kind = grind arith
 
 kind_at : ℕ → RuleType
 kind_at n = cond (eqb n 0) Prefix (cond (eqb n 1) Okay (cond (eqb n 2) Bad Unsupported))
 
 kind_back : (kind : RuleType) → kind_at (type_number kind) ≡ kind
 unfolding kind_at
-kind_back Prefix = refl
-kind_back Okay = refl
-kind_back Bad = refl
-kind_back Unsupported = refl
+kind_back kind = grind arith
 
 pub same_type : (kind other : RuleType) → type_number kind ≡ type_number other → kind ≡ other
 same_type kind other same = sym (kind_back kind) ∙ ap kind_at same ∙ kind_back other
@@ -46,8 +39,7 @@ abbrev packed : ℕ → Bool → Bool → ℕ
 packed kind client server = kind + 4 * (if client then 1 else 0) + 8 * (if server then 1 else 0)
 
 bit_small : (b : Bool) → (if b then 1 else 0) ≤ 1
-bit_small true = omega arith
-bit_small false = omega arith
+bit_small b = grind arith
 
 packed_fits : (kind : ℕ) (client server : Bool) → kind < 4 → packed kind client server < 65536
 packed_fits kind client server small = omega (arith, bit_small client, bit_small server)
@@ -61,17 +53,11 @@ sides_of_packed kind client server small = omega (arith, bit_small client, bit_s
 
 holds_client : (client server : Bool)
     → holds Client ((if client then 1 else 0) + 2 * (if server then 1 else 0)) ≡ client
-holds_client true true = refl
-holds_client true false = refl
-holds_client false true = refl
-holds_client false false = refl
+holds_client client server = grind arith
 
 holds_server : (client server : Bool)
     → holds Server ((if client then 1 else 0) + 2 * (if server then 1 else 0)) ≡ server
-holds_server true true = refl
-holds_server true false = refl
-holds_server false true = refl
-holds_server false false = refl
+holds_server client server = grind arith
 
 -- rules are the same whose fields are
 pub same_rule_fields : (one other : MappingRule) → one.kind ≡ other.kind → one.client ≡ other.client
@@ -92,17 +78,7 @@ pub words_of_row : (bytes : List ℕ) (rule : MappingRule) (span : Span) → IsS
     (le_u64_at (rule_row rule span) 16)
 unfolding rule_row
 words_of_row bytes rule span is few =
-    let key : span.key < 281474976710656 = omega (arith, is.rising, is.rising_on, is.within) in
-    let prepend : span.prepend < 2 ^ 64 = omega (arith, is.rising_on, is.within) in
-    let end : span.end < 2 ^ 64 = omega (arith, is.within) in
-    let fits =
-    shared_fits span.key (acts_number rule) key
-    (packed_fits (type_number rule.kind) rule.client rule.server (below_four rule.kind)) in
-    record {
-      first_is = first_of_three _ span.prepend span.end fits;
-      second_is = second_of_three (span.key + 281474976710656 * acts_number rule) _ span.end prepend;
-      third_is = third_of_three (span.key + 281474976710656 * acts_number rule) span.prepend _ end;
-    }
+    search (rules, shared_fits, packed_fits, below_four, first_of_three, second_of_three, third_of_three)
 
 -- the places of a row are those of the span, which stand in order
 pub places_of_words : (bytes : List ℕ) (rule : MappingRule) (span : Span) (first second third : ℕ)
@@ -110,15 +86,7 @@ pub places_of_words : (bytes : List ℕ) (rule : MappingRule) (span : Span) (fir
     → HasWords bytes rule span first second third
     → (first % 281474976710656 ≡ span.key) × (first % 281474976710656 ≤ second) × (second ≤ third)
     × (third ≤ length bytes)
-places_of_words bytes rule span first second third is few has =
-    let key : span.key < 281474976710656 = omega (arith, is.rising, is.rising_on, is.within) in
-    let low : first % 281474976710656 ≡ span.key = ap (λ n. n % 281474976710656) has.first_is
-    ∙ shared_low span.key _ key in (
-      low,
-      omega (arith, low, has.second_is, is.rising),
-      omega (arith, has.second_is, has.third_is, is.rising_on),
-      omega (arith, has.third_is, is.within),
-    )
+places_of_words bytes rule span first second third is few has = search (rules, shared_low)
 
 -- the rule of a row
 pub rule_from_words : (bytes : List ℕ) (rule : MappingRule) (span : Span) (first second third : ℕ) (kind : RuleType)
@@ -133,22 +101,7 @@ pub rule_from_words : (bytes : List ℕ) (rule : MappingRule) (span : Span) (fir
       prepend = take (third - second) (drop second bytes);
     } rule
 rule_from_words bytes rule span first second third kind bits is few has is_kind are_bits =
-    let small = below_four rule.kind in
-    let key : span.key < 281474976710656 = omega (arith, is.rising, is.rising_on, is.within) in
-    let high : first / 281474976710656 ≡ acts_number rule = ap (λ n. n / 281474976710656) has.first_is
-    ∙ shared_high span.key _ key in
-    let low : first % 281474976710656 ≡ span.key = (places_of_words bytes rule span first second third is few has).0 in
-    let kinds : kind ≡ rule.kind =
-    same_type kind rule.kind (is_kind ∙ ap (λ n. n % 4) high ∙ kind_of_packed _ rule.client rule.server small) in
-    let sides : bits ≡ (if rule.client then 1 else 0) + 2 * (if rule.server then 1 else 0) = are_bits
-    ∙ ap (λ n. n / 4 % 4) high ∙ sides_of_packed _ rule.client rule.server small in
-    let clients : holds Client bits ≡ rule.client = ap (holds Client) sides ∙ holds_client rule.client rule.server in
-    let servers : holds Server bits ≡ rule.server = ap (holds Server) sides ∙ holds_server rule.client rule.server in
-    let keys : take (second - first % 281474976710656) (drop (first % 281474976710656) bytes) ≡ rule.key =
-    rw (low, has.second_is) is.key in
-    let prepends : take (third - second) (drop second bytes) ≡ rule.prepend =
-    rw (has.third_is, has.second_is) is.prepend in
-    same_rule_fields _ rule kinds clients servers keys prepends
+    search (rules, below_four, shared_high, places_of_words, same_type, kind_of_packed, sides_of_packed, holds_client, holds_server, same_rule_fields)
 
 -- ---- rows
 
@@ -197,8 +150,7 @@ pub three_written : (rule : MappingRule) (span : Span) (so_far one two : List �
     → two ≡ one ++ le_u64_bytes span.prepend
     → two ++ le_u64_bytes span.end ≡ so_far ++ rule_row rule span
 unfolding rule_row
-three_written rule span so_far one two number is first second =
-    rw (second, first, is) (simp append_assoc)
+three_written rule span so_far one two number is first second = search (rules, append_assoc)
 
 -- the rows of one rule more
 pub rule_rows-more : (rules : List MappingRule) (spans : List Span) (at : ℕ) (rule : MappingRule) (span : Span)
@@ -217,13 +169,7 @@ pub words_told : (bytes : List ℕ) (rule : MappingRule) (span : Span) (row : Li
     → row ≡ rule_row rule span → IsSpan bytes rule span → length bytes < 281474976710656
     → first ≡ le_u64_at row 0 → second ≡ le_u64_at row 8 → third ≡ le_u64_at row 16
     → HasWords bytes rule span first second third
-words_told bytes rule span row first second third are is few is_first is_second is_third =
-    let has = words_of_row bytes rule span is few in
-    record {
-      first_is = is_first ∙ ap (λ (l : List ℕ). le_u64_at l 0) are ∙ has.first_is;
-      second_is = is_second ∙ ap (λ (l : List ℕ). le_u64_at l 8) are ∙ has.second_is;
-      third_is = is_third ∙ ap (λ (l : List ℕ). le_u64_at l 16) are ∙ has.third_is;
-    }
+words_told bytes rule span row first second third are is few is_first is_second is_third = search (rules, words_of_row)
 
 -- an element below the length is there
 pub there : {X : Type 0} (xs : List X) (at : ℕ) → at < length xs → (x : X) × (slice_get xs at ≡ Some x)
@@ -269,8 +215,7 @@ rule_there rules rows bytes at has here =
 pub rule_gone : (rules : List MappingRule) (rows bytes : List ℕ) (at : ℕ) → AreRuleRows rules rows bytes
     → length rows / 24 ≤ at
     → slice_get rules at ≡ None
-rule_gone rules rows bytes at has past =
-    slice_get_past rules at (omega (arith, ap length has.are ∙ length-rule_rows rules has.spans has.stand.counted))
+rule_gone rules rows bytes at has past = grind (arith, slice_get_past, length-rule_rows)
 
 -- one row more is written
 pub rule_rows-next : (rules : List MappingRule) (spans : List Span) (at : ℕ) (rule : MappingRule) (span : Span)

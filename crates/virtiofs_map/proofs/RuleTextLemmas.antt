@@ -1,7 +1,7 @@
 -- A text of rules has one reading and no fault; any other text has one fault.
 use Rattle.std.proofs.Common.{◌≡◌, ◌≢◌, ℕ, ◌+◌, List, [], ◌∷◌, ◌++◌, length, ◌⊎◌, inl, inr, refl, sym, ap, subst, ◌∙◌}
+use Rattle.std.proofs.Common.{rules, arith}
 use Rattle.std.proofs.lemmas.Bool.{false≢true}
-use Rattle.std.specs.Char.{is_ascii_whitespace}
 use Rattle.std.specs.List.{AllByRecursion}
 use Rattle.virtiofs_map.specs.Rule.{MappingRule}
 use Rattle.virtiofs_map.specs.RuleText.{Map, RuleAsWritten, RuleThen, RulesThen, RuleText, IsBlank, trimmed, expanded}
@@ -21,8 +21,7 @@ rule_opened : (text : List ℕ) (rule : RuleAsWritten) (after : List ℕ) → Ru
 rule_opened text rule after here = (here.delimiter, here.body, here.opens)
 
 ending_opened : (text : List ℕ) → Ending text → IsOpened text
-ending_opened text (inl (last, here)) = rule_opened text last [] here
-ending_opened text (inr (cause, (d, body, opens, wrong))) = (d, body, opens)
+ending_opened text e = grind (arith, rule_opened)
 
 rules_opened : (text : List ℕ) (rules : List RuleAsWritten) (rest : List ℕ) → RulesThen text rules rest → IsOpened rest
     → IsOpened text
@@ -32,9 +31,7 @@ rules_opened text (rule ∷ rules) rest (blanks, next, here, plain, blank, other
 
 -- what a delimiter opens begins with no blank
 no_blank_first : (c : ℕ) (cs : List ℕ) → IsBlank c → IsOpened (c ∷ cs) → ⊥
-no_blank_first c cs blank (d, body, (e, solid)) =
-    let same : d ≡ c = (cc) in
-    false≢true (sym solid ∙ ap is_ascii_whitespace same ∙ blank)
+no_blank_first c cs blank (d, body, (e, solid)) = search (rules, false≢true)
 
 same_next : (one two x y : List ℕ) → one ++ x ≡ two ++ y → AllByRecursion IsBlank one → AllByRecursion IsBlank two
     → IsOpened x → IsOpened y → x ≡ y
@@ -97,10 +94,7 @@ one_count text a b (written, read, are) (other, read_too, are_too) = are
     ∙ ap length (one_reading text written other read read_too) ∙ sym are_too
 
 not_blank : (text : List ℕ) (written : List RuleAsWritten) → RuleText text written → trimmed text ≡ [] → ⊥
-not_blank text written one nothing =
-    empty_is_not_opened
-    (subst IsOpened nothing
-    (rules_opened (trimmed text) one.front one.rest one.before (rule_opened one.rest one.last [] one.ends)))
+not_blank text written one nothing = search (rules, empty_is_not_opened, rules_opened, rule_opened)
 
 not_at_fault : (text : List ℕ) (written : List RuleAsWritten) (k : ℕ) (cause : RuleFault) → RuleText text written
     → IsFirstAtFault text k cause → ⊥
@@ -123,10 +117,7 @@ no_fault_counted text count fault (written, read, are) wrong =
     no_fault text (expanded written) fault (written, read, refl) wrong
 
 not_empty : (text : List ℕ) (k : ℕ) (cause : RuleFault) → IsFirstAtFault text k cause → trimmed text ≡ [] → ⊥
-not_empty text k cause one nothing =
-    empty_is_not_opened
-    (subst IsOpened nothing
-    (rules_opened (trimmed text) one.front one.rest one.before (one.delimiter, one.body, one.opens)))
+not_empty text k cause one nothing = search (rules, empty_is_not_opened, rules_opened)
 
 same_place : (text : List ℕ) (j k : ℕ) (one two : RuleFault) → IsFirstAtFault text j one → IsFirstAtFault text k two
     → InRule j one ≡ InRule k two
@@ -141,10 +132,4 @@ same_place text j k one two first later =
     ap (λ n. InRule n one) number ∙ ap (InRule k) same
 
 pub one_fault : (text : List ℕ) (one two : RulesFault) → HasRulesFault text one → HasRulesFault text two → one ≡ two
-one_fault text NoRules NoRules nothing too = refl
-one_fault text NoRules (InRule k two) nothing later = absurd (not_empty text k two later nothing)
-one_fault text NoRules NotOfText nothing later = absurd later
-one_fault text (InRule j one) NoRules first nothing = absurd (not_empty text j one first nothing)
-one_fault text (InRule j one) (InRule k two) first later = same_place text j k one two first later
-one_fault text (InRule j one) NotOfText first later = absurd later
-one_fault text NotOfText two first later = absurd first
+one_fault text one two nothing too = grind (arith, not_empty, same_place)

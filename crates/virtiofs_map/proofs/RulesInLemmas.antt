@@ -1,6 +1,6 @@
 -- The rules that an image has are those of which it is one.
-use Rattle.std.proofs.Common.{◌≡◌, ℕ, zero, suc, ◌/◌, ◌<◌, ◌≤◌, List, [], ◌∷◌, ◌++◌, Some, length, take, drop, refl}
-use Rattle.std.proofs.Common.{sym, ap, subst, ◌∙◌, arith, slice_get}
+use Rattle.std.proofs.Common.{◌≡◌, ℕ, suc, ◌/◌, ◌<◌, ◌≤◌, List, [], ◌∷◌, ◌++◌, Some, length, take, drop, refl, sym, ap}
+use Rattle.std.proofs.Common.{subst, ◌∙◌, arith, slice_get}
 use Rattle.std.proofs.Math.Seq.{drop-append_seam, take-append_seam}
 use Rattle.virtiofs_map.specs.NodeParts.{IsSpan}
 use Rattle.virtiofs_map.specs.NamesImage.{AreRuleRows, IsImage, IsMapOf, image_length, part, rule_row, rule_rows}
@@ -12,11 +12,7 @@ use Rattle.virtiofs_map.specs.declared.xattrmap.view.XattrMapRef.{XattrMapRef}
 use Rattle.virtiofs_map.proofs.RuleRowLemmas.{length-rule_row, length-rule_rows, rule_from_words, words_of_row}
 
 numbered : (n : ℕ) → n < 4 → type_number (type_numbered n) ≡ n
-numbered zero below = refl
-numbered (suc zero) below = refl
-numbered (suc (suc zero)) below = refl
-numbered (suc (suc (suc zero))) below = refl
-numbered (suc (suc (suc (suc n)))) below = absurd (omega arith)
+numbered n below = grind arith
 
 -- a rule is read back from its row
 row_back : (bytes : List ℕ) (rule : MappingRule) (span : Span) → IsSpan bytes rule span
@@ -50,8 +46,7 @@ rows_back bytes (rule ∷ rules) (span ∷ spans) same each few =
 -- there are as many as rows
 pub as_many : (rules : List MappingRule) (rows bytes : List ℕ) → AreRuleRows rules rows bytes
     → length rows / 24 ≡ length rules
-as_many rules rows bytes are =
-    omega (arith, length-rule_rows rules are.spans are.stand.counted, ap length are.are)
+as_many rules rows bytes are = grind (arith, length-rule_rows)
 
 -- an image has the rules of which it is one
 pub rules_in_image : (rules : List MappingRule) (image : List ℕ) → IsImage rules image → rules_in image ≡ rules

@@ -1,6 +1,6 @@
 -- How a search halves the ranges, and which range it finds.
 use Rattle.std.proofs.Common.{◌≡◌, inl, inr, ℕ, suc, zero, ◌+◌, ◌/◌, ◌^◌, ◌<◌, ◌≤◌, List, length, get_or, AllPairs}
-use Rattle.std.proofs.Common.{Contains, Some, slice_get, sym, ap, ◌∙◌, arith, pow-suc}
+use Rattle.std.proofs.Common.{Contains, Some, slice_get, sym, ap, ◌∙◌, arith, pow-suc, rules}
 use Rattle.std.proofs.lemmas.Bool.{cases_order, cases_lt}
 use Rattle.std.proofs.lemmas.Option.{slice_get-get_or, get_or_from_slice_get}
 use Rattle.virtiofs_map.specs.LookupSteps.{halvings_within, binary_digits}
@@ -44,28 +44,17 @@ less_by_a_digit left rest taken more (suc digits) most counted some half room sp
 
 pub HasDigitsFor-less : (left rest taken more most : ℕ) → HasDigitsFor left taken most → more ≡ count_after taken 1
     → 1 ≤ left → rest ≤ left / 2 → HasDigitsFor rest more most
-HasDigitsFor-less left rest taken more most so_far counted some half =
-    less_by_a_digit left rest taken more so_far.digits most counted some half so_far.room so_far.spent
+HasDigitsFor-less left rest taken more most so_far counted some half = search (rules, less_by_a_digit)
 
 -- ---- what is found
 
 pub Searched-start : (ranges : List Entry) (n end : ℕ) → 1 ≤ end → end ≡ length ranges → Searched ranges n 0 end
-Searched-start ranges n end some whole = record {
-  order = omega arith;
-  within = omega arith;
-  begins = λ d later. absurd (omega arith);
-  above = λ k d from below. absurd (omega arith);
-}
+Searched-start ranges n end some whole = search rules
 
 pub Searched-right : (ranges : List Entry) (n index end middle : ℕ) (range : Entry)
     → Searched ranges n index end → middle < end → slice_get ranges middle ≡ Some range → first_of range ≤ n
     → Searched ranges n middle end
-Searched-right ranges n index end middle range searched below here begins = record {
-  order = below;
-  within = searched.within;
-  begins = λ d later. rw (get_or_from_slice_get ranges middle range d here) begins;
-  above = searched.above;
-}
+Searched-right ranges n index end middle range searched below here begins = search (rules, get_or_from_slice_get)
 
 -- those after a range that begins above n begin above it too
 above_from : (ranges : List Entry) (n middle k : ℕ) (range d : Entry) → AllPairs Precedes ranges

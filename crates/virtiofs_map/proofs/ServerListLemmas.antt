@@ -1,17 +1,15 @@
 -- The list that the guest gets, name by name.
-use Rattle.std.proofs.Common.{◌≡◌, ℕ, zero, suc, ◌+◌, ◌<◌, ◌≤◌, Bool, true, false, not, eqb, ltb, List, [], ◌∷◌, ◌++◌, length}
-use Rattle.std.proofs.Common.{Option, Some, None, IfSome, inl, inr, refl, sym, ap, ◌∙◌, arith, filter}
+use Rattle.std.proofs.Common.{◌≡◌, ℕ, ◌+◌, ◌<◌, ◌≤◌, Bool, true, false, not, eqb, List, [], ◌∷◌, ◌++◌, length, Option}
+use Rattle.std.proofs.Common.{Some, None, IfSome, inl, inr, refl, sym, ap, ◌∙◌, arith, filter, rules}
 use Rattle.std.specs.List.{slice_split, onto_first, cons_option, filter_map, flat_map, position, position_or_len}
 use Rattle.std.specs.List.{before_first, after_first}
-use Rattle.std.proofs.lemmas.Bool.{cond_both, ltb-true, ltb-false, cases_lt}
+use Rattle.std.proofs.lemmas.Bool.{cond_both, ltb-true, cases_lt}
 use Rattle.std.proofs.lemmas.List.{take_all, drop_all, append-nil, length-append, length-drop, length_push}
 use Rattle.std.proofs.lemmas.List.Splits.{slice_split_first, slice_split_none, length-slice_split}
 use Rattle.std.proofs.lemmas.List.Sums.{fails_before_first}
 use Rattle.std.proofs.lemmas.List.Elements.{All-from_get_or, filter-append}
-use Rattle.virtiofs_map.specs.Rule.{RuleType, Prefix, Okay, Bad, Unsupported, MappingRule}
-use Rattle.virtiofs_map.specs.declared.xattrmap.scopes.Side.TheVariants.{Server}
-use Rattle.virtiofs_map.specs.Names.{deciding, IsUndecided, host_answer_by, host_answer, listed_name, names}
-use Rattle.std.specs.Option.{option_map_or}
+use Rattle.virtiofs_map.specs.Rule.{RuleType, MappingRule}
+use Rattle.virtiofs_map.specs.Names.{host_answer_by, host_answer, listed_name, names}
 
 abbrev pub is_zero : ℕ → Bool
 is_zero byte = eqb byte 0
@@ -24,18 +22,11 @@ is_name part = not (eqb (length part) 0)
 -- a place that `position` gives is the first that passes
 pub position-Some_is : {X : Type 0} (p : X → Bool) (xs : List X) (i : ℕ) → Some i ≡ position p xs
     → (i ≡ position_or_len p xs) × (i < length xs)
-position-Some_is p xs i =
-    cond_both (ltb (position_or_len p xs) (length xs)) (Some (position_or_len p xs)) None
-    (λ o. Some i ≡ o → (i ≡ position_or_len p xs) × (i < length xs))
-    (λ b k. let e : i ≡ position_or_len p xs = cc in
-    (e, omega (arith, ltb-true (position_or_len p xs) (length xs) b))) (λ _ k. cc)
+position-Some_is p xs i = search (rules, cond_both, ltb-true)
 
 pub position-None_is : {X : Type 0} (p : X → Bool) (xs : List X) → None ≡ position p xs
     → length xs ≤ position_or_len p xs
-position-None_is p xs =
-    cond_both (ltb (position_or_len p xs) (length xs)) (Some (position_or_len p xs)) None
-    (λ o. None ≡ o → length xs ≤ position_or_len p xs) (λ _ k. cc)
-    (λ b _. ltb-false (position_or_len p xs) (length xs) b)
+position-None_is p xs = search (rules, cond_both)
 
 -- ---- the names of a list
 
@@ -102,8 +93,7 @@ total [] = 0
 total (part ∷ parts) = (length part + 1) + total parts
 
 total_onto : (x : ℕ) (parts : List (List ℕ)) → 0 < length parts → total (onto_first x parts) ≡ total parts + 1
-total_onto x [] l = absurd (omega arith)
-total_onto x (part ∷ parts) l = omega arith
+total_onto x parts l = grind arith
 
 total_split : (list : List ℕ) → total (slice_split is_zero list) ≡ length list + 1
 total_split [] = refl
@@ -116,26 +106,16 @@ total_split (x ∷ xs) =
 -- a name is listed as no longer a name than it is
 length_by : (kind : RuleType) (prepend name : List ℕ)
     → IfSome (listed_name (host_answer_by kind prepend name)) (λ shown. length shown ≤ length name)
-length_by Okay prepend name = omega arith
-length_by Prefix prepend name = omega (arith, length-drop (length prepend) name)
-length_by Bad prepend name = tt
-length_by Unsupported prepend name = tt
+length_by kind prepend name = grind (arith, length-drop)
 
 shown_length : (rules : List MappingRule) (name : List ℕ)
     → IfSome (shown rules name) (λ shown. length shown ≤ length name)
-shown_length rules name = by_rule (deciding Server rules name) where
-  by_rule : (o : Option MappingRule)
-      → IfSome (listed_name (option_map_or (λ rule. host_answer_by rule.kind rule.prepend name) o IsUndecided))
-      (λ shown. length shown ≤ length name)
-  by_rule None = tt
-  by_rule (Some rule) = length_by rule.kind rule.prepend name
+shown_length rules name = grind (arith, length_by)
 
 length_more : (o : Option (List ℕ)) (part : List ℕ) (names : List (List ℕ))
     → IfSome o (λ shown. length shown ≤ length part)
     → length (with_zeros (cons_option o names)) ≤ (length part + 1) + length (with_zeros names)
-length_more None part names h = omega arith
-length_more (Some shown) part names h =
-    omega (arith, length-append (shown ++ 0 ∷ []) (with_zeros names), length_push shown 0)
+length_more o part names h = grind (arith, length-append, length_push)
 
 length_parts : (rules : List MappingRule) (parts : List (List ℕ))
     → length (with_zeros (filter_map (shown rules) (filter is_name parts))) ≤ total parts
@@ -159,9 +139,7 @@ length-listed rules list = omega (arith, length_parts rules (slice_split is_zero
 pub short_more : (count left rest list shown next : ℕ) → next ≡ count + shown + 1 → 0 < rest
     → (0 < rest → count + rest ≤ list)
     → shown + left ≤ rest → (0 < left → shown + left < rest) → next + left ≤ list + 1
-short_more count zero rest list shown next is some room within apart = omega (arith, is, within, room some)
-short_more count (suc left) rest list shown next is some room within apart =
-    omega (arith, is, apart (omega arith), room some)
+short_more count left rest list shown next is some room within apart = grind arith
 
 pub shorter_more : (count left rest list shown next : ℕ) → next ≡ count + shown + 1 → 0 < rest
     → (0 < rest → count + rest ≤ list)

@@ -1,6 +1,6 @@
 -- A text says at most one specification, and has at most one fault.
 use Rattle.std.proofs.Common.{◌≡◌, inl, inr, ◌==◌, ℕ, Bool, true, false, cond, List, [], ◌∷◌, ◌++◌, length, refl, sym}
-use Rattle.std.proofs.Common.{ap, ◌∙◌, subst}
+use Rattle.std.proofs.Common.{ap, ◌∙◌, subst, rules, arith}
 use Rattle.std.specs.List.{AllZip, AllPass}
 use Rattle.std.proofs.lemmas.Bool.{false≢true}
 use Rattle.std.proofs.lemmas.List.Elements.{All-head, All-tail}
@@ -62,9 +62,7 @@ cut_apart p (x ∷ front) c back all fails =
 
 HasNoSeparator-uncut : (text prefix : List ℕ) (c : ℕ) (rest : List ℕ) → HasNoSeparator text → IsCut text prefix c rest
     → ⊥
-HasNoSeparator-uncut text prefix c rest none cut =
-    cut_apart is_word_character prefix c rest (subst (λ (t : List ℕ). AllPass is_word_character t) cut.whole none)
-    cut.ends
+HasNoSeparator-uncut text prefix c rest none cut = search (rules, cut_apart)
 
 -- a word and its numbers are those of one specification
 spec_of : ℕ → List ℕ → IdMap
@@ -77,17 +75,10 @@ spec_of n _ = ForbidGuest 0 0
 
 spec_is : (spec : IdMap) → spec_of (length (word_of spec)) (numbers_of spec) ≡ spec
 unfolding spec_of
-spec_is (Guest a b n) = refl
-spec_is (Host a b n) = refl
-spec_is (SquashGuest a b n) = refl
-spec_is (SquashHost a b n) = refl
-spec_is (Bidirectional a b n) = refl
-spec_is (ForbidGuest a n) = refl
+spec_is spec = grind arith
 
 one_spec : (spec other : IdMap) → word_of spec ≡ word_of other → numbers_of spec ≡ numbers_of other → spec ≡ other
-one_spec spec other word numbers =
-    sym (spec_is spec) ∙ ap (λ (w : List ℕ). spec_of (length w) (numbers_of spec)) word
-    ∙ ap (spec_of (length (word_of other))) numbers ∙ spec_is other
+one_spec spec other word numbers = search (rules, spec_is, spec_of)
 
 pub Says-one : (text : List ℕ) (spec other : IdMap) → Says text spec → Says text other → spec ≡ other
 Says-one text spec other first second =
@@ -140,9 +131,7 @@ one_unread (f ∷ before) (g ∷ others) (v ∷ values) (n ∷ numbers) field ot
 
 IsFirstNonNumeral-one : (fields : List (List ℕ)) (field other : List ℕ) → IsFirstNonNumeral fields field
     → IsFirstNonNumeral fields other → field ≡ other
-IsFirstNonNumeral-one fields field other first second =
-    one_unread first.before second.before first.values second.values field other first.after second.after
-    (sym first.here ∙ second.here) first.read second.read first.unread second.unread
+IsFirstNonNumeral-one fields field other first second = search (rules, one_unread)
 
 -- the fields of a cut text, whichever way it is cut
 fields_same : (text prefix other : List ℕ) (c d : ℕ) (rest back : List ℕ) → IsCut text prefix c rest
@@ -167,14 +156,12 @@ HasNonNumeral-uncounted text prefix field seen unread counted =
     unread.first.after counted.numbers (sym same ∙ unread.first.here) unread.first.unread
 
 HasNumerals-uncut : (text prefix : List ℕ) (seen : ℕ) → HasNoSeparator text → HasNumerals text prefix seen → ⊥
-HasNumerals-uncut text prefix seen none counted =
-    HasNoSeparator-uncut text prefix counted.separator counted.rest none counted.cut
+HasNumerals-uncut text prefix seen none counted = search (rules, HasNoSeparator-uncut)
 
 -- a text is counted in one way
 HasNumerals-prefix : (text prefix other : List ℕ) (seen got : ℕ) → HasNumerals text prefix seen
     → HasNumerals text other got → prefix ≡ other
-HasNumerals-prefix text prefix other seen got first second =
-    prefix_same text prefix other first.separator second.separator first.rest second.rest first.cut second.cut
+HasNumerals-prefix text prefix other seen got first second = search (rules, prefix_same)
 
 HasNumerals-one : (text prefix other : List ℕ) (seen got : ℕ) → HasNumerals text prefix seen
     → HasNumerals text other got → seen ≡ got
@@ -193,12 +180,7 @@ takes_of (c ∷ word) = cond (c == 102) 2 3
 
 takes_is : (spec : IdMap) → takes_of (word_of spec) ≡ length (numbers_of spec)
 unfolding takes_of
-takes_is (Guest a b n) = refl
-takes_is (Host a b n) = refl
-takes_is (SquashGuest a b n) = refl
-takes_is (SquashHost a b n) = refl
-takes_is (Bidirectional a b n) = refl
-takes_is (ForbidGuest a n) = refl
+takes_is spec = grind arith
 
 one_count : (spec other : IdMap) → word_of spec ≡ word_of other → length (numbers_of spec) ≡ length (numbers_of other)
 one_count spec other word = sym (takes_is spec) ∙ ap takes_of word ∙ takes_is other
@@ -206,14 +188,7 @@ one_count spec other word = sym (takes_is spec) ∙ ap takes_of word ∙ takes_i
 -- a text that says a specification is counted
 Says-counted : (text : List ℕ) (spec : IdMap) (said : Says text spec)
     → HasNumerals text said.prefix (length (numbers_of spec))
-Says-counted text spec said = record {
-  separator = said.separator;
-  rest = said.rest;
-  values = numbers_of spec;
-  cut = said.cut;
-  numbers = said.numbers;
-  count = refl;
-}
+Says-counted text spec said = search rules
 
 Says-wrong_count : (text : List ℕ) (spec : IdMap) (expected seen : ℕ) → Says text spec
     → HasWrongCount text expected seen → ⊥

@@ -1,7 +1,7 @@
 -- The fields of a specification's text, and what is wrong with them.
-use Rattle.std.proofs.Common.{◌≡◌, inl, inr, ◌==◌, ℕ, ◌<◌, nat_lt, true, false, List, [], ◌∷◌, ◌++◌, length, All}
-use Rattle.std.proofs.Common.{Option, Some, None, Result, Ok, Err, IfOk, IfErr, refl, sym, ap, ◌∙◌, subst, eq-eqb}
-use Rattle.std.proofs.Common.{encode_utf8_all, chars, IsUtf8, IsAscii, ltb-true}
+use Rattle.std.proofs.Common.{◌≡◌, inl, inr, ◌==◌, ℕ, nat_lt, true, false, List, [], ◌∷◌, ◌++◌, length, All, Option}
+use Rattle.std.proofs.Common.{Some, None, Result, Ok, Err, IfOk, IfErr, refl, sym, ap, ◌∙◌, eq-eqb, encode_utf8_all}
+use Rattle.std.proofs.Common.{chars, IsUtf8, IsAscii, rules, arith}
 use Rattle.std.specs.List.{AllZip, list_all}
 use Rattle.std.proofs.lemmas.Str.{chars-IsAscii, encodes-IsAscii, encodes-chars}
 use Rattle.std.proofs.lemmas.Str.Ascii.{IsAscii-from_all}
@@ -16,8 +16,6 @@ use Rattle.virtiofs_map.specs.Refusal.{OutOfMemoryOr}
 use Rattle.virtiofs_map.specs.Separator.{Lacks, split_at_each}
 use Rattle.virtiofs_map.specs.SpecificationParts.{IsFieldFault, IsFieldsFault, IsCountFault, IsWordFault, IsLoweredCut}
 use Rattle.virtiofs_map.specs.declared.cmdline.IdMap.{IdMap}
-use Rattle.virtiofs_map.specs.declared.cmdline.IdMap.TheVariants.{Guest, Host, SquashGuest, SquashHost, Bidirectional}
-use Rattle.virtiofs_map.specs.declared.cmdline.IdMap.TheVariants.{ForbidGuest}
 use Rattle.virtiofs_map.specs.declared.cmdline.IdMapError.{IdMapError}
 
 -- no character is the separator, as a test
@@ -31,47 +29,32 @@ fails_from_lacks separator (c ∷ cs) (other, lacks) =
 -- the field before the first separator, and those after it
 pub split_at_each-cut : (separator : ℕ) (rest front back : List ℕ) → rest ≡ front ++ separator ∷ back
     → Lacks separator front → split_at_each separator rest ≡ front ∷ split_at_each separator back
-split_at_each-cut separator rest front back whole first =
-    ap (split_at_each separator) whole
-    ∙ slice_split_at (λ c. c == separator) front separator back (fails_from_lacks separator front first)
-    (eq-eqb separator separator refl)
+split_at_each-cut separator rest front back whole first = search (rules, slice_split_at, fails_from_lacks, eq-eqb)
 
 -- where no separator is left, the rest is one field
 pub split_at_each-last : (separator : ℕ) (rest : List ℕ) → Lacks separator rest
     → split_at_each separator rest ≡ rest ∷ []
-split_at_each-last separator rest none =
-    slice_split_none (λ c. c == separator) rest (fails_from_lacks separator rest none)
+split_at_each-last separator rest none = search (rules, slice_split_none, fails_from_lacks)
 
 -- the fault of a field is that of the fields, where those before it are numerals
 pub IsFieldsFault-here : (fields done after : List (List ℕ)) (numbers field : List ℕ) (told : Option SpecificationFault)
     → fields ≡ done ++ field ∷ after → AllZip IsNumeral done numbers → OutOfMemoryOr told (IsFieldFault field)
     → OutOfMemoryOr told (IsFieldsFault fields)
-IsFieldsFault-here fields done after numbers field None here read refused = tt
-IsFieldsFault-here fields done after numbers field (Some fault) here read (is, unread) =
-    (field, is, record { before = done; after = after; values = numbers; here = here; read = read; unread = unread })
+IsFieldsFault-here fields done after numbers field told here read refused = grind arith
 
 -- the word of a specification that takes another count
 pub IsWordFault-count : (spec : IdMap) (word numbers : List ℕ) (told : Option SpecificationFault) → word ≡ word_of spec
     → OutOfMemoryOr told (IsCountFault (length (numbers_of spec)) numbers)
     → OutOfMemoryOr told (IsWordFault word numbers)
-IsWordFault-count spec word numbers None is refused = tt
-IsWordFault-count spec word numbers (Some fault) is refused = inr (spec, is, refused)
+IsWordFault-count spec word numbers told is refused = grind arith
 
 -- a text whose bytes are all below 128
 IsAscii-test : (bs : List ℕ) → list_all (λ b. nat_lt b 128) bs ≡ true → IsAscii bs
-IsAscii-test bs all =
-    IsAscii-from_all bs
-    (All-weaker (λ b. nat_lt b 128 ≡ true) (λ b. b < 128) (λ b below. ltb-true b 128 below) bs
-    (AllPass-from_list_all (λ b. nat_lt b 128) bs all))
+IsAscii-test bs all = search (rules, IsAscii-from_all, All-weaker, AllPass-from_list_all)
 
 -- the words are ASCII
 all_ascii-word_of : (spec : IdMap) → list_all (λ b. nat_lt b 128) (word_of spec) ≡ true
-all_ascii-word_of (Guest a b n) = refl
-all_ascii-word_of (Host a b n) = refl
-all_ascii-word_of (SquashGuest a b n) = refl
-all_ascii-word_of (SquashHost a b n) = refl
-all_ascii-word_of (Bidirectional a b n) = refl
-all_ascii-word_of (ForbidGuest a n) = refl
+all_ascii-word_of spec = grind arith
 
 pub IsAscii-word_of : (spec : IdMap) → IsAscii (word_of spec)
 IsAscii-word_of spec = IsAscii-test (word_of spec) (all_ascii-word_of spec)
@@ -84,26 +67,12 @@ bytes-word_of spec bs text same = sym (encodes-chars bs text) ∙ ap encode_utf8
 Says-parts : (text word rest : List ℕ) (separator : ℕ) (values : List ℕ) (spec : IdMap)
     → IsLoweredCut text (chars word) separator rest → AllZip IsNumeral (split_at_each separator rest) values
     → word ≡ word_of spec → values ≡ numbers_of spec → Says text spec
-Says-parts text word rest separator values spec cut read is same = record {
-  prefix = cut.prefix;
-  separator = separator;
-  rest = rest;
-  cut = cut.cut;
-  word = sym cut.lower ∙ ap chars is ∙ chars-IsAscii (word_of spec) (IsAscii-word_of spec);
-  numbers = subst (λ (ns : List ℕ). AllZip IsNumeral (split_at_each separator rest) ns) same read;
-}
+Says-parts text word rest separator values spec cut read is same = search (rules, chars-IsAscii, IsAscii-word_of)
 
 has_numerals : (text word rest : List ℕ) (separator : ℕ) (values : List ℕ) (seen : ℕ)
     (cut : IsLoweredCut text word separator rest) → AllZip IsNumeral (split_at_each separator rest) values
     → length values ≡ seen → HasNumerals text cut.prefix seen
-has_numerals text word rest separator values seen cut read count = record {
-  separator = separator;
-  rest = rest;
-  values = values;
-  cut = cut.cut;
-  numbers = read;
-  count = count;
-}
+has_numerals text word rest separator values seen cut read count = search rules
 
 -- a word and numbers that say no specification
 word_fault : (text word rest : List ℕ) (separator : ℕ) (values : List ℕ) (fault : SpecificationFault) → IsUtf8 word
@@ -131,15 +100,12 @@ word_fault text word rest separator values fault is_text cut read (inr (spec, wo
 fields_fault : (text word rest : List ℕ) (separator : ℕ) (fault : SpecificationFault)
     → IsLoweredCut text word separator rest → IsFieldsFault (split_at_each separator rest) fault
     → HasSpecificationFault text fault
-fields_fault text word rest separator fault cut (field, is, first) =
-    rw is (record { prefix = cut.prefix; separator = separator; rest = rest; cut = cut.cut; first = first })
+fields_fault text word rest separator fault cut (field, is, first) = search rules
 
 pub refused-fields : (text word rest : List ℕ) (separator : ℕ) (told : Option SpecificationFault)
     → IsLoweredCut text word separator rest → OutOfMemoryOr told (IsFieldsFault (split_at_each separator rest))
     → OutOfMemoryOr told (HasSpecificationFault text)
-refused-fields text word rest separator None cut refused = tt
-refused-fields text word rest separator (Some fault) cut refused =
-    fields_fault text word rest separator fault cut refused
+refused-fields text word rest separator told cut refused = grind (arith, fields_fault)
 
 refused_word : (text word rest : List ℕ) (separator : ℕ) (values : List ℕ) (told : Option SpecificationFault)
     → IsUtf8 word → IsLoweredCut text (chars word) separator rest

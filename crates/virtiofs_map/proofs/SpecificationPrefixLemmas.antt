@@ -1,7 +1,7 @@
 -- The front of a specification's text: how far its prefix has been read.
-use Rattle.std.proofs.Common.{◌≡◌, ℕ, ◌+◌, ◌<◌, Bool, true, false, ◌&&◌, nat_lt, ◌≤◌, ◌⊎◌, inl, inr, List, [], ◌∷◌}
-use Rattle.std.proofs.Common.{◌++◌, length, map, refl, sym, ap, ◌∙◌, subst, append_assoc, arith, encode_utf8, chars}
-use Rattle.std.proofs.Common.{IsUtf8, append-nil, ltb-true, ltb-false}
+use Rattle.std.proofs.Common.{◌≡◌, ℕ, ◌<◌, true, false, nat_lt, ◌≤◌, ◌⊎◌, List, [], ◌∷◌, ◌++◌, length, sym, ap, ◌∙◌}
+use Rattle.std.proofs.Common.{subst, append_assoc, arith, encode_utf8, chars, IsUtf8, append-nil, ltb-true, ltb-false}
+use Rattle.std.proofs.Common.{rules}
 use Rattle.std.specs.Char.{IsScalar, to_ascii_lowercase}
 use Rattle.std.specs.List.{AllPass}
 use Rattle.std.proofs.lemmas.Str.{chars-append, chars-nil, chars_past_char, scalars-chars, IsUtf8-encode}
@@ -23,13 +23,7 @@ pub record IsPrefixSoFar (text rest word : List ℕ) : Type 0 where
 
 pub IsPrefixSoFar-start : (text rest word : List ℕ) → IsUtf8 text → rest ≡ text → word ≡ []
     → IsPrefixSoFar text rest word
-IsPrefixSoFar-start text rest word is_text same empty = record {
-  is_text = rw same is_text;
-  done = [];
-  whole = rw same refl;
-  passed = All-nil _;
-  lower = rw empty chars-nil;
-}
+IsPrefixSoFar-start text rest word is_text same empty = search (rules, All-nil, chars-nil)
 
 -- the first of several characters is one
 IsScalar-first : (c : ℕ) (cs : List ℕ) → scalars (c ∷ cs) ≡ true → IsScalar c
@@ -37,22 +31,11 @@ IsScalar-first c cs all = (and_parts (scalar c) (scalars cs) all).0
 
 -- whether one number is below another
 ltb_tells : (a b : ℕ) → ((nat_lt a b ≡ true) × (a < b)) ⊎ ((nat_lt a b ≡ false) × (b ≤ a))
-ltb_tells a b =
-    elim (cases_Bool (nat_lt a b)) [
-      | inl below ↦ inl (below, ltb-true a b below)
-      | inr past ↦ inr (past, ltb-false a b past)
-    ]
+ltb_tells a b = search (rules, cases_Bool, nat_lt, ltb-true, ltb-false)
 
 -- a character in lower case is one
 IsScalar-lower : (c : ℕ) → IsScalar c → IsScalar (to_ascii_lowercase c)
-IsScalar-lower c scalar =
-    elim (ltb_tells c 65) [
-      | inl low ↦ rw low.0 scalar
-      | inr high ↦ elim (ltb_tells c 91) [
-        | inl upper ↦ rw (high.0, upper.0) (low_scalar (c + 32) (omega arith))
-        | inr other ↦ rw (high.0, other.0) scalar
-      ]
-    ]
+IsScalar-lower c scalar = search (rules, ltb_tells, low_scalar)
 
 -- one character as a text
 chars-encode : (c : ℕ) → IsScalar c → chars (encode_utf8 c) ≡ c ∷ []
@@ -62,8 +45,7 @@ chars-encode c scalar =
 
 -- a text with one more character at its end
 pub chars-push : (bs : List ℕ) (c : ℕ) → IsUtf8 bs → IsScalar c → chars (bs ++ encode_utf8 c) ≡ chars bs ++ c ∷ []
-chars-push bs c text scalar = chars-append bs (encode_utf8 c) text
-    ∙ ap (λ (cs : List ℕ). chars bs ++ cs) (chars-encode c scalar)
+chars-push bs c text scalar = search (rules, chars-append, chars-encode)
 
 pub IsPrefixSoFar-more : (text rest back word : List ℕ) (c d : ℕ) → IsUtf8 word → d ≡ to_ascii_lowercase c
     → rest ≡ encode_utf8 c ++ back → is_word_character c ≡ true → IsPrefixSoFar text rest word
@@ -89,17 +71,7 @@ IsPrefixSoFar-more text rest back word c d is_word lower next passes so_far =
 -- the prefix ends at a character that is no word character
 pub IsLoweredCut-here : (text rest back word : List ℕ) (c : ℕ) → rest ≡ encode_utf8 c ++ back
     → is_word_character c ≡ false → IsPrefixSoFar text rest word → IsLoweredCut (chars text) (chars word) c (chars back)
-IsLoweredCut-here text rest back word c next ends so_far =
-    let next_chars : chars rest ≡ c ∷ chars back = chars_past_char rest back c so_far.is_text next in
-    record {
-      prefix = so_far.done;
-      cut = record {
-        whole = so_far.whole ∙ ap (λ (cs : List ℕ). so_far.done ++ cs) next_chars;
-        word = so_far.passed;
-        ends = ends;
-      };
-      lower = so_far.lower;
-    }
+IsLoweredCut-here text rest back word c next ends so_far = search (rules, chars_past_char)
 
 -- where nothing is left, the text is nothing but word characters
 pub AllPass-prefix : (text rest word : List ℕ) → length rest ≡ 0 → IsPrefixSoFar text rest word

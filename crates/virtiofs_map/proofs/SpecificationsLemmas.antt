@@ -1,7 +1,6 @@
 -- A list of texts says at most one list of specifications, and has at most one fault.
 use Rattle.std.proofs.Common.{◌≡◌, inl, inr, ℕ, ◌+◌, ◌<◌, zero, suc, List, [], ◌∷◌, ◌++◌, length, take, get_or}
-use Rattle.std.proofs.Common.{slice_get, Option, Some, None, IsSomeAnd, Bor, sym, ap, ◌∙◌, subst, arith, option_map}
-use Rattle.std.proofs.Common.{chars}
+use Rattle.std.proofs.Common.{slice_get, Option, Some, IsSomeAnd, Bor, sym, ap, ◌∙◌, arith, option_map, chars, rules}
 use Rattle.std.proofs.lemmas.Bool.{cases_order}
 use Rattle.std.proofs.lemmas.List.{take-map, map_more, length-map}
 use Rattle.std.proofs.lemmas.Option.{slice_get-map, slice_get-get_or}
@@ -51,18 +50,13 @@ no_earlier (t ∷ texts) (s ∷ specs) (suc i) (suc j) fault before say here =
 -- texts that say an accepted list have no fault
 pub AllSay-no_fault : (texts : List (List ℕ)) (specs : List IdMap) (fault : SpecsFault) → AllSay texts specs
     → Accepted specs → ¬ HasSpecsFault texts fault
-AllSay-no_fault texts specs (Unread index fault) say accepted unread = no_unread texts specs index fault say unread.here
-AllSay-no_fault texts specs (Unbuilt fault) say accepted unbuilt =
-    Accepted-no_fault specs fault accepted
-    (subst (λ (xs : List IdMap). HasFirstFault xs fault) (AllSay-one texts unbuilt.specs specs unbuilt.say say)
-    unbuilt.first)
+AllSay-no_fault texts specs fault say accepted unread = grind (arith, no_unread, Accepted-no_fault, AllSay-one)
 
 -- one text has at most one fault
 one_here : (text : Option (List ℕ)) (fault other : SpecificationFault)
     → IsSomeAnd text (λ t. HasSpecificationFault t fault) → IsSomeAnd text (λ t. HasSpecificationFault t other)
     → fault ≡ other
-one_here None fault other first second = absurd first
-one_here (Some text) fault other first second = HasSpecificationFault-one text fault other first second
+one_here text fault other first second = grind (arith, HasSpecificationFault-one)
 
 -- two texts that are not read, each the first one, are one
 one_unread : (texts : List (List ℕ)) (i j : ℕ) (fault other : SpecificationFault) → HasFirstUnread texts i fault
@@ -80,47 +74,25 @@ one_unread texts i j fault other first second =
 -- a list of texts has at most one fault
 pub HasSpecsFault-one : (texts : List (List ℕ)) (fault other : SpecsFault) → HasSpecsFault texts fault
     → HasSpecsFault texts other → fault ≡ other
-HasSpecsFault-one texts (Unread i fault) (Unread j other) first second = one_unread texts i j fault other first second
-HasSpecsFault-one texts (Unread i fault) (Unbuilt other) first second =
-    absurd (no_unread texts second.specs i fault second.say first.here)
-HasSpecsFault-one texts (Unbuilt fault) (Unread j other) first second =
-    absurd (no_unread texts first.specs j other first.say second.here)
-HasSpecsFault-one texts (Unbuilt fault) (Unbuilt other) first second =
-    ap Unbuilt
-    (HasFirstFault-one second.specs fault other
-    (subst (λ (xs : List IdMap). HasFirstFault xs fault)
-    (AllSay-one texts first.specs second.specs first.say second.say) first.first) second.first)
+HasSpecsFault-one texts fault other first second = grind (arith, one_unread, no_unread, HasFirstFault-one, AllSay-one)
 
 -- the text at a place, as characters
 text_at : (texts : List (Bor (List ℕ))) (i : ℕ) (d : Bor (List ℕ)) → i < length texts
     → slice_get (texts_of texts) i ≡ Some (chars (get_or texts i d).now)
-text_at texts i d below =
-    let f : Bor (List ℕ) → List ℕ = λ text. chars text.now in
-    slice_get-map f texts i ∙ ap (option_map f) (slice_get-get_or texts i d below)
+text_at texts i d below = search (rules, slice_get-map, option_map, slice_get-get_or)
 
 -- a text that is not read, after texts that are
 pub refused-text : (texts : List (Bor (List ℕ))) (specs : List IdMap) (i : ℕ) (d : Bor (List ℕ))
     (told : Option SpecificationFault) → i < length texts → AllSay (take i (texts_of texts)) specs
     → OutOfMemoryOr told (HasSpecificationFault (chars (get_or texts i d).now))
     → OutOfMemoryOr (option_map (Unread i) told) (HasSpecsFault (texts_of texts))
-refused-text texts specs i d None below say refused = tt
-refused-text texts specs i d (Some fault) below say refused = record {
-  before = specs;
-  say = say;
-  here = subst (λ (text : Option (List ℕ)). IsSomeAnd text (λ t. HasSpecificationFault t fault))
-      (sym (text_at texts i d below)) refused;
-}
+refused-text texts specs i d told below say refused = grind (arith, text_at)
 
 pub IsReadUpTo-here : (texts : List (Bor (List ℕ))) (specs : List IdMap) (i : ℕ) → i < length texts
     → AllSay (take i (texts_of texts)) specs → IsReadUpTo (texts_of texts) i
-IsReadUpTo-here texts specs i below say = record {
-  within = rw length-map below;
-  specs = specs;
-  say = say;
-}
+IsReadUpTo-here texts specs i below say = search (rules, length-map)
 
 -- texts that say a list of which no map is made
 pub refused-build : (texts : List (List ℕ)) (specs : List IdMap) (told : Option BuildFault) → AllSay texts specs
     → OutOfMemoryOr told (HasFirstFault specs) → OutOfMemoryOr (option_map Unbuilt told) (HasSpecsFault texts)
-refused-build texts specs None say refused = tt
-refused-build texts specs (Some fault) say refused = record { specs = specs; say = say; first = refused }
+refused-build texts specs told say refused = grind arith

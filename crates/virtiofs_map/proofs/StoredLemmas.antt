@@ -1,8 +1,7 @@
 -- What a number becomes, by the ranges that a map has.
-use Rattle.std.proofs.Common.{◌≡◌, inl, inr, ℕ, ◌+◌, ◌<◌, ◌≤◌, List, Contains, Option, Some, None, IsSomeAnd, refl}
-use Rattle.std.proofs.Common.{arith}
+use Rattle.std.proofs.Common.{◌≡◌, inl, ℕ, List, Contains, Option, Some, IsSomeAnd, refl, rules, arith}
 use Rattle.std.proofs.lemmas.List.Elements.{All-contains}
-use Rattle.virtiofs_map.specs.Mapping.{entry_of, first_of, count_of, EntryCovers, target_of, Covers, Becomes}
+use Rattle.virtiofs_map.specs.Mapping.{EntryCovers, target_of, Becomes}
 use Rattle.virtiofs_map.specs.RangeParts.{IsOfOne, Stores}
 use Rattle.virtiofs_map.specs.declared.cmdline.IdMap.{IdMap}
 use Rattle.virtiofs_map.specs.declared.soft_idmap.entry.Direction.{Direction}
@@ -15,20 +14,13 @@ pub record Found (o : Option Entry) (P : Entry → Type 0) : Type 0 where
   pub holds : P entry
 
 pub found_entry : (o : Option Entry) (P : Entry → Type 0) → IsSomeAnd o P → Found o P
-found_entry None P h = absurd h
-found_entry (Some entry) P h = record { entry = entry; is = refl; holds = h }
+found_entry o P h = grind arith
 
 -- no range covers the number, so no specification does
 pub Becomes-itself : (specs : List IdMap) (direction : Direction) (ranges : List Entry) (n : ℕ)
     → Stores specs direction ranges → ((range : Entry) → Contains ranges range → ¬ EntryCovers range n)
     → Becomes specs direction n (Some n)
-Becomes-itself specs direction ranges n stores none = inr (uncovered, refl) where
-  uncovered : (spec : IdMap) → Contains specs spec → ¬ Covers spec direction n
-  uncovered spec listed covers =
-      let found = found_entry (entry_of spec direction) (λ entry. EntryCovers entry n) covers in
-      let low : first_of found.entry ≤ n = found.holds.0 in
-      let high : n < first_of found.entry + count_of found.entry = found.holds.1 in
-      none found.entry (stores.each spec found.entry listed found.is (omega arith)) found.holds
+Becomes-itself specs direction ranges n stores none = search (rules, found_entry)
 
 -- a range that covers it is that of a specification
 pub Becomes-by_range : (specs : List IdMap) (direction : Direction) (ranges : List Entry) (n : ℕ) (range : Entry)

@@ -1,6 +1,6 @@
 -- What trimming a text leaves, in characters.
 use Rattle.std.proofs.Common.{◌≡◌, ℕ, zero, suc, ◌<◌, Bool, true, false, cond, ◌&&◌, eqb, List, [], ◌∷◌, ◌++◌, length}
-use Rattle.std.proofs.Common.{take, drop, get_or, ◌⊎◌, inl, inr, refl, sym, ap, subst, ◌∙◌, arith}
+use Rattle.std.proofs.Common.{take, drop, get_or, ◌⊎◌, inl, inr, refl, sym, ap, ◌∙◌, arith, rules}
 use Rattle.std.proofs.lemmas.Bool.{false≢true, false_from_ne_true}
 use Rattle.std.proofs.lemmas.Bool.Decides.{nat_tests}
 use Rattle.std.proofs.lemmas.List.{take-append-drop}
@@ -17,8 +17,7 @@ use Rattle.virtiofs_map.specs.RuleParts.{IsOpened}
 -- ---- characters stay characters
 
 and_parts : (a b : Bool) → (a && b) ≡ true → (a ≡ true) × (b ≡ true)
-and_parts true b e = (refl, e)
-and_parts false b e = absurd (false≢true e)
+and_parts a b e = grind (arith, false≢true)
 
 skip_scalars : (cs : List ℕ) → all_scalars cs ≡ true → all_scalars (skip_leading_whitespace cs) ≡ true
 skip_scalars [] e = refl
@@ -41,11 +40,7 @@ drop_scalars (c ∷ cs) e =
 -- what `trim` gives, in characters
 pub chars-trim : (s : List ℕ) → IsUtf8 s → chars (trim s) ≡ trimmed (chars s)
 unfolding trim_start trim_end
-chars-trim s utf8 =
-    let front = skip_scalars (chars s) (scalars-chars s utf8) in
-    let inner = chars-encodes (skip_leading_whitespace (chars s)) front in
-    ap (λ cs. chars (encode_utf8_all (drop_trailing_whitespace cs))) inner
-    ∙ chars-encodes _ (drop_scalars (skip_leading_whitespace (chars s)) front)
+chars-trim s utf8 = search (rules, skip_scalars, scalars-chars, chars-encodes, drop_scalars)
 
 -- ---- a trimmed text begins with no blank
 
@@ -57,8 +52,7 @@ blank_is_ascii c e = grind (arith, nat_tests)
 
 skip_head_by : (b : Bool) (x : ℕ) (xs zs ds : List ℕ) (c : ℕ) → is_whitespace x ≡ b
     → (zs ≡ c ∷ ds → is_whitespace c ≡ false) → cond b zs (x ∷ xs) ≡ c ∷ ds → is_whitespace c ≡ false
-skip_head_by true x xs zs ds c is_b later e = later e
-skip_head_by false x xs zs ds c is_b later e = let same : x ≡ c = (cc) in subst (λ y. is_whitespace y ≡ false) same is_b
+skip_head_by b x xs zs ds c is_b later e = grind arith
 
 skip_head : (cs ds : List ℕ) (c : ℕ) → skip_leading_whitespace cs ≡ c ∷ ds → is_whitespace c ≡ false
 skip_head [] ds c e = absurd (cc)
@@ -89,16 +83,14 @@ trimmed_opened text = opened_or_empty (trimmed text) (λ c ds e blank.
 drop_again_by : (b : Bool) (c : ℕ) (zs : List ℕ) → (is_whitespace c && eqb (length zs) 0) ≡ b
     → drop_trailing_whitespace zs ≡ zs
     → drop_trailing_whitespace (cond b [] (c ∷ zs)) ≡ cond b [] (c ∷ zs)
-drop_again_by true c zs is_b again = refl
-drop_again_by false c zs is_b again = rw (again, is_b) refl
+drop_again_by b c zs is_b again = grind arith
 
 drop_again : (cs : List ℕ) → drop_trailing_whitespace (drop_trailing_whitespace cs) ≡ drop_trailing_whitespace cs
 drop_again [] = refl
 drop_again (c ∷ cs) = drop_again_by _ c (drop_trailing_whitespace cs) refl (drop_again cs)
 
 solid_tail_by : (b : Bool) (c : ℕ) (cs zs : List ℕ) → cond b [] (c ∷ zs) ≡ c ∷ cs → zs ≡ cs
-solid_tail_by true c cs zs e = absurd (cc)
-solid_tail_by false c cs zs e = (cc)
+solid_tail_by b c cs zs e = grind arith
 
 solid_tail : (c : ℕ) (cs : List ℕ) → drop_trailing_whitespace (c ∷ cs) ≡ c ∷ cs → drop_trailing_whitespace cs ≡ cs
 solid_tail c cs e = solid_tail_by _ c cs (drop_trailing_whitespace cs) e

@@ -1,7 +1,7 @@
 -- What the words of a map say of a number, by a search of its ranges.
-use Rattle.std.proofs.Common.{rules, [], ◌∷◌, ◌≡◌, inl, inr, ℕ, zero, suc, ◌+◌, ◌-◌, ◌/◌, ◌<◌, ◌≤◌, List, length}
-use Rattle.std.proofs.Common.{get_or, slice_index, AllPairs, All, Contains, Option, Some, None, slice_get, min, subst}
-use Rattle.std.proofs.Common.{refl, sym, ◌∙◌, arith}
+use Rattle.std.proofs.Common.{rules, [], ◌≡◌, inl, inr, ℕ, zero, suc, ◌+◌, ◌-◌, ◌/◌, ◌<◌, ◌≤◌, List, length, get_or}
+use Rattle.std.proofs.Common.{slice_index, AllPairs, All, Contains, Option, Some, None, slice_get, min, subst, refl}
+use Rattle.std.proofs.Common.{sym, ◌∙◌, arith}
 use Rattle.std.proofs.lemmas.Bool.{cases_lt}
 use Rattle.std.proofs.lemmas.List.Elements.{Contains-get_or}
 use Rattle.std.proofs.lemmas.Option.{same_Some, slice_get-get_or}
@@ -16,14 +16,13 @@ use Rattle.virtiofs_map.specs.Steps.{count_after, CountsBetween}
 use Rattle.virtiofs_map.specs.WordParts.{Table, IsAt, HasRanges, words_lent, table_in, Searches, SaysEntry}
 use Rattle.virtiofs_map.specs.declared.cmdline.IdMap.{IdMap}
 use Rattle.virtiofs_map.specs.declared.soft_idmap.entry.Direction.{Direction}
-use Rattle.virtiofs_map.specs.declared.soft_idmap.entry.Direction.TheVariants.{GuestToHost, HostToGuest}
 use Rattle.virtiofs_map.specs.declared.soft_idmap.entry.Entry.{Entry}
 use Rattle.virtiofs_map.specs.declared.soft_idmap.entry.Entry.TheVariants.{Fail}
 use Rattle.virtiofs_map.specs.declared.soft_idmap.row.Answer.{Answer}
-use Rattle.virtiofs_map.specs.declared.soft_idmap.row.Answer.TheVariants as answers
 use Rattle.virtiofs_map.proofs.MappingLawLemmas.{HasOneValue-accepted, LeadsBack-mapped}
 use Rattle.virtiofs_map.proofs.SearchLemmas.{Searched-start, Searched-right, Searched-left, Searched-finds}
 use Rattle.virtiofs_map.proofs.StoredLemmas.{Becomes-itself, Becomes-by_range}
+use Rattle.virtiofs_map.specs.declared.soft_idmap.row.Answer.TheVariants as answers
 
 -- any range, where a list has none
 no_range : Entry
@@ -33,8 +32,7 @@ no_range = Fail 0 0
 
 pub Searches-start : (table : Table) (n index end : ℕ) → index ≡ 0 → end ≡ table.count → 1 ≤ end
     → Searches table n index end
-Searches-start table n index end none whole some ranges are stand =
-    rw none (Searched-start ranges n end some (whole ∙ sym stand.counted))
+Searches-start table n index end none whole some ranges are stand = search (rules, Searched-start)
 
 searches_right : (table : Table) (n index end middle : ℕ)
     → Searches table n index end → end ≤ table.count → middle < end
@@ -85,10 +83,7 @@ Searches-turn table n index size half middle next searches within some halved is
 -- there is no range
 pub SaysIn-none : (specs : List IdMap) (direction : Direction) (table : Table) (n : ℕ)
     → HasRanges specs direction table → table.count ≡ 0 → SaysIn specs direction n (answers.Becomes n)
-SaysIn-none specs direction table n has none =
-    let uncovered : (range : Entry) → Contains has.ranges range → ¬ EntryCovers range n =
-    λ range (k, below, here) covers. omega (arith, below, has.stand.counted) in
-    (Some n, Becomes-itself specs direction has.ranges n has.stores uncovered, refl)
+SaysIn-none specs direction table n has none = search (rules, Becomes-itself)
 
 -- the range at an index decides, where no other one covers the number
 says_by : (specs : List IdMap) (direction : Direction) (table : Table) (n at : ℕ) (answer : Answer)
@@ -136,18 +131,7 @@ SaysIn-last specs direction table n index answer has searches inside says =
 -- ---- no specification
 
 no_ranges : (direction : Direction) (table : Table) → table.count ≡ 0 → HasRanges [] direction table
-no_ranges direction table none = record {
-  ranges = [];
-  stores =
-      record {
-        from = search rules;
-        each = λ spec range listed is some. absurd (let (k, below, at) = listed in omega arith);
-        counted = refl;
-      };
-  ordered =
-      record { numbers = search rules; target = search rules; ordered = λ i j d before below. absurd (omega arith) };
-  stand = record { counted = sym none; each = λ k range here. absurd (cc) };
-}
+no_ranges direction table none = search rules
 
 -- they are as many as specifications act
 pub HasRanges-count : (specs : List IdMap) (direction : Direction) (table : Table) → HasRanges specs direction table
@@ -155,8 +139,7 @@ pub HasRanges-count : (specs : List IdMap) (direction : Direction) (table : Tabl
 HasRanges-count specs direction table has = sym has.stand.counted ∙ has.stores.counted
 
 no_count : (direction : Direction) → (table_in (words_lent []) direction).count ≡ 0
-no_count GuestToHost = refl
-no_count HostToGuest = refl
+no_count direction = grind arith
 
 -- what a map without specifications lends
 pub IsImage-empty : IsImage [] (words_lent [])
@@ -175,8 +158,7 @@ IsImage-empty = record {
 
 -- a map that has words lends those
 pub IsImage-lent : (specs : List IdMap) (words : List ℕ) → IsImage specs words → IsImage specs (words_lent words)
-IsImage-lent specs [] image = absurd (omega (arith, image.room))
-IsImage-lent specs (first ∷ rest) image = image
+IsImage-lent specs words image = grind arith
 
 -- ---- how many ranges there are
 
@@ -187,19 +169,16 @@ digits_of_one = refl
 -- no range is read where there is none, and one where there is one
 pub CountsBetween-none : (count before after : ℕ) → count ≡ 0 → after ≡ count_after before 0
     → CountsBetween (min 1 count) (binary_digits count) before after
-CountsBetween-none count before after none counted =
-    record { steps = 0; at_least = omega arith; at_most = omega arith; counted = counted }
+CountsBetween-none count before after none counted = search rules
 
 pub CountsBetween-one : (count before after : ℕ) → count ≡ 1 → after ≡ count_after before 1
     → CountsBetween 1 (binary_digits count) before after
-CountsBetween-one count before after one counted =
-    record { steps = 1; at_least = omega arith; at_most = rw (one, digits_of_one) (omega arith); counted = counted }
+CountsBetween-one count before after one counted = search (rules, digits_of_one)
 
 -- one range or more
 pub CountsBetween-some : (count most before after : ℕ) → 1 ≤ count → CountsBetween 1 most before after
     → CountsBetween (min 1 count) most before after
-CountsBetween-some count most before after some counts =
-    let least : min 1 count ≡ 1 = omega arith in rw least counts
+CountsBetween-some count most before after some counts = search rules
 
 -- a range begins at its index or above it
 begins_above : (ranges : List Entry) (d : Entry) (k : ℕ) → All HasNumbers ranges → AllPairs Precedes ranges

@@ -1,14 +1,13 @@
 -- The array is read one specification after the other; it says one list at most, and has one fault at most.
-use Rattle.std.proofs.Common.{◌≡◌, ℕ, ◌+◌, ◌<◌, List, [], ◌∷◌, ◌++◌, length, take, get_or, Option, Some, None}
-use Rattle.std.proofs.Common.{IsSomeAnd, sym, ap, subst}
+use Rattle.std.proofs.Common.{◌≡◌, ℕ, ◌+◌, ◌<◌, List, [], ◌∷◌, ◌++◌, length, take, get_or, Option, Some, None, sym}
+use Rattle.std.proofs.Common.{arith, rules}
 use Rattle.std.proofs.lemmas.Option.{slice_get-get_or}
 use Rattle.std.proofs.lemmas.Slice.Zip.{AllZip-long}
 use Rattle.virtiofs_map.specs.Build.{BuildFault, HasFirstFault}
 use Rattle.virtiofs_map.specs.Refusal.{OutOfMemoryOr}
 use Rattle.virtiofs_map.specs.declared.cmdline.IdMap.{IdMap as Specification}
 use Rattle.virtiofs_map.proofs.ForCallers.{AllZip-push, AllZip-one, build_no_fault, build_one_fault}
-use Rattle.virtiofs_map_c.specs.Arrays.{said, AreSaid, HasFirstUnknown, ArrayFault, HasArrayFault, UnknownKind}
-use Rattle.virtiofs_map_c.specs.Arrays.{UnbuiltArray}
+use Rattle.virtiofs_map_c.specs.Arrays.{said, AreSaid, HasFirstUnknown, ArrayFault, HasArrayFault, UnbuiltArray}
 use Rattle.virtiofs_map_c.specs.Makes.{TellsFault, MakesOrTells, TellsThis, IsArrayTold, IsAccepted}
 use Rattle.virtiofs_map_c.specs.declared.fault.Fault.{Fault}
 use Rattle.virtiofs_map_c.proofs.MakesLemmas.{refused_complete, refused_faulty}
@@ -33,19 +32,13 @@ AreSaid-long specs list are = AllZip-long (λ spec said_one. said spec ≡ Some 
 -- one whose kind is none, after those that are read
 pub unknown-here : (specs : List Spec) (list : List Specification) (i : ℕ) (d : Spec)
     → i < length specs → AreSaid (take i specs) list → None ≡ said (get_or specs i d) → HasFirstUnknown specs i
-unknown-here specs list i d below are here = record {
-  before = list;
-  are = are;
-  here = subst (λ (spec : Option Spec). IsSomeAnd spec (λ one. said one ≡ None))
-      (sym (slice_get-get_or specs i d below)) (sym here);
-}
+unknown-here specs list i d below are here = search (rules, slice_get-get_or)
 
 -- an array whose list is not accepted
 pub refused-build : (specs : List Spec) (list : List Specification) (told : Option BuildFault)
     → AreSaid specs list → OutOfMemoryOr told (HasFirstFault list)
     → OutOfMemoryOr (option_map UnbuiltArray told) (HasArrayFault specs)
-refused-build specs list None are refused = tt
-refused-build specs list (Some fault) are refused = record { list = list; are = are; first = refused }
+refused-build specs list told are refused = grind arith
 
 abbrev Goes : Spec → Specification → Type 0
 Goes spec one = said spec ≡ Some one
@@ -65,36 +58,20 @@ AreSaid-one = AllZip-one Goes same_said
 
 -- an array that says an accepted list has no fault
 pub IsAccepted-no_fault : (specs : List Spec) → IsAccepted specs → (fault : ArrayFault) → ¬ HasArrayFault specs fault
-IsAccepted-no_fault specs is (UnknownKind i) wrong = none_bad Goes IsUnknown never specs is.list i is.are wrong.here
-IsAccepted-no_fault specs is (UnbuiltArray fault) wrong =
-    build_no_fault is.list fault is.accepted
-    (subst (λ (list : List Specification). HasFirstFault list fault)
-    (AreSaid-one specs wrong.list is.list wrong.are is.are) wrong.first)
+IsAccepted-no_fault specs is fault wrong = grind (arith, none_bad, never, build_no_fault, AreSaid-one)
 
 -- an array has at most one fault
 pub HasArrayFault-one : (specs : List Spec) (fault other : ArrayFault) → HasArrayFault specs fault
     → HasArrayFault specs other → fault ≡ other
-HasArrayFault-one specs (UnknownKind i) (UnknownKind j) first second =
-    ap UnknownKind
-    (one_place Goes IsUnknown IsUnknown never never specs first.before second.before i j first.are first.here
-    second.are second.here)
-HasArrayFault-one specs (UnknownKind i) (UnbuiltArray other) first second =
-    absurd (none_bad Goes IsUnknown never specs second.list i second.are first.here)
-HasArrayFault-one specs (UnbuiltArray fault) (UnknownKind j) first second =
-    absurd (none_bad Goes IsUnknown never specs first.list j first.are second.here)
-HasArrayFault-one specs (UnbuiltArray fault) (UnbuiltArray other) first second =
-    ap UnbuiltArray
-    (build_one_fault second.list fault other
-    (subst (λ (list : List Specification). HasFirstFault list fault)
-    (AreSaid-one specs first.list second.list first.are second.are) first.first) second.first)
+HasArrayFault-one specs fault other first second =
+    grind (arith, one_place, never, none_bad, build_one_fault, AreSaid-one)
 
 -- ---- what a call tells of an array
 
 pub array_complete : (specs : List Spec) (made : Type 0) (code : ℕ) (told : Fault)
     → TellsFault (HasArrayFault specs) (IsArrayTold code told) → IsAccepted specs
     → MakesOrTells made (IsArrayTold code told)
-array_complete specs made code told tells is =
-    refused_complete made (HasArrayFault specs) (IsArrayTold code told) tells (IsAccepted-no_fault specs is)
+array_complete specs made code told tells is = search (rules, refused_complete, IsAccepted-no_fault)
 
 pub array_faulty : (specs : List Spec) (code : ℕ) (told : Fault)
     → TellsFault (HasArrayFault specs) (IsArrayTold code told) → (wrong : ArrayFault) → HasArrayFault specs wrong

@@ -1,5 +1,5 @@
 -- Of a list the first element that goes with none is one element.
-use Rattle.std.proofs.Common.{◌≡◌, inl, inr, ℕ, ◌<◌, zero, suc, List, [], ◌∷◌, take, slice_get, IsSomeAnd, arith}
+use Rattle.std.proofs.Common.{◌≡◌, ℕ, ◌<◌, zero, suc, List, [], ◌∷◌, take, slice_get, IsSomeAnd, arith, rules}
 use Rattle.std.specs.List.{AllZip}
 use Rattle.std.proofs.lemmas.Bool.{cases_order}
 
@@ -26,9 +26,4 @@ pub one_place : {X Y : Type 0} (R : X → Y → Type 0) (Bad Worse : X → Type 
     → (xs : List X) (ys zs : List Y) (i j : ℕ)
     → AllZip R (take i xs) ys → IsSomeAnd (slice_get xs i) Bad → AllZip R (take j xs) zs
     → IsSomeAnd (slice_get xs j) Worse → i ≡ j
-one_place R Bad Worse never nor xs ys zs i j first bad second worse =
-    elim (cases_order i j) [
-      | inl same ↦ same
-      | inr (inl before) ↦ absurd (none_earlier R Bad never xs zs i j before second bad)
-      | inr (inr later) ↦ absurd (none_earlier R Worse nor xs ys j i later first worse)
-    ]
+one_place R Bad Worse never nor xs ys zs i j first bad second worse = search (rules, cases_order, none_earlier)

@@ -1,7 +1,7 @@
 -- What is written byte by byte, as far as there is room, is one text.
 use Rattle.std.proofs.Common.{◌≡◌, ◌+◌, ◌<◌, ◌≤◌, ◌∙◌, ℕ, suc, min, List, [], ◌∷◌, ◌++◌, length, take, drop, set, refl}
 use Rattle.std.proofs.Common.{sym, ap, arith, append_assoc, append-nil, take_all, take_at, drop_at, drop-drop}
-use Rattle.std.proofs.Common.{drop_of_length-le, length-set}
+use Rattle.std.proofs.Common.{drop_of_length-le, length-set, rules}
 use Rattle.std.proofs.lemmas.List.{take-append-le, set_split, length_push}
 use Rattle.virtiofs_map_c.specs.Codes.{ok, no_room}
 use Rattle.virtiofs_map_c.specs.Front.{IsFront, cut_text}
@@ -52,31 +52,13 @@ module _ (first : List ℕ) (len after byte : ℕ) (old : List ℕ) (is : IsFron
       ∙ ap (λ (s : List ℕ). is.text ++ byte ∷ s) behind
       ∙ sym (append_assoc is.text (byte ∷ []) (drop (suc len) first)) in
       let longer : length (is.text ++ byte ∷ []) ≡ suc len = omega (arith, length_push is.text byte, long) in
-      record {
-        text = is.text ++ byte ∷ [];
-        length_told = omega (arith, more, is.length_told, length_push is.text byte);
-        same = length-set old len byte ∙ is.same;
-        fits = λ _. now ∙ ap (λ (n : ℕ). (is.text ++ byte ∷ []) ++ drop n first) (sym longer);
-        does_not_fit = λ full. now
-            ∙ ap (λ (s : List ℕ). (is.text ++ byte ∷ []) ++ s)
-            (drop_of_length-le first {i = suc len} (omega (arith, full, longer)))
-            ∙ append-nil (is.text ++ byte ∷ [])
-            ∙ sym (take_all (length first) (is.text ++ byte ∷ []) (omega (arith, longer, room, is.same)));
-      }
+      search (rules, length_push, length-set, drop_of_length-le, append-nil, take_all)
 
 module _ (old new : List ℕ) (len : ℕ) (is : IsFront old len new) where
   -- a text is told, with the code that says whether there is room for it, in a buffer as long as any may be
   pub front-told : length new < 18446744073709551615 → len ≤ length new → TellsFront is.text old ok len new
-  front-told small room = record {
-    length_told = is.length_told;
-    fits = λ within. (refl, is.fits within);
-    does_not_fit = λ less. absurd (omega (arith, less, small, room, is.length_told, is.same));
-  }
+  front-told small room = search rules
 
   -- the same where there is none for all of it, once it is cut
   pub front-cut : length new < len → TellsFront is.text old no_room len (cut_text new)
-  front-cut short = record {
-    length_told = is.length_told;
-    fits = λ within. absurd (omega (arith, within, short, is.length_told, is.same));
-    does_not_fit = λ less. (refl, ap cut_text (is.does_not_fit (omega (arith, less))));
-  }
+  front-cut short = search rules

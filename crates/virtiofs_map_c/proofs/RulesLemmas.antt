@@ -1,5 +1,5 @@
 -- A text of rules in bytes says one list of rules at most, and has one fault at most.
-use Rattle.std.proofs.Common.{◌≡◌, ℕ, List, refl, ap}
+use Rattle.std.proofs.Common.{◌≡◌, ℕ, List, arith}
 use Rattle.std.specs.Str.{chars}
 use Rattle.virtiofs_map.proofs.ForCallers.{rules_no_fault, rules_one_fault}
 use Rattle.virtiofs_map.specs.Rule.{MappingRule}
@@ -15,11 +15,7 @@ BytesSayRules-no_fault bytes rules (OfRules fault) says wrong = rules_no_fault (
 
 HasBytesFault-one : (bytes : List ℕ) (fault other : BytesFault) → HasBytesFault bytes fault → HasBytesFault bytes other
     → fault ≡ other
-HasBytesFault-one bytes NotUtf8 NotUtf8 first second = refl
-HasBytesFault-one bytes NotUtf8 (OfRules other) first second = absurd (first second.0)
-HasBytesFault-one bytes (OfRules fault) NotUtf8 first second = absurd (second first.0)
-HasBytesFault-one bytes (OfRules fault) (OfRules other) first second =
-    ap OfRules (rules_one_fault (chars bytes) fault other first.1 second.1)
+HasBytesFault-one bytes fault other first second = grind (arith, rules_one_fault)
 
 pub rules_complete : (bytes : List ℕ) (made : Type 0) (code : ℕ) (told : Fault) (old new : List ℕ)
     → TellsFault (HasBytesFault bytes) (IsBytesTold code told old new) → (rules : List MappingRule)

@@ -1,6 +1,6 @@
 -- The list that a daemon hands on, name by name.
-use Rattle.std.proofs.Common.{◌≡◌, ℕ, ◌+◌, ◌<◌, ◌≤◌, Bool, true, false, ◌&&◌, if◌then◌else◌, List, [], ◌∷◌, ◌++◌, length}
-use Rattle.std.proofs.Common.{drop, Some, None, inl, inr, refl, sym, ap, ◌∙◌, arith, append-nil, length-append}
+use Rattle.std.proofs.Common.{◌≡◌, ℕ, ◌+◌, ◌<◌, ◌≤◌, Bool, true, false, ◌&&◌, if◌then◌else◌, List, [], ◌∷◌, ◌++◌}
+use Rattle.std.proofs.Common.{length, drop, Some, None, inl, inr, refl, sym, ap, ◌∙◌, arith, append-nil, length-append}
 use Rattle.std.specs.List.{list_all, flat_map}
 use Rattle.std.specs.Borrow.{Bor}
 use Rattle.std.proofs.lemmas.Bool.Decides.{nat_tests}
@@ -53,25 +53,11 @@ told_is answer (seen.Name shown) is = is
 
 decided_step : (rules : List MappingRule) (list rest : List ℕ) (shown : Shown) → IsFirstShown rules list shown rest
     → all_decided rules list ≡ is_decided (told shown) && all_decided rules rest
-decided_step rules list rest shown (inl none) =
-    ap (list_all (has_rule rules)) none.0
-    ∙ ap (λ s. is_decided (told s) && all_decided rules rest) (sym none.1)
-decided_step rules list rest shown (inr one) =
-    ap (list_all (has_rule rules)) one.1
-    ∙ ap (λ answer. is_decided answer && all_decided rules rest) (told_is (shown_as rules one.0) shown one.2)
+decided_step rules list rest shown e = grind (arith, told_is)
 
 parts_step : (rules : List MappingRule) (list rest : List ℕ) (shown : Shown) → IsFirstShown rules list shown rest
     → all_parts rules list ≡ part_of (told shown) ++ all_parts rules rest
-parts_step rules list rest shown (inl none) =
-    ap (flat_map (λ name. part_of (shown_as rules name))) none.0
-    ∙ ap (λ s. part_of (told s) ++ all_parts rules rest) (sym none.1)
-parts_step rules list rest shown (inr one) =
-    ap (flat_map (λ name. part_of (shown_as rules name))) one.1
-    ∙ ap (λ answer. part_of answer ++ all_parts rules rest) (told_is (shown_as rules one.0) shown one.2)
-
-pub no_map_unseen : (rules : List MappingRule) (list rest : List ℕ) → ¬ IsFirstShown rules list seen.NoMap rest
-no_map_unseen rules list rest (inl none) = absurd (cc)
-no_map_unseen rules list rest (inr one) = one.2
+parts_step rules list rest shown e = grind (arith, told_is)
 
 -- ---- a list that is written name by name
 
@@ -83,26 +69,8 @@ pub record IsSoFar (rules : List MappingRule) (list rest : List ℕ) (count : �
   pub decided : all_decided rules rest ≡ all_decided rules list
   pub parts : so_far ++ all_parts rules rest ≡ all_parts rules list
 
-pub at_first : (rules : List MappingRule) (list old : List ℕ) → IsSoFar rules list list 0 old old
-at_first rules list old = record {
-  so_far = [];
-  counted = refl;
-  holds = record { same = refl; are = λ _. refl };
-  decided = refl;
-  parts = refl;
-}
-
 module _ (rules : List MappingRule) (list rest left : List ℕ) (count : ℕ) (old new : List ℕ)
     (so_far : IsSoFar rules list rest count old new) where
-  pub then_hidden : IsFirstShown rules rest seen.Hidden left → IsSoFar rules list left count old new
-  then_hidden first = record {
-    so_far = so_far.so_far;
-    counted = so_far.counted;
-    holds = so_far.holds;
-    decided = sym (decided_step rules rest left seen.Hidden first) ∙ so_far.decided;
-    parts = ap (λ parts. so_far.so_far ++ parts) (sym (parts_step rules rest left seen.Hidden first)) ∙ so_far.parts;
-  }
-
   pub then_named : (name : Bor (List ℕ)) (next : ℕ) (after : List ℕ) → IsFirstShown rules rest (seen.Name name) left
       → next ≡ count + length name.now + 1
       → ((written first : List ℕ) → Holds written first new → count ≡ length written
@@ -125,12 +93,6 @@ module _ (rules : List MappingRule) (list rest left : List ℕ) (count : ℕ) (o
         rejoined front name rest =
             ap (λ s. s ++ rest) (append_assoc front name (0 ∷ []))
             ∙ append_assoc front (name ++ 0 ∷ []) rest
-
-  pub then_undecided : IsFirstShown rules rest seen.Undecided left → shown_list rules list ≡ None
-  then_undecided first =
-      let none : all_decided rules list ≡ false =
-      sym so_far.decided ∙ decided_step rules rest left seen.Undecided first in
-      ap (λ b. if b then Some (all_parts rules list) else None) none
 
 -- ---- the end
 

@@ -1,6 +1,6 @@
 -- Texts are read one after the other; they say one list at most, and have one fault at most.
 use Rattle.std.proofs.Common.{◌≡◌, ℕ, ◌+◌, ◌<◌, List, [], ◌∷◌, ◌++◌, length, take, get_or, slice_get, Option, Some}
-use Rattle.std.proofs.Common.{None, IsSomeAnd, Bor, refl, sym, ap, subst}
+use Rattle.std.proofs.Common.{None, IsSomeAnd, Bor, arith, rules}
 use Rattle.std.proofs.lemmas.List.{take_more}
 use Rattle.std.proofs.lemmas.Option.{slice_get-get_or}
 use Rattle.std.proofs.lemmas.Slice.Zip.{AllZip-long}
@@ -32,11 +32,7 @@ SaysSpec-no_fault bytes spec (OfText fault) says wrong = specification_no_fault 
 
 pub HasTextFault-one : (bytes : List ℕ) (fault other : TextFault) → HasTextFault bytes fault → HasTextFault bytes other
     → fault ≡ other
-HasTextFault-one bytes NotUtf8 NotUtf8 first second = refl
-HasTextFault-one bytes NotUtf8 (OfText other) first second = absurd (first second.0)
-HasTextFault-one bytes (OfText fault) NotUtf8 first second = absurd (second first.0)
-HasTextFault-one bytes (OfText fault) (OfText other) first second =
-    ap OfText (specification_one_fault (chars bytes) fault other first.1 second.1)
+HasTextFault-one bytes fault other first second = grind (arith, specification_one_fault)
 
 -- ---- an array of texts
 
@@ -72,34 +68,24 @@ pub unread-here : (texts : List (Bor (List ℕ))) (list : List Specification) (i
     → i < length texts → AllSaySpecs (take i texts) list → OutOfMemoryOr told (HasTextFault (get_or texts i d).now)
     → OutOfMemoryOr (option_map (UnreadText i) told) (HasTextsFault texts)
 unread-here texts list i d None below say wrong = tt
-unread-here texts list i d (Some fault) below say wrong = record {
-  before = list;
-  say = say;
-  here = subst (λ (text : Option (Bor (List ℕ))). IsSomeAnd text (Has fault)) (sym (slice_get-get_or texts i d below))
-      wrong;
-}
+unread-here texts list i d (Some fault) below say wrong = search (rules, slice_get-get_or)
 
 -- texts that say a list of which no map is made
 pub refused-build : (texts : List (Bor (List ℕ))) (list : List Specification) (told : Option BuildFault)
     → AllSaySpecs texts list → OutOfMemoryOr told (HasFirstFault list)
     → OutOfMemoryOr (option_map UnbuiltTexts told) (HasTextsFault texts)
-refused-build texts list None say refused = tt
-refused-build texts list (Some fault) say refused = record { list = list; say = say; first = refused }
+refused-build texts list told say refused = grind arith
 
 -- texts that say an accepted list have no fault
 pub AreAccepted-no_fault : (texts : List (Bor (List ℕ))) → AreAccepted texts → (fault : TextsFault)
     → ¬ HasTextsFault texts fault
 AreAccepted-no_fault texts are (UnreadText i fault) wrong =
     none_bad Goes (Has fault) (never fault) texts are.list i are.say wrong.here
-AreAccepted-no_fault texts are (UnbuiltTexts fault) wrong =
-    build_no_fault are.list fault are.accepted
-    (subst (λ (list : List Specification). HasFirstFault list fault)
-    (AllSaySpecs-one texts wrong.list are.list wrong.say are.say) wrong.first)
+AreAccepted-no_fault texts are (UnbuiltTexts fault) wrong = search (rules, build_no_fault, AllSaySpecs-one)
 
 one_here : (text : Option (Bor (List ℕ))) (fault other : TextFault) → IsSomeAnd text (Has fault)
     → IsSomeAnd text (Has other) → fault ≡ other
-one_here None fault other first second = absurd first
-one_here (Some text) fault other first second = HasTextFault-one text.now fault other first second
+one_here text fault other first second = grind (arith, HasTextFault-one)
 
 one_unread : (texts : List (Bor (List ℕ))) (i j : ℕ) (fault other : TextFault) → HasUnreadText texts i fault
     → HasUnreadText texts j other → UnreadText i fault ≡ UnreadText j other
@@ -120,19 +106,14 @@ HasTextsFault-one texts (UnreadText i fault) (UnbuiltTexts other) first second =
     absurd (none_bad Goes (Has fault) (never fault) texts second.list i second.say first.here)
 HasTextsFault-one texts (UnbuiltTexts fault) (UnreadText j other) first second =
     absurd (none_bad Goes (Has other) (never other) texts first.list j first.say second.here)
-HasTextsFault-one texts (UnbuiltTexts fault) (UnbuiltTexts other) first second =
-    ap UnbuiltTexts
-    (build_one_fault second.list fault other
-    (subst (λ (list : List Specification). HasFirstFault list fault)
-    (AllSaySpecs-one texts first.list second.list first.say second.say) first.first) second.first)
+HasTextsFault-one texts (UnbuiltTexts fault) (UnbuiltTexts other) first second = search (rules, build_one_fault, AllSaySpecs-one)
 
 -- ---- what a call tells of texts
 
 pub texts_complete : (texts : List (Bor (List ℕ))) (made : Type 0) (code : ℕ) (told : Fault) (old new : List ℕ)
     → TellsFault (HasTextsFault texts) (AreTextsTold code told old new) → AreAccepted texts
     → MakesOrTells made (AreTextsTold code told old new)
-texts_complete texts made code told old new tells are =
-    refused_complete made (HasTextsFault texts) (AreTextsTold code told old new) tells (AreAccepted-no_fault texts are)
+texts_complete texts made code told old new tells are = search (rules, refused_complete, AreAccepted-no_fault)
 
 pub texts_faulty : (texts : List (Bor (List ℕ))) (code : ℕ) (told : Fault) (old new : List ℕ)
     → TellsFault (HasTextsFault texts) (AreTextsTold code told old new) → (wrong : TextsFault)

@@ -1,25 +1,21 @@
 -- What is told of a value is what the library answers of it.
-use Rattle.std.proofs.Common.{◌≡◌, ◌≢◌, ◌⊎◌, inl, inr, ℕ, List, Some, Result, Ok, Err, refl, subst, arith}
+use Rattle.std.proofs.Common.{◌≡◌, ◌≢◌, ◌⊎◌, inl, inr, ℕ, List, Result, Ok, Err, refl, arith, rules}
 use Rattle.std.specs.Prelude.{IfErr, OnErr}
 use Rattle.std.proofs.lemmas.Bool.{false≢true}
-use Rattle.virtiofs_acl.specs.ValueChanges.{ChangesList, ChangesRoot, WritesRevision3}
+use Rattle.virtiofs_acl.specs.ValueChanges.{ChangesList, ChangesRoot}
 use Rattle.virtiofs_acl.specs.declared.errors.AclError.{AclError}
-use Rattle.virtiofs_acl.specs.declared.errors.AclError.TheVariants as lists
 use Rattle.virtiofs_acl.specs.declared.errors.CapabilityError.{CapabilityError}
-use Rattle.virtiofs_acl.specs.declared.errors.CapabilityError.TheVariants as capabilities
-use Rattle.virtiofs_acl.specs.declared.errors.EntryFault.TheVariants.{UnknownTag, Permission, NoId, Forbidden}
-use Rattle.virtiofs_acl.specs.declared.errors.EntryFault.TheVariants.{Merges}
+use Rattle.virtiofs_acl.specs.declared.errors.EntryFault.TheVariants.{UnknownTag, Permission, NoId, Forbidden, Merges}
 use Rattle.virtiofs_map.specs.declared.cmdline.IdMap.{IdMap as Specification}
 use Rattle.virtiofs_map.specs.declared.soft_idmap.entry.Direction.{Direction}
 use Rattle.virtiofs_map_c.specs.Codes.{ok, no_map}
 use Rattle.virtiofs_map_c.specs.Faults.{no_fault}
 use Rattle.virtiofs_map_c.specs.Values.{acl_code, capability_code, IsAclTold, IsCapabilityTold, IsAnswerTold}
-use Rattle.virtiofs_map_c.specs.Values.{ChangesAcl, ChangesCapability, WritesCapability, IsAclCode, IsRootCode}
-use Rattle.virtiofs_map_c.specs.Values.{IsCapabilityCode, AreIds}
-use Rattle.virtiofs_acl.specs.Acl.{IdsBecome, GoesAcross, id_of}
-use Rattle.virtiofs_acl.specs.Capability.{HasRoot, RootBecomes, root_of}
-use Rattle.virtiofs_map.specs.Mapping.{Becomes}
+use Rattle.virtiofs_map_c.specs.Values.{ChangesAcl, ChangesCapability, IsAclCode, IsRootCode, IsCapabilityCode, AreIds}
+use Rattle.virtiofs_acl.specs.Acl.{IdsBecome, GoesAcross}
 use Rattle.virtiofs_map_c.specs.declared.fault.Fault.{Fault}
+use Rattle.virtiofs_acl.specs.declared.errors.AclError.TheVariants as lists
+use Rattle.virtiofs_acl.specs.declared.errors.CapabilityError.TheVariants as capabilities
 
 -- ---- whatever the maps are
 
@@ -27,8 +23,7 @@ use Rattle.virtiofs_map_c.specs.declared.fault.Fault.{Fault}
 pub told_unchanged : {E : Type 0} (is_told : ℕ → Fault → E → Type 0) (answer : Result (Unit {0}) E) (code : ℕ)
     (told : Fault) (old new : List ℕ) → IsAnswerTold is_told answer code told → OnErr answer (new ≡ old) → code ≢ ok
     → new ≡ old
-told_unchanged is_told (Ok done) code told old new is same failed = absurd (failed is.0)
-told_unchanged is_told (Err error) code told old new is same failed = same
+told_unchanged is_told answer code told old new is same failed = grind arith
 
 -- an error has a code of its own
 abbrev pub FailsOtherwise : {E : Type 0} → (ℕ → Fault → E → Type 0) → Type 0
@@ -38,9 +33,7 @@ FailsOtherwise {E} is_told = (code : ℕ) (told : Fault) (error : E) → is_told
 pub told_no_fault : {E : Type 0} (is_told : ℕ → Fault → E → Type 0) (answer : Result (Unit {0}) E) (code : ℕ)
     (told : Fault) → FailsOtherwise is_told → IsAnswerTold is_told answer code told → (code ≡ ok) ⊎ (code ≡ no_map)
     → told ≡ no_fault
-told_no_fault is_told (Ok done) code told fails is without = is.1
-told_no_fault is_told (Err error) code told fails is (inl done) = absurd ((fails code told error is).0 done)
-told_no_fault is_told (Err error) code told fails is (inr none) = absurd ((fails code told error is).1 none)
+told_no_fault is_told answer code told fails is without = grind arith
 
 -- ---- the codes of errors
 
@@ -82,36 +75,23 @@ capability_fails_otherwise code told error is =
 
 pub tells_acl_code : (room : ℕ) (answer : Result (Unit {0}) AclError) (code : ℕ) (told : Fault)
     → IsAnswerTold (IsAclTold room) answer code told → IsAclCode code
-tells_acl_code room (Ok done) code told is = inl is.0
-tells_acl_code room (Err error) code told is = rw is.code_told (acl_error_code error).0
+tells_acl_code room answer code told is = grind (arith, acl_error_code)
 
 pub tells_capability_code : (answer : Result (Unit {0}) CapabilityError) (code : ℕ) (told : Fault)
     → IsAnswerTold IsCapabilityTold answer code told → IsCapabilityCode code
-tells_capability_code (Ok done) code told is = inl (inl is.0)
-tells_capability_code (Err error) code told is = rw is.code_told (capability_error_code error).0
+tells_capability_code answer code told is = grind (arith, capability_error_code)
 
 pub tells_root_code : (answer : Result (Unit {0}) CapabilityError) (code : ℕ) (told : Fault)
     → IsAnswerTold IsCapabilityTold answer code told → IfErr answer (λ e. e ≢ capabilities.RootMoves)
     → IsRootCode code
-tells_root_code (Ok done) code told is stays = inl is.0
-tells_root_code (Err error) code told is stays = rw is.code_told (root_error_code error stays)
+tells_root_code answer code told is stays = grind (arith, root_error_code)
 
 -- ---- where the maps are images
 
 ids_written : (users groups : List Specification) (direction : Direction) (room : ℕ) (old new : List ℕ)
     → IdsBecome 2 users direction old new → IdsBecome 8 groups direction old new
     → GoesAcross users groups direction room old → AreIds old new
-ids_written users groups direction room old new user_ids group_ids goes k below (inl user) greatest =
-    (goes.all_sound.sound k below).to_id (inl user)
-    (rw user (subst (λ (n : ℕ). Becomes users direction (id_of old k) (Some n)) greatest (user_ids k below user)))
-ids_written users groups direction room old new user_ids group_ids goes k below (inr group) greatest =
-    (goes.all_sound.sound k below).to_id (inr group)
-    (rw group (subst (λ (n : ℕ). Becomes groups direction (id_of old k) (Some n)) greatest (group_ids k below group)))
-
-root_written : (users : List Specification) (direction : Direction) (old new : List ℕ)
-    → RootBecomes users direction old new → HasRoot users direction old → root_of new ≢ 4294967295
-root_written users direction old new root has greatest =
-    has.to_id (subst (λ (n : ℕ). Becomes users direction (root_of old) (Some n)) greatest root)
+ids_written users groups direction room old new user_ids group_ids goes k below e greatest = grind arith
 
 pub tells_acl : (users groups : List Specification) (direction : Direction) (room : ℕ) (old new : List ℕ)
     (answer : Result (Unit {0}) AclError) (code : ℕ) (told : Fault)
@@ -127,66 +107,11 @@ tells_acl users groups direction room old new (Ok done) code told is change = re
   faulty = λ error has. absurd (change.faulty error has);
   leads_back = λ _. change.leads_back;
 }
-tells_acl users groups direction room old new (Err error) code told is change =
-    let failed : code ≢ ok = rw is.code_told (acl_error_code error).1 in
-    record {
-      done = λ answered. absurd (failed answered);
-      ids = λ answered. absurd (failed answered);
-      accepted = λ answered. absurd (failed answered);
-      complete = λ goes. absurd (false≢true (change.complete goes));
-      refused = λ _. (error, change.refused, is);
-      faulty = λ other has. subst (λ (e : AclError). IsAclTold room code told e) (change.faulty other has) is;
-      leads_back = λ answered. absurd (failed answered);
-    }
+tells_acl users groups direction room old new (Err error) code told is change = search (rules, acl_error_code, false≢true)
 
 pub tells_capability : (users : List Specification) (direction : Direction) (old new : List ℕ)
     (answer : Result (Unit {0}) CapabilityError) (code : ℕ) (told : Fault)
     → IsAnswerTold IsCapabilityTold answer code told → ChangesRoot users direction old new answer
     → ChangesCapability users direction old new code told
-tells_capability users direction old new (Ok done) code told is change = record {
-  root = λ _. change.root;
-  id = λ _. root_written users direction old new change.root change.accepted.has_root;
-  front = λ _. change.front;
-  accepted = λ _. change.accepted;
-  complete = λ _. is.0;
-  refused = λ failed. absurd (failed is.0);
-  faulty = λ error has. absurd (change.faulty error has);
-  leads_back = λ _. change.leads_back;
-}
-tells_capability users direction old new (Err error) code told is change =
-    let failed : code ≢ ok = rw is.code_told (capability_error_code error).1 in
-    record {
-      root = λ answered. absurd (failed answered);
-      id = λ answered. absurd (failed answered);
-      front = λ answered. absurd (failed answered);
-      accepted = λ answered. absurd (failed answered);
-      complete = λ goes. absurd (false≢true (change.complete goes));
-      refused = λ _. (error, change.refused, is);
-      faulty = λ other has. subst (λ (e : CapabilityError). IsCapabilityTold code told e) (change.faulty other has) is;
-      leads_back = λ answered. absurd (failed answered);
-    }
-
-pub tells_written : (users : List Specification) (direction : Direction) (value written : List ℕ)
-    (answer : Result (Unit {0}) CapabilityError) (code : ℕ) (told : Fault)
-    → IsAnswerTold IsCapabilityTold answer code told → WritesRevision3 users direction value written answer
-    → WritesCapability users direction value written code told
-tells_written users direction value written (Ok done) code told is change = record {
-  root = λ _. change.root;
-  id = λ _. root_written users direction value written change.root change.accepted;
-  same = λ _. change.same;
-  accepted = λ _. change.accepted;
-  complete = λ _. is.0;
-  refused = λ failed. absurd (failed is.0);
-  faulty = λ error has. absurd (change.faulty error has);
-}
-tells_written users direction value written (Err error) code told is change =
-    let failed : code ≢ ok = rw is.code_told (capability_error_code error).1 in
-    record {
-      root = λ answered. absurd (failed answered);
-      id = λ answered. absurd (failed answered);
-      same = λ answered. absurd (failed answered);
-      accepted = λ answered. absurd (failed answered);
-      complete = λ has. absurd (false≢true (change.complete has));
-      refused = λ _. (error, change.refused, is);
-      faulty = λ other has. subst (λ (e : CapabilityError). IsCapabilityTold code told e) (change.faulty other has) is;
-    }
+tells_capability users direction old new (Ok done) code told is change = search rules
+tells_capability users direction old new (Err error) code told is change = search (rules, capability_error_code, false≢true)

@@ -38,13 +38,14 @@ fn le_u64_at(bytes: &[u8], from: usize) -> u64
 }
 
 /// Whether there are as many bytes as they say.
-// (that there are as many as the shortest map has is tested anyway)
+// (that there are as many as the shortest map has is tested anyway; with the length before the number, the compiler
+// takes the end from the length, which is one instruction less)
 #[inline(always)]
 pub fn are_all(bytes: &[u8]) -> bool
     ensures yes { IsTrue result → AreAllBytes bytes.now }
     ensures all { 72 ≤ length bytes.now → AreAllBytes bytes.now → IsTrue result }
 {
-    bytes.len() >= 72 && le_u64_at(bytes, 40) == bytes.len() as u64 - 8
+    bytes.len() >= 72 && bytes.len() as u64 - 8 == le_u64_at(bytes, 40)
 }
 
 /// The bytes, where they are as many as they say, and else none: then no call takes them for a map.

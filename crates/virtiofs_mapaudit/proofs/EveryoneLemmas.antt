@@ -1,14 +1,11 @@
 -- All guests of an audit.
-use Rattle.std.proofs.Common.{◌≡◌, ◌∙◌, ap, ℕ, ◌+◌, ◌<◌, List, [], ◌∷◌, ◌++◌, get_or, length, refl, subst, sym, take, arith, Some}
-use Rattle.std.proofs.lemmas.Option.{slice_get-get_or}
+use Rattle.std.proofs.Common.{◌≡◌, ℕ, ◌+◌, List, [], ◌∷◌, ◌++◌, length, refl, subst, sym, arith}
 use Rattle.std.specs.Global.{Global}
 use Rattle.virtiofs_findings.specs.declared.guest.Guest.{Guest}
 use Rattle.virtiofs_host.specs.declared.runner.Runner.{Runner}
-use Rattle.virtiofs_mapaudit.specs.Everyone.{AddsProcess, AddsProcesses, AreStarted, HasProcessFault, IsFirstFault, IsProcessFault, IsStarted, starter_at}
+use Rattle.virtiofs_mapaudit.specs.Everyone.{AddsProcess, AddsProcesses, AreStarted, IsStarted, starter_at}
 use Rattle.virtiofs_mapaudit.specs.declared.guests.Everyone.{Everyone}
 use Rattle.virtiofs_mapaudit.specs.declared.guests.HostProcess.{HostProcess}
-use Rattle.virtiofs_mapaudit.specs.declared.guests.ProcessFault.{ProcessFault}
-use Rattle.virtiofs_mapaudit.specs.declared.guests.ProcessFault.TheVariants.{NotText, NoDaemon, Words, OutOfMemory}
 use Rattle.virtiofs_options.specs.declared.guest.Guest as options_guest
 use Rattle.virtiofs_options.specs.declared.options.Options.{Options}
 
@@ -24,33 +21,6 @@ started_more starters place [] (y ∷ ys) options guest n all sum is = absurd al
 started_more starters place (x ∷ xs) [] options guest n all sum is = absurd all
 started_more starters place (x ∷ xs) (y ∷ ys) options guest n all sum is =
     (all.0, started_more starters (place + 1) xs ys options guest n all.1 (omega (arith, sum)) is)
-
--- the first process that makes no guest
-fault_at : (of_daemon : Options) (processes : List HostProcess) (i : ℕ) (process : HostProcess) (fault : ProcessFault)
-    (before after : Everyone) → i < length processes → process ≡ get_or processes i process
-    → AddsProcesses of_daemon (take i processes) before after → IsProcessFault of_daemon process fault
-    → IsFirstFault of_daemon processes fault
-fault_at of_daemon processes i process fault before after inside here first is = record {
-  place = i;
-  process = process;
-  here = slice_get-get_or processes i process inside ∙ ap Some (sym here);
-  why = is;
-  before = before;
-  after = after;
-  first = first;
-}
-
-pub fault_in : (of_daemon : Options) (processes : List HostProcess) (i : ℕ) (process : HostProcess) (fault : ProcessFault)
-    (before after : Everyone) → i < length processes → process ≡ get_or processes i process
-    → AddsProcesses of_daemon (take i processes) before after → IsProcessFault of_daemon process fault
-    → HasProcessFault of_daemon processes fault
-fault_in of_daemon processes i process OutOfMemory before after inside here first is = tt
-fault_in of_daemon processes i process (NotText pid) before after inside here first is =
-    fault_at of_daemon processes i process (NotText pid) before after inside here first is
-fault_in of_daemon processes i process (NoDaemon pid) before after inside here first is =
-    fault_at of_daemon processes i process (NoDaemon pid) before after inside here first is
-fault_in of_daemon processes i process (Words pid fault) before after inside here first is =
-    fault_at of_daemon processes i process (Words pid fault) before after inside here first is
 
 -- one more process
 pub adds_more : (of_daemon : Options) (processes : List HostProcess) (process : HostProcess)

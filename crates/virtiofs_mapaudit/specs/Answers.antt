@@ -1,5 +1,5 @@
 -- What the program answers to what was asked of guests, and how it ends.
-use Rattle.std.specs.Prelude.{◌≡◌, ◌≢◌, ◌⊎◌, Bool, true, false, IsTrue, List, [], IfSome, Option, Some, None, length, string_bytes}
+use Rattle.std.specs.Prelude.{◌≡◌, ◌≢◌, Bool, true, false, IsTrue, List, [], IfSome, Option, Some, None, length, string_bytes}
 use Rattle.std.specs.Global.{Global}
 use Rattle.virtiofs_findings.specs.Advice.{IsAdvice}
 use Rattle.virtiofs_findings.specs.Audited.{Audits}

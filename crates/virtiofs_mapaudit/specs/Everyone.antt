@@ -1,5 +1,5 @@
 -- The guests of an audit: those of command lines, each with who starts its daemon, and those of processes.
-use Rattle.std.specs.Prelude.{◌≡◌, ◌==◌, ⊤, ℕ, ◌+◌, List, [], ◌∷◌, ◌++◌, length, map, take, slice_get, option_map, Option, Some, if◌then◌else◌}
+use Rattle.std.specs.Prelude.{◌≡◌, ◌==◌, ◌⊎◌, ⊤, ℕ, ◌+◌, List, [], ◌∷◌, ◌++◌, length, map, slice_get, option_map, Option, Some, if◌then◌else◌}
 use Rattle.std.specs.Borrow.{Bor}
 use Rattle.std.specs.Global.{Global}
 use Rattle.std.specs.declared.vec.Vec.{Vec}
@@ -9,7 +9,7 @@ use Rattle.virtiofs_host.specs.declared.runner.Runner.{Runner}
 use Rattle.virtiofs_mapaudit.specs.declared.guests.Everyone.{Everyone}
 use Rattle.virtiofs_mapaudit.specs.declared.guests.HostProcess.{HostProcess}
 use Rattle.virtiofs_mapaudit.specs.declared.guests.ProcessFault.{ProcessFault}
-use Rattle.virtiofs_mapaudit.specs.declared.guests.ProcessFault.TheVariants.{NotText, NoDaemon, Words, OutOfMemory}
+use Rattle.virtiofs_mapaudit.specs.declared.guests.ProcessFault.TheVariants.{NotText, NoDaemon, Words}
 use Rattle.virtiofs_options.specs.Guests as options
 use Rattle.virtiofs_options.specs.declared.guest.Guest as options_guest
 use Rattle.virtiofs_options.specs.declared.guests.Guests.{Guests}
@@ -57,15 +57,27 @@ IsProcessFault of_daemon process (NoDaemon pid) =
 IsProcessFault of_daemon process (Words pid fault) =
     (pid ≡ process.pid) × ((words : List (Bor (List ℕ))) × HasWords process words
     × options.IsProcessFault of_daemon words fault)
-IsProcessFault of_daemon process OutOfMemory = ⊤
 
 -- the guest of a process was added
-pub record AddsProcess (of_daemon : Options) (process : HostProcess) (before after : Everyone) : Type 0 where
+pub record AddsGuest (of_daemon : Options) (process : HostProcess) (before after : Everyone) : Type 0 where
   pub guest : Guest Global
   pub unknown : Vec UnknownWord Global
   pub is : IsOfProcess of_daemon (length before.guests.items + 1) process guest unknown
   pub guests : after.guests.items ≡ before.guests.items ++ guest ∷ []
   pub told : after.unknown.items ≡ before.unknown.items ++ unknown.items
+  pub faults : after.faults ≡ before.faults
+
+-- why a process makes none was added
+pub record AddsFault (of_daemon : Options) (process : HostProcess) (before after : Everyone) : Type 0 where
+  pub fault : ProcessFault
+  pub is : IsProcessFault of_daemon process fault
+  pub guests : after.guests ≡ before.guests
+  pub unknown : after.unknown ≡ before.unknown
+  pub told : after.faults.items ≡ before.faults.items ++ fault ∷ []
+
+abbrev pub AddsProcess : Options → HostProcess → Everyone → Everyone → Type 0
+AddsProcess of_daemon process before after =
+    AddsGuest of_daemon process before after ⊎ AddsFault of_daemon process before after
 
 -- those of processes were added
 abbrev pub AddsProcesses : Options → List HostProcess → Everyone → Everyone → Type 0
@@ -73,24 +85,11 @@ AddsProcesses of_daemon [] before after = before ≡ after
 AddsProcesses of_daemon (process ∷ more) before after =
     (between : Everyone) × AddsProcess of_daemon process before between × AddsProcesses of_daemon more between after
 
--- all guests: those of command lines, which these start, and then those of processes
+-- all guests: those of command lines, which these start, and then those of processes, or why one makes none
 pub record AreEveryone (of_daemon : Options) (given : Guests) (starters : List (Runner Global))
     (processes : List HostProcess) (all : Everyone) : Type 0 where
   pub before : Everyone
   pub started : AreStarted starters 0 given.guests.items before.guests.items
   pub unknown : before.unknown.items ≡ given.unknown.items
+  pub none : before.faults.items ≡ []
   pub adds : AddsProcesses of_daemon processes before all
-
--- the process at some place makes no guest, for that reason, and each one before it makes one
-pub record IsFirstFault (of_daemon : Options) (processes : List HostProcess) (fault : ProcessFault) : Type 0 where
-  pub place : ℕ
-  pub process : HostProcess
-  pub here : slice_get processes place ≡ Some process
-  pub why : IsProcessFault of_daemon process fault
-  pub before : Everyone
-  pub after : Everyone
-  pub first : AddsProcesses of_daemon (take place processes) before after
-
-abbrev pub HasProcessFault : Options → List HostProcess → ProcessFault → Type 0
-HasProcessFault of_daemon processes OutOfMemory = ⊤
-HasProcessFault of_daemon processes fault = IsFirstFault of_daemon processes fault

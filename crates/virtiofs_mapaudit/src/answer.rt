@@ -6,6 +6,7 @@ ghost use Rattle.virtiofs_findings.specs.Findings.{IsFound};
 ghost use Rattle.virtiofs_mapaudit.specs.Answers.{EndsAs, Reports, counting};
 
 use crate::json::report_as_json;
+use crate::known::Known;
 use crate::losses::loss_lines;
 use crate::picture::report_as_svg;
 use crate::refusal::refusal_line;
@@ -27,6 +28,26 @@ pub(crate) struct Request<'a> {
     pub(crate) front: Front,
     /// The kinds of findings that are accepted.
     pub(crate) accepted: &'a [Kind],
+    /// The names that ids of the host have.
+    pub(crate) known: &'a Known,
+}
+
+/// What does not depend on guests of what was asked.
+#[derive(Drop)]
+pub(crate) struct Wanted {
+    /// The kinds of findings that are accepted.
+    pub(crate) accepted: Vec<Kind>,
+    /// The names that ids of the host have.
+    pub(crate) known: Known,
+}
+
+/// The request for that.
+pub(crate) fn request_of(front: Front, wanted: &Wanted) -> Request<'_> {
+    Request {
+        front,
+        accepted: wanted.accepted.as_slice(),
+        known: &wanted.known,
+    }
 }
 
 /// What is answered.
@@ -149,7 +170,7 @@ fn in_form(
         return report_as_svg(alloc, request.accepted, guests, &report.all);
     }
     if front.json {
-        return report_as_json(alloc, request, report);
+        return report_as_json(alloc, request, guests, report);
     }
     report_as_text(alloc, request, guests, report)
 }

@@ -3,7 +3,7 @@ ghost use Rattle.std.specs.Prelude.{IfOk, []};
 ghost use Rattle.virtiofs_mapaudit.specs.Answers.{EndsAs, ReportsExplained};
 
 use crate::answer::{Answer, refusal_lines};
-use crate::summary::NO_ID;
+use crate::summary::{NO_ID, push_namespace_note};
 use crate::words::one_of;
 use std::alloc::{AllocError, Global};
 use virtiofs_findings::explain::asking::{Question, QuestionFault};
@@ -75,7 +75,7 @@ fn push_spec(
         }
     }
     let Some(id) = layer.becomes else {
-        return text.push_str(" -> calls fail\n");
+        return text.push_str(" -> forbidden: no file can be created as it, or given to it\n");
     };
     let one = one_of(of.kind);
     if id == u32::MAX {
@@ -89,6 +89,7 @@ fn push_range(
     text: &mut String,
     of: Translation<'_, '_>,
     direction: Direction,
+    inside: Option<u32>,
     layer: Layer,
 ) -> Result<(), AllocError> {
     push_place(text, "range", layer.place)?;
@@ -100,9 +101,12 @@ fn push_range(
     let one = one_of(of.kind);
     match (direction, layer.becomes) {
         (Direction::GuestToHost, Some(id)) => write!(text, " -> {one} {id} of the host\n"),
-        (Direction::GuestToHost, None) => {
-            text.push_str(" -> the daemon's namespace does not have it, calls fail\n")
-        }
+        (Direction::GuestToHost, None) => text.push_str(match inside {
+            Some(0) =>
+                " -> not among the daemon's ids: creates as the daemon itself, and no file can be given to it\n",
+            Some(u32::MAX) => " -> virtiofsd acts as itself\n",
+            _ => " -> not among the daemon's ids: no file can be created as it, or given to it\n",
+        }),
         (Direction::HostToGuest, Some(id)) => {
             write!(text, " -> {one} {id} in the daemon's namespace\n")
         }
@@ -125,11 +129,11 @@ fn push_layers(
     match (direction, layers.ranges) {
         (Direction::GuestToHost, Some(ranges)) => {
             push_spec(text, of, " in the daemon's namespace", layers.specs)?;
-            push_range(text, of, direction, ranges)
+            push_range(text, of, direction, layers.specs.becomes, ranges)
         }
         (Direction::GuestToHost, None) => push_spec(text, of, " of the host", layers.specs),
         (Direction::HostToGuest, Some(ranges)) => {
-            push_range(text, of, direction, ranges)?;
+            push_range(text, of, direction, None, ranges)?;
             push_spec(text, of, " of the guest", layers.specs)
         }
         (Direction::HostToGuest, None) => push_spec(text, of, " of the guest", layers.specs),
@@ -329,12 +333,20 @@ fn push_explanation(
     }
 }
 
-/// Writes the line of a guest: its number, and the process of its daemon, if that runs already.
-fn push_guest(text: &mut String, number: usize, process: Option<u32>) -> Result<(), AllocError> {
-    match process {
-        Some(pid) => write!(text, "guest {number}, process {pid}\n"),
-        None => write!(text, "guest {number}\n"),
+/// Writes the line of a guest: its number, and the process of its daemon, if that runs already; or that
+/// words start it in a user namespace.
+fn push_guest(
+    text: &mut String,
+    number: usize,
+    process: Option<u32>,
+    guest: &Guest<'_, Global>,
+) -> Result<(), AllocError> {
+    write!(text, "guest {number}")?;
+    if let Some(pid) = process {
+        write!(text, ", process {pid}")?;
     }
+    push_namespace_note(text, guest)?;
+    text.push_str("\n")
 }
 
 /// How the program ends, where that is refused and nothing is looked for.
@@ -379,7 +391,7 @@ fn explained_text(
         let (Some(set), Some(answers)) = (all.sets.get(place), all.guests.get(place)) else {
             continue;
         };
-        push_guest(&mut text, place.saturating_add(1), set.process)?;
+        push_guest(&mut text, place.saturating_add(1), set.process, guest)?;
         for (question, it) in questions.iter().zip(answers.iter()) {
             push_explanation(alloc, &mut text, guest, set, *question, it)?;
         }

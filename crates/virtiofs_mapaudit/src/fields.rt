@@ -139,26 +139,19 @@ fn push_phrases<'a>(
     in_namespace: bool,
     found: &'a IdsFound<Global>,
 ) -> Result<(), AllocError> {
-    let (does, keeps) = match is_one(found.ids.as_slice()) {
-        true => ("does", "keeps its"),
-        false => ("do", "keep their"),
+    let (does, keeps, them) = match is_one(found.ids.as_slice()) {
+        true => ("does", "keeps its", "it"),
+        false => ("do", "keep their", "them"),
     };
     let there = match in_namespace {
         true => "in the daemon's namespace",
         false => "of the host",
     };
-    // (Linux takes that number for no change of an id, and so the daemon's own stays)
-    let (calls, fail, why) = match found.host {
-        u32::MAX => (
-            "virtiofsd acts as itself for ",
-            "",
-            "which is no id to Linux",
-        ),
-        _ => (
-            "calls with ",
-            " fail",
-            "which the daemon's namespace does not have",
-        ),
+    // (for 0 virtiofsd changes nothing, and Linux takes 4294967295 for no change: the daemon's own id stays)
+    let why = match found.host {
+        u32::MAX => "which is no id to Linux, so that virtiofsd acts as itself",
+        0 => "which is not among the daemon's ids, and creates as the daemon itself",
+        _ => "which is not among the daemon's ids",
     };
     let shared = match found.is_shared {
         true => Field::As(one, found.other),
@@ -167,8 +160,7 @@ fn push_phrases<'a>(
     fields.push(("does", Field::Phrase(does)))?;
     fields.push(("keeps", Field::Phrase(keeps)))?;
     fields.push(("there", Field::Phrase(there)))?;
-    fields.push(("calls", Field::Phrase(calls)))?;
-    fields.push(("fail", Field::Phrase(fail)))?;
+    fields.push(("them", Field::Phrase(them)))?;
     fields.push(("why", Field::Phrase(why)))?;
     fields.push(("as", shared))?;
     Ok(())

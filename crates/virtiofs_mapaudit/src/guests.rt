@@ -1,10 +1,9 @@
 //! The guests of an audit: those of command lines, each with who starts its daemon, and those of
 //! processes.
-ghost use Rattle.std.specs.Prelude.{◌≡◌, option_map, IfOk, IfErr, OnOk};
-ghost use Rattle.virtiofs_mapaudit.specs.declared.guests.ProcessFault.TheVariants.{OutOfMemory};
-ghost use Rattle.virtiofs_mapaudit.specs.Everyone.{starter_at, AreStarted, IsOfProcess, IsProcessFault, AddsProcess, HasProcessFault, AreEveryone};
+ghost use Rattle.std.specs.Prelude.{◌≡◌, option_map, IfOk, OnOk, MatchResult};
+ghost use Rattle.virtiofs_mapaudit.specs.Everyone.{starter_at, AreStarted, IsOfProcess, IsProcessFault, AddsProcess, AreEveryone};
 
-use std::alloc::{AllocError, AllocFailed, Global};
+use std::alloc::{AllocError, Global};
 use virtiofs_findings::guest::Guest;
 use virtiofs_host::command_line::read_command_line;
 use virtiofs_host::error::ReadError as TextError;
@@ -27,6 +26,7 @@ pub(crate) struct HostProcess {
 }
 
 /// Why a process makes no guest.
+#[derive(Clone, Copy)]
 pub(crate) enum ProcessFault<'a> {
     /// A word of the process of that number is not UTF-8.
     NotText(u32),
@@ -34,33 +34,17 @@ pub(crate) enum ProcessFault<'a> {
     NoDaemon(u32),
     /// The words of the process of that number are wrong.
     Words(u32, Fault<'a>),
-    /// A request for memory was refused.
-    OutOfMemory,
 }
 
-impl From<AllocError> for ProcessFault<'_> {
-    ghost from_gives = { λ _ error. error ≡ OutOfMemory };
-
-    fn from(_error: AllocError) -> Self {
-        ProcessFault::OutOfMemory
-    }
-}
-
-impl<T: Drop> From<AllocFailed<T>> for ProcessFault<'_> {
-    ghost from_gives = { λ _ error. error ≡ OutOfMemory };
-
-    fn from(_error: AllocFailed<T>) -> Self {
-        ProcessFault::OutOfMemory
-    }
-}
-
-/// All guests of an audit, and what is not known of their command lines.
+/// All guests of an audit, what is not known of their command lines, and why other processes make none.
 #[derive(Drop)]
 pub(crate) struct Everyone<'a> {
     /// The guests.
     pub(crate) guests: Vec<Guest<'a, Global>>,
     /// What is not known.
     pub(crate) unknown: Vec<UnknownWord<'a>, Global>,
+    /// Why processes make no guest.
+    pub(crate) faults: Vec<ProcessFault<'a>>,
 }
 
 /// Who starts the daemon of the command line at a place: the only one of these, or the one at that
@@ -87,80 +71,79 @@ fn started<'a>(
     Ok(guests)
 }
 
-/// The guest of that number, counted from 1, of a process, and what is not known of its words.
+/// A guest, and what is not known of its words.
+type Told<'a> = (Guest<'a, Global>, Vec<UnknownWord<'a>, Global>);
+
+/// The guest of that number, counted from 1, of a process, and what is not known of its words; or why the
+/// process makes none.
 fn guest_of<'a>(
     alloc: Global,
     of_daemon: Options,
     number: usize,
     process: &'a HostProcess,
-) -> Result<(Guest<'a, Global>, Vec<UnknownWord<'a>, Global>), ProcessFault<'a>>
-    ensures read { IfOk result (λ p. IsOfProcess of_daemon number process.now p.0 p.1) }
-    ensures refused { IfErr result (IsProcessFault of_daemon process.now) }
+) -> Result<Result<Told<'a>, ProcessFault<'a>>, AllocError>
+    ensures { IfOk result (λ made. MatchResult made
+        (λ p. IsOfProcess of_daemon number process.now p.0 p.1)
+        (IsProcessFault of_daemon process.now)) }
 {
     let words = match read_command_line(alloc, process.cmdline.as_slice()) {
         Ok(words) => words,
-        Err(TextError::Wrong(_)) => return Err(ProcessFault::NotText(process.pid)),
-        Err(TextError::OutOfMemory) => return Err(ProcessFault::OutOfMemory),
+        Err(TextError::Wrong(_)) => return Ok(Err(ProcessFault::NotText(process.pid))),
+        Err(TextError::OutOfMemory) => return Err(AllocError),
     };
     match read_process(alloc, of_daemon, number, words.as_slice()) {
         Ok(Process::OfGuest { guest, unknown }) => {
             let runner = Some(&process.runner);
-            Ok((
-                Guest {
-                    options: guest,
-                    runner,
-                },
-                unknown,
-            ))
+            let options = guest;
+            Ok(Ok((Guest { options, runner }, unknown)))
         }
-        Ok(Process::NoDaemon) => Err(ProcessFault::NoDaemon(process.pid)),
-        Err(ReadError::Wrong(fault)) => Err(ProcessFault::Words(process.pid, fault)),
-        Err(ReadError::OutOfMemory) => Err(ProcessFault::OutOfMemory),
+        Ok(Process::NoDaemon) => Ok(Err(ProcessFault::NoDaemon(process.pid))),
+        Err(ReadError::Wrong(fault)) => Ok(Err(ProcessFault::Words(process.pid, fault))),
+        Err(ReadError::OutOfMemory) => Err(AllocError),
     }
 }
 
-/// Adds the guest of a process.
+/// Adds the guest of a process, or why it makes none.
 fn add_process<'a>(
     alloc: Global,
     of_daemon: Options,
     process: &'a HostProcess,
     all: &mut Everyone<'a>,
-) -> Result<(), ProcessFault<'a>>
-    ensures read { OnOk result (AddsProcess of_daemon process.now all.old all.new) }
-    ensures refused { IfErr result (IsProcessFault of_daemon process.now) }
+) -> Result<(), AllocError>
+    ensures { OnOk result (AddsProcess of_daemon process.now all.old all.new) }
 {
     let number = all.guests.len() + 1;
-    let (guest, unknown) = guest_of(alloc, of_daemon, number, process)?;
+    let (guest, unknown) = match guest_of(alloc, of_daemon, number, process)? {
+        Ok(told) => told,
+        Err(fault) => {
+            all.faults.push(fault)?;
+            return Ok(());
+        }
+    };
     all.guests.push(guest)?;
     all.unknown.extend_from_slice(unknown.as_slice())?;
     Ok(())
 }
 
-/// All guests: those of command lines, which these start, and then those of processes.
-///
-/// # Errors
-///
-/// Why the first process makes no guest that makes none; or a request for memory was refused.
+/// All guests: those of command lines, which these start, and then those of processes; and why other
+/// processes make none.
 pub(crate) fn all_guests<'a>(
     alloc: Global,
     of_daemon: Options,
     given: Guests<'a>,
     starters: &'a [Runner<Global>],
     processes: &'a [HostProcess],
-) -> Result<Everyone<'a>, ProcessFault<'a>>
-    ensures read { IfOk result (AreEveryone of_daemon given.entry starters.now processes.now) }
-    ensures refused { IfErr result (HasProcessFault of_daemon processes.now) }
+) -> Result<Everyone<'a>, AllocError>
+    ensures { IfOk result (AreEveryone of_daemon given.entry starters.now processes.now) }
 {
     let Guests { guests, unknown } = given;
     let mut all = Everyone {
         guests: started(alloc, guests, starters)?,
         unknown,
+        faults: Vec::new(alloc),
     };
     for process in processes {
-        match add_process(alloc, of_daemon, process, &mut all) {
-            Ok(()) => {}
-            Err(fault) => return Err(fault),
-        }
+        add_process(alloc, of_daemon, process, &mut all)?;
     }
     Ok(all)
 }

@@ -1,15 +1,14 @@
-//! What the host tells of the processes and the users that the words name. Files are read here alone.
+//! What the host tells of the processes and the users that the words name.
 
+use crate::files::{HostFault, content, named_content, told, unread, usual_content};
 use crate::guests::HostProcess;
 use crate::running::{Running, groups};
-use std::alloc::{AllocError, AllocFailed, Global};
+use std::alloc::{AllocError, Global};
 use std::{fs, io};
 use virtiofs_host::command_line::read_command_line;
 use virtiofs_host::decimal::decimal;
 use virtiofs_host::error::ReadError as TextError;
-use virtiofs_host::runner::{
-    NotShown, RunAs, Runner, Shown, group_of, read_run_as, running, starting,
-};
+use virtiofs_host::runner::{NotShown, Runner, Shown, group_of, read_run_as, running, starting};
 use virtiofs_host::status::parent;
 use virtiofs_host::subordinate::has_carriage_return;
 use virtiofs_host::users::find_user;
@@ -18,35 +17,6 @@ use virtiofs_options::front::Asked;
 use virtiofs_options::options::OF_DAEMON;
 use virtiofs_options::running::{runs_daemon, shared_directory};
 use virtiofs_options::values::Values;
-
-/// Why the host is not asked, or does not answer.
-#[derive(Drop)]
-pub(crate) enum HostFault {
-    /// A sentence that says why.
-    Told(String),
-    /// A request for memory was refused.
-    OutOfMemory,
-}
-
-impl From<AllocError> for HostFault {
-    fn from(_error: AllocError) -> HostFault {
-        HostFault::OutOfMemory
-    }
-}
-
-impl<T: Drop> From<AllocFailed<T>> for HostFault {
-    fn from(_error: AllocFailed<T>) -> HostFault {
-        HostFault::OutOfMemory
-    }
-}
-
-/// A fault that is told by this sentence.
-fn told(sentence: Result<String, AllocError>) -> HostFault {
-    match sentence {
-        Ok(sentence) => HostFault::Told(sentence),
-        Err(_) => HostFault::OutOfMemory,
-    }
-}
 
 /// What the host tells.
 #[derive(Drop)]
@@ -61,57 +31,12 @@ pub(crate) struct Host {
 /// Processes whose guests share a directory.
 #[derive(Drop)]
 pub(crate) struct Share {
-    /// The directory, where it is one of several; empty where the words of the daemon say none.
+    /// The directory; empty where the words of the daemon say none, and of processes that are named.
     pub(crate) directory: String,
     /// The processes.
     pub(crate) processes: Vec<HostProcess>,
-}
-
-/// The device that is read as an empty file.
-const NO_FILE: &str = "/dev/null";
-
-/// How many bytes a file has at most that is read.
-const MOST_BYTES: u64 = 16777216;
-
-/// Why a file is not read; nothing where there is no such file.
-fn unread(rt: &HostRuntime, path: &str, error: &io::Error) -> Result<Option<Vec<u8>>, HostFault> {
-    match error.kind() {
-        io::ErrorKind::OutOfMemory => Err(HostFault::OutOfMemory),
-        io::ErrorKind::NotFound => Ok(None),
-        io::ErrorKind::PermissionDenied => {
-            Err(told(format!(in rt.alloc(); "{path} may not be read\n")))
-        }
-        _ => Err(told(format!(in rt.alloc(); "{path} cannot be read\n"))),
-    }
-}
-
-/// The content of a file; `None` where there is no such file.
-fn content(rt: &HostRuntime, path: &str) -> Result<Option<Vec<u8>>, HostFault> {
-    // (what it is, is asked before it is opened: a pipe would wait for a writer)
-    match fs::metadata(rt, path) {
-        Ok(kind) if !kind.is_file() && path != NO_FILE => {
-            Err(told(format!(in rt.alloc(); "{path} is no regular file\n")))
-        }
-        Ok(kind) if kind.len() > MOST_BYTES => {
-            Err(told(format!(in rt.alloc(); "{path} has more than 16 MiB\n")))
-        }
-        Ok(_) => match fs::read(rt, path) {
-            Ok(bytes) => Ok(Some(bytes)),
-            Err(error) => unread(rt, path, &error),
-        },
-        Err(error) => unread(rt, path, &error),
-    }
-}
-
-/// The text of a file that is named.
-pub(crate) fn named_text(rt: &HostRuntime, path: &str) -> Result<String, HostFault> {
-    let Some(bytes) = content(rt, path)? else {
-        return Err(told(format!(in rt.alloc(); "there is no file {path}\n")));
-    };
-    match String::from_utf8(bytes) {
-        Ok(text) => Ok(text),
-        Err(_) => Err(told(format!(in rt.alloc(); "{path} is not UTF-8\n"))),
-    }
+    /// Why further ones cannot be read.
+    pub(crate) unread: Vec<String>,
 }
 
 /// Whether a process is gone.
@@ -179,41 +104,24 @@ fn runner_of(
 /// missing.
 fn subordinate(rt: &HostRuntime, files: &[&str], usual: &str) -> Result<Vec<u8>, HostFault> {
     let path = files.last().copied().unwrap_or(usual);
-    match content(rt, path)? {
-        Some(text) if has_carriage_return(text.as_slice()) => Err(told(format!(in rt.alloc();
-            "{path} has a carriage return: newuidmap passes over a line that ends in one\n"
-        ))),
-        Some(text) => Ok(text),
-        None if files.is_empty() => Ok(Vec::new(rt.alloc())),
-        None => Err(told(format!(in rt.alloc(); "there is no file {path}\n"))),
-    }
-}
-
-/// That a value of `--run-as` names no user.
-fn no_user(alloc: Global, text: &str) -> Result<String, AllocError> {
-    let word = shown(alloc, text)?;
-    format!(in alloc; "{word} is no user: --run-as takes UID or UID:GID, such as $(id -u NAME)\n")
-}
-
-/// A user who starts a daemon, where `/etc/passwd` has this text.
-fn started_by(
-    rt: &HostRuntime,
-    values: &Values<'_>,
-    run_as: RunAs,
-    passwd: &[u8],
-    place: usize,
-) -> Result<Runner<Global>, HostFault> {
-    let uid = run_as.uid;
-    let user = find_user(passwd, uid);
-    let Some(gid) = group_of(run_as, user) else {
-        return Err(told(format!(in rt.alloc();
-            "/etc/passwd has no user {uid}: say the group too, as --run-as {uid}:GID\n"
-        )));
+    let text = match files.is_empty() {
+        true => usual_content(rt, path)?,
+        false => named_content(rt, path)?,
     };
-    let subuid = subordinate(rt, values.subuid.as_slice(), "/etc/subuid")?;
-    let subgid = subordinate(rt, values.subgid.as_slice(), "/etc/subgid")?;
-    let (subuid, subgid) = (subuid.as_slice(), subgid.as_slice());
-    Ok(starting(rt.alloc(), uid, gid, user, subuid, subgid, place)?)
+    if has_carriage_return(text.as_slice()) {
+        return Err(told(format!(in rt.alloc();
+            "{path} has a carriage return: newuidmap passes over a line that ends in one\n"
+        )));
+    }
+    Ok(text)
+}
+
+/// That the value of an option is wrong.
+fn wrong_value(alloc: Global, text: &str, what: &str) -> HostFault {
+    match shown(alloc, text) {
+        Ok(word) => told(format!(in alloc; "{word} is no {what}\n")),
+        Err(_) => HostFault::OutOfMemory,
+    }
 }
 
 /// The user who starts a daemon, as `--run-as` says.
@@ -224,26 +132,20 @@ fn starter(
     place: usize,
 ) -> Result<Runner<Global>, HostFault> {
     let Some(run_as) = read_run_as(text) else {
-        return Err(told(no_user(rt.alloc(), text)));
+        let what = "user: --run-as takes UID or UID:GID, such as $(id -u NAME)";
+        return Err(wrong_value(rt.alloc(), text, what));
     };
-    match content(rt, "/etc/passwd")? {
-        Some(passwd) => started_by(rt, values, run_as, passwd.as_slice(), place),
-        None => started_by(rt, values, run_as, &[], place),
-    }
-}
-
-/// That a value of `--pid` is no number of a process.
-fn no_number(alloc: Global, text: &str) -> Result<String, AllocError> {
-    let word = shown(alloc, text)?;
-    format!(in alloc; "{word} is no number of a process\n")
-}
-
-/// The number of a process.
-fn pid_of(rt: &HostRuntime, text: &str) -> Result<u32, HostFault> {
-    match decimal(text.as_bytes()) {
-        Some(pid) => Ok(pid),
-        None => Err(told(no_number(rt.alloc(), text))),
-    }
+    let passwd = usual_content(rt, "/etc/passwd")?;
+    let (uid, user) = (run_as.uid, find_user(passwd.as_slice(), run_as.uid));
+    let Some(gid) = group_of(run_as, user) else {
+        return Err(told(format!(in rt.alloc();
+            "/etc/passwd has no user {uid}: say the group too, as --run-as {uid}:GID\n"
+        )));
+    };
+    let subuid = subordinate(rt, values.subuid.as_slice(), "/etc/subuid")?;
+    let subgid = subordinate(rt, values.subgid.as_slice(), "/etc/subgid")?;
+    let (subuid, subgid) = (subuid.as_slice(), subgid.as_slice());
+    Ok(starting(rt.alloc(), uid, gid, user, subuid, subgid, place)?)
 }
 
 /// The process of that number and command line, whose runner has that place among all runners.
@@ -265,7 +167,9 @@ fn process_of(
 
 /// The process that a text names.
 fn named_by(rt: &HostRuntime, text: &str, place: usize) -> Result<HostProcess, HostFault> {
-    let pid = pid_of(rt, text)?;
+    let Some(pid) = decimal(text.as_bytes()) else {
+        return Err(wrong_value(rt.alloc(), text, "number of a process"));
+    };
     if let Some(cmdline) = of_process(rt, pid, "cmdline")? {
         if let Some(process) = process_of(rt, pid, cmdline, place)? {
             return Ok(process);
@@ -293,26 +197,27 @@ struct Daemon {
     parent: u32,
     /// What the kernel shows as its command line.
     cmdline: Vec<u8>,
-    /// The directory that it shares, as the host has it; empty where it says none.
+    /// The directory that it says it shares; empty where it says none.
     directory: String,
 }
 
-/// A directory without symbolic links. One that is not absolute stays as it is, and so does one that this
-/// host does not resolve.
-fn resolved(rt: &HostRuntime, directory: &str) -> Result<String, HostFault> {
-    if directory.starts_with('/') {
-        match fs::canonicalize(rt, directory) {
-            Ok(path) => return Ok(path.into_string()),
-            Err(error) if error.kind() == io::ErrorKind::OutOfMemory => {
-                return Err(HostFault::OutOfMemory);
-            }
-            Err(_) => {}
-        }
+/// The directory that a daemon shares, without symbolic links: one that is not absolute by the folder in
+/// which the process of that number runs. One that this host does not resolve stays as it is.
+fn resolved(rt: &HostRuntime, pid: u32, directory: &str) -> Result<String, HostFault> {
+    let as_said = String::from_str(rt.alloc(), directory)?;
+    let path = match directory.as_bytes().first() {
+        None => return Ok(as_said),
+        Some(b'/') => String::from_str(rt.alloc(), directory)?,
+        Some(_) => format!(in rt.alloc(); "/proc/{pid}/cwd/{directory}")?,
+    };
+    match fs::canonicalize(rt, path.as_str()) {
+        Ok(path) => Ok(path.into_string()),
+        Err(error) if error.kind() == io::ErrorKind::OutOfMemory => Err(HostFault::OutOfMemory),
+        Err(_) => Ok(as_said),
     }
-    Ok(String::from_str(rt.alloc(), directory)?)
 }
 
-/// The directory that a command line says, as the host has it.
+/// The directory that a command line says.
 fn directory_of(rt: &HostRuntime, cmdline: &[u8]) -> Result<String, HostFault> {
     let words = match read_command_line(rt.alloc(), cmdline) {
         Ok(words) => words,
@@ -320,7 +225,7 @@ fn directory_of(rt: &HostRuntime, cmdline: &[u8]) -> Result<String, HostFault> {
         Err(TextError::OutOfMemory) => return Err(HostFault::OutOfMemory),
     };
     match shared_directory(rt.alloc(), OF_DAEMON, words.as_slice()) {
-        Ok(directory) => resolved(rt, directory.unwrap_or("")),
+        Ok(directory) => Ok(String::from_str(rt.alloc(), directory.unwrap_or(""))?),
         Err(ReadError::Wrong(_)) => Ok(String::new(rt.alloc())),
         Err(ReadError::OutOfMemory) => Err(HostFault::OutOfMemory),
     }
@@ -334,11 +239,12 @@ fn daemon_of(rt: &HostRuntime, pid: u32) -> Result<Option<Daemon>, HostFault> {
     if !runs_daemon(cmdline.as_slice()) {
         return Ok(None);
     }
-    let Some(status) = of_process(rt, pid, "status")? else {
-        return Ok(None);
-    };
-    let Some(parent) = parent(status.as_slice()) else {
-        return Err(not_shown(rt.alloc(), pid, NotShown::Status));
+    // (where it is not said, it is told when it is asked who runs the process)
+    let parent = match of_process(rt, pid, "status") {
+        Ok(Some(status)) => parent(status.as_slice()).unwrap_or(0),
+        Ok(None) => return Ok(None),
+        Err(HostFault::Told(_why)) => 0,
+        Err(HostFault::OutOfMemory) => return Err(HostFault::OutOfMemory),
     };
     let directory = directory_of(rt, cmdline.as_slice())?;
     Ok(Some(Daemon {
@@ -380,33 +286,61 @@ fn daemons(rt: &HostRuntime) -> Result<Vec<Daemon>, HostFault> {
     Ok(all)
 }
 
-/// The processes that serve guests, by the directory that they share. One that is gone is passed over.
+/// The process that was started of those of which one is the last child. The others run in another folder,
+/// the one that is shared.
+fn first_of(daemons: &[Daemon], last: &Daemon) -> u32 {
+    let mut first = last;
+    for _ in daemons {
+        for it in daemons {
+            if it.pid == first.parent && it.cmdline == last.cmdline {
+                first = it;
+            }
+        }
+    }
+    first.pid
+}
+
+/// The processes of a group, which share a directory. One that is gone is passed over.
+fn share_of(rt: &HostRuntime, group: &[Running<'_>]) -> Result<Share, HostFault> {
+    let mut share = Share {
+        directory: String::new(rt.alloc()),
+        processes: Vec::new(rt.alloc()),
+        unread: Vec::new(rt.alloc()),
+    };
+    for it in group {
+        let cmdline = Vec::from_slice(rt.alloc(), it.cmdline)?;
+        match process_of(rt, it.pid, cmdline, share.processes.len()) {
+            Ok(Some(process)) => share.processes.push(process)?,
+            Ok(None) => {}
+            Err(HostFault::Told(why)) => share.unread.push(why)?,
+            Err(HostFault::OutOfMemory) => return Err(HostFault::OutOfMemory),
+        }
+        share.directory = String::from_str(rt.alloc(), it.directory)?;
+    }
+    Ok(share)
+}
+
+/// The processes that serve guests, by the directory that they share.
 fn shares_of(rt: &HostRuntime, daemons: &[Daemon]) -> Result<Vec<Share>, HostFault> {
-    let mut all = Vec::new(rt.alloc());
+    let mut directories = Vec::new(rt.alloc());
     for it in daemons {
+        let pid = first_of(daemons, it);
+        directories.push(resolved(rt, pid, it.directory.as_str())?)?;
+    }
+    let mut all = Vec::new(rt.alloc());
+    for (it, directory) in daemons.iter().zip(directories.iter()) {
         all.push(Running {
             pid: it.pid,
             parent: it.parent,
             cmdline: it.cmdline.as_slice(),
-            directory: it.directory.as_str(),
+            directory: directory.as_str(),
         })?;
     }
     let mut shares = Vec::new(rt.alloc());
     for group in groups(rt.alloc(), all.as_slice())?.as_slice() {
-        let (mut directory, mut processes) = ("", Vec::new(rt.alloc()));
-        for it in group.as_slice() {
-            let cmdline = Vec::from_slice(rt.alloc(), it.cmdline)?;
-            if let Some(process) = process_of(rt, it.pid, cmdline, processes.len())? {
-                processes.push(process)?;
-            }
-            directory = it.directory;
-        }
-        if !processes.is_empty() {
-            let directory = String::from_str(rt.alloc(), directory)?;
-            shares.push(Share {
-                directory,
-                processes,
-            })?;
+        let share = share_of(rt, group.as_slice())?;
+        if !(share.processes.is_empty() && share.unread.is_empty()) {
+            shares.push(share)?;
         }
     }
     Ok(shares)
@@ -474,6 +408,7 @@ pub(crate) fn ask(
             shares.push(Share {
                 directory: String::new(rt.alloc()),
                 processes,
+                unread: Vec::new(rt.alloc()),
             })?;
             shares
         }

@@ -6,6 +6,7 @@ use crate::kinds::row_of;
 use crate::losses::losses_of;
 use crate::refusal::refusal_line;
 use crate::shell::words_of;
+use crate::summary::parts_of;
 use crate::tables::{NameAnswer, SHOWN, answer_of};
 use crate::text::are_of_same;
 use serde_json::{Map, Value, json};
@@ -149,7 +150,11 @@ fn piece_value(alloc: Global, piece: Piece) -> Built {
 fn pieces_value(alloc: Global, set: &IdSetUp<Global>, direction: Direction) -> Built {
     let mut list = Vec::new(alloc);
     for piece in set.map.pieces(direction) {
-        list.push(piece_value(alloc, piece)?)?;
+        for part in parts_of(piece) {
+            if let Some(it) = part {
+                list.push(piece_value(alloc, it)?)?;
+            }
+        }
     }
     Ok(Value::Array(list))
 }
@@ -202,14 +207,30 @@ fn names_value(alloc: Global, asked: bool, set: &Option<NamesSetUp<Global>>) -> 
 }
 
 /// What was asked to be shown of the guest of a number.
-fn guest_value(alloc: Global, request: Request<'_>, number: usize, set: &SetUp<Global>) -> Built {
+fn guest_value(
+    alloc: Global,
+    request: Request<'_>,
+    number: usize,
+    guest: &Guest<'_, Global>,
+    set: &SetUp<Global>,
+) -> Built {
     let users = ids_value(alloc, request.front.ids, &set.users)?;
     let groups = ids_value(alloc, request.front.ids, &set.groups)?;
     let names = names_value(alloc, request.front.names, &set.names)?;
     let process = set.process;
-    json!(in alloc; {
+    let mut value = json!(in alloc; {
         "guest": number, "process": process, "users": users, "groups": groups, "names": names
-    })
+    })?;
+    if let (Some(runner), Value::Object(members)) = (guest.runner, &mut value) {
+        let (user, group) = (runner.users.own, runner.groups.own);
+        put(
+            alloc,
+            members,
+            "runs_as",
+            json!(in alloc; {"user": user, "group": group})?,
+        )?;
+    }
+    Ok(value)
 }
 
 /// The options of guests, word by word.
@@ -257,11 +278,13 @@ fn advised_value(alloc: Global, accepted: &[Kind], report: &Reported<'_>) -> Bui
 pub(crate) fn report_as_json(
     alloc: Global,
     request: Request<'_>,
+    given: &[Guest<'_, Global>],
     report: &Reported<'_>,
 ) -> Result<String, AllocError> {
     let mut guests = Vec::new(alloc);
-    for (place, set) in report.all.sets.as_slice().iter().enumerate() {
-        guests.push(guest_value(alloc, request, place.saturating_add(1), set)?)?;
+    for (guest, set) in given.iter().zip(report.all.sets.as_slice().iter()) {
+        let number = guests.len().saturating_add(1);
+        guests.push(guest_value(alloc, request, number, guest, set)?)?;
     }
     let mut refused = Vec::new(alloc);
     for refusal in report.all.refusals.as_slice() {

@@ -50,7 +50,7 @@ pub(crate) static KINDS: [Row; 17] = [
     Row {
         kind: Kind::Lacking,
         word: "lacking",
-        sentence: "{calls}{extent}{fail}: {one} {id} becomes {one} {host}, {why}",
+        sentence: "no file can be created as {extent}, or given to {them}: {one} {id} becomes {one} {host}, {why}",
         recipe: None,
     },
     Row {

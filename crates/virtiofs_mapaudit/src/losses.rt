@@ -1,6 +1,6 @@
 //! What guests lose by options that are advised, and that is not to be missed.
 
-use crate::summary::images_of;
+use crate::summary::{images_of, is_no_id, parts_of};
 use crate::words::Ids;
 use std::alloc::{AllocError, Global};
 use virtiofs_findings::setup::{IdSetUp, SetUp};
@@ -16,16 +16,16 @@ pub(crate) struct Loss {
     pub(crate) line: &'static str,
 }
 
-/// All users.
+/// All users that worked.
 const USERS: Loss = Loss {
     word: "users",
-    line: "all users are forbidden: nobody in the guest creates anything",
+    line: "no user is left that works: nobody in the guest creates anything",
 };
 
-/// All groups.
+/// All groups that worked.
 const GROUPS: Loss = Loss {
     word: "groups",
-    line: "all groups are forbidden: no process of the guest creates anything",
+    line: "no group is left that works: no process of the guest creates anything",
 };
 
 /// The guest's root.
@@ -46,12 +46,13 @@ const ACLS: Loss = Loss {
     line: "ACLs: off, and those that files have no longer apply in the guest",
 };
 
-/// Whether the daemon can act as one of these ids: it is there in the namespace, or it is 0, for which
-/// the daemon switches nothing. (4294967295 is no id.)
+/// Whether the daemon can act for one of these ids: it is there in the namespace, or it is 0 or
+/// 4294967295, for which the daemon switches nothing.
 fn has_one(ids: Ids, set: &IdSetUp<Global>) -> bool {
     let ranges = set.ranges.as_slice();
     ids.first == 0
-        || ranges.is_empty() && ids.first < u64::from(u32::MAX)
+        || is_no_id(ids)
+        || ranges.is_empty()
         || ranges.iter().any(|it| {
             let first = u64::from(it.inside_uid);
             ids.first < first + u64::from(it.count) && first <= ids.last
@@ -74,16 +75,19 @@ fn has_root(set: &IdSetUp<Global>) -> bool {
 /// Whether what they make of some id of a guest is there.
 fn has_some(set: &IdSetUp<Global>) -> bool {
     for piece in set.map.pieces(Direction::GuestToHost) {
-        if let Some(ids) = images_of(piece)
-            && has_one(ids, set)
-        {
-            return true;
+        for part in parts_of(piece) {
+            if let Some(it) = part
+                && let Some(ids) = images_of(it)
+                && has_one(ids, set)
+            {
+                return true;
+            }
         }
     }
     false
 }
 
-/// What a guest loses of the ids of a kind: all of them, or id 0.
+/// What a guest loses of the ids of a kind: all that worked, or id 0.
 fn loss_of(
     before: &Option<IdSetUp<Global>>,
     after: &Option<IdSetUp<Global>>,

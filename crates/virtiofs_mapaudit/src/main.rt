@@ -4,10 +4,12 @@
 mod answer;
 mod explained;
 mod fields;
+mod files;
 mod guests;
 mod host;
 mod json;
 mod kinds;
+mod known;
 mod losses;
 mod picture;
 mod refusal;
@@ -19,12 +21,14 @@ mod text;
 mod whole;
 mod words;
 
-use crate::answer::{Answer, Request, answer_audit};
+use crate::answer::{Answer, Request, Wanted, answer_audit, request_of};
 use crate::explained::{answer_questions, question_sentence};
+use crate::files::{HostFault, any_content, named_text};
 use crate::guests::{Everyone, ProcessFault, all_guests};
-use crate::host::{Host, HostFault, ask, named_text};
+use crate::host::{Host, Share, ask};
 use crate::kinds::{read_kinds, words_in};
-use crate::whole::{whole_lines, whole_text, worst};
+use crate::known::Known;
+use crate::whole::{Said, whole_lines, whole_text, worst};
 use std::alloc::{AllocError, Global};
 use std::process::ExitCode;
 use std::{env, io};
@@ -115,7 +119,6 @@ fn process_text(alloc: Global, fault: ProcessFault<'_>) -> Result<String, AllocE
             let text = fault_text(alloc, fault)?;
             format!(in alloc; "process {pid}: {text}")
         }
-        ProcessFault::OutOfMemory => Err(AllocError),
     }
 }
 
@@ -153,6 +156,20 @@ fn accepted_by(rt: &HostRuntime, values: &Values<'_>) -> Result<Vec<Kind>, HostF
     Ok(kinds)
 }
 
+/// The names that ids of this host have, where processes are asked for.
+fn known_here(rt: &HostRuntime, has_some: bool) -> Result<Known, AllocError> {
+    if !has_some {
+        return Ok(Known {
+            users: Vec::new(rt.alloc()),
+            groups: Vec::new(rt.alloc()),
+        });
+    }
+    Ok(Known {
+        users: any_content(rt, "/etc/passwd")?,
+        groups: any_content(rt, "/etc/group")?,
+    })
+}
+
 /// Reads the values of the options, asks the host, and answers.
 fn audited<'a>(
     rt: &HostRuntime,
@@ -177,11 +194,29 @@ fn audited<'a>(
         Err(HostFault::Told(text)) => return Ok(wrong(rt, text.as_str())),
         Err(HostFault::OutOfMemory) => return Err(AnswerFault::OutOfMemory),
     };
-    let request = Request {
-        front: asked,
-        accepted: accepted.as_slice(),
-    };
+    let known = known_here(rt, asked.running || !values.pid.is_empty())?;
+    let wanted = Wanted { accepted, known };
+    let request = request_of(asked, &wanted);
     audited_on(rt, request, questions.as_slice(), &host, given)
+}
+
+/// The lines on processes of a directory that are not checked.
+fn unread_lines(
+    alloc: Global,
+    share: &Share,
+    faults: &[ProcessFault<'_>],
+) -> Result<Vec<String>, AllocError> {
+    let mut lines = Vec::new(alloc);
+    for why in share.unread.as_slice() {
+        let why = why.as_str().trim_end();
+        lines.push(format!(in alloc; "not checked: {why}")?)?;
+    }
+    for fault in faults {
+        let text = process_text(alloc, *fault)?;
+        let why = text.as_str().trim_end();
+        lines.push(format!(in alloc; "not checked: {why}")?)?;
+    }
+    Ok(lines)
 }
 
 /// Answers on the guests of command lines, and on those of the host's processes: on each directory by
@@ -193,7 +228,7 @@ fn audited_on<'a>(
     host: &'a Host,
     given: Guests<'a>,
 ) -> Result<Answered, AnswerFault> {
-    let mut answers = Vec::new(rt.alloc());
+    let mut said = Vec::new(rt.alloc());
     let mut left = Some(given);
     for share in host.shares.as_slice() {
         let given = left.take().unwrap_or(Guests {
@@ -201,31 +236,31 @@ fn audited_on<'a>(
             unknown: Vec::new(rt.alloc()),
         });
         let (starters, processes) = (host.starters.as_slice(), share.processes.as_slice());
-        match all_guests(rt.alloc(), OF_DAEMON, given, starters, processes) {
-            Ok(all) => answers.push(answer_on(rt.alloc(), request, questions, &all)?)?,
-            Err(fault) => return Ok(wrong(rt, process_text(rt.alloc(), fault)?.as_str())),
+        let all = all_guests(rt.alloc(), OF_DAEMON, given, starters, processes)?;
+        if !request.front.running
+            && let Some(fault) = all.faults.first()
+        {
+            return Ok(wrong(rt, process_text(rt.alloc(), *fault)?.as_str()));
         }
+        said.push(Said {
+            directory: share.directory.as_str(),
+            answer: answer_on(rt.alloc(), request, questions, &all)?,
+            has_guests: !all.guests.is_empty(),
+            unread: unread_lines(rt.alloc(), share, all.faults.as_slice())?,
+        })?;
     }
-    told_of(rt, request, host, answers.as_slice())
+    told_of(rt, request.front, said.as_slice())
 }
 
-/// Writes the answers on directories.
-fn told_of(
-    rt: &HostRuntime,
-    request: Request<'_>,
-    host: &Host,
-    answers: &[Answer],
-) -> Result<Answered, AnswerFault> {
-    let shares = host.shares.as_slice();
-    let text = whole_text(rt.alloc(), request.front, shares, answers)?;
-    let lines = whole_lines(rt.alloc(), shares, answers)?;
+/// Writes what is said of directories.
+fn told_of(rt: &HostRuntime, asked: Asked, said: &[Said<'_>]) -> Result<Answered, AnswerFault> {
+    let text = whole_text(rt.alloc(), asked, said)?;
+    let lines = whole_lines(rt.alloc(), asked, said)?;
     write_whole(rt, text.as_str())?;
-    if !request.front.quiet {
-        for line in lines.as_slice() {
-            let _ = eprintln!(rt; "{line}");
-        }
+    for line in lines.as_slice() {
+        let _ = eprintln!(rt; "{line}");
     }
-    Ok(worst(answers))
+    Ok(worst(said))
 }
 
 /// Writes a text to standard output, and flushes.

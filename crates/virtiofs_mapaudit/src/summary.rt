@@ -1,14 +1,16 @@
 //! What the options of a guest set up, in a few lines.
 
-use crate::words::{Ids as Span, MOST};
+use crate::words::{Ids as Span, MOST, one_of};
 use std::alloc::{AllocError, Global};
 use virtiofs_findings::alike::Alike;
 use virtiofs_findings::guest::Guest;
 use virtiofs_findings::ids::Ids;
+use virtiofs_findings::ids::kind::IdKind;
 use virtiofs_findings::setup::{IdSetUp, NamesSetUp, SetUp};
 use virtiofs_map::idmap::UidMap;
 use virtiofs_map::soft_idmap::{Direction, Outcome, Piece};
 use virtiofs_options::guest::Guest as GuestOptions;
+use virtiofs_options::starter::Starter;
 
 /// The numbers of the guests that have the options of one, where these are the likes of each: runs of
 /// them, from one to another.
@@ -145,10 +147,21 @@ fn push_clause(text: &mut String, place: &str, piece: Piece) -> Result<(), Alloc
     }
 }
 
+/// The id that a daemon can act as, if that is its own alone: in a namespace of its own, or in none.
+fn alone_in(ranges: &[UidMap]) -> Option<u32> {
+    let [only] = ranges else {
+        return None;
+    };
+    if only.count != 1 || only.inside_uid != only.outside_uid {
+        return None;
+    }
+    Some(only.inside_uid)
+}
+
 /// Writes what the ids of a guest become at the end of a text: those that do not keep their number,
 /// and then that the others do; or, where nothing maps any, that all are the host's own.
 fn push_map(text: &mut String, map: &Ids<Global>, ranges: &[UidMap]) -> Result<(), AllocError> {
-    let (place, kept_place) = match ranges.is_empty() {
+    let (place, kept_place) = match ranges.is_empty() || alone_in(ranges).is_some() {
         true => ("on the host", ""),
         false => ("in the daemon's namespace", " in the daemon's namespace"),
     };
@@ -196,7 +209,11 @@ fn span_from(first: u32, count: u32) -> Span {
 }
 
 /// Writes the ranges of a daemon's namespace at the end of a text, if any has ids.
-fn push_namespace(text: &mut String, ranges: &[UidMap]) -> Result<(), AllocError> {
+fn push_namespace(text: &mut String, kind: IdKind, ranges: &[UidMap]) -> Result<(), AllocError> {
+    if let Some(id) = alone_in(ranges) {
+        let one = one_of(kind);
+        return write!(text, "; the daemon acts as {one} {id} alone");
+    }
     let count = ranges.iter().filter(|range| range.count > 0).count();
     if count == 0 {
         return Ok(());
@@ -218,12 +235,16 @@ fn push_namespace(text: &mut String, ranges: &[UidMap]) -> Result<(), AllocError
 }
 
 /// Writes what ids of one kind become at the end of a text.
-fn push_ids_line(text: &mut String, set: &Option<IdSetUp<Global>>) -> Result<(), AllocError> {
+fn push_ids_line(
+    text: &mut String,
+    kind: IdKind,
+    set: &Option<IdSetUp<Global>>,
+) -> Result<(), AllocError> {
     let Some(set) = set else {
         return text.push_str("refused");
     };
     push_map(text, &set.map, set.ranges.as_slice())?;
-    push_namespace(text, set.ranges.as_slice())
+    push_namespace(text, kind, set.ranges.as_slice())
 }
 
 /// Writes what is set up for names at the end of a text. Without rules those of access control lists pass
@@ -254,9 +275,9 @@ pub(crate) fn push_set_up(
     set: &SetUp<Global>,
 ) -> Result<(), AllocError> {
     write!(text, "{space}users: ")?;
-    push_ids_line(text, &set.users)?;
+    push_ids_line(text, IdKind::Users, &set.users)?;
     write!(text, "\n{space}groups: ")?;
-    push_ids_line(text, &set.groups)?;
+    push_ids_line(text, IdKind::Groups, &set.groups)?;
     write!(text, "\n{space}names: ")?;
     push_names_line(text, &guest.options, &set.names)?;
     if guest.options.posix_acl {
@@ -271,14 +292,40 @@ pub(crate) fn is_of_root(guest: &Guest<'_, Global>) -> bool {
     let options = &guest.options;
     match guest.runner {
         Some(runner) => runner.users.own == 0,
-        None => !options.by_other && options.uid_map.is_empty() && options.gid_map.is_empty(),
+        None => {
+            let has_ranges = !options.uid_map.is_empty() || !options.gid_map.is_empty();
+            matches!(options.starter, Starter::ByRoot) && !has_ranges
+        }
     }
+}
+
+/// What is said of a daemon that words start in a user namespace, whose ids outside they do not tell.
+const IN_NAMESPACE: &str =
+    " in a user namespace, which is called the host below (--pid of the running daemon tells the host's ids)";
+
+/// Writes that words start the daemon of a guest in a user namespace at the end of a text, if they do.
+pub(crate) fn push_namespace_note(
+    text: &mut String,
+    guest: &Guest<'_, Global>,
+) -> Result<(), AllocError> {
+    let runs = match guest.runner {
+        Some(runner) => runner.process.is_some(),
+        None => false,
+    };
+    if matches!(guest.options.starter, Starter::InNamespace) && !runs {
+        return text.push_str(IN_NAMESPACE);
+    }
+    Ok(())
 }
 
 /// Writes who runs the daemon of a guest at the end of a text. Another user who is not known, and has not
 /// ranges of both kinds, counts as root in what else is said.
 pub(crate) fn push_runner(text: &mut String, guest: &Guest<'_, Global>) -> Result<(), AllocError> {
     let Some(runner) = guest.runner else {
+        if matches!(guest.options.starter, Starter::InNamespace) {
+            text.push_str(", started")?;
+            return push_namespace_note(text, guest);
+        }
         let (users, groups) = (&guest.options.uid_map, &guest.options.gid_map);
         return text.push_str(match is_of_root(guest) {
             true => ", taken as started by root (--run-as USER)",
@@ -291,7 +338,10 @@ pub(crate) fn push_runner(text: &mut String, guest: &Guest<'_, Global>) -> Resul
     let own = runner.users.own;
     match runner.process {
         Some(pid) => write!(text, ", process {pid} of user {own}"),
-        None => write!(text, ", started by user {own}"),
+        None => {
+            write!(text, ", started by user {own}")?;
+            push_namespace_note(text, guest)
+        }
     }
 }
 

@@ -3,6 +3,7 @@
 use crate::answer::{Reported, Request};
 use crate::fields::push_finding;
 use crate::kinds::{KERNEL, RECIPES, row_of};
+use crate::known::push_known;
 use crate::losses::losses_of;
 use crate::shell::push_options;
 use crate::summary::{is_of_root, push_numbers, push_set_up, push_summary};
@@ -92,6 +93,7 @@ fn push_guests(
             continue;
         }
         push_summary(alloc, text, likes, *alike, guest, set)?;
+        push_known(alloc, text, request.known, guest, set)?;
         push_tables(alloc, text, request.front.ids, request.front.names, set)?;
         let found = found_of(report.all.findings.as_slice(), number);
         push_found(alloc, text, request.accepted, found)?;
@@ -282,11 +284,16 @@ fn push_closing(
     })
 }
 
-/// Writes at the end of a text what a daemon of root does whatever is mapped, if one is.
-fn push_root(text: &mut String, guests: &[Guest<'_, Global>]) -> Result<(), AllocError> {
+/// Writes at the end of a text which files daemons open for the guest's root, whatever is mapped.
+fn push_rights(text: &mut String, guests: &[Guest<'_, Global>]) -> Result<(), AllocError> {
     if guests.iter().any(|guest| is_of_root(guest)) {
         text.push_str(
             "a daemon of root opens every file of its directory for the guest's root, whatever is mapped\n",
+        )?;
+    }
+    if guests.iter().any(|guest| !is_of_root(guest)) {
+        text.push_str(
+            "a daemon of another user opens for the guest's root what that user may open, and files whose user and group its ranges have\n",
         )?;
     }
     Ok(())
@@ -303,7 +310,7 @@ pub(crate) fn report_as_text(
     let (likes, found) = (likes_of(alloc, guests)?, report.all.findings.as_slice());
     push_guests(alloc, &mut text, request, guests, likes.as_slice(), report)?;
     push_pairs(alloc, &mut text, request.accepted, likes.as_slice(), found)?;
-    push_root(&mut text, guests)?;
+    push_rights(&mut text, guests)?;
     push_closing(alloc, &mut text, request.accepted, report)?;
     Ok(text)
 }

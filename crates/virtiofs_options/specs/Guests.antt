@@ -7,7 +7,7 @@ use Rattle.virtiofs_options.specs.Clusters.{plain, split_words}
 use Rattle.virtiofs_options.specs.GuestOptions.{HasNoOption, TakesIn, has_any}
 use Rattle.virtiofs_options.specs.Lines.{beginning, first_daemon, line_of, after_line}
 use Rattle.virtiofs_options.specs.Parts.{AreParts, HasFault}
-use Rattle.virtiofs_options.specs.Starters.{is_by_other}
+use Rattle.virtiofs_options.specs.Starters.{starter_of}
 use Rattle.virtiofs_options.specs.Unknown.{AreRight, IsPartsFault, told, unknown_of}
 use Rattle.virtiofs_options.specs.Whole.{is_line}
 use Rattle.virtiofs_options.specs.declared.fault.Fault.{Fault}
@@ -18,6 +18,7 @@ use Rattle.virtiofs_options.specs.declared.guests.Guests.{Guests}
 use Rattle.virtiofs_options.specs.declared.guests.Process.{Process}
 use Rattle.virtiofs_options.specs.declared.guests.Process.TheVariants.{OfGuest, NoDaemon}
 use Rattle.virtiofs_options.specs.declared.options.Options.{Options}
+use Rattle.virtiofs_options.specs.declared.starter.Starter.{Starter}
 use Rattle.virtiofs_options.specs.declared.word.Word.{Word}
 
 -- what is not known of a command line: the number of the guest, whether it is a part of `-o`, and the text
@@ -46,10 +47,10 @@ IsLine options number first line guest told =
     × TakesIn options first guest parts × (told ≡ unknown_of options number parts)
 
 -- one guest more, whose command line is these words, and what of them is not known
-abbrev pub AddsLine : Options → Bool → Guest Global → List (Bor (List ℕ)) → Guests → Guests → Type 0
-AddsLine options by_other first line old new =
+abbrev pub AddsLine : Options → Starter → Guest Global → List (Bor (List ℕ)) → Guests → Guests → Type 0
+AddsLine options starter first line old new =
     (guest : Guest Global) × (here : Told)
-    × IsLine options (length old.guests.items + 1) first line guest here × (guest.by_other ≡ by_other)
+    × IsLine options (length old.guests.items + 1) first line guest here × (guest.starter ≡ starter)
     × (new.guests.items ≡ old.guests.items ++ guest ∷ [])
     × (map told new.unknown.items ≡ map told old.unknown.items ++ here)
 
@@ -60,13 +61,13 @@ IsLineFault options line fault =
     ⊎ ((parts : List Part) × AreSplitParts options line parts × IsPartsFault options parts fault)
 
 -- the guest that words begin with; what follows the `--` that ends its command line is left, and what stands before the
--- line says whether another user than root starts the daemon
+-- line says who starts the daemon
 abbrev pub IsGuest : {A : Type 0} → Options → ℕ → Guest A → List (Bor (List ℕ)) → Guest A → Told
     → Option (List (Bor (List ℕ))) → Type 0
 IsGuest options number first words guest told left =
     (start : ℕ) × (start_of options (has_any first) words ≡ Some start)
     × IsLine options number first (line_of (drop start words)) guest told
-    × (guest.by_other ≡ is_by_other options (take start words))
+    × (guest.starter ≡ starter_of options (take start words))
     × (left ≡ after_line (drop start words))
 
 -- one guest more, which words begin with

@@ -6,6 +6,7 @@ ghost use Rattle.virtiofs_options.specs.GuestOptions.{Adds, HasNoOption, TakesIn
 use crate::command::Part;
 use crate::older::{Older, read_older};
 use crate::options::{Known, Options, Sets, Switch};
+use crate::starter::Starter;
 use std::alloc::{AllocError, Allocator};
 
 /// How a daemon is kept apart from the host.
@@ -57,8 +58,8 @@ pub struct Guest<'a, A: Allocator> {
     pub security_label: bool,
     /// How the daemon is kept apart from the host, if that is said; `kept_apart` reads it.
     pub sandbox: Option<&'a str>,
-    /// Whether the words before the daemon's say that another user than root starts it.
-    pub by_other: bool,
+    /// Who starts the daemon, by the words before the daemon's.
+    pub starter: Starter,
 }
 
 impl<A: Allocator> Guest<'_, A> {
@@ -87,7 +88,7 @@ impl<'a, A: Allocator + Copy> Guest<'a, A> {
             xattr: false,
             security_label: false,
             sandbox: None,
-            by_other: false,
+            starter: Starter::ByRoot,
         }
     }
 
@@ -182,21 +183,21 @@ impl<'a, A: Allocator + Copy> Guest<'a, A> {
     /// Takes in the parts of a command line of the daemon. Of options that a daemon has once, the
     /// last counts, as `virtiofsd` takes them. Options of the older form count more than the others,
     /// wherever they stand. Words that are no options, as the path of the program, are passed over.
-    /// Also says whether another user than root starts the daemon.
+    /// Also says who starts the daemon.
     pub(crate) fn take_parts(
         &mut self,
         options: Options,
         parts: &[Part<'a>],
-        by_other: bool,
+        starter: Starter,
     ) -> Result<(), AllocError>
         ensures takes { OnOk result (TakesIn options self.old self.new parts.now) }
-        ensures starter { OnOk result (self.new.by_other ≡ by_other) }
+        ensures starter { OnOk result (self.new.starter ≡ starter) }
     {
         for part in parts {
             self.take_part(*part)?;
         }
         self.take_older(read_older(options, parts));
-        self.by_other = by_other;
+        self.starter = starter;
         Ok(())
     }
 }

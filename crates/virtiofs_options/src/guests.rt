@@ -10,7 +10,7 @@ use crate::guest::Guest;
 use crate::line::{after_line, beginning, first_daemon, line_of, tail_of};
 use crate::options::Options;
 use crate::parts::read_parts;
-use crate::starter::is_by_other;
+use crate::starter::{Starter, starter_of};
 use crate::strays::check_line;
 use crate::unknown::{UnknownWord, push_unknown};
 use crate::whole::is_line;
@@ -50,21 +50,20 @@ fn lacking_fault<'a>(options: Options, number: usize, words: &[&'a str]) -> Faul
 }
 
 /// Reads the words of the command line of the guest of that number, which has the options of `first`
-/// already, and of whose daemon it is said whether another user than root starts it. Adds what is not
-/// known of them.
+/// already, and of whose daemon it is said who starts it. Adds what is not known of them.
 fn line_guest<'a>(
     alloc: Global,
     options: Options,
     number: usize,
     line: &[&'a str],
-    by_other: bool,
+    starter: Starter,
     first: Guest<'a, Global>,
     unknown: &mut Vec<UnknownWord<'a>, Global>,
 ) -> Result<Guest<'a, Global>, ReadError<'a>>
     ensures read { IfOk result (λ guest. (here : Told)
         × IsLine options number first.entry line.now guest here
         × (map told unknown.new.items ≡ map told unknown.old.items ++ here)) }
-    ensures starter { IfOk result (λ guest. guest.by_other ≡ by_other) }
+    ensures starter { IfOk result (λ guest. guest.starter ≡ starter) }
     ensures refused { IfErr result (WrongOnly (IsLineFault options line.now)) }
 {
     let words = split_words(alloc, options, line)?;
@@ -72,7 +71,7 @@ fn line_guest<'a>(
     check_line(alloc, options, parts.as_slice())?;
     push_unknown(unknown, options, number, parts.as_slice())?;
     let mut guest = first;
-    guest.take_parts(options, parts.as_slice(), by_other)?;
+    guest.take_parts(options, parts.as_slice(), starter)?;
     Ok(guest)
 }
 
@@ -81,11 +80,11 @@ fn read_line<'a>(
     alloc: Global,
     options: Options,
     line: &[&'a str],
-    by_other: bool,
+    starter: Starter,
     first: Guest<'a, Global>,
     read: &mut Guests<'a>,
 ) -> Result<(), ReadError<'a>>
-    ensures read { OnOk result (AddsLine options by_other first.entry line.now read.old read.new) }
+    ensures read { OnOk result (AddsLine options starter first.entry line.now read.old read.new) }
     ensures refused { IfErr result (WrongOnly (IsLineFault options line.now)) }
 {
     let number = read.guests.len() + 1;
@@ -94,7 +93,7 @@ fn read_line<'a>(
         options,
         number,
         line,
-        by_other,
+        starter,
         first,
         &mut read.unknown,
     )?;
@@ -121,9 +120,9 @@ fn add_guest<'w, 'a>(
         let number = read.guests.len() + 1;
         return Err(ReadError::Wrong(lacking_fault(options, number, words)));
     };
-    let by_other = is_by_other(options, &words[..start]);
+    let starter = starter_of(options, &words[..start]);
     let words = tail_of(words, start);
-    match read_line(alloc, options, line_of(words), by_other, first, read) {
+    match read_line(alloc, options, line_of(words), starter, first, read) {
         Ok(()) => Ok(after_line(words)),
         Err(error) => Err(error),
     }
@@ -162,7 +161,15 @@ pub fn read_process<'a>(
     let mut unknown = Vec::new(alloc);
     let first = Guest::new(alloc);
     let line = line_of(tail_of(words, start));
-    match line_guest(alloc, options, number, line, false, first, &mut unknown) {
+    match line_guest(
+        alloc,
+        options,
+        number,
+        line,
+        Starter::ByRoot,
+        first,
+        &mut unknown,
+    ) {
         Ok(guest) => Ok(Process::OfGuest { guest, unknown }),
         Err(error) => Err(error),
     }

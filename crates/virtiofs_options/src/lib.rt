@@ -22,7 +22,7 @@ pub mod options;
 mod parts;
 pub mod running;
 pub mod shown;
-mod starter;
+pub mod starter;
 mod strays;
 pub mod unknown;
 pub mod values;

@@ -1,5 +1,7 @@
 //! The options that the program and the daemon know: a table of each, which all else reads.
 
+use crate::starter::Starter;
+
 /// Whether an option has a value.
 #[derive(Clone, Copy)]
 pub(crate) enum Takes {
@@ -91,6 +93,18 @@ pub(crate) struct Known {
     pub(crate) help: &'static str,
 }
 
+/// A program that starts others, and what a daemon is then taken for.
+#[derive(Clone, Copy)]
+pub(crate) struct Start {
+    /// How its word ends.
+    pub(crate) program: &'static str,
+    /// How the word begins that has it do so, and behind which it takes the user; empty where the user is a
+    /// word of its own.
+    pub(crate) option: &'static str,
+    /// Who then starts the daemon; `ByOther` but where root is named.
+    pub(crate) starter: Starter,
+}
+
 use Sets::{
     Fd, GidMap, Group, Older, Other, Prints, Sandbox, Socket, Source, Tells, TranslateGid,
     TranslateUid, Turns, UidMap, Xattrmap,
@@ -107,9 +121,10 @@ pub struct Options {
     pub(crate) own: &'static [Known],
     /// The parts of `-o`.
     pub(crate) older: &'static [Known],
-    /// What starts the daemon as another user than root, or in a user namespace: the end of a word, and
-    /// the beginning of another.
-    pub(crate) starters: &'static [(&'static str, &'static str)],
+    /// The programs that start others.
+    pub(crate) starters: &'static [Start],
+    /// How root is named.
+    pub(crate) roots: &'static [&'static str],
     /// Whether also words that are no options, and options that are not known.
     pub(crate) plain: bool,
 }
@@ -120,6 +135,7 @@ pub const OWN: Options = Options {
     own: &[],
     older: &[],
     starters: &[],
+    roots: &[],
     plain: false,
 };
 
@@ -129,6 +145,7 @@ pub const OF_DAEMON: Options = Options {
     own: &OPTIONS,
     older: &OLDER_OPTIONS,
     starters: &STARTERS,
+    roots: &ROOTS,
     plain: true,
 };
 
@@ -281,34 +298,46 @@ const OLDER_OPTIONS: [Known; 23] = table! {
     "no_flock": Nothing, Other, Any;
 };
 
-/// Programs that start others, and what says that they do so as another user than root, or in a user
-/// namespace.
-const STARTERS: [(&str, &str); 27] = [
-    ("sudo", "-u"),
-    ("sudo", "--user"),
-    ("sudo", "-nu"),
-    ("sudo", "-Hu"),
-    ("sudo", "-iu"),
-    ("doas", "-u"),
-    ("su", ""),
-    ("runuser", "-u"),
-    ("runuser", "--user"),
-    ("setpriv", "--reuid"),
-    ("chpst", "-u"),
-    ("setuidgid", ""),
-    ("gosu", ""),
-    ("su-exec", ""),
-    ("systemd-run", "--user"),
-    ("systemd-run", "--uid"),
-    ("podman", "unshare"),
-    ("buildah", "unshare"),
-    ("lxc-usernsexec", ""),
-    ("rootlesskit", ""),
-    ("bwrap", "--unshare-user"),
-    ("unshare", "--user"),
-    ("unshare", "--map-"),
-    ("unshare", "-U"),
-    ("unshare", "-r"),
-    ("unshare", "-mU"),
-    ("unshare", "-mr"),
-];
+/// A table, with a row for each program and option.
+macro_rules! starts {
+    ($($program:literal $option:literal $starter:ident,)*) => {
+        [$(Start { program: $program, option: $option, starter: Starter::$starter }),*]
+    };
+}
+
+/// The programs that start others. Of rows that speak of the same words the first counts.
+const STARTERS: [Start; 30] = starts! {
+    "podman" "unshare" InNamespace,
+    "buildah" "unshare" InNamespace,
+    "lxc-usernsexec" "" InNamespace,
+    "rootlesskit" "" InNamespace,
+    "bwrap" "--unshare-user" InNamespace,
+    "bwrap" "--unshare-all" InNamespace,
+    "unshare" "--user" InNamespace,
+    "unshare" "--map-" InNamespace,
+    "unshare" "-U" InNamespace,
+    "unshare" "-r" InNamespace,
+    "unshare" "-mU" InNamespace,
+    "unshare" "-mr" InNamespace,
+    "sudo" "-u" ByOther,
+    "sudo" "--user" ByOther,
+    "sudo" "-nu" ByOther,
+    "sudo" "-Hu" ByOther,
+    "sudo" "-iu" ByOther,
+    "doas" "-u" ByOther,
+    "su" "" ByOther,
+    "runuser" "-u" ByOther,
+    "runuser" "--user" ByOther,
+    "runuser" "" ByOther,
+    "setpriv" "--reuid" ByOther,
+    "setpriv" "--euid" ByOther,
+    "chpst" "-u" ByOther,
+    "setuidgid" "" ByOther,
+    "gosu" "" ByOther,
+    "su-exec" "" ByOther,
+    "systemd-run" "--user" ByOther,
+    "systemd-run" "--uid" ByOther,
+};
+
+/// How root is named behind an option, or alone.
+const ROOTS: [&str; 8] = ["root", "0", "#0", "=root", "=0", "=#0", "root:root", "0:0"];

@@ -1,25 +1,79 @@
-//! Whether the words before the daemon's say that another user than root starts it.
-ghost use Rattle.std.specs.Prelude.{◌≡◌};
-ghost use Rattle.virtiofs_options.specs.Starters.{joins_root, names_root, has_program, has_option, has_root, says_other, is_by_other};
+//! Who starts the daemon, by the words before the daemon's.
+ghost use Rattle.std.specs.Prelude.{◌≡◌, ◌<◌, length, IfSome};
+ghost use Rattle.virtiofs_options.specs.Starters.{is_root, is_mark, mark_of, is_name, is_root_next, names_root, has_program, speaks, starter_by, row_of, starter_of};
 
-use crate::options::Options;
+use crate::cluster::stripped;
+use crate::options::{Options, Start};
 
-/// Whether a word is the option with root's name or number.
-fn joins_root(option: &str, word: &str) -> bool
-    ensures { result ≡ joins_root option.now word.now }
-{
-    let (option, word) = (option.as_bytes(), word.as_bytes());
-    word.starts_with(option) && (word.ends_with(b"=root") || word.ends_with(b"=0"))
+/// Who starts a daemon, as far as words tell.
+#[derive(Clone, Copy)]
+pub enum Starter {
+    /// Root.
+    ByRoot,
+    /// Another user.
+    ByOther,
+    /// Whoever it is, in a user namespace that is set up for it.
+    InNamespace,
 }
 
-/// Whether a word says that the user is root.
-fn names_root(option: &str, word: &str) -> bool
-    ensures { result ≡ names_root option.now word.now }
+/// Whether a text names root.
+fn is_root(options: Options, text: &str) -> bool
+    ensures { result ≡ is_root options text.now }
 {
-    word == "root" || word == "0" || word == "#0" || joins_root(option, word)
+    options.roots.iter().any(|root| *root == text)
 }
 
-/// Whether one of the words ends with the name of a program.
+/// Whether a user is named behind a word: behind the option, or, where the program takes none, behind the
+/// program's word.
+fn is_mark(row: Start, word: &str) -> bool
+    ensures { result ≡ is_mark row word.now }
+{
+    let (word, option) = (word.as_bytes(), row.option.as_bytes());
+    if option.is_empty() {
+        return word.ends_with(row.program.as_bytes());
+    }
+    word.starts_with(option)
+}
+
+/// Where that word stands.
+fn mark_of(row: Start, words: &[&str]) -> Option<usize>
+    ensures first { result ≡ mark_of row words.now }
+    ensures within { IfSome result (λ place. place < length words.now) }
+{
+    words.iter().position(|word| is_mark(row, word))
+}
+
+/// Whether a word may be a name: it is neither an option nor a path.
+fn is_name(word: &str) -> bool
+    ensures { result ≡ is_name word.now }
+{
+    let word = word.as_bytes();
+    !word.starts_with(b"-") && !word.starts_with(b"/")
+}
+
+/// Whether the first of the words that may be a name names root; `otherwise` where none may.
+fn is_root_next(options: Options, otherwise: bool, words: &[&str]) -> bool
+    ensures { result ≡ is_root_next options otherwise words.now }
+{
+    match words.iter().find(|word| is_name(word)) {
+        Some(name) => is_root(options, name),
+        None => otherwise,
+    }
+}
+
+/// Whether root is named behind the first of the words: in the rest of it, or by the next name; without an
+/// option, also by no name.
+fn names_root(options: Options, option: &str, words: &[&str]) -> bool
+    ensures { result ≡ names_root options option.now words.now }
+{
+    let [mark, after @ ..] = words else {
+        return false;
+    };
+    let rest = stripped(option, mark).unwrap_or("");
+    is_root(options, rest) || is_root_next(options, option.is_empty(), after)
+}
+
+/// Whether one of the words is a program's.
 fn has_program(program: &str, words: &[&str]) -> bool
     ensures { result ≡ has_program program.now words.now }
 {
@@ -28,35 +82,43 @@ fn has_program(program: &str, words: &[&str]) -> bool
         .any(|word| word.as_bytes().ends_with(program.as_bytes()))
 }
 
-/// Whether one of the words begins with an option.
-fn has_option(option: &str, words: &[&str]) -> bool
-    ensures { result ≡ has_option option.now words.now }
+/// Whether words have the program of a row, and its option.
+fn speaks(row: Start, words: &[&str]) -> bool
+    ensures { result ≡ speaks row words.now }
 {
-    words
-        .iter()
-        .any(|word| word.as_bytes().starts_with(option.as_bytes()))
+    has_program(row.program, words) && mark_of(row, words).is_some()
 }
 
-/// Whether one of the words says that the user is root.
-fn has_root(option: &str, words: &[&str]) -> bool
-    ensures { result ≡ has_root option.now words.now }
+/// Who starts a daemon by the words of a row: root too, where it is named.
+fn starter_by(options: Options, row: Start, words: &[&str]) -> Starter
+    ensures { result ≡ starter_by options row words.now }
 {
-    words.iter().any(|word| names_root(option, word))
+    let Some(place) = mark_of(row, words) else {
+        return row.starter;
+    };
+    match row.starter {
+        Starter::ByOther if names_root(options, row.option, &words[place..]) => Starter::ByRoot,
+        starter => starter,
+    }
 }
 
-/// Whether words have a program that starts another, and what says that it does so as another user.
-fn says_other(program: &str, option: &str, words: &[&str]) -> bool
-    ensures { result ≡ says_other program.now option.now words.now }
-{
-    has_program(program, words) && has_option(option, words) && !has_root(option, words)
-}
-
-/// Whether the words before the daemon's say that another user than root starts it.
-pub(crate) fn is_by_other(options: Options, words: &[&str]) -> bool
-    ensures { result ≡ is_by_other options words.now }
+/// The first row that speaks of words.
+fn row_of(options: Options, words: &[&str]) -> Option<Start>
+    ensures { result ≡ row_of options words.now }
 {
     options
         .starters
         .iter()
-        .any(|(program, option)| says_other(program, option, words))
+        .find(|row| speaks(**row, words))
+        .copied()
+}
+
+/// Who starts the daemon before whose word these words stand: that row says it; where there is none, root.
+pub(crate) fn starter_of(options: Options, words: &[&str]) -> Starter
+    ensures { result ≡ starter_of options words.now }
+{
+    match row_of(options, words) {
+        Some(row) => starter_by(options, row, words),
+        None => Starter::ByRoot,
+    }
 }

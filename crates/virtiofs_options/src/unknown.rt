@@ -43,9 +43,11 @@ pub fn unknown_line(alloc: Global, unknown: UnknownWord<'_>) -> Result<String, A
     let what = if unknown.is_older {
         "part of '-o'"
     } else {
-        "option of virtiofsd"
+        "option"
     };
-    format!(in alloc; "guest {guest}: unknown {what}: {word}")
+    format!(in alloc;
+        "guest {guest}: unknown {what} {word}: virtiofsd 1.13.2 refuses it and does not start"
+    )
 }
 
 /// The most characters of a word that count, and that a sentence quotes.

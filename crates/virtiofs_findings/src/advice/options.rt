@@ -73,10 +73,10 @@ fn guest_of<'a, A: Allocator + Copy>(
             xattrmap,
             posix_acl: options.posix_acl && other.keeps_acl,
             acl_flag: options.acl_flag && other.keeps_acl,
-            xattr: options.xattr,
+            xattr: options.has_xattrs(),
             security_label: options.security_label,
             sandbox: options.sandbox,
-            by_other: options.by_other,
+            starter: options.starter,
         },
         runner: given.runner,
     })

@@ -1,5 +1,5 @@
 //! The ids of the host that two guests reach, outside the namespaces of their daemons.
-ghost use Rattle.std.specs.Prelude.{◌≡◌, ◌↔◌, ℕ, IfOk, MatchOption};
+ghost use Rattle.std.specs.Prelude.{◌≡◌, ◌<◌, ◌↔◌, ℕ, IfOk, MatchOption};
 ghost use Rattle.virtiofs_id_audit.specs.IdAudit.{IsLeastId, GoesInto, Hold};
 ghost use Rattle.virtiofs_findings.specs.IdFindings.{ReachedOutside, Meets, TellsMeeting, FindsMeeting};
 ghost use Rattle.virtiofs_id_audit.specs.Namespace.{StandsBy, StandsFor};
@@ -32,6 +32,9 @@ fn met_at<A: Allocator + Copy>(
         (λ met. (met.host ≡ host) × IsLeastId
         (GoesInto other.now.map (StandsFor other.now.ranges.items host)) met.guest)) }
 {
+    if host == u32::MAX {
+        return Ok(None);
+    }
     let one = [Span {
         first: host,
         last: host,
@@ -120,6 +123,19 @@ fn meeting_at<A: Allocator + Copy>(
     })
 }
 
+/// The ids of the spans, but for 4294967295, which is none.
+fn but_no_id<A: Allocator + Copy>(alloc: A, spans: &[Span]) -> Result<Vec<Span, A>, AllocError>
+    ensures { IfOk result (λ ids. (id : ℕ)
+        → Hold ids.items id ↔ (Hold spans.now id × (id < 4294967295))) }
+{
+    let all = [UidMap {
+        inside_uid: 0,
+        outside_uid: 0,
+        count: u32::MAX,
+    }];
+    moved_all(alloc, Way::Outwards, &all, spans)
+}
+
 /// The ids inside the namespace of these ranges which are ids of the host that the guest reaches.
 fn met_inside<A: Allocator + Copy>(
     alloc: A,
@@ -136,7 +152,8 @@ fn met_inside<A: Allocator + Copy>(
         other.ranges.as_slice(),
         theirs.as_slice(),
     )?;
-    let met = moved_all(alloc, Way::Inwards, ranges, outside.as_slice())?;
+    let ids = but_no_id(alloc, outside.as_slice())?;
+    let met = moved_all(alloc, Way::Inwards, ranges, ids.as_slice())?;
     Ok(met)
 }
 

@@ -1,7 +1,9 @@
 //! The user namespace that a daemon runs in: its ranges.
-ghost use Rattle.std.specs.Prelude.{◌≡◌, ◌↔◌, Contains, IfOk, IsTrue, option_map};
-ghost use Rattle.virtiofs_findings.specs.Ranges.{own_of, shown_of, is_host, but_host, set_up_ranges, ranges_of, AreSame, Differ};
+ghost use Rattle.std.specs.Prelude.{◌≡◌, ◌↔◌, ◌+◌, ◌-◌, ◌<◌, ◌^◌, All, IfOk, IsTrue, find, option_map};
+ghost use Rattle.virtiofs_findings.specs.RangeParts.{AgreeAround};
+ghost use Rattle.virtiofs_findings.specs.Ranges.{own_of, is_alone, shown_of, is_host, but_host, set_up_ranges, ranges_of, has, outside_of, AreSame, Differ};
 
+use crate::ids::ranges::MOST_RANGES;
 use std::alloc::{AllocError, Allocator};
 use virtiofs_host::runner::Bounds;
 use virtiofs_map::idmap::UidMap;
@@ -13,6 +15,16 @@ pub(crate) fn own_of<A: Allocator>(bounds: Option<&Bounds<A>>) -> u32
     match bounds {
         Some(bounds) => bounds.own,
         None => 0,
+    }
+}
+
+/// Whether a daemon can act as that one alone, where no namespace has others.
+fn is_alone<A: Allocator>(bounds: Option<&Bounds<A>>) -> bool
+    ensures { result ≡ is_alone (option_map (λ it. it.now) bounds.entry) }
+{
+    match bounds {
+        Some(bounds) => bounds.is_alone,
+        None => false,
     }
 }
 
@@ -90,8 +102,8 @@ fn set_up_ranges<A: Allocator>(
     Ok(ranges)
 }
 
-/// The ranges of the namespace that a daemon runs in: those that the kernel shows, but of who is not
-/// root and in that of the host the id that it runs as alone; or else those that it sets up.
+/// The ranges of the namespace that a daemon runs in: those that the kernel shows, but in that of the
+/// host, of who can act as one id alone, that id; or else those that it sets up.
 pub(crate) fn ranges_of<A: Allocator>(
     alloc: A,
     bounds: Option<&Bounds<A>>,
@@ -103,31 +115,85 @@ pub(crate) fn ranges_of<A: Allocator>(
 {
     let own = own_of(bounds);
     match shown_of(bounds) {
-        Some(shown) => set_up_ranges(alloc, own > 0, own, but_host(shown)),
+        Some(shown) => set_up_ranges(alloc, is_alone(bounds), own, but_host(shown)),
         None => set_up_ranges(alloc, sets_up, own, written),
     }
 }
 
-/// Whether a range is among others.
-fn is_among(ranges: &[UidMap], range: &UidMap) -> bool
-    ensures { IsTrue result ↔ Contains ranges.now range.now }
+/// Whether a range has an id inside.
+fn has(range: &UidMap, id: u64) -> bool
+    ensures { result ≡ has range.now id }
 {
-    ranges.contains(range)
+    let first = u64::from(range.inside_uid);
+    first <= id && id < first + u64::from(range.count)
 }
 
-/// Whether the ranges are as many as those of the options, and no others.
-fn are_same(shown: &[UidMap], written: &[UidMap]) -> bool
-    ensures { IsTrue result ↔ AreSame shown.now written.now }
+/// The first of the ranges that has an id inside.
+fn first_with(ranges: &[UidMap], id: u64) -> Option<&UidMap>
+    ensures { option_map (λ it. it.now) result ≡ find (λ range. has range id) ranges.now }
 {
-    if shown.len() != written.len() {
-        return false;
+    ranges.iter().find(|range| has(range, id))
+}
+
+/// What an id inside is outside, by a range with those first ids.
+fn moved(inside: u32, outside: u32, id: u64) -> u64
+    requires { id < 2 ^ 33 }
+    ensures { result ≡ outside + (id - inside) }
+{
+    u64::from(outside) + id.saturating_sub(u64::from(inside))
+}
+
+/// The id outside of an id inside, by the first of the ranges that has it.
+fn outside_of(ranges: &[UidMap], id: u64) -> Option<u64>
+    requires { id < 2 ^ 33 }
+    ensures { result ≡ outside_of ranges.now id }
+{
+    match first_with(ranges, id) {
+        Some(range) => Some(moved(range.inside_uid, range.outside_uid, id)),
+        None => None,
     }
-    for range in shown {
-        if !is_among(written, range) {
+}
+
+/// Whether two lists of ranges lead an id inside to the same id outside, or both to none.
+fn agree_at(shown: &[UidMap], written: &[UidMap], id: u64) -> bool
+    requires { id < 2 ^ 33 }
+    ensures { IsTrue result ↔ outside_of shown.now id ≡ outside_of written.now id }
+{
+    outside_of(shown, id) == outside_of(written, id)
+}
+
+/// Whether they agree at the first id of a range, and at the one behind its last.
+fn agree_around(shown: &[UidMap], written: &[UidMap], range: &UidMap) -> bool
+    ensures { IsTrue result ↔ AgreeAround shown.now written.now range.now }
+{
+    let first = u64::from(range.inside_uid);
+    agree_at(shown, written, first) && agree_at(shown, written, first + u64::from(range.count))
+}
+
+/// Whether they agree around each of some ranges.
+fn agree_around_all(shown: &[UidMap], written: &[UidMap], ranges: &[UidMap]) -> bool
+    ensures { IsTrue result ↔ All (AgreeAround shown.now written.now) ranges.now }
+{
+    for range in ranges {
+        if !agree_around(shown, written, range) {
             return false;
         }
     }
     true
+}
+
+/// Whether the ranges of the options mean the same as those that the kernel shows. Between two ids around
+/// which they agree, both go on alike.
+fn are_same(shown: &[UidMap], written: &[UidMap]) -> bool
+    ensures { IsTrue result ↔ AreSame shown.now written.now }
+{
+    if written.len() > MOST_RANGES {
+        return false;
+    }
+    if !agree_around_all(shown, written, shown) {
+        return false;
+    }
+    agree_around_all(shown, written, written)
 }
 
 /// Whether the kernel shows other ranges than those of the options, if there are any.

@@ -71,7 +71,7 @@ fn meeting(before: &[UidMap], range: &UidMap) -> Option<RangeFault>
 }
 
 /// The most ranges that Linux takes.
-const MOST_RANGES: usize = 340;
+pub(crate) const MOST_RANGES: usize = 340;
 
 /// Linux takes a text of ranges that is shorter than a page.
 const PAGE: usize = 4096;

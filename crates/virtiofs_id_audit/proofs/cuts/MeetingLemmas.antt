@@ -1,25 +1,19 @@
 -- The spans that have an id of a whole.
-use Rattle.std.proofs.Common.{◌≡◌, ◌↔◌, inl, inr, ℕ, ◌+◌, ◌-◌, ◌<◌, ◌≤◌, true, false, leb, ltb, List, take, drop, length}
-use Rattle.std.proofs.Common.{get_or, sym, ◌∙◌, arith}
+use Rattle.std.proofs.Common.{◌≡◌, ◌↔◌, inl, inr, ℕ, ◌+◌, ◌-◌, ◌<◌, ◌≤◌, true, false, leb, ltb, List, take, drop}
+use Rattle.std.proofs.Common.{length, get_or, sym, ◌∙◌, arith, rules}
 use Rattle.std.specs.List.{All}
 use Rattle.std.specs.List.Sorted.{IsPartitionPoint}
 use Rattle.std.proofs.lemmas.Bool.{cases_lt}
 use Rattle.std.proofs.lemmas.Bool.Decides.{nat_tests}
 use Rattle.std.proofs.lemmas.List.{get_or-drop, get_or-take, length-drop, length-take}
 use Rattle.std.proofs.lemmas.List.Elements.{All-drop}
-use Rattle.virtiofs_id_audit.specs.IdAuditParts.{IsSpan, Has, Hold, AreApart}
+use Rattle.virtiofs_id_audit.specs.IdAuditParts.{Has, Hold, AreApart}
 use Rattle.virtiofs_id_audit.specs.declared.spans.Span.{Span}
 
 -- ---- spans that are apart
 
 pub AreApart-drop : (n : ℕ) (spans : List Span) → AreApart spans → AreApart (drop n spans)
-AreApart-drop n spans are = record {
-  some = All-drop IsSpan n spans are.some;
-  apart = λ i j d up inside.
-      (let all = length-drop n spans in
-      rw (get_or-drop n spans i d, get_or-drop n spans j d)
-      (are.apart (n + i) (n + j) d (omega arith) (omega (arith, all, inside))));
-}
+AreApart-drop n spans are = search (rules, All-drop, length-drop, get_or-drop)
 
 -- ---- those that have an id of the whole
 
@@ -32,13 +26,7 @@ module _ (spans : List Span) (whole : Span) (from count : ℕ)
   -- the span at a place of them
   met_at : (k : ℕ) (d : Span) → k < length (take count (drop from spans))
       → (k < count) × (from + k < length spans) × (get_or (take count (drop from spans)) k d ≡ get_or spans (from + k) d)
-  met_at k d inside =
-      let all = length-take count (drop from spans) in
-      let rest = length-drop from spans in (
-        omega (arith, all, rest, inside),
-        omega (arith, all, rest, inside),
-        get_or-take count (drop from spans) k d (omega (arith, all, rest, inside)) ∙ get_or-drop from spans k d,
-      )
+  met_at k d inside = search (rules, length-take, length-drop, get_or-take, get_or-drop)
 
   pub All-met : All (λ span. (whole.first ≤ span.last) × (span.first ≤ whole.last)) (take count (drop from spans))
   All-met k d inside =
@@ -60,11 +48,7 @@ module _ (spans : List Span) (whole : Span) (from count : ℕ)
     back : Hold spans id → Hold (take count (drop from spans)) id
     back (span, (k, inside, here), has) =
         elim (cases_lt k from) [
-          | inl before ↦ absurd
-              (let early : ltb span.last whole.first ≡ true = rw here at (ends.0 k span (omega arith) before) in
-              let low : whole.first ≤ id = in_whole.0 in
-              let high : id ≤ span.last = has.1 in
-              grind (arith, nat_tests))
+          | inl before ↦ search (rules, nat_tests)
           | inr after ↦ later after
         ] where
           later : from ≤ k → Hold (take count (drop from spans)) id

@@ -1,6 +1,6 @@
 -- What is left of a span where others are cut out of it, one after the other.
 use Rattle.std.proofs.Common.{◌≡◌, ◌↔◌, inl, inr, ◌⊎◌, ℕ, ◌+◌, ◌-◌, ◌<◌, ◌≤◌, min, max, List, [], ◌∷◌, ◌++◌, length}
-use Rattle.std.proofs.Common.{take, get_or, arith}
+use Rattle.std.proofs.Common.{take, get_or, arith, rules}
 use Rattle.std.specs.List.{All}
 use Rattle.std.specs.List.Sorted.{IsNonDecreasingBy}
 use Rattle.std.proofs.lemmas.Bool.{cases_lt}
@@ -10,8 +10,7 @@ use Rattle.virtiofs_id_audit.specs.IdAudit.{AreRuns}
 use Rattle.virtiofs_id_audit.specs.IdAuditParts.{IsSpan, Has, Hold, AreApart}
 use Rattle.virtiofs_id_audit.specs.declared.spans.Span.{Span}
 use Rattle.virtiofs_id_audit.proofs.HeldLemmas.{hold_push, push_hold, hold_none}
-use Rattle.virtiofs_id_audit.proofs.ApartLemmas.{AreApart-none, AreApart-push, AreRuns-none, AreRuns-push}
-use Rattle.virtiofs_id_audit.proofs.ApartLemmas.{below_next}
+use Rattle.virtiofs_id_audit.proofs.ApartLemmas.{AreApart-none, AreApart-push, AreRuns-none, AreRuns-push, below_next}
 
 -- the first cuts are made, and what is left of the span below next is kept; each cut to come begins above that
 pub record CutTo (whole : Span) (cuts : List Span) (i next : ℕ) (kept : List Span) : Type 0 where
@@ -26,16 +25,7 @@ pub record CutTo (whole : Span) (cuts : List Span) (i next : ℕ) (kept : List S
 
 -- before the first cut
 pub CutTo-start : (whole : Span) (cuts : List Span) → whole.first < 4294967296 → CutTo whole cuts 0 whole.first []
-CutTo-start whole cuts within = record {
-  from = omega arith;
-  bound = omega arith;
-  apart = AreApart-none;
-  runs = AreRuns-none;
-  below = λ k d inside. absurd (omega arith);
-  hold = λ id. (λ held. absurd (hold_none id held), λ (has, before, _). absurd (omega (arith, has.0)));
-  done = λ k d inside. absurd (omega arith);
-  ahead = λ k d from inside j e none. absurd (omega arith);
-}
+CutTo-start whole cuts within = search (rules, AreApart-none, AreRuns-none, hold_none)
 
 module _ (whole : Span) (cuts : List Span) (i next : ℕ) (kept : List Span) (cut : Span)
     (so_far : CutTo whole cuts i next kept) (some : All IsSpan cuts)
@@ -51,21 +41,15 @@ module _ (whole : Span) (cuts : List Span) (i next : ℕ) (kept : List Span) (cu
 
   -- none of the first cuts has an id from next on
   free : (id : ℕ) → next ≤ id → ¬ Hold (take i cuts) id
-  free id from (span, listed, has) =
-      omega (arith, has, All-contains (λ s. s.last < next) (take i cuts) span so_far.done listed)
+  free id from (span, listed, has) = search (rules, All-contains)
 
   -- an id that is kept is not of this cut
   not_of_cut : (id : ℕ) → Hold kept id → ¬ Has cut id
-  not_of_cut id (span, listed, has) in_cut =
-      let under : span.last < (get_or cuts i cut).first =
-      All-contains (λ s. s.last < (get_or cuts i cut).first) kept span (so_far.ahead i cut (omega arith) inside) listed in
-      let under' : span.last < cut.first = rw here at under in
-      omega (arith, has.1, in_cut.0)
+  not_of_cut id (span, listed, has) in_cut = search (rules, All-contains)
 
   -- an id below the new next that this cut does not have, and that is not below next, is before the cut
   before_cut : (new id : ℕ) → new ≡ max next (cut.last + 1) → next ≤ id → id < new → ¬ Has cut id → id < cut.first
-  before_cut new id is from below not =
-      elim (cases_lt id cut.first) [ inl before ↦ before | inr after ↦ absurd (not (omega arith)) ]
+  before_cut new id is from below not = search (rules, cases_lt)
 
   done_more : (new : ℕ) → new ≡ max next (cut.last + 1) → All (λ s. s.last < new) (take (i + 1) cuts)
   done_more new is =
@@ -181,11 +165,7 @@ module _ (whole : Span) (cuts : List Span) (i next : ℕ) (kept : List Span) (so
     to held =
         elim (hold_push kept span id held) [
           | inl old ↦ (let (in_whole, before, not) = (all_cut id).0 old in (in_whole, not))
-          | inr has ↦ (
-            omega (arith, has, so_far.from),
-            λ (cut, listed, in_cut).
-                omega (arith, has, in_cut, All-contains (λ s. s.last < next) cuts cut all_done listed),
-          )
+          | inr has ↦ search (rules, All-contains, all_done)
         ]
 
     back : Has whole id × (¬ Hold cuts id) → Hold (kept ++ span ∷ []) id

@@ -1,15 +1,13 @@
 -- Which ids spans have again, as they come in the order of their first ids.
 use Rattle.std.proofs.Common.{◌≡◌, ◌↔◌, inl, inr, ◌⊎◌, ℕ, ◌+◌, ◌-◌, ◌<◌, ◌≤◌, min, max, List, [], ◌∷◌, ◌++◌, length}
-use Rattle.std.proofs.Common.{take, get_or, Contains, refl, ap, ◌∙◌, arith}
-use Rattle.std.proofs.Common.{subst}
+use Rattle.std.proofs.Common.{take, get_or, Contains, ◌∙◌, arith, subst, rules}
 use Rattle.std.specs.List.{All}
 use Rattle.std.specs.List.Sorted.{IsPermutation, IsNonDecreasingBy}
 use Rattle.std.proofs.lemmas.Bool.{cases_lt}
 use Rattle.std.proofs.lemmas.Bool.Decides.{nat_tests}
 use Rattle.std.proofs.lemmas.List.{get_or_default, take_all, take_more}
-use Rattle.std.proofs.lemmas.List.Sorted.{sum_by-IsPermutation}
+use Rattle.std.proofs.lemmas.List.Sorted.{sum_by-IsPermutation, IsNonDecreasingBy-push}
 use Rattle.std.proofs.lemmas.List.Elements.{All-push, All-weaker, All-contains, Contains-push}
-use Rattle.std.proofs.lemmas.List.Sorted.{IsNonDecreasingBy-push}
 use Rattle.std.proofs.lemmas.List.Sums.{sum_by_more}
 use Rattle.virtiofs_id_audit.specs.IdAuditParts.{IsSpan, Has, Hold, AreInOrder, has_times, times, once_below}
 use Rattle.virtiofs_id_audit.specs.declared.spans.Span.{Span}
@@ -40,38 +38,21 @@ pub record SweptTo (images : List Span) (start i reached last : ℕ) (again : Li
 
 -- before the first image
 below_once : (start id : ℕ) → (id < start) ↔ (1 ≤ once_below start id)
-below_once start id =
-    elim (cases_lt id start) [
-      | inl before ↦ (λ _. grind (arith, nat_tests), λ _. before)
-      | inr after ↦ (λ below. absurd (omega arith), λ some. absurd (grind (arith, nat_tests)))
-    ]
+below_once start id = search (rules, cases_lt, nat_tests)
 
 once_at_most : (start id : ℕ) → once_below start id ≤ 1
 once_at_most start id = grind (arith, nat_tests)
 
 pub SweptTo-start : (images : List Span) (start : ℕ) → start ≤ 4294967296 → SweptTo images start 0 start 0 []
 unfolding reached_times
-SweptTo-start images start bound = record {
-  bound = bound;
-  order = omega arith;
-  hold = λ id. (λ held. absurd (hold_none id held), λ twice. absurd (omega (arith, once_at_most start id)));
-  ends = λ id low.
-      (λ below. omega (arith, (below_once start id).0 below), λ some. (below_once start id).1 (omega arith));
-  firsts = λ k d inside. absurd (omega arith);
-  lasts = λ k d inside. absurd (omega arith);
-  last_is = inl refl;
-}
+SweptTo-start images start bound = search (rules, hold_none, once_at_most, below_once)
 
 -- ---- one image more
 
 reached_more : (images : List Span) (start i id : ℕ) (image : Span) → i < length images → get_or images i image ≡ image
     → reached_times images start (i + 1) id ≡ reached_times images start i id + has_times id image
 unfolding reached_times
-reached_more images start i id image inside here =
-    let more : times (take (i + 1) images) id ≡ times (take i images) id + has_times id (get_or images i image) =
-    sum_by_more (has_times id) images i image inside in
-    let same : has_times id (get_or images i image) ≡ has_times id image = ap (has_times id) here in
-    omega arith
+reached_more images start i id image inside here = search (rules, sum_by_more)
 
 -- no image so far begins above an id of the next one
 begun : (images : List Span) (i id : ℕ) (image : Span) → IsNonDecreasingBy (λ span. span.first) images
@@ -79,9 +60,7 @@ begun : (images : List Span) (i id : ℕ) (image : Span) → IsNonDecreasingBy (
     → (get_or images k d).first ≤ id
 begun images i id image rising inside here from k d before =
     let up : (get_or images k d).first ≤ (get_or images i d).first = rising k i d (omega arith) inside in
-    let same : get_or images i d ≡ image = get_or_default images i d image inside ∙ here in
-    let up' : (get_or images k d).first ≤ image.first = rw same at up in
-    omega arith
+    search (rules, get_or_default)
 
 module _ (images : List Span) (start i reached last : ℕ) (again : List Span) (image : Span)
     (so_far : SweptTo images start i reached last again)
@@ -98,14 +77,7 @@ module _ (images : List Span) (start i reached last : ℕ) (again : List Span) (
       let begins : image.first ≤ id = rw here at (low i image (omega arith)) in
       let before = reached_before id begins in
       let more = reached_more images start i id image inside here in
-      elim (has_or_not image id) [
-        | inl (once, has) ↦ omega arith
-        | inr (never, not) ↦ elim (cases_lt image.last id) [
-          | inl beyond ↦
-              (λ below. omega (arith, before.0 (omega arith)), λ times. omega (arith, before.1 (omega arith)))
-          | inr high ↦ absurd (not (begins, high))
-        ]
-      ]
+      search (rules, has_or_not, cases_lt)
 
   -- nothing of the image was reached before
   pub SweptTo-pass : (new : ℕ) → reached ≤ image.first → new ≡ max reached (image.last + 1)
@@ -115,14 +87,7 @@ module _ (images : List Span) (start i reached last : ℕ) (again : List Span) (
     order = so_far.order;
     hold = λ id.
         (let more = reached_more images start i id image inside here in
-        elim (has_or_not image id) [
-          | inl (once, (low, high)) ↦ (
-            λ held. omega (arith, (so_far.hold id).0 held),
-            λ twice. absurd (omega (arith, (reached_before id low).1 (omega arith))),
-          )
-          | inr (never, not) ↦
-              (λ held. omega (arith, (so_far.hold id).0 held), λ twice. (so_far.hold id).1 (omega arith))
-        ]);
+        search (rules, has_or_not, reached_before));
     ends = ends_more new is;
     firsts =
         All-weaker (BeginsBefore images i) (BeginsBefore images (i + 1))
@@ -161,30 +126,12 @@ module _ (images : List Span) (start i reached last : ℕ) (again : List Span) (
   } where
     -- an id up to the greatest so far is held already, or there is none above 0
     by_last : (id : ℕ) → image.first ≤ id → id ≤ last → (id ≡ 0) ⊎ Hold again id
-    by_last id from high =
-        elim so_far.last_is [
-          | inl none ↦ inl (omega arith)
-          | inr (other, listed, ends) ↦
-              let begins : other.first ≤ image.first = rw here at
-              (All-contains (BeginsBefore images i) again other so_far.firsts listed i image (omega arith) inside) in
-              inr (other, listed, (omega arith, omega arith))
-        ]
+    by_last id from high = search (rules, All-contains)
 
     from_span : (id : ℕ) → Has span id → 2 ≤ reached_times images start (i + 1) id
     from_span id (low, high) =
         let more = reached_more images start i id image inside here in
-        elim (cases_lt (min image.last (reached - 1)) id) [
-          | inl beyond ↦
-              elim (by_last id (omega arith) (omega arith)) [
-                | inl none ↦ absurd (omega arith)
-                | inr held ↦ omega (arith, (so_far.hold id).0 held)
-              ]
-          | inr short ↦
-              elim (has_or_not image id) [
-                | inl (once, has) ↦ omega (arith, (reached_before id (omega arith)).0 (omega arith))
-                | inr (never, not) ↦ absurd (not (omega arith))
-              ]
-        ]
+        search (rules, cases_lt, by_last, has_or_not, reached_before)
 
     to : (id : ℕ) → Hold (again ++ span ∷ []) id → 2 ≤ reached_times images start (i + 1) id
     to id held =
@@ -197,11 +144,7 @@ module _ (images : List Span) (start i reached last : ℕ) (again : List Span) (
     from : (id : ℕ) → 2 ≤ reached_times images start (i + 1) id → Hold (again ++ span ∷ []) id
     from id twice =
         let more = reached_more images start i id image inside here in
-        push_hold again span id (elim (has_or_not image id) [
-          | inl (once, (low, high)) ↦
-              (let old : id < reached = (reached_before id low).1 (omega arith) in inr (omega arith, omega arith))
-          | inr (never, not) ↦ inl ((so_far.hold id).1 (omega arith))
-        ])
+        search (rules, push_hold, has_or_not, reached_before)
 
 -- after the last image
 pub SweptTo-end : (images : List Span) (start i reached last : ℕ) (again : List Span)
@@ -251,10 +194,7 @@ kept_with spans kept i d below so_far is = record {
 -- in another order they have the same ids
 pub hold_permuted : (spans sorted : List Span) (id : ℕ) → IsPermutation spans sorted → Hold sorted id ↔ Hold spans id
 hold_permuted spans sorted id permutation =
-    let same = sum_by-IsPermutation (has_times id) spans sorted permutation in (
-      (λ held. (times_hold spans id).0 (omega (arith, same, (times_hold sorted id).1 held))),
-      (λ held. (times_hold sorted id).0 (omega (arith, same, (times_hold spans id).1 held))),
-    )
+    let same = sum_by-IsPermutation (has_times id) spans sorted permutation in search (rules, times_hold)
 
 -- all of them, in another order
 pub kept_sorted : (spans kept sorted : List Span) (i : ℕ) → length spans ≤ i → AreKept (take i spans) kept

@@ -1,6 +1,6 @@
 -- Two lists of specifications, one after the other.
-use Rattle.std.proofs.Common.{◌≡◌, ◌⊎◌, ◌↔◌, inl, inr, ℕ, ◌+◌, ◌-◌, ◌<◌, List, [], ◌∷◌, ◌++◌, length, get_or, AllPairs}
-use Rattle.std.proofs.Common.{Contains, Option, Some, None, IsSomeAnd, IfSome, refl, sym, ◌∙◌, subst, arith}
+use Rattle.std.proofs.Common.{◌≡◌, ◌⊎◌, ◌↔◌, inl, inr, ℕ, List, [], ◌∷◌, ◌++◌, length, AllPairs, Contains, Option, Some}
+use Rattle.std.proofs.Common.{None, IsSomeAnd, IfSome, refl, ◌∙◌, arith, rules}
 use Rattle.std.proofs.lemmas.Bool.{cases_eq, cases_lt}
 use Rattle.std.proofs.lemmas.List.{get_or_push, get_or_append_left, get_or-append_right, length-append}
 use Rattle.std.proofs.lemmas.List.Elements.{All-append, All-cons, All-contains, All-nil, Contains-append_left}
@@ -8,7 +8,7 @@ use Rattle.std.proofs.lemmas.List.Elements.{Contains-append_right, Contains-appe
 use Rattle.virtiofs_id_audit.specs.Mending.{StandsBefore}
 use Rattle.virtiofs_id_audit.specs.MendingParts.{Listed}
 use Rattle.virtiofs_map.specs.Build.{Accepted, HasSource, HasTarget, Meet}
-use Rattle.virtiofs_map.specs.Mapping.{entry_of, first_of, count_of, target_of, EntryCovers, Covers, Maps, Becomes}
+use Rattle.virtiofs_map.specs.Mapping.{entry_of, target_of, EntryCovers, Covers, Maps, Becomes}
 use Rattle.virtiofs_map.specs.MappingLaws.{LeadsBack}
 use Rattle.virtiofs_map.specs.declared.cmdline.IdMap.{IdMap}
 use Rattle.virtiofs_map.specs.declared.soft_idmap.entry.Direction.{Direction}
@@ -37,26 +37,15 @@ none_covers specs direction n none spec listed covers =
 -- ---- one specification
 
 pub only : (spec other : IdMap) → Contains (spec ∷ []) other → other ≡ spec
-only spec other listed =
-    All-contains (λ (s : IdMap). s ≡ spec) (spec ∷ []) other
-    (All-cons (λ (s : IdMap). s ≡ spec) spec [] refl (All-nil (λ (s : IdMap). s ≡ spec))) listed
+only spec other listed = search (rules, All-contains, All-cons, All-nil)
 
 pub Listed-one : (spec : IdMap) (direction : Direction) (n : ℕ) (value : Option ℕ)
     → Listed (spec ∷ []) direction n value ↔ Maps spec direction n value
-Listed-one spec direction n value = (
-  (λ (other, listed, maps). subst (λ (s : IdMap). Maps s direction n value) (only spec other listed) maps),
-  (λ maps. (spec, (0, omega arith, refl), maps)),
-)
+Listed-one spec direction n value = search (rules, only)
 
 pub Accepted-one : (spec : IdMap) → ((direction : Direction) → IfSome (entry_of spec direction) HasSource)
     → ((direction : Direction) → IfSome (entry_of spec direction) HasTarget) → Accepted (spec ∷ [])
-Accepted-one spec source target = record {
-  source = λ direction. All-cons (λ (s : IdMap). IfSome (entry_of s direction) HasSource) spec [] (source direction)
-      (All-nil (λ (s : IdMap). IfSome (entry_of s direction) HasSource));
-  target = λ direction. All-cons (λ (s : IdMap). IfSome (entry_of s direction) HasTarget) spec [] (target direction)
-      (All-nil (λ (s : IdMap). IfSome (entry_of s direction) HasTarget));
-  apart = λ direction i j d before below. absurd (omega arith);
-}
+Accepted-one spec source target = search (rules, All-nil)
 
 -- ---- every number becomes something
 
@@ -65,14 +54,7 @@ covers_or_not spec direction n = by (entry_of spec direction) where
   by : (o : Option Entry)
       → IsSomeAnd o (λ entry. EntryCovers entry n) ⊎ (¬ IsSomeAnd o (λ entry. EntryCovers entry n))
   by None = inr (λ covers. covers)
-  by (Some entry) =
-      elim (cases_lt n (first_of entry)) [
-        | inl below ↦ inr (λ (low, high). omega arith)
-        | inr from ↦ elim (cases_lt n (first_of entry + count_of entry)) [
-          | inl inside ↦ inl (from, inside)
-          | inr over ↦ inr (λ (low, high). omega arith)
-        ]
-      ]
+  by (Some entry) = search (rules, cases_lt)
 
 one_covers_or_none : (specs : List IdMap) (direction : Direction) (n : ℕ)
     → ((spec : IdMap) × Contains specs spec × Covers spec direction n)
@@ -84,11 +66,7 @@ one_covers_or_none (spec ∷ specs) direction n =
       | inr not ↦ elim (one_covers_or_none specs direction n) [
         | inl (other, listed, covers) ↦
             inl (other, Contains-append_right (spec ∷ []) specs other listed, covers)
-        | inr none ↦ inr (λ other listed covers.
-            elim (Contains-append_cases (spec ∷ []) specs other listed) [
-              | inl front ↦ not (subst (λ (s : IdMap). Covers s direction n) (only spec other front) covers)
-              | inr later ↦ none other later covers
-            ])
+        | inr none ↦ search (rules, Contains-append_cases, only)
       ]
     ]
 
@@ -136,22 +114,7 @@ Listed-append specs more direction n value = (to, from) where
 AllPairs-append : {X : Type 0} (R : X → X → Type 0) (xs ys : List X) → AllPairs R xs → AllPairs R ys
     → ((x y : X) → Contains xs x → Contains ys y → R x y) → AllPairs R (xs ++ ys)
 AllPairs-append R xs ys first second cross i j d before below =
-    let total : length (xs ++ ys) ≡ length xs + length ys = length-append xs ys in
-    elim (cases_lt j (length xs)) [
-      | inl inside ↦
-          rw (get_or_append_left xs ys d i (omega arith), get_or_append_left xs ys d j inside) (first i j d before inside)
-      | inr after ↦ elim (cases_lt i (length xs)) [
-        | inl inside ↦
-            rw (get_or_append_left xs ys d i inside, get_or-append_right xs ys (length xs) j d refl (omega arith))
-            (cross (get_or xs i d) (get_or ys (j - length xs) d) (Contains-get_or xs i d inside)
-            (Contains-get_or ys (j - length xs) d (omega arith)))
-        | inr later ↦
-            rw (
-              get_or-append_right xs ys (length xs) i d refl (omega arith),
-              get_or-append_right xs ys (length xs) j d refl (omega arith),
-            ) (second (i - length xs) (j - length xs) d (omega arith) (omega arith))
-      ]
-    ]
+    search (rules, length-append, cases_lt, get_or_append_left, get_or-append_right, Contains-get_or)
 
 -- no number is mapped by both
 abbrev pub KeepApart : List IdMap → List IdMap → Type 0
@@ -178,14 +141,7 @@ Accepted-append specs more first second apart = record {
 
 pub StandsBefore-append : (specs more : List IdMap) (spec later : IdMap) → StandsBefore specs spec later
     → StandsBefore (specs ++ more) spec later
-StandsBefore-append specs more spec later is = record {
-  at = is.at;
-  later_at = is.later_at;
-  before = is.before;
-  inside = omega (arith, length-append specs more, is.inside);
-  here = get_or_append_left specs more spec is.at (omega (arith, is.before, is.inside)) ∙ is.here;
-  there = get_or_append_left specs more later is.later_at is.inside ∙ is.there;
-}
+StandsBefore-append specs more spec later is = search (rules, length-append, get_or_append_left)
 
 -- one more stands behind all others
 pub StandsBefore-push : (specs : List IdMap) (spec later : IdMap) → Contains specs spec
@@ -202,22 +158,4 @@ StandsBefore-push specs spec later (k, inside, here) = record {
 pub StandsBefore-push_cases : (specs : List IdMap) (more spec later : IdMap) → StandsBefore (specs ++ more ∷ []) spec later
     → StandsBefore specs spec later ⊎ (Contains specs spec × (more ≡ later))
 StandsBefore-push_cases specs more spec later is =
-    let total = length-append specs (more ∷ []) in
-    let within : is.at < length specs = omega (arith, total, is.before, is.inside) in
-    let here : get_or specs is.at spec ≡ spec = sym (get_or_append_left specs (more ∷ []) spec is.at within) ∙ is.here in
-    elim (cases_lt is.later_at (length specs)) [
-      | inl inside ↦ inl (record {
-        at = is.at;
-        later_at = is.later_at;
-        before = is.before;
-        inside = inside;
-        here = here;
-        there = sym (get_or_append_left specs (more ∷ []) later is.later_at inside) ∙ is.there;
-      })
-      | inr beyond ↦
-          (let last : is.later_at ≡ length specs = omega (arith, total, beyond, is.inside) in
-          inr (
-            (is.at, within, here),
-            sym (get_or_push specs more later is.later_at (sym last)) ∙ is.there,
-          ))
-    ]
+    search (rules, length-append, get_or_append_left, cases_lt, get_or_push)

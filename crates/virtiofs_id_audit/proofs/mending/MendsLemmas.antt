@@ -1,6 +1,6 @@
 -- Specifications of which the bad ids are cut out, and those that forbid them, are mended together.
 use Rattle.std.proofs.Common.{◌≡◌, ◌⊎◌, ◌↔◌, inl, inr, ℕ, ◌+◌, ◌<◌, ◌≤◌, List, [], ◌∷◌, ◌++◌, length, take, get_or}
-use Rattle.std.proofs.Common.{Contains, Option, Some, None, refl, sym, ap, ◌∙◌, arith}
+use Rattle.std.proofs.Common.{Contains, Option, Some, None, refl, sym, ap, ◌∙◌, arith, rules}
 use Rattle.std.proofs.lemmas.Bool.{cases_lt}
 use Rattle.std.proofs.lemmas.List.{get_or_default, get_or-take, length-take, nil_from_length, take_all, take_more}
 use Rattle.std.proofs.lemmas.List.{append-nil}
@@ -8,8 +8,8 @@ use Rattle.std.proofs.lemmas.List.Elements.{All-contains, Contains-append_left, 
 use Rattle.std.proofs.lemmas.List.Elements.{Contains-push_cases}
 use Rattle.virtiofs_id_audit.specs.IdAudit.{GoesTo, ComesBack, IsAlone, AreRuns}
 use Rattle.virtiofs_id_audit.specs.IdAuditParts.{Has, Hold}
-use Rattle.virtiofs_id_audit.specs.Mending.{IsBad, Mends, EndsWith, OneEndsWith, IsEdge, IsShort, IsClean}
-use Rattle.virtiofs_id_audit.specs.Mending.{StandsBefore, KeepsClean}
+use Rattle.virtiofs_id_audit.specs.Mending.{IsBad, Mends, EndsWith, OneEndsWith, IsEdge, IsShort, IsClean, StandsBefore}
+use Rattle.virtiofs_id_audit.specs.Mending.{KeepsClean}
 use Rattle.virtiofs_id_audit.specs.MendingParts.{AreCut, AreParts, IsRemnant, Listed, Stays}
 use Rattle.virtiofs_id_audit.specs.declared.spans.Span.{Span}
 use Rattle.virtiofs_map.specs.Build.{Accepted}
@@ -21,9 +21,9 @@ use Rattle.virtiofs_map.specs.declared.soft_idmap.entry.Direction.{Direction}
 use Rattle.virtiofs_map.specs.declared.soft_idmap.entry.Direction.TheVariants.{GuestToHost, HostToGuest}
 use Rattle.virtiofs_id_audit.proofs.ApartLemmas.{free_after, held_or_not}
 use Rattle.virtiofs_id_audit.proofs.mending.ListedLemmas.{StandsBefore-append, StandsBefore-push}
-use Rattle.virtiofs_id_audit.proofs.mending.ListedLemmas.{StandsBefore-push_cases}
-use Rattle.virtiofs_id_audit.proofs.mending.ListedLemmas.{Accepted-append, KeepApart, Listed-append}
-use Rattle.virtiofs_id_audit.proofs.mending.ListedLemmas.{Listed-one, LeadsBack-stable, covered_maps, none_covers}
+use Rattle.virtiofs_id_audit.proofs.mending.ListedLemmas.{StandsBefore-push_cases, Accepted-append, KeepApart}
+use Rattle.virtiofs_id_audit.proofs.mending.ListedLemmas.{Listed-append, Listed-one, LeadsBack-stable, covered_maps}
+use Rattle.virtiofs_id_audit.proofs.mending.ListedLemmas.{none_covers}
 use Rattle.virtiofs_map.proofs.ForCallers.{Becomes-forbidden, Becomes-one, Covers-maps}
 
 -- ---- one specification more, cut
@@ -82,23 +82,7 @@ pub record CutSoFar (specs : List IdMap) (bad : ℕ → Type 0) (i : ℕ) (out :
   pub unchanged : ((n : ℕ) → ¬ bad n) → out ≡ take i specs
 
 pub CutSoFar-start : (specs : List IdMap) (bad : ℕ → Type 0) → CutSoFar specs bad 0 []
-CutSoFar-start specs bad = record {
-  cut = record {
-    accepted = record {
-      source = λ direction k d inside. absurd (omega arith);
-      target = λ direction k d inside. absurd (omega arith);
-      apart = omega arith;
-    };
-    same = λ direction n value. (
-      (λ (spec, (k, inside, here), maps). absurd (omega arith)),
-      (λ ((spec, (k, inside, here), maps), stays). absurd (omega arith)),
-    );
-  };
-  remnants = λ remnant (k, inside, here). absurd (omega arith);
-  clean = λ spec (k, inside, here). absurd (omega arith);
-  order = λ spec later is. absurd (omega (arith, is.inside));
-  unchanged = λ _. refl;
-}
+CutSoFar-start specs bad = search rules
 
 pub CutSoFar-more : (specs : List IdMap) (bad : ℕ → Type 0) (i : ℕ) (d : IdMap) (out new : List IdMap)
     → Accepted specs → i < length specs → CutSoFar specs bad i out
@@ -193,8 +177,7 @@ module _ (specs cut forbids : List IdMap) (bad_host : ℕ → Type 0) (spans : L
   stays_becomes : (direction : Direction) (n : ℕ) (value : Option ℕ) → Stays (Hold spans) direction n
       → ((other : Option ℕ) → ¬ Listed forbids direction n other) → Becomes specs direction n value
       → Becomes (cut ++ forbids) direction n value
-  stays_becomes direction n value stays none =
-      Becomes-same specs (cut ++ forbids) direction n value (same direction n stays none)
+  stays_becomes direction n value stays none = search (rules, Becomes-same, same)
 
   becomes_stays : (direction : Direction) (n : ℕ) (value : Option ℕ) → Stays (Hold spans) direction n
       → ((other : Option ℕ) → ¬ Listed forbids direction n other) → Becomes (cut ++ forbids) direction n value

@@ -1,6 +1,5 @@
 -- How many names an audit tries.
-use Rattle.std.proofs.Common.{◌≡◌, ℕ, ◌+◌, ◌*◌, ◌<◌, ◌≤◌, Bool, true, false, cond, List, [], ◌∷◌, length, Option, Some}
-use Rattle.std.proofs.Common.{None, ◌∙◌, arith}
+use Rattle.std.proofs.Common.{◌≡◌, ℕ, ◌+◌, ◌*◌, ◌<◌, ◌≤◌, Bool, cond, List, [], ◌∷◌, length, Option, arith}
 use Rattle.std.specs.List.{cons_option, count_by, filter_map}
 use Rattle.std.specs.List.Sorted.{IsPermutation}
 use Rattle.std.proofs.lemmas.List.Sorted.{length_permutation}
@@ -9,7 +8,7 @@ use Rattle.std.proofs.lemmas.List.Sums.{sum_by-cons}
 use Rattle.virtiofs_map.specs.Audit.{most_tried}
 use Rattle.virtiofs_map.specs.AuditParts.{TriedSoFar, none_tried, Tries, most_guest_names}
 use Rattle.virtiofs_map.specs.FirstRule.{acts}
-use Rattle.virtiofs_map.specs.GatheredParts.{added_prefix_of, host_pattern, part_of}
+use Rattle.virtiofs_map.specs.GatheredParts.{part_of}
 use Rattle.virtiofs_map.specs.Rule.{MappingRule}
 use Rattle.virtiofs_map.specs.Steps.{count_after, CountsBetween}
 use Rattle.virtiofs_map.specs.declared.audit.gathered.Part.TheVariants.{Key, Added, Host}
@@ -20,8 +19,7 @@ use Rattle.virtiofs_map.specs.declared.xattrmap.scopes.Side.TheVariants.{Client,
 
 one_or_none : (o : Option (List ℕ)) (n : ℕ) (names : List (List ℕ)) → length (cons_option o []) ≤ n
     → length (cons_option o names) ≤ n + length names
-one_or_none None n names l = omega arith
-one_or_none (Some name) n names l = omega arith
+one_or_none o n names l = grind arith
 
 length_gathered : (f : MappingRule → Option (List ℕ)) (p : MappingRule → Bool)
     → ((rule : MappingRule) → length (cons_option (f rule) []) ≤ cond (p rule) 1 0) → (rules : List MappingRule)
@@ -35,41 +33,19 @@ length_gathered f p few (rule ∷ rules) =
       sum_by-cons (λ rule. cond (p rule) 1 0) rule rules,
     )
 
-one_where : (on : Bool) (o : Option (List ℕ)) → length (cons_option (cond on o None) []) ≤ cond on 1 0
-one_where true None = omega arith
-one_where true (Some name) = omega arith
-one_where false o = omega arith
-
 pub few_keys : (rules : List MappingRule) (names : List (List ℕ)) → IsPermutation (filter_map (part_of Key) rules) names
     → length names ≤ count_by (λ rule. rule.client) rules
-few_keys rules names are =
-    omega (
-      arith,
-      length_gathered (part_of Key) (λ rule. rule.client) (λ rule. one_where rule.client (Some rule.key)) rules,
-      length_permutation (filter_map (part_of Key) rules) names are,
-    )
+few_keys rules names are = grind (arith, length_gathered, length_permutation)
 
 pub few_added : (rules : List MappingRule) (names : List (List ℕ))
     → IsPermutation (filter_map (part_of (Added Client)) rules) names
     → length names ≤ count_by (λ rule. rule.client) rules
-few_added rules names are =
-    omega (
-      arith,
-      length_gathered (part_of (Added Client)) (λ rule. rule.client)
-          (λ rule. one_where rule.client (added_prefix_of rule)) rules,
-      length_permutation (filter_map (part_of (Added Client)) rules) names are,
-    )
+few_added rules names are = grind (arith, length_gathered, length_permutation)
 
 pub few_patterns : (side : Side) (rules : List MappingRule) (names : List (List ℕ))
     → IsPermutation (filter_map (part_of (Host side)) rules) names
     → length names ≤ count_by (λ rule. acts side rule) rules
-few_patterns side rules names are =
-    omega (
-      arith,
-      length_gathered (part_of (Host side)) (λ rule. acts side rule)
-          (λ rule. one_where (acts side rule) (host_pattern side rule)) rules,
-      length_permutation (filter_map (part_of (Host side)) rules) names are,
-    )
+few_patterns side rules names are = grind (arith, length_gathered, length_permutation)
 
 pub few_guest_names : (side : Side) (others rules : List MappingRule) (keys all_added patterns : List (List ℕ))
     → IsPermutation (filter_map (part_of Key) rules) keys
@@ -90,12 +66,4 @@ few_guest_names side others rules keys all_added patterns are_keys are_added are
 pub counts_between : (rules : List MappingRule) (bad : List ℕ → Bool) (names : List ℕ → Type 0) (end : TriedSoFar)
     (before now : ℕ) → Tries bad names (most_guest_names Server rules rules) none_tried end → 0 < end.count
     → now ≡ count_after before end.count → CountsBetween 1 (most_tried rules) before now
-counts_between rules bad names end before now tries some e =
-    let counts = tries.counts (omega arith) in
-    let counted = counts.counted in
-    record {
-      steps = counts.steps;
-      at_least = omega arith;
-      at_most = counts.at_most;
-      counted = e ∙ omega arith;
-    }
+counts_between rules bad names end before now tries some e = grind arith

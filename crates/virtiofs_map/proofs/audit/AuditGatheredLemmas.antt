@@ -1,7 +1,6 @@
 -- Each name that an audit has to try is made of what was gathered from the rules.
-use Rattle.std.proofs.Common.{◌≡◌, ◌⊎◌, ℕ, zero, suc, ◌+◌, Bool, true, false, cond, List, [], ◌∷◌, ◌++◌, drop}
-use Rattle.std.proofs.Common.{Contains, Option, Some, None, inl, inr, refl, sym, ap, ◌∙◌, append_assoc, append-nil}
-use Rattle.std.proofs.Common.{All, arith, subst}
+use Rattle.std.proofs.Common.{◌≡◌, ◌⊎◌, ℕ, ◌+◌, Bool, true, cond, List, [], ◌∷◌, ◌++◌, drop, Contains, Option, Some}
+use Rattle.std.proofs.Common.{None, inl, inr, sym, ap, ◌∙◌, append_assoc, append-nil, All, arith}
 use Rattle.std.specs.List.{cons_option, filter_map, flat_map, slice_get}
 use Rattle.std.specs.List.Sorted.{IsPermutation}
 use Rattle.std.specs.Option.{option_map_or, option_and_then}
@@ -9,8 +8,8 @@ use Rattle.std.proofs.lemmas.List.{at_drop_more}
 use Rattle.std.proofs.lemmas.List.Elements.{Contains-append_right, Contains-append_cases}
 use Rattle.std.proofs.lemmas.List.Sorted.{Contains-permutation}
 use Rattle.std.proofs.lemmas.Option.{slice_get_within, get_or_from_slice_get}
-use Rattle.virtiofs_map.specs.AuditParts.{rest_after, rest_of, rests, guest_names, wholes, live_wholes}
-use Rattle.virtiofs_map.specs.AuditParts.{host_names, whole_of, is_cut, IsRest, IsWhole, one_byte_names}
+use Rattle.virtiofs_map.specs.AuditParts.{rest_after, rest_of, rests, guest_names, wholes, live_wholes, host_names}
+use Rattle.virtiofs_map.specs.AuditParts.{whole_of, is_cut, IsRest, IsWhole, one_byte_names}
 use Rattle.virtiofs_map.specs.FirstRule.{acts}
 use Rattle.virtiofs_map.specs.GatheredParts.{added_prefix_of, host_pattern, part_of}
 use Rattle.virtiofs_map.specs.Rule.{MappingRule}
@@ -22,8 +21,7 @@ use Rattle.virtiofs_map.proofs.AuditAlikeLemmas.{Member}
 -- ---- gathering
 
 push_option : {X : Type 0} (xs ys : List X) (o : Option X) → (xs ++ cons_option o []) ++ ys ≡ xs ++ cons_option o ys
-push_option xs ys None = append_assoc xs [] ys
-push_option xs ys (Some x) = append_assoc xs (x ∷ []) ys
+push_option xs ys o = grind (arith, append_assoc)
 
 -- the part of one rule more
 gathered_more : (f : MappingRule → Option (List ℕ)) (rules : List MappingRule) (i : ℕ) (rule : MappingRule)
@@ -41,8 +39,7 @@ gathered_more f rules i rule names end found here h e =
 -- what holds of each rule holds of the one at a place
 pub rule_has : (P : MappingRule → Type 0) (rules : List MappingRule) (i : ℕ) (rule : MappingRule) → All P rules
     → Some rule ≡ slice_get rules i → P rule
-rule_has P rules i rule all here =
-    subst P (get_or_from_slice_get rules i rule rule (sym here)) (all i rule (slice_get_within rules i rule (sym here)))
+rule_has P rules i rule all here = grind (arith, get_or_from_slice_get, slice_get_within)
 
 pub gathered_some : (f : MappingRule → Option (List ℕ)) (rules : List MappingRule) (i : ℕ) (rule : MappingRule)
     (names new end : List (List ℕ)) (found : Option (List ℕ)) (name : List ℕ) → Some rule ≡ slice_get rules i
@@ -66,12 +63,10 @@ pub contains_none : {X : Type 0} (x : X) → ¬ Contains [] x
 contains_none x (k, l, e) = omega arith
 
 contains_one : {X : Type 0} (y x : X) → Contains (y ∷ []) x → y ≡ x
-contains_one y x (zero, l, e) = e
-contains_one y x (suc k, l, e) = absurd (omega arith)
+contains_one y x e = grind arith
 
 contains_first : {X : Type 0} (o : Option X) (xs : List X) (x : X) → o ≡ Some x → Contains (cons_option o xs) x
-contains_first None xs x e = absurd (cc)
-contains_first (Some y) xs x e = (0, omega arith, (let same : y ≡ x = cc in same))
+contains_first o xs x e = grind arith
 
 contains_later : {X : Type 0} (o : Option X) (xs : List X) (x : X) → Contains xs x → Contains (cons_option o xs) x
 contains_later None xs x c = c
@@ -79,11 +74,7 @@ contains_later (Some y) xs x c = Contains-append_right (y ∷ []) xs x c
 
 contains_option : {X : Type 0} (o : Option X) (xs : List X) (x : X) → Contains (cons_option o xs) x
     → (o ≡ Some x) ⊎ Contains xs x
-contains_option None xs x c = inr c
-contains_option (Some y) xs x c = elim (Contains-append_cases (y ∷ []) xs x c) [
-  | inl one ↦ inl (ap Some (contains_one y x one))
-  | inr other ↦ inr other
-]
+contains_option o xs x c = grind (arith, Contains-append_cases, contains_one)
 
 -- what is gathered from a rule of the list
 pub gathered_member : (f : MappingRule → Option (List ℕ)) (rule : MappingRule) (rules : List MappingRule)
@@ -107,13 +98,7 @@ one_rule : (more : List ℕ → List (List ℕ)) (on : Bool) (pattern : List ℕ
     → Contains (cond on (pattern ∷ option_map_or more o []) []) name
     → (cond on (Some pattern) None ≡ Some name)
     ⊎ ((added : List ℕ) × (cond on o None ≡ Some added) × Contains (more added) name)
-one_rule more true pattern None name c = inl (ap Some (contains_one pattern name c))
-one_rule more true pattern (Some added) name c =
-    elim (Contains-append_cases (pattern ∷ []) (more added) name c) [
-      | inl one ↦ inl (ap Some (contains_one pattern name one))
-      | inr other ↦ inr (added, refl, other)
-    ]
-one_rule more false pattern o name c = absurd (contains_none name c)
+one_rule more on pattern o name c = grind (arith, contains_one, Contains-append_cases, contains_none)
 
 parts_of : (on : MappingRule → Bool) (pattern : MappingRule → List ℕ) (more : List ℕ → List (List ℕ))
     (rules : List MappingRule) (name : List ℕ)
@@ -143,9 +128,7 @@ parts_of on pattern more (rule ∷ rules) name c =
 rest_where : (added : List ℕ) (on : Bool) (o : Option (List ℕ)) (name : List ℕ)
     → cond on (option_and_then (rest_after added) o) None ≡ Some name
     → (pattern : List ℕ) × (cond on o None ≡ Some pattern) × (rest_after added pattern ≡ Some name)
-rest_where added true None name e = absurd (cc)
-rest_where added true (Some pattern) name e = (pattern, refl, e)
-rest_where added false o name e = absurd (cc)
+rest_where added on o name e = grind arith
 
 rests_parts : (side : Side) (others : List MappingRule) (added name : List ℕ) → Contains (rests side others added) name
     → (pattern : List ℕ) × Contains (filter_map (part_of (Host side)) others) pattern
@@ -197,13 +180,11 @@ guest_cover side others rules keys all_added patterns are_keys are_added are_pat
 
 live : (on : Bool) (names : List (List ℕ)) (name : List ℕ) → Contains (cond on names []) name
     → (on ≡ true) × Contains names name
-live true names name c = (refl, c)
-live false names name c = absurd (contains_none name c)
+live on names name c = grind (arith, contains_none)
 
 whole_where : (cut : List ℕ) (on : Bool) (key name : List ℕ) → cond on (Some (cut ++ key)) None ≡ Some name
     → (cond on (Some key) None ≡ Some key) × (name ≡ cut ++ key)
-whole_where cut true key name e = (refl, cc)
-whole_where cut false key name e = absurd (cc)
+whole_where cut on key name e = grind arith
 
 wholes_parts : (others : List MappingRule) (cut name : List ℕ) → Contains (wholes others cut) name
     → (key : List ℕ) × Contains (filter_map (part_of Key) others) key × (name ≡ cut ++ key)

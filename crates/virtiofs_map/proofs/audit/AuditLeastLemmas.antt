@@ -1,13 +1,13 @@
 -- The least bad name of those tried is the least of all, where each bad name has a bad front that is tried.
-use Rattle.std.proofs.Common.{◌≡◌, ◌↔◌, ◌⊎◌, ℕ, zero, suc, ◌+◌, ◌≤◌, Bool, true, false, ◌&&◌, cond, List, [], ◌∷◌}
-use Rattle.std.proofs.Common.{◌++◌, Option, Some, None, Result, Ok, Err, inl, inr, refl, sym, subst, arith}
+use Rattle.std.proofs.Common.{◌≡◌, ◌↔◌, ◌⊎◌, ℕ, suc, ◌+◌, ◌≤◌, Bool, true, false, ◌&&◌, cond, List, [], ◌∷◌, ◌++◌}
+use Rattle.std.proofs.Common.{Option, Some, Result, inl, inr, refl, sym, subst, arith, rules}
 use Rattle.std.specs.Cmp.Lexicographic.{slice_cmp}
 use Rattle.std.specs.List.{All, Contains}
 use Rattle.std.specs.Option.{option_to_list}
 use Rattle.std.specs.Ordering.{nat_cmp, is_lt, ordering_then}
 use Rattle.std.specs.Result.{IfOk}
 use Rattle.std.specs.declared.cmp.Ordering.{Ordering}
-use Rattle.std.specs.declared.cmp.Ordering.TheVariants.{Less, Equal, Greater}
+use Rattle.std.specs.declared.cmp.Ordering.TheVariants.{Less}
 use Rattle.std.proofs.lemmas.Bool.{and_parts, cases_Bool, cond_both, false≢true, true≢false}
 use Rattle.std.proofs.lemmas.Cmp.{nat_list_cmp_total, tied_itself}
 use Rattle.std.proofs.lemmas.List.Elements.{All-head}
@@ -25,9 +25,7 @@ use Rattle.virtiofs_map.proofs.BeginsLemmas.{begins_split}
 
 then_less : (o : Ordering) (p q : Ordering) → (p ≡ Less → q ≡ Less) → ordering_then o p ≡ Less
     → ordering_then o q ≡ Less
-then_less Less p q f e = refl
-then_less Equal p q f e = f e
-then_less Greater p q f e = absurd (cc)
+then_less o p q f e = grind arith
 
 -- where a name comes before another, so does each front of it
 before_by : (p rest other : List ℕ) → IsBefore (p ++ rest) other → IsBefore p other
@@ -43,14 +41,10 @@ front_before p name other b e =
     before_by p _ other (subst (λ n. IsBefore n other) (begins_split p name b) e)
 
 pub is_lt-true : (o : Ordering) → is_lt o ≡ true → o ≡ Less
-is_lt-true Less e = refl
-is_lt-true Equal e = absurd (false≢true e)
-is_lt-true Greater e = absurd (false≢true e)
+is_lt-true o e = grind (arith, false≢true)
 
 pub is_lt-false : (o : Ordering) → is_lt o ≡ false → o ≡ Less → ⊥
-is_lt-false Less e k = true≢false e
-is_lt-false Equal e k = cc
-is_lt-false Greater e k = cc
+is_lt-false o e k = grind (arith, true≢false)
 
 before_trans : (name other more : List ℕ) → IsBefore name other → IsBefore other more → IsBefore name more
 before_trans = nat_list_cmp_total.trans
@@ -62,14 +56,11 @@ not_before_itself name e = let same = tied_itself nat_list_cmp_total name in cc
 
 pub not_first : (least : Option (List ℕ)) (name : List ℕ) → is_first least name ≡ false
     → (found : List ℕ) × (least ≡ Some found) × (¬ IsBefore name found)
-not_first None name e = absurd (true≢false e)
-not_first (Some found) name e =
-    (found, refl, is_lt-false (slice_cmp nat_cmp name found) e)
+not_first least name e = grind (arith, true≢false, is_lt-false)
 
 first_lower : (found name other : List ℕ) → is_first (Some found) name ≡ true → ¬ IsBefore other found
     → ¬ IsBefore other name
-first_lower found name other e fails before =
-    fails (before_trans other name found before (is_lt-true (slice_cmp nat_cmp name found) e))
+first_lower found name other e fails before = search (rules, before_trans, is_lt-true)
 
 -- ---- one name
 
@@ -97,10 +88,7 @@ handled_still bad least name other handled is =
 
 found_bad_one : (bad : List ℕ → Bool) (least : Option (List ℕ)) (name : List ℕ) → FoundBad bad least
     → FoundBad bad (cond (is_first least name && bad name) (Some name) least)
-found_bad_one bad least name before =
-    cond_both (is_first least name && bad name) (Some name) least (FoundBad bad)
-    (λ b found e. let same : name ≡ found = cc in
-    subst (λ n. bad n ≡ true) same (and_parts (is_first least name) (bad name) b).1) (λ _. before)
+found_bad_one bad least name before = search (rules, cond_both, and_parts)
 
 finds_one : (bad : List ℕ → Bool) (old : TriedSoFar) (name : List ℕ)
     → Finds bad (λ tried. tried ≡ name) old (try_one bad old name)
@@ -120,21 +108,11 @@ finds_nothing bad names tried handled = record { handled = handled; kept = λ na
 pub finds_join : (bad : List ℕ → Bool) (names others all : List ℕ → Type 0) (a b c : TriedSoFar)
     → Finds bad names a b → Finds bad others b c → ((name : List ℕ) → all name → names name ⊎ others name)
     → Finds bad all a c
-finds_join bad names others all a b c first then cover = record {
-  handled = λ name is. elim (cover name is) [
-    | inl one ↦ then.kept name (first.handled name one)
-    | inr other ↦ then.handled name other
-  ];
-  kept = λ name h. then.kept name (first.kept name h);
-  found_bad = λ f. then.found_bad (first.found_bad f);
-}
+finds_join bad names others all a b c first then cover = search rules
 
 pub tries_nothing : (bad : List ℕ → Bool) (names : List ℕ → Type 0) (most : ℕ) (tried : TriedSoFar)
     → ((name : List ℕ) → names name → Handled bad tried.least name) → Tries bad names most tried tried
-tries_nothing bad names most tried handled = record {
-  finds = finds_nothing bad names tried handled;
-  counts = λ small. record { steps = 0; at_least = omega arith; at_most = omega arith; counted = omega arith };
-}
+tries_nothing bad names most tried handled = search (rules, finds_nothing)
 
 pub tries_join : (bad : List ℕ → Bool) (names others all : List ℕ → Type 0) (m n most : ℕ) (a b c : TriedSoFar)
     → Tries bad names m a b → Tries bad others n b c → ((name : List ℕ) → all name → names name ⊎ others name)
@@ -172,18 +150,11 @@ tries_more bad names all m a b c name first e cover =
 -- fewer names
 pub finds_fewer : (bad : List ℕ → Bool) (names all : List ℕ → Type 0) (a b : TriedSoFar) → Finds bad names a b
     → ((name : List ℕ) → all name → names name) → Finds bad all a b
-finds_fewer bad names all a b first cover =
-    record { handled = λ name is. first.handled name (cover name is); kept = first.kept; found_bad = first.found_bad }
+finds_fewer bad names all a b first cover = search rules
 
 pub tries_fewer : (bad : List ℕ → Bool) (names all : List ℕ → Type 0) (m most : ℕ) (a b : TriedSoFar)
     → Tries bad names m a b → ((name : List ℕ) → all name → names name) → m ≤ most → Tries bad all most a b
-tries_fewer bad names all m most a b first cover l = record {
-  finds = finds_fewer bad names all a b first.finds cover;
-  counts = λ small.
-      (let one = first.counts small in
-      let p = one.at_most in
-      record { steps = one.steps; at_least = omega arith; at_most = omega arith; counted = one.counted });
-}
+tries_fewer bad names all m most a b first cover l = search (rules, finds_fewer)
 
 -- ---- the answer
 
@@ -194,8 +165,7 @@ member_contains x (y ∷ ys) (inr m) = let (k, l, e) = member_contains x ys m in
 
 first_or_others : (first : List ℕ) (names : List (List ℕ)) (name : List ℕ) → Contains (first ∷ names) name
     → (name ≡ first) ⊎ Contains names name
-first_or_others first names name (zero, l, e) = inl (sym e)
-first_or_others first names name (suc k, l, e) = inr (k, omega arith, e)
+first_or_others first names name e = grind arith
 
 -- one name before the others
 pub finds_first : (bad : List ℕ → Bool) (first : List ℕ) (names : List (List ℕ)) (mid end : TriedSoFar)
@@ -210,11 +180,7 @@ finds_first bad first names mid end e then =
 pub finds_from_none : {A : Type 0} (bad : List ℕ → Bool) (tried : List (List ℕ)) (end : TriedSoFar) (answer : Audit A)
     → Finds bad (Contains tried) none_tried end → told answer ≡ end.least → All IsName (option_to_list end.least)
     → FindsLeast bad tried answer
-finds_from_none bad tried end answer finds e named = record {
-  handled = λ name among. subst (λ o. Handled bad o name) (sym e) (finds.handled name among);
-  found_bad = subst (FoundBad bad) (sym e) (finds.found_bad (λ found k. absurd (cc)));
-  is_name = subst (λ o. All IsName (option_to_list o)) (sym e) named;
-}
+finds_from_none bad tried end answer finds e named = search rules
 
 -- a bad front of the name is tried
 pub record HasBadFront (bad : List ℕ → Bool) (tried : List (List ℕ)) (name : List ℕ) : Type 0 where
@@ -233,19 +199,12 @@ pub decide_within : (beginning : List ℕ) (Bad : List ℕ → Type 0) (test : L
     → ((name : List ℕ) → IsName name → test name ≡ true → Bad name)
     → ((name : List ℕ) → Bad name → begins beginning name ≡ true → HasBadFront (within beginning test) tried name)
     → Decide (Within beginning Bad) (within beginning test) tried
-decide_within beginning Bad test tried only fronts = record {
-  only = λ name is e.
-      (let parts = and_parts (begins beginning name) (test name) e in
-      record { is_bad = only name is parts.1; front = parts.0 });
-  fronts = λ name bad. fronts name bad.is_bad bad.front;
-}
+decide_within beginning Bad test tried only fronts = search (rules, and_parts)
 
 handled_name : {A : Type 0} (bad : List ℕ → Bool) (tried : List (List ℕ)) (answer : Audit A) (name : List ℕ)
     → FindsLeast bad tried answer → HasBadFront bad tried name
     → (found : List ℕ) × (told answer ≡ Some found) × (¬ IsBefore name found)
-handled_name bad tried answer name finds front =
-    let (found, e, fails) = finds.handled front.by (member_contains front.by tried front.is_tried) front.is_bad in
-    (found, e, λ before. fails (front_before front.by name found front.is_front before))
+handled_name bad tried answer name finds front = search (rules, member_contains, front_before)
 
 pub finds_least : {A : Type 0} (Bad : List ℕ → Type 0) (bad : List ℕ → Bool) (tried : List (List ℕ))
     → Decide Bad bad tried → (answer : Audit A) → FindsLeast bad tried answer → AnswersLeast Bad answer
@@ -262,19 +221,13 @@ finds_least Bad bad tried decide (No name) finds = record {
 -- Yes where no name is bad, and only there
 pub yes_where_none : {A : Type 0} (Bad : List ℕ → Type 0) (Holds : Type 0) (answer : Audit A) → AnswersLeast Bad answer
     → (((name : List ℕ) → ¬ Bad name) → Holds) → (Holds → (name : List ℕ) → ¬ Bad name) → (answer ≡ Yes) ↔ Holds
-yes_where_none Bad Holds Yes least to from = (λ _. to least, λ _. refl)
-yes_where_none Bad Holds (No name) least to from = (λ e. absurd (cc), λ holds. absurd (from holds name least.is_bad))
+yes_where_none Bad Holds answer least to from = grind arith
 
 -- all names begin with no bytes
 pub answers_all : {A : Type 0} (Bad : List ℕ → Type 0) (answer : Audit A) → AnswersLeast (Within [] Bad) answer
     → AnswersLeast Bad answer
-answers_all Bad Yes none = λ name is. none name (record { is_bad = is; front = refl })
-answers_all Bad (No name) least = record {
-  is_bad = least.is_bad.is_bad;
-  none_before = λ other is before. least.none_before other (record { is_bad = is; front = refl }) before;
-}
+answers_all Bad answer none = grind arith
 
 -- the same of a call that may run out of memory
 pub if_ok_weaker : {X Y : Type 0} (r : Result X Y) (P Q : X → Type 0) → ((x : X) → P x → Q x) → IfOk r P → IfOk r Q
-if_ok_weaker (Ok x) P Q f p = f x p
-if_ok_weaker (Err e) P Q f p = tt
+if_ok_weaker r P Q f p = grind arith

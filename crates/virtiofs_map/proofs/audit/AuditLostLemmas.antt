@@ -1,15 +1,14 @@
 -- Names that pass and do not list back: what the test says of them, and that the names tried decide.
-use Rattle.std.proofs.Common.{◌≡◌, ◌≢◌, ℕ, ◌<◌, true, false, not, List, [], ◌∷◌, ◌++◌, length, drop, Option, Some}
-use Rattle.std.proofs.Common.{None, inl, inr, refl, sym, ap, ◌∙◌, subst, arith}
+use Rattle.std.proofs.Common.{◌≡◌, ◌≢◌, ℕ, ◌<◌, true, false, not, List, [], ◌∷◌, ◌++◌, length, drop, Option, Some, inl}
+use Rattle.std.proofs.Common.{inr, refl, sym, ap, ◌∙◌, subst, arith, rules}
 use Rattle.std.specs.List.{All}
-use Rattle.std.specs.Option.{option_map_or, option_and_then}
+use Rattle.std.specs.Option.{option_map_or}
 use Rattle.std.proofs.lemmas.Bool.{and_parts, and_from, cases_Bool, false≢true, true≢false, not-true, not_from_false}
 use Rattle.std.proofs.lemmas.Bool.{eqb-true, eq-eqb, ne_eqb, false_from_ne_true}
 use Rattle.std.proofs.lemmas.List.{length-append, length-drop, drop_at}
 use Rattle.std.proofs.lemmas.List.Elements.{All-append, All-head}
 use Rattle.virtiofs_map.specs.Audit.{Within, Sound, IsLost}
 use Rattle.virtiofs_map.specs.AuditParts.{added_prefix, some_byte, cuts, is_lost, within, guest_names}
-use Rattle.virtiofs_map.specs.GatheredParts.{added_prefix_of}
 use Rattle.virtiofs_map.specs.MapRule.{IsName}
 use Rattle.virtiofs_map.specs.Names.{begins, HostAnswer, IsListed, IsHidden, IsUndecided, host_answer, server_answer}
 use Rattle.virtiofs_map.specs.Names.{ListsBack}
@@ -43,8 +42,7 @@ host_not_empty (x ∷ added) name some e = cc
 
 cuts_is : (added : List ℕ) (o : Option (List ℕ)) → cuts added o ≡ true
     → (cut : List ℕ) × (o ≡ Some cut) × (length cut ≡ length added)
-cuts_is added None e = absurd (false≢true e)
-cuts_is added (Some cut) e = (cut, refl, eqb-true (length cut) (length added) e)
+cuts_is added o e = grind (arith, false≢true, eqb-true)
 
 -- a name of which just as much is taken off as was put before it lists back
 pub back_where_cut : (rules : List MappingRule) (name added : List ℕ) → All HasNoZero rules → IsName name → name ≢ []
@@ -105,17 +103,12 @@ lost_at rules name added some e = rw (some_byte_from name some, e) refl
 lost_added : (rules : List MappingRule) (name : List ℕ) (o : Option (List ℕ))
     → option_map_or (λ added. not (cuts added (added_prefix Server rules (added ++ name)))) o false ≡ true
     → (added : List ℕ) × (o ≡ Some added)
-lost_added rules name None e = absurd (false≢true e)
-lost_added rules name (Some added) e = (added, refl)
+lost_added rules name o e = grind (arith, false≢true)
 
 pub lost_test : (rules : List MappingRule) → All HasNoZero rules → (name : List ℕ) → IsLost rules name
     → is_lost rules name ≡ true
 lost_test rules no_zero name lost =
-    let by = passes_added rules name lost.host lost.passes in
-    lost_at rules name by.added lost.not_empty by.is
-    ∙ not_from_false (cuts by.added (added_prefix Server rules (by.added ++ name)))
-    (false_from_ne_true (cuts by.added (added_prefix Server rules (by.added ++ name)))
-    (λ c. lost.not_back (back_where_cut rules name by.added no_zero lost.is_name lost.not_empty by.is c)))
+    grind (arith, passes_added, lost_at, not_from_false, false_from_ne_true, back_where_cut)
 
 pub test_lost : (rules : List MappingRule) → All HasNoZero rules → (name : List ℕ) → IsName name
     → is_lost rules name ≡ true → IsLost rules name
@@ -142,11 +135,7 @@ test_lost rules no_zero name is e =
 
 lost_alike : (rules : List MappingRule) (name c added : List ℕ) → name ≢ [] → c ≢ []
     → FareAlike Server rules rules name c → added_prefix Client rules name ≡ Some added → is_lost rules c ≡ is_lost rules name
-lost_alike rules name c added some other alike e =
-    let at = ap (option_and_then added_prefix_of) (sym alike.client) ∙ e in
-    let same = server_alike rules (added ++ name) (added ++ c) (alike.hosts added e) in
-    lost_at rules c added other at ∙ ap (λ o. not (cuts added (option_and_then added_prefix_of o))) (sym same)
-    ∙ sym (lost_at rules name added some e)
+lost_alike rules name c added some other alike e = grind (arith, server_alike, lost_at)
 
 lost_front_tried : (rules : List MappingRule) → All HasNoZero rules → (beginning : List ℕ) (tried : List (List ℕ))
     → Cover beginning (guest_names Server rules rules) tried
@@ -170,9 +159,7 @@ lost_front_tried rules no_zero beginning tried cover (x ∷ xs) lost b =
 pub lost_decide : (rules : List MappingRule) → All HasNoZero rules → (beginning : List ℕ) (tried : List (List ℕ))
     → Cover beginning (guest_names Server rules rules) tried → Decide (Within beginning (IsLost rules))
     (within beginning (is_lost rules)) tried
-lost_decide rules no_zero beginning tried cover =
-    decide_within beginning (IsLost rules) (is_lost rules) tried (test_lost rules no_zero)
-    (lost_front_tried rules no_zero beginning tried cover)
+lost_decide rules no_zero beginning tried cover = search (rules, decide_within, test_lost, lost_front_tried)
 
 -- ---- sound
 
@@ -190,5 +177,4 @@ sound_where_none rules no_zero none name host is some passes =
     ]
 
 pub none_where_sound : (rules : List MappingRule) → Sound rules → (name : List ℕ) → ¬ IsLost rules name
-none_where_sound rules sound name lost =
-    lost.not_back (sound name lost.host lost.is_name lost.not_empty lost.passes)
+none_where_sound rules sound name lost = grind arith

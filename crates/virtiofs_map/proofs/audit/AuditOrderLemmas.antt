@@ -1,14 +1,15 @@
 -- Names in the order of their bytes.
-use Rattle.std.proofs.Common.{◌≡◌, ℕ, zero, suc, ◌-◌, ◌<◌, ◌≤◌, true, false, eqb, List, [], ◌∷◌, ◌++◌, length}
-use Rattle.std.proofs.Common.{get_or, Contains, Option, Some, None, inl, inr, refl, sym, ap, subst, ◌∙◌, arith}
+use Rattle.std.proofs.Common.{◌≡◌, ℕ, ◌-◌, ◌<◌, ◌≤◌, true, false, eqb, List, [], ◌∷◌, ◌++◌, length, get_or, Contains}
+use Rattle.std.proofs.Common.{Option, Some, None, inl, inr, refl, sym, ap, subst, ◌∙◌, arith, rules}
+use Rattle.std.specs.BTreeMap.Comparable.{le_lt_trans}
 use Rattle.std.specs.Cmp.Lexicographic.{slice_cmp, nat_list_cmp_total}
 use Rattle.std.specs.List.{slice_get}
 use Rattle.std.specs.List.Sorted.{IsPartitionedBy, IsPartitionPoint}
-use Rattle.std.specs.Ordering.{nat_cmp, is_lt, is_le, is_gt, ordering_index, ordering_reverse, ordering_then}
+use Rattle.std.specs.Ordering.{nat_cmp, is_lt, is_le, ordering_index, ordering_reverse, ordering_then}
 use Rattle.std.specs.declared.cmp.Ordering.{Ordering}
-use Rattle.std.specs.declared.cmp.Ordering.TheVariants.{Less, Equal, Greater}
-use Rattle.std.proofs.lemmas.Bool.{and_parts, and_from, cases_lt, false≢true, true≢false, eq-eqb, eqb-true}
-use Rattle.std.proofs.lemmas.Cmp.{ranked, by_ranked, nat_cmp_total, tied_itself, upto}
+use Rattle.std.specs.declared.cmp.Ordering.TheVariants.{Less, Greater}
+use Rattle.std.proofs.lemmas.Bool.{and_parts, and_from, cases_Bool, cases_lt, false≢true, true≢false, eq-eqb, eqb-true}
+use Rattle.std.proofs.lemmas.Cmp.{ranked, by_ranked, nat_cmp_total, tied_itself}
 use Rattle.std.proofs.lemmas.List.Sorted.{ranks_by, sorted_far, searchable_from_sorted}
 use Rattle.std.proofs.lemmas.Option.{slice_get-get_or, slice_get_within, get_or_from_slice_get}
 use Rattle.virtiofs_map.specs.Audit.{IsBefore}
@@ -20,19 +21,13 @@ use Rattle.virtiofs_map.proofs.audit.AuditLeastLemmas.{is_lt-true, is_lt-false}
 
 -- one of two names does not come after the other
 reversed : (o p : Ordering) → o ≡ ordering_reverse p → o ≡ Greater → p ≡ Less
-reversed o Less e g = refl
-reversed o Equal e g = absurd (cc)
-reversed o Greater e g = absurd (cc)
+reversed o p e g = grind arith
 
 not_le : (o : Ordering) → is_le o ≡ false → o ≡ Greater
-not_le Less e = absurd (true≢false e)
-not_le Equal e = absurd (true≢false e)
-not_le Greater e = refl
+not_le o e = grind (arith, true≢false)
 
 reversed_le : (o p : Ordering) → o ≡ ordering_reverse p → is_le p ≡ true → ¬ (o ≡ Less)
-reversed_le o Less e l k = cc
-reversed_le o Equal e l k = cc
-reversed_le o Greater e l k = false≢true l
+reversed_le o p e l k = grind (arith, false≢true)
 
 pub after_from_fails : (name bytes : List ℕ) → is_le (slice_cmp nat_cmp name bytes) ≡ false → IsBefore bytes name
 after_from_fails name bytes e =
@@ -59,20 +54,10 @@ in_order names ordered i j one other l here there =
     (subst (λ (b : List ℕ). is_lt (slice_cmp nat_cmp b (get_or names i one)) ≡ false) at_j far))
 
 lt_lower : (o p : Ordering) → ordering_index o ≤ ordering_index p → is_lt p ≡ true → is_lt o ≡ true
-lt_lower Less p l e = refl
-lt_lower Equal Less l e = absurd (omega arith)
-lt_lower Equal Equal l e = e
-lt_lower Equal Greater l e = absurd (false≢true e)
-lt_lower Greater Less l e = absurd (omega arith)
-lt_lower Greater Equal l e = absurd (omega arith)
-lt_lower Greater Greater l e = e
+lt_lower o p l e = grind (arith, false≢true)
 
 le_lower : (o p : Ordering) → ordering_index o ≤ ordering_index p → is_le p ≡ true → is_le o ≡ true
-le_lower Less p l e = refl
-le_lower Equal p l e = refl
-le_lower Greater Less l e = absurd (omega arith)
-le_lower Greater Equal l e = absurd (omega arith)
-le_lower Greater Greater l e = e
+le_lower o p l e = grind arith
 
 pub before_partitioned : (names : List (List ℕ)) (bytes : List ℕ) → AreOrdered names
     → IsPartitionedBy (λ name. is_lt (slice_cmp nat_cmp name bytes)) names
@@ -94,38 +79,19 @@ pub counts_before : (names : List (List ℕ)) (bytes : List ℕ) (count : ℕ) �
     → IsPartitionPoint (λ name. is_lt (slice_cmp nat_cmp name bytes) ≡ true)
     (λ name. is_lt (slice_cmp nat_cmp name bytes) ≡ false) names count
     → CountsBefore names bytes count
-counts_before names bytes count l parted = record {
-  at_most = l;
-  before = λ place name below here.
-      (let at = get_or_from_slice_get names place name name here in
-      is_lt-true (slice_cmp nat_cmp name bytes)
-      (subst (λ (a : List ℕ). is_lt (slice_cmp nat_cmp a bytes) ≡ true) at (parted.0 place name (omega arith) below)));
-  after = λ place name above here.
-      (let at = get_or_from_slice_get names place name name here in
-      is_lt-false (slice_cmp nat_cmp name bytes)
-      (subst (λ (a : List ℕ). is_lt (slice_cmp nat_cmp a bytes) ≡ false) at
-      (parted.1 place name above (slice_get_within names place name here))));
-}
+counts_before names bytes count l parted =
+    search (rules, get_or_from_slice_get, is_lt-true, is_lt-false, slice_get_within)
 
 -- a name of the list, and its place
 pub place_of : {X : Type 0} (names : List X) (name : X) → Contains names name
     → (k : ℕ) × (k < length names) × (slice_get names k ≡ Some name)
 place_of names name (k, l, e) = (k, l, slice_get-get_or names k name l ∙ ap Some e)
 
-slice_get_some : {X : Type 0} (xs : List X) (i : ℕ) → i < length xs → (x : X) × (slice_get xs i ≡ Some x)
-slice_get_some [] i l = absurd (omega arith)
-slice_get_some (x ∷ xs) zero l = (x, refl)
-slice_get_some (x ∷ xs) (suc i) l = slice_get_some xs i (omega arith)
-
 pub none_up_to : (names : List (List ℕ)) (bytes : List ℕ) (count : ℕ) → count ≡ 0
     → IsPartitionPoint (λ name. is_le (slice_cmp nat_cmp name bytes) ≡ true)
     (λ name. is_le (slice_cmp nat_cmp name bytes) ≡ false) names count
     → (name : List ℕ) → Contains names name → IsBefore bytes name
-none_up_to names bytes count none parted name among =
-    let (k, l, here) = place_of names name among in
-    let at = get_or_from_slice_get names k name name here in
-    after_from_fails name bytes
-    (subst (λ (a : List ℕ). is_le (slice_cmp nat_cmp a bytes) ≡ false) at (parted.1 k name (omega arith) l))
+none_up_to names bytes count none parted name among = search (rules, place_of, get_or_from_slice_get, after_from_fails)
 
 pub last_up_to : (names : List (List ℕ)) (bytes last : List ℕ) (count : ℕ) → AreOrdered names → 0 < count
     → IsPartitionPoint (λ name. is_le (slice_cmp nat_cmp name bytes) ≡ true)
@@ -155,7 +121,7 @@ found_at : (names : List (List ℕ)) (bytes : List ℕ) (found : Option (List �
     (λ name. is_le (slice_cmp nat_cmp name bytes) ≡ false) names count
     → found ≡ slice_get names (count - 1) → IsLastUpTo names bytes found
 found_at names bytes None count ordered some l parted e =
-    absurd (let there = slice_get_some names (count - 1) (omega arith) in let both = e ∙ there.1 in cc)
+    absurd (let there = slice_get-get_or names (count - 1) [] (omega arith) in let both = e ∙ there in cc)
 found_at names bytes (Some last) count ordered some l parted e =
     last_up_to names bytes last count ordered some parted (sym e)
 
@@ -164,20 +130,14 @@ pub last_at : (names same : List (List ℕ)) (bytes : List ℕ) (found : Option 
     → IsPartitionPoint (λ name. is_le (slice_cmp nat_cmp name bytes) ≡ true)
     (λ name. is_le (slice_cmp nat_cmp name bytes) ≡ false) names count
     → found ≡ slice_get same (count - 1) → IsLastUpTo same bytes found
-last_at names same bytes found count e ordered some l parted at =
-    subst (λ xs. IsLastUpTo xs bytes found) e
-    (found_at names bytes found count ordered some l parted (at ∙ ap (λ xs. slice_get xs (count - 1)) (sym e)))
+last_at names same bytes found count e ordered some l parted at = search (rules, found_at)
 
 -- ---- what stands between
 
 -- a byte that is neither before nor after another is that byte
 first_byte : (x y : ℕ) (rest more : Ordering) → ¬ (ordering_then (nat_cmp x y) rest ≡ Less)
     → ¬ (ordering_then (nat_cmp y x) more ≡ Less) → x ≡ y
-first_byte x y rest more fails others =
-    by_ranked (x < y) (x ≡ y) (y < x) (nat_cmp x y) (ranked x y (nat_cmp x y) refl)
-    (λ e l. absurd (fails (ap (λ o. ordering_then o rest) e))) (λ e same. same)
-    (λ e g. by_ranked (y < x) (y ≡ x) (x < y) (nat_cmp y x) (ranked y x (nat_cmp y x) refl)
-    (λ k l. absurd (others (ap (λ o. ordering_then o more) k))) (λ k same. sym same) (λ k l. absurd (omega arith)))
+first_byte x y rest more fails others = search (rules, by_ranked, ranked)
 
 pub level : (x : ℕ) (rest : Ordering) → ordering_then (nat_cmp x x) rest ≡ rest
 level x rest = ap (λ o. ordering_then o rest) (tied_itself nat_cmp_total x)
@@ -224,20 +184,11 @@ pub cmp_after : (cut one other : List ℕ) → slice_cmp nat_cmp (cut ++ one) (c
 cmp_after [] one other = refl
 cmp_after (x ∷ cut) one other = level x (slice_cmp nat_cmp (cut ++ one) (cut ++ other)) ∙ cmp_after cut one other
 
-not_gt : (o p : Ordering) → p ≡ ordering_reverse o → ¬ (o ≡ Less) → is_gt p ≡ false
-not_gt Less p e fails = absurd (fails refl)
-not_gt Equal p e fails = ap is_gt e
-not_gt Greater p e fails = ap is_gt e
-
-not_less : (o p : Ordering) → p ≡ ordering_reverse o → is_gt p ≡ false → ¬ (o ≡ Less)
-not_less Less p e fails less = true≢false (sym (ap is_gt e) ∙ fails)
-not_less Equal p e fails less = cc
-not_less Greater p e fails less = cc
-
 -- what does not come before a name does not come before what that does not come before
 pub not_before_trans : (one other more : List ℕ) → ¬ IsBefore one other → ¬ IsBefore other more → ¬ IsBefore one more
-not_before_trans one other more first then =
-    not_less (slice_cmp nat_cmp one more) (slice_cmp nat_cmp more one) (nat_list_cmp_total.antisymm more one)
-    (upto nat_list_cmp_total more other one
-    (not_gt (slice_cmp nat_cmp other more) (slice_cmp nat_cmp more other) (nat_list_cmp_total.antisymm more other) then)
-    (not_gt (slice_cmp nat_cmp one other) (slice_cmp nat_cmp other one) (nat_list_cmp_total.antisymm other one) first))
+not_before_trans one other more first then = λ less.
+    then (le_lt_trans nat_list_cmp_total other one more
+    (elim (cases_Bool (is_le (slice_cmp nat_cmp other one))) [
+      | inl le ↦ le
+      | inr above ↦ absurd (first (after_from_fails other one above))
+    ]) less)

@@ -1,7 +1,7 @@
 -- Names that pass as a host name, not empty, of which a test holds: what the test of names says of them, and that the
 -- names tried decide.
-use Rattle.std.proofs.Common.{◌≡◌, zero, suc, ◌≢◌, ℕ, ◌<◌, Bool, true, false, ◌&&◌, ltb, List, [], ◌∷◌, ◌++◌, length}
-use Rattle.std.proofs.Common.{drop, Option, Some, None, inl, refl, sym, ap, ◌∙◌, subst, arith}
+use Rattle.std.proofs.Common.{◌≡◌, ◌≢◌, ℕ, ◌<◌, Bool, true, false, ◌&&◌, ltb, List, [], ◌∷◌, ◌++◌, length, drop, Option}
+use Rattle.std.proofs.Common.{Some, inl, refl, sym, ap, ◌∙◌, subst, arith, rules}
 use Rattle.std.specs.List.{All, AllByRecursion}
 use Rattle.std.specs.Option.{option_map_or, option_and_then}
 use Rattle.std.proofs.lemmas.Bool.{and_parts, and_from, false≢true, lt-ltb, ltb-true}
@@ -9,8 +9,8 @@ use Rattle.std.proofs.lemmas.List.{append_assoc}
 use Rattle.std.proofs.lemmas.List.Elements.{All-head, All-tail, All-nil, All-cons}
 use Rattle.virtiofs_map.specs.Audit.{Within}
 use Rattle.virtiofs_map.specs.AuditParts.{added_prefix, some_byte, all_bytes, passes_where, within, guest_names}
-use Rattle.virtiofs_map.specs.GatheredParts.{added_prefix_of}
 use Rattle.virtiofs_map.specs.AuditParts.{one_byte_names}
+use Rattle.virtiofs_map.specs.GatheredParts.{added_prefix_of}
 use Rattle.virtiofs_map.specs.MapRule.{IsName}
 use Rattle.virtiofs_map.specs.Names.{begins}
 use Rattle.virtiofs_map.specs.Rule.{MappingRule, HasNoZero}
@@ -34,8 +34,7 @@ all_bytes_from (x ∷ xs) is =
     (all_bytes_from xs (All-tail IsByteOfName x xs is))
 
 positive : (x : ℕ) → x ≢ 0 → 0 < x
-positive zero some = absurd (some refl)
-positive (suc x) some = omega arith
+positive x some = grind arith
 
 name_from : (name : List ℕ) → All IsNotZero name → all_bytes name ≡ true → IsName name
 name_from [] no_zero e = All-nil IsByteOfName
@@ -73,42 +72,27 @@ where_at test rules name added e = rw e refl
 
 pub where_test : (test : List ℕ → Bool) (rules : List MappingRule) (name : List ℕ) → PassesWhere test rules name
     → passes_where test rules name ≡ true
-where_test test rules name passes =
-    let host = passes.added ++ name in
-    where_at test rules name passes.added passes.is
-    ∙ and_from (some_byte host) (all_bytes host && test host) (some_byte_from host passes.some)
-    (and_from (all_bytes host) (test host) passes.bytes passes.holds)
+where_test test rules name passes = grind (arith, where_at, and_from, some_byte_from)
 
 where_added : (test : List ℕ → Bool) (name : List ℕ) (o : Option (List ℕ))
     → option_map_or (λ added. some_byte (added ++ name) && (all_bytes (added ++ name) && test (added ++ name))) o
     false ≡ true → (added : List ℕ) × (o ≡ Some added)
-where_added test name None e = absurd (false≢true e)
-where_added test name (Some added) e = (added, refl)
+where_added test name o e = grind (arith, false≢true)
 
 pub test_where : (test : List ℕ → Bool) (rules : List MappingRule) (name : List ℕ) → passes_where test rules name ≡ true
     → PassesWhere test rules name
-test_where test rules name e =
-    let (added, at) = where_added test name (added_prefix Client rules name) e in
-    let host = added ++ name in
-    let parts =
-    and_parts (some_byte host) (all_bytes host && test host) (sym (where_at test rules name added at) ∙ e) in
-    let more = and_parts (all_bytes host) (test host) parts.1 in
-    record { added = added; is = at; some = some_byte_is host parts.0; bytes = more.0; holds = more.1 }
+test_where test rules name e = grind (arith, where_added, and_parts, where_at, some_byte_is)
 
 -- the host name is a name
 pub where_is_name : (test : List ℕ → Bool) (rules : List MappingRule) → All HasNoZero rules → (name : List ℕ)
     → IsName name → (passes : PassesWhere test rules name) → IsName (passes.added ++ name)
-where_is_name test rules no_zero name is passes =
-    name_from (passes.added ++ name) (host_no_zero rules name passes.added no_zero is passes.is) passes.bytes
+where_is_name test rules no_zero name is passes = search (rules, name_from, host_no_zero)
 
 -- the answer of the code
 pub where_result : (test : List ℕ → Bool) (rules : List MappingRule) (name added host : List ℕ) (holds : Bool)
     → added_prefix Client rules name ≡ Some added → host ≡ added ++ name → some_byte host ≡ true → all_bytes host ≡ true
     → holds ≡ test host → holds ≡ passes_where test rules name
-where_result test rules name added host holds e is some bytes answer =
-    answer ∙ sym
-    (where_at test rules name added e ∙ ap (λ h. some_byte h && (all_bytes h && test h)) (sym is)
-    ∙ ap (λ b. b && (all_bytes host && test host)) some ∙ ap (λ b. b && test host) bytes)
+where_result test rules name added host holds e is some bytes answer = search (rules, where_at)
 
 -- ---- the names tried decide
 
@@ -172,9 +156,4 @@ pub record AreThose (Bad : List ℕ → Type 0) (test : List ℕ → Bool) (rule
 pub where_decide : (Bad : List ℕ → Type 0) (test : List ℕ → Bool) (side : Side) (rules others : List MappingRule)
     → AreThose Bad test rules → HoldsOfFronts test side others → (beginning : List ℕ) → Decide (Within beginning Bad)
     (within beginning (passes_where test rules)) (beginning ∷ guest_names side others rules ++ one_byte_names)
-where_decide Bad test side rules others those holds beginning =
-    decide_within beginning Bad (passes_where test rules)
-    (beginning ∷ guest_names side others rules ++ one_byte_names)
-    (λ name is e. those.only name is (test_where test rules name e))
-    (λ name bad. (let (is, passes) = those.all name bad in front_tried test side rules others holds beginning name is
-    passes))
+where_decide Bad test side rules others those holds beginning = grind (arith, decide_within, test_where, front_tried)

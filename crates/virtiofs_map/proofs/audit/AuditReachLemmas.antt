@@ -1,14 +1,15 @@
 -- Whether a map reaches a name of the host: it is enough to try what rules put before names, where it begins that name.
 use Rattle.std.proofs.Common.{◌≡◌, ℕ, zero, suc, ◌+◌, ◌-◌, ◌<◌, ◌≤◌, Bool, true, false, cond, eqb, List, [], ◌∷◌}
-use Rattle.std.proofs.Common.{length, take, drop, Contains, Option, Some, None, inl, inr, refl, sym, ap, subst}
-use Rattle.std.proofs.Common.{◌∙◌, arith}
+use Rattle.std.proofs.Common.{length, take, drop, Contains, Option, Some, None, inl, inr, refl, sym, ap, subst, ◌∙◌}
+use Rattle.std.proofs.Common.{arith, rules}
 use Rattle.std.specs.Cmp.Lexicographic.{slice_cmp}
 use Rattle.std.specs.List.{filter_map}
 use Rattle.std.specs.List.Sorted.{IsPermutation}
 use Rattle.std.specs.Ordering.{nat_cmp, ordering_then}
 use Rattle.std.specs.declared.cmp.Ordering.TheVariants.{Less}
 use Rattle.std.proofs.lemmas.List.{length-take, nil_from_length}
-use Rattle.std.proofs.lemmas.Bool.{and_parts, and_from, false_from_ne_true, cases_Bool, cases_lt, eq-eqb, eqb-true, false≢true, true≢false}
+use Rattle.std.proofs.lemmas.Bool.{and_parts, and_from, false_from_ne_true, cases_Bool, cases_lt, eq-eqb, eqb-true}
+use Rattle.std.proofs.lemmas.Bool.{false≢true, true≢false}
 use Rattle.std.proofs.lemmas.List.Sorted.{Contains-permutation}
 use Rattle.std.proofs.lemmas.List.Sums.{common_prefix_len-le}
 use Rattle.virtiofs_map.specs.Audit.{IsBefore}
@@ -20,7 +21,7 @@ use Rattle.virtiofs_map.specs.Rule.{MappingRule}
 use Rattle.virtiofs_map.specs.declared.audit.gathered.Part.TheVariants.{Added}
 use Rattle.virtiofs_map.specs.declared.xattrmap.scopes.Side.TheVariants.{Client}
 use Rattle.virtiofs_map.proofs.AuditAlikeLemmas.{shorter_begins}
-use Rattle.virtiofs_map.proofs.BeginsLemmas.{begins_split, begins_length, begins-append}
+use Rattle.virtiofs_map.proofs.BeginsLemmas.{begins_itself, begins_split, begins_length, begins-append}
 use Rattle.virtiofs_map.proofs.audit.AuditGatheredLemmas.{gathered_member}
 use Rattle.virtiofs_map.proofs.audit.AuditOrderLemmas.{level, between, front_not_before}
 use Rattle.virtiofs_map.proofs.audit.AuditSharedLemmas.{LeadsTo, leads_from, leads_test, test_leads, rule_member}
@@ -45,14 +46,7 @@ front_shared (x ∷ p) (y ∷ one) (z ∷ other) b d =
     omega (arith, front_shared p one other first.1 second.1, is)
 
 shared_head : (y x : ℕ) (n more : ℕ) → cond (eqb y x) (1 + n) 0 ≡ suc more → (y ≡ x) × (n ≡ more)
-shared_head y x n more e =
-    elim (cases_Bool (eqb y x)) [
-      | inl same ↦
-          (let is : 1 + n ≡ suc more = subst (λ b. cond b (1 + n) 0 ≡ suc more) same e in
-          (eqb-true y x same, omega arith))
-      | inr other ↦ absurd
-          (let is : 0 ≡ suc more = subst (λ b. cond b (1 + n) 0 ≡ suc more) other e in omega arith)
-    ]
+shared_head y x n more e = search (rules, cases_Bool, eqb-true)
 
 -- a row that is the beginning of a longer one comes before it
 shared_before : (last rest : List ℕ) → shared last rest ≡ length rest → length rest < length last
@@ -67,12 +61,7 @@ shared_before (y ∷ last) (x ∷ rest) e l =
 -- where the last name up to a row does not begin it, it shares less than the row
 pub shares_less : (names : List (List ℕ)) (rest last : List ℕ) → IsLast names rest last
     → shared last rest < length last → shared last rest < length rest
-shares_less names rest last is l =
-    let within = (shared_within last rest).1 in
-    elim (cases_lt (shared last rest) (length rest)) [
-      | inl less ↦ less
-      | inr over ↦ absurd (is.up_to (shared_before last rest (omega arith) (omega arith)))
-    ]
+shares_less names rest last is l = search (rules, shared_within, cases_lt, shared_before)
 
 -- what begins both, and is as long as one of them, is that one
 same_front : (p name : List ℕ) → begins p name ≡ true → length p ≡ length name → p ≡ name
@@ -95,20 +84,10 @@ pub record IsLeft (rules : List MappingRule) (all_added : List (List ℕ)) (host
 
 passes_begins : (rules : List MappingRule) (host added : List ℕ) → passes_with rules host added ≡ true
     → begins added host ≡ true
-passes_begins rules host added e =
-    (and_parts (begins added host) (adds added (added_prefix Client rules (drop (length added) host))) e).0
-
-begins_itself : (name : List ℕ) → begins name name ≡ true
-begins_itself [] = refl
-begins_itself (x ∷ name) = and_from (eqb x x) (begins name name) (eq-eqb x x refl) (begins_itself name)
+passes_begins rules host added e = grind (arith, and_parts)
 
 pub left_first : (rules : List MappingRule) (all_added : List (List ℕ)) (host : List ℕ) → IsLeft rules all_added host host
-left_first rules all_added host = record {
-  begun = begins_itself host;
-  others = λ added among l.
-      false_from_ne_true (passes_with rules host added)
-      (λ e. omega (arith, l, begins_length added host (passes_begins rules host added e)));
-}
+left_first rules all_added host = grind (arith, begins_itself, begins_length, passes_begins)
 
 -- an added prefix that leads to the host name and is no longer than the rest begins the last one up to the rest
 leads_last : (rules : List MappingRule) (all_added : List (List ℕ)) (host rest last added : List ℕ)
@@ -186,12 +165,7 @@ left_shorter rules all_added host rest last less count left is e whole fails som
 
 pub reached_where : (rules : List MappingRule) (host added : List ℕ) → passes_with rules host added ≡ true
     → is_reached rules host ≡ true
-reached_where rules host added e =
-    let rest = drop (length added) host in
-    let parts = and_parts (begins added host) (adds added (added_prefix Client rules rest)) e in
-    leads_test rules host
-    (leads_from rules rest added host (adds_is added (added_prefix Client rules rest) parts.1)
-    (begins_split added host parts.0))
+reached_where rules host added e = grind (arith, and_parts, leads_test, leads_from, adds_is, begins_split)
 
 leads_with : (rules : List MappingRule) (host : List ℕ) (leads : LeadsTo rules host)
     → passes_with rules host leads.added ≡ true
@@ -203,8 +177,7 @@ leads_with rules host leads =
 
 added_where : (on : Bool) (o : Option (List ℕ)) (added : List ℕ) → on ≡ true → o ≡ Some added
     → cond on o None ≡ Some added
-added_where true o added e p = p
-added_where false o added e p = absurd (false≢true e)
+added_where on o added e p = grind (arith, false≢true)
 
 -- where no added prefix leads to the host name, nothing does
 pub not_reached : (rules : List MappingRule) (all_added : List (List ℕ)) (host : List ℕ)

@@ -1,15 +1,13 @@
 -- Names whose host name another map does not hide: that the names tried decide, and what they mean for lists.
 use Rattle.std.proofs.Common.{◌≡◌, ◌≢◌, ℕ, ◌<◌, Bool, true, false, ◌&&◌, not, cond, List, [], ◌∷◌, ◌++◌, length, filter}
-use Rattle.std.proofs.Common.{Some, None, inl, inr, refl, sym, ap, ◌∙◌, subst, arith}
+use Rattle.std.proofs.Common.{Some, None, inl, inr, refl, sym, ap, ◌∙◌, subst, arith, rules}
 use Rattle.std.specs.List.{All, cons_option, list_all, filter_map}
-use Rattle.std.specs.Option.{option_map_or, is_none}
 use Rattle.std.proofs.lemmas.Bool.{cases_Bool, true≢false, not-true, not_from_false, false_from_ne_true, ne_eqb}
 use Rattle.std.proofs.lemmas.List.{length-append}
 use Rattle.std.proofs.lemmas.List.Elements.{All-nil, All-cons, All-append, All-weaker}
 use Rattle.std.proofs.lemmas.List.Splits.{slice_split_at}
 use Rattle.virtiofs_map.specs.Audit.{Within, Reached, Apart, IsSeen, Leaves, IsList, Isolated}
 use Rattle.virtiofs_map.specs.AuditParts.{is_hidden, is_seen, within, guest_names, one_byte_names}
-use Rattle.virtiofs_map.specs.GatheredParts.{added_prefix_of}
 use Rattle.virtiofs_map.specs.MapRule.{IsName}
 use Rattle.virtiofs_map.specs.Names.{HostAnswer, IsListed, IsHidden, IsUndecided, host_answer, is_decided, listed_name}
 use Rattle.virtiofs_map.specs.Names.{names, as_list, server_answer}
@@ -19,8 +17,7 @@ use Rattle.virtiofs_map.proofs.AuditAlikeLemmas.{server_alike}
 use Rattle.virtiofs_map.proofs.AuditAddedLemmas.{passes_added, added_passes, hidden_test, test_hidden}
 use Rattle.virtiofs_map.proofs.audit.AuditLeastLemmas.{Decide}
 use Rattle.virtiofs_map.proofs.audit.AuditPassLemmas.{IsByteOfName, all_bytes_from, PassesWhere, where_is_name}
-use Rattle.virtiofs_map.proofs.audit.AuditPassLemmas.{HoldsOfFronts}
-use Rattle.virtiofs_map.proofs.audit.AuditPassLemmas.{AreThose, where_decide}
+use Rattle.virtiofs_map.proofs.audit.AuditPassLemmas.{HoldsOfFronts, AreThose, where_decide}
 use Rattle.virtiofs_map.proofs.MapRuleLemmas.{not_zero_name, some_name}
 use Rattle.virtiofs_map.proofs.NoZeroLemmas.{IsNotZero}
 use Rattle.virtiofs_map.proofs.ServerListLemmas.{is_name, is_zero}
@@ -63,16 +60,12 @@ those_seen rules others no_zero = record {
 
 -- the names tried decide
 shown_of_fronts : (others : List MappingRule) → HoldsOfFronts (is_shown others) Server others
-shown_of_fronts others host other front both shown =
-    ap (λ o. not (option_map_or (λ rule. is_none (added_prefix_of rule)) o false)) (sym (server_alike others host other both))
-    ∙ shown
+shown_of_fronts others host other front both shown = search (rules, server_alike)
 
 pub seen_decide : (rules others : List MappingRule) → All HasNoZero rules → (beginning : List ℕ)
     → Decide (Within beginning (IsSeen rules others)) (within beginning (is_seen rules others))
     (beginning ∷ guest_names Server others rules ++ one_byte_names)
-seen_decide rules others no_zero =
-    where_decide (IsSeen rules others) (is_shown others) Server rules others (those_seen rules others no_zero)
-    (shown_of_fronts others)
+seen_decide rules others no_zero = search (rules, where_decide, those_seen, shown_of_fronts)
 
 -- ---- apart
 
@@ -93,18 +86,11 @@ apart_where_none rules others none host reached =
 
 reached_by : (rules others : List MappingRule) (name : List ℕ) (seen : IsSeen rules others name)
     → Reached rules seen.host
-reached_by rules others name seen = record {
-  is_host = seen.is_host;
-  not_empty = seen.not_empty;
-  name = name;
-  is_name = seen.is_name;
-  passes = seen.passes;
-}
+reached_by rules others name seen = search (rules, is_name)
 
 pub none_where_apart : (rules others : List MappingRule) → Apart rules others → (name : List ℕ)
     → ¬ IsSeen rules others name
-none_where_apart rules others apart name seen =
-    seen.not_hidden (apart seen.host (reached_by rules others name seen))
+none_where_apart rules others apart name seen = grind (arith, reached_by)
 
 -- ---- isolated
 
@@ -163,8 +149,7 @@ first_name (x ∷ xs) rest some no_zero =
     ∙ ap (λ b. cond b ((x ∷ xs) ∷ names rest) (names rest)) (some_name x xs)
 
 names_twice : (host : List ℕ) → host ≢ [] → All IsNotZero host → names (twice host) ≡ host ∷ host ∷ []
-names_twice host some no_zero =
-    first_name host (host ++ 0 ∷ []) some no_zero ∙ ap (λ all. host ∷ all) (first_name host [] some no_zero)
+names_twice host some no_zero = search (rules, first_name)
 
 shown_twice : (answer : HostAnswer) → answer ≢ IsHidden
     → cond (is_decided answer && (is_decided answer && true))
@@ -185,11 +170,7 @@ is_list : (host : List ℕ) → IsName host → IsList host
 is_list host is = All-weaker IsByteOfName (λ byte. byte < 256) (λ byte h. h.1) host is
 
 is_list_twice : (host : List ℕ) → IsName host → IsList (twice host)
-is_list_twice host is =
-    let end = All-cons (λ byte. byte < 256) 0 [] (omega arith) (All-nil (λ byte. byte < 256)) in
-    All-append (λ byte. byte < 256) host (0 ∷ (host ++ 0 ∷ [])) (is_list host is)
-    (All-cons (λ byte. byte < 256) 0 (host ++ 0 ∷ []) (omega arith)
-    (All-append (λ byte. byte < 256) host (0 ∷ []) (is_list host is) end))
+is_list_twice host is = search (rules, All-cons, All-nil, All-append, is_list)
 
 pub none_where_isolated : (rules others : List MappingRule) → Isolated rules others → (name : List ℕ)
     → ¬ IsSeen rules others name

@@ -1,7 +1,7 @@
 -- Names whose host name another map reaches too: what the test of host names says of them, and that the names tried
 -- decide.
 use Rattle.std.proofs.Common.{◌≡◌, ◌≢◌, ℕ, Bool, true, false, ◌&&◌, ◌||◌, List, [], ◌∷◌, ◌++◌, length, drop, Option}
-use Rattle.std.proofs.Common.{Some, None, inl, inr, refl, sym, ap, ◌∙◌, subst}
+use Rattle.std.proofs.Common.{Some, None, inl, inr, refl, sym, ap, ◌∙◌, subst, arith, rules}
 use Rattle.std.specs.List.{All, AllByRecursion, find, list_any}
 use Rattle.std.specs.Option.{option_map, option_map_or, option_and_then}
 use Rattle.std.proofs.lemmas.Bool.{and_parts, and_from, cases_Bool, cond_both, false≢true}
@@ -9,21 +9,19 @@ use Rattle.std.proofs.lemmas.List.{append_assoc, drop_at}
 use Rattle.std.proofs.lemmas.List.Elements.{All-drop}
 use Rattle.virtiofs_map.specs.Audit.{Within, Reached, SharesNoName, IsShared}
 use Rattle.virtiofs_map.specs.AuditParts.{added_prefix, adds, passes_as, is_reached, is_shared, within, guest_names}
-use Rattle.virtiofs_map.specs.GatheredParts.{added_prefix_of}
 use Rattle.virtiofs_map.specs.AuditParts.{one_byte_names}
+use Rattle.virtiofs_map.specs.GatheredParts.{added_prefix_of}
 use Rattle.virtiofs_map.specs.MapRule.{IsName}
-use Rattle.virtiofs_map.specs.Names.{begins, fits, deciding, Passes}
+use Rattle.virtiofs_map.specs.Names.{begins, deciding, Passes}
 use Rattle.virtiofs_map.specs.Rule.{MappingRule, HasNoZero}
 use Rattle.virtiofs_map.specs.declared.xattrmap.scopes.Side.TheVariants.{Client}
 use Rattle.virtiofs_map.proofs.AuditAlikeLemmas.{Member, all_member, begins-append_both, decides_front, BeginsBoth}
-use Rattle.virtiofs_map.proofs.AuditAddedLemmas.{passes_added, added_passes}
+use Rattle.virtiofs_map.proofs.AuditAddedLemmas.{passes_added, added_passes, adds_by}
 use Rattle.virtiofs_map.proofs.audit.AuditLeastLemmas.{Decide}
 use Rattle.virtiofs_map.proofs.audit.AuditPassLemmas.{IsByteOfName, all_bytes_from, PassesWhere, where_is_name}
-use Rattle.virtiofs_map.proofs.audit.AuditPassLemmas.{HoldsOfFronts}
-use Rattle.virtiofs_map.proofs.audit.AuditPassLemmas.{AreThose, where_decide}
+use Rattle.virtiofs_map.proofs.audit.AuditPassLemmas.{HoldsOfFronts, AreThose, where_decide}
 use Rattle.virtiofs_map.proofs.audit.AuditStrayLemmas.{adds_is, bytes_same}
-use Rattle.virtiofs_map.proofs.BeginsLemmas.{begins_split, begins-append, deciding_fits}
-use Rattle.virtiofs_map.proofs.FirstRuleLemmas.{deciding-find}
+use Rattle.virtiofs_map.proofs.BeginsLemmas.{begins_split, begins-append, deciding_fits, deciding-find}
 
 -- ---- a rule that leads to a host name
 
@@ -36,16 +34,11 @@ pub record LeadsTo (rules : List MappingRule) (host : List ℕ) : Type 0 where
   pub puts : added_prefix_of rule ≡ Some added
   pub host_is : host ≡ added ++ name
 
-rule_of : (o : Option MappingRule) (added : List ℕ) → option_and_then added_prefix_of o ≡ Some added
-    → (rule : MappingRule) × (o ≡ Some rule) × (added_prefix_of rule ≡ Some added)
-rule_of None added e = absurd (cc)
-rule_of (Some rule) added e = (rule, refl, e)
-
 pub leads_from : (rules : List MappingRule) (name added host : List ℕ) → added_prefix Client rules name ≡ Some added
     → host ≡ added ++ name → LeadsTo rules host
 leads_from rules name added host e is =
-    let (rule, decides, puts) = rule_of (deciding Client rules name) added e in
-    record { rule = rule; added = added; name = name; decides = decides; puts = puts; host_is = is }
+    let by = adds_by (deciding Client rules name) added e in
+    record { rule = by.rule; added = added; name = name; decides = by.decides; puts = by.puts; host_is = is }
 
 -- ---- the test of host names
 
@@ -69,8 +62,7 @@ found_member p (y ∷ ys) x e =
     (λ _ k. inl (let same : x ≡ y = cc in same)) (λ _ k. inr (found_member p ys x k)) e
 
 pub rule_member : (rules : List MappingRule) (host : List ℕ) (leads : LeadsTo rules host) → Member leads.rule rules
-rule_member rules host leads =
-    found_member (fits Client leads.name) rules leads.rule (sym (deciding-find Client rules leads.name) ∙ leads.decides)
+rule_member rules host leads = grind (arith, found_member, deciding-find)
 
 -- the rule acts for the client, and its key begins the name
 pub rule_fits : (rules : List MappingRule) (host : List ℕ) (leads : LeadsTo rules host)
@@ -82,8 +74,7 @@ rule_fits rules host leads =
 -- what is left of the host name is the name
 pub rest_is : (rules : List MappingRule) (host : List ℕ) (leads : LeadsTo rules host)
     → drop (length leads.added) host ≡ leads.name
-rest_is rules host leads =
-    ap (drop (length leads.added)) leads.host_is ∙ drop_at leads.added leads.name (length leads.added) refl
+rest_is rules host leads = grind (arith, drop_at)
 
 pub added_is : (rules : List MappingRule) (host : List ℕ) (leads : LeadsTo rules host)
     → added_prefix Client rules leads.name ≡ Some leads.added
@@ -99,13 +90,7 @@ passes_by rules host rule added =
 pub passes_at : (rules : List MappingRule) (host : List ℕ) (rule : MappingRule) (added rest : List ℕ)
     → rule.client ≡ true → added_prefix_of rule ≡ Some added → begins added host ≡ true → rest ≡ drop (length added) host
     → begins rule.key rest ≡ true → passes_as rules host rule ≡ adds added (added_prefix Client rules rest)
-passes_at rules host rule added rest on puts begun is keyed =
-    let left = drop (length added) host in
-    ap (λ b. b && option_map_or (passes_by rules host rule) (added_prefix_of rule) false) on
-    ∙ ap (λ o. option_map_or (passes_by rules host rule) o false) puts
-    ∙ ap (λ b. b && (begins rule.key left && adds added (added_prefix Client rules left))) begun
-    ∙ ap (λ n. begins rule.key n && adds added (added_prefix Client rules n)) (sym is)
-    ∙ ap (λ b. b && adds added (added_prefix Client rules rest)) keyed
+passes_at rules host rule added rest on puts begun is keyed = search rules
 
 leads_passes : (rules : List MappingRule) (host : List ℕ) (leads : LeadsTo rules host)
     → passes_as rules host leads.rule ≡ true
@@ -125,22 +110,14 @@ puts_some rules host rule (Some added) e = (added, e)
 
 passes_leads : (rules : List MappingRule) (host : List ℕ) (rule : MappingRule) → passes_as rules host rule ≡ true
     → LeadsTo rules host
-passes_leads rules host rule e =
-    let (added, by) =
-    puts_some rules host rule (added_prefix_of rule)
-    (and_parts rule.client (option_map_or (passes_by rules host rule) (added_prefix_of rule) false) e).1 in
-    let rest = drop (length added) host in
-    let parts = and_parts (begins added host) (begins rule.key rest && adds added (added_prefix Client rules rest)) by in
-    let more = and_parts (begins rule.key rest) (adds added (added_prefix Client rules rest)) parts.1 in
-    leads_from rules rest added host (adds_is added (added_prefix Client rules rest) more.1) (begins_split added host parts.0)
+passes_leads rules host rule e = grind (arith, puts_some, and_parts, leads_from, adds_is, begins_split)
 
 pub leads_test : (rules : List MappingRule) (host : List ℕ) → LeadsTo rules host → is_reached rules host ≡ true
 leads_test rules host leads =
     any_member (passes_as rules host) leads.rule rules (rule_member rules host leads) (leads_passes rules host leads)
 
 pub test_leads : (rules : List MappingRule) (host : List ℕ) → is_reached rules host ≡ true → LeadsTo rules host
-test_leads rules host e =
-    let (rule, passes) = any_some (passes_as rules host) rules e in passes_leads rules host rule passes
+test_leads rules host e = grind (arith, any_some, passes_leads)
 
 -- ---- reached
 
@@ -215,15 +192,12 @@ those_shared rules others no_zero = record {
       }
 
 reached_of_fronts : (others : List MappingRule) → HoldsOfFronts (is_reached others) Client others
-reached_of_fronts others host other front both holds =
-    leads_test others other (leads_front others host other front both (test_leads others host holds))
+reached_of_fronts others host other front both holds = search (rules, leads_test, leads_front, test_leads)
 
 pub shared_decide : (rules others : List MappingRule) → All HasNoZero rules → (beginning : List ℕ)
     → Decide (Within beginning (IsShared rules others)) (within beginning (is_shared rules others))
     (beginning ∷ guest_names Client others rules ++ one_byte_names)
-shared_decide rules others no_zero =
-    where_decide (IsShared rules others) (is_reached others) Client rules others (those_shared rules others no_zero)
-    (reached_of_fronts others)
+shared_decide rules others no_zero = search (rules, where_decide, those_shared, reached_of_fronts)
 
 -- ---- no name is shared
 
@@ -234,14 +208,7 @@ disjoint_where_none rules others none host reached also =
 
 pub none_where_disjoint : (rules others : List MappingRule) → SharesNoName rules others → (name : List ℕ)
     → ¬ IsShared rules others name
-none_where_disjoint rules others disjoint name shared =
-    disjoint shared.host (record {
-      is_host = shared.reached.is_host;
-      not_empty = shared.reached.not_empty;
-      name = name;
-      is_name = shared.is_name;
-      passes = shared.passes;
-    }) shared.reached
+none_where_disjoint rules others disjoint name shared = search rules
 
 -- the other way round it is the same
 pub disjoint_both_ways : (rules others : List MappingRule) → SharesNoName rules others → SharesNoName others rules

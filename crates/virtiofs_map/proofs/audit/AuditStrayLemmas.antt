@@ -1,7 +1,7 @@
 -- Host names that are listed under a name that does not pass as them: what the test says of them, and that the names
 -- tried decide.
-use Rattle.std.proofs.Common.{◌≡◌, ◌≢◌, ℕ, ◌<◌, ◌≤◌, Bool, true, false, not, List, [], ◌∷◌, ◌++◌, length}
-use Rattle.std.proofs.Common.{drop, Option, Some, None, inl, inr, refl, sym, ap, ◌∙◌}
+use Rattle.std.proofs.Common.{◌≡◌, ◌≢◌, ℕ, ◌<◌, ◌≤◌, Bool, true, false, not, List, [], ◌∷◌, ◌++◌, length, drop, Option}
+use Rattle.std.proofs.Common.{Some, None, inl, inr, refl, sym, ap, ◌∙◌, arith, rules}
 use Rattle.std.specs.Bool.{nat_eq}
 use Rattle.std.specs.Cmp.Lexicographic.{pointwise}
 use Rattle.std.specs.Option.{option_map_or, option_and_then}
@@ -12,9 +12,8 @@ use Rattle.std.proofs.lemmas.Slice.Eq.{slice_eq-Decides}
 use Rattle.std.proofs.lemmas.List.{append_cancel_right}
 use Rattle.std.proofs.lemmas.List.Elements.{All-head}
 use Rattle.virtiofs_map.specs.Audit.{Within, OpensListed, IsStray}
-use Rattle.virtiofs_map.specs.AuditParts.{added_prefix, some_byte, adds, is_stray, within, host_names}
+use Rattle.virtiofs_map.specs.AuditParts.{added_prefix, some_byte, adds, is_stray, within, host_names, one_byte_names}
 use Rattle.virtiofs_map.specs.GatheredParts.{added_prefix_of}
-use Rattle.virtiofs_map.specs.AuditParts.{one_byte_names}
 use Rattle.virtiofs_map.specs.MapRule.{IsName}
 use Rattle.virtiofs_map.specs.Names.{begins, Passes, client_answer}
 use Rattle.virtiofs_map.specs.Rule.{MappingRule}
@@ -41,8 +40,7 @@ adds_is cut (Some added) e = ap Some (same_bytes added cut e)
 -- where just that is put before the name that was taken off, the name opens its host name
 opened_where_added : (rules : List MappingRule) (cut name : List ℕ) → adds cut (added_prefix Client rules name) ≡ true
     → client_answer rules name ≡ Passes (cut ++ name)
-opened_where_added rules cut name e =
-    added_passes rules name cut (adds_is cut (added_prefix Client rules name) e)
+opened_where_added rules cut name e = search (rules, added_passes, adds_is)
 
 added_where_opened : (rules : List MappingRule) (cut name : List ℕ) → client_answer rules name ≡ Passes (cut ++ name)
     → adds cut (added_prefix Client rules name) ≡ true
@@ -61,22 +59,17 @@ stray_at rules host cut some e = rw (some_byte_from host some, e) refl
 pub stray_none : (rules : List MappingRule) (host cut rest : List ℕ) → some_byte host ≡ true
     → added_prefix Server rules host ≡ Some cut → rest ≡ drop (length cut) host → added_prefix Client rules rest ≡ None
     → true ≡ is_stray rules host
-stray_none rules host cut rest some e is none =
-    sym (stray_at rules host cut (some_byte_is host some) e ∙ ap (λ r. not (adds cut (added_prefix Client rules r))) (sym is)
-    ∙ ap (λ o. not (adds cut o)) none)
+stray_none rules host cut rest some e is none = search (rules, stray_at, some_byte_is)
 
 pub stray_some : (rules : List MappingRule) (host cut rest added : List ℕ) (differ : Bool) → some_byte host ≡ true
     → added_prefix Server rules host ≡ Some cut → rest ≡ drop (length cut) host → added_prefix Client rules rest ≡ Some added
     → differ ≡ not (pointwise nat_eq added cut) → differ ≡ is_stray rules host
-stray_some rules host cut rest added differ some e is found d =
-    d ∙ sym (stray_at rules host cut (some_byte_is host some) e
-    ∙ ap (λ r. not (adds cut (added_prefix Client rules r))) (sym is) ∙ ap (λ o. not (adds cut o)) found)
+stray_some rules host cut rest added differ some e is found d = search (rules, stray_at, some_byte_is)
 
 stray_cut : (rules : List MappingRule) (host : List ℕ) (o : Option (List ℕ))
     → option_map_or (λ cut. not (adds cut (added_prefix Client rules (drop (length cut) host)))) o false ≡ true
     → (cut : List ℕ) × (o ≡ Some cut)
-stray_cut rules host None e = absurd (false≢true e)
-stray_cut rules host (Some cut) e = (cut, refl)
+stray_cut rules host o e = grind (arith, false≢true)
 
 -- what is taken off is no longer than the host name
 pub cut_length : (rules : List MappingRule) (host cut : List ℕ) → added_prefix Server rules host ≡ Some cut
@@ -149,9 +142,7 @@ stray_front_tried rules beginning (x ∷ xs) stray b =
 pub stray_decide : (rules : List MappingRule) (beginning : List ℕ)
     → Decide (Within beginning (IsStray rules)) (within beginning (is_stray rules))
     (beginning ∷ host_names rules rules ++ one_byte_names)
-stray_decide rules beginning =
-    decide_within beginning (IsStray rules) (is_stray rules) (beginning ∷ host_names rules rules ++ one_byte_names)
-    (test_stray rules) (stray_front_tried rules beginning)
+stray_decide rules beginning = search (rules, decide_within, test_stray, stray_front_tried)
 
 -- ---- opens
 
@@ -169,5 +160,4 @@ opens_where_none rules none host name is some listed =
     ]
 
 pub none_where_opens : (rules : List MappingRule) → OpensListed rules → (host : List ℕ) → ¬ IsStray rules host
-none_where_opens rules opens host stray =
-    stray.not_opened (opens host stray.name stray.is_name stray.not_empty stray.listed)
+none_where_opens rules opens host stray = grind arith

@@ -1,6 +1,6 @@
 -- The loops over the names that an audit tries.
-use Rattle.std.proofs.Common.{◌≡◌, ◌⊎◌, ℕ, zero, suc, ◌+◌, ◌-◌, ◌<◌, ◌≤◌, Bool, true, false, cond, List}
-use Rattle.std.proofs.Common.{◌++◌, map, length, drop, Contains, Some, None, inl, inr, sym, ap, subst, ◌∙◌, arith}
+use Rattle.std.proofs.Common.{◌≡◌, ◌⊎◌, ℕ, zero, suc, ◌+◌, ◌<◌, ◌≤◌, Bool, true, false, List, ◌++◌, map, length, drop}
+use Rattle.std.proofs.Common.{Contains, Some, None, inl, inr, sym, subst, ◌∙◌, arith, rules}
 use Rattle.std.specs.List.{slice_get, range_with_len}
 use Rattle.std.proofs.lemmas.Bool.{cases_lt, cases_Bool, false≢true, true≢false}
 use Rattle.std.proofs.lemmas.Option.{same_Some}
@@ -12,8 +12,8 @@ use Rattle.virtiofs_map.specs.Names.{begins}
 use Rattle.virtiofs_map.specs.Rule.{MappingRule}
 use Rattle.virtiofs_map.proofs.audit.AuditGatheredLemmas.{contains_none}
 use Rattle.virtiofs_map.proofs.audit.AuditLeastLemmas.{finds_nothing, not_first}
-use Rattle.virtiofs_map.proofs.audit.AuditOrderLemmas.{place_of, in_order, between, front_not_before}
-use Rattle.virtiofs_map.proofs.audit.AuditOrderLemmas.{cmp_after, not_before_trans}
+use Rattle.virtiofs_map.proofs.audit.AuditOrderLemmas.{place_of, in_order, between, front_not_before, cmp_after}
+use Rattle.virtiofs_map.proofs.audit.AuditOrderLemmas.{not_before_trans}
 
 -- ---- elements before a place
 
@@ -30,48 +30,26 @@ some_none xs such some = omega (arith, some.before)
 
 earlier : {X : Type 0} (xs : List X) (n m : ℕ) (such : X → Type 0) (some : SomeBelow xs m such) → some.place < n
     → SomeBelow xs n such
-earlier xs n m such some before =
-    record { element = some.element; place = some.place; before = before; here = some.here; is = some.is }
+earlier xs n m such some before = search rules
 
 -- at one place more stands the element itself
 last_place : {X : Type 0} (xs : List X) (n : ℕ) (such : X → Type 0) (some : SomeBelow xs (n + 1) such) → n ≤ some.place
     → slice_get xs n ≡ Some some.element
-last_place xs n such some over =
-    let same : some.place ≡ n = omega (arith, some.before) in
-    ap (λ (k : ℕ). slice_get xs k) (sym same) ∙ some.here
+last_place xs n such some over = search rules
 
 pub some_more : {X : Type 0} (xs : List X) (n : ℕ) (such : X → Type 0) (x : X) → slice_get xs n ≡ Some x
     → SomeBelow xs (n + 1) such → SomeBelow xs n such ⊎ such x
-some_more xs n such x here some =
-    elim (cases_lt some.place n) [
-      | inl less ↦ inl (earlier xs n (n + 1) such some less)
-      | inr over ↦ inr
-          (subst such (same_Some some.element x (sym (last_place xs n such some over) ∙ here)) some.is)
-    ]
+some_more xs n such x here some = search (rules, cases_lt, earlier, same_Some, last_place)
 
 -- where there is no element at the place
 pub some_same : {X : Type 0} (xs : List X) (n : ℕ) (such : X → Type 0) → slice_get xs n ≡ None
     → SomeBelow xs (n + 1) such → SomeBelow xs n such
-some_same xs n such none some =
-    elim (cases_lt some.place n) [
-      | inl less ↦ earlier xs n (n + 1) such some less
-      | inr over ↦ absurd (let both = sym none ∙ last_place xs n such some over in cc)
-    ]
+some_same xs n such none some = search (rules, cases_lt, earlier, last_place)
 
 -- where the one there stands just before it too
 pub some_repeated : (xs : List (List ℕ)) (n : ℕ) (such : List ℕ → Type 0) → IsRepeated xs n
     → SomeBelow xs (n + 1) such → SomeBelow xs n such
-some_repeated xs n such (some_before, same) some =
-    elim (cases_lt some.place n) [
-      | inl less ↦ earlier xs n (n + 1) such some less
-      | inr over ↦ record {
-        element = some.element;
-        place = n - 1;
-        before = omega arith;
-        here = same ∙ last_place xs n such some over;
-        is = some.is;
-      }
-    ]
+some_repeated xs n such (some_before, same) some = search (rules, cases_lt, earlier, last_place)
 
 pub some_all : {X : Type 0} (xs : List X) (n : ℕ) (such : X → Type 0) → length xs ≤ n
     → (x : X) × Contains xs x × such x → SomeBelow xs n such
@@ -90,35 +68,20 @@ abbrev pub RestBelow : List (List ℕ) → List ℕ → ℕ → List ℕ → Typ
 RestBelow patterns added n name = SomeBelow patterns n (λ pattern. rest_after added pattern ≡ Some name)
 
 begins_rest : (added pattern name : List ℕ) → rest_after added pattern ≡ Some name → begins added pattern ≡ true
-begins_rest added pattern name e =
-    elim (cases_Bool (begins added pattern)) [
-      | inl holds ↦ holds
-      | inr fails ↦ absurd
-          (let none : cond false (Some (drop (length added) pattern)) None ≡ Some name =
-          subst (λ b. cond b (Some (drop (length added) pattern)) None ≡ Some name) fails e in cc)
-    ]
+begins_rest added pattern name e = search (rules, cases_Bool)
 
 pub rest_is : (added pattern name : List ℕ) → begins added pattern ≡ true → rest_after added pattern ≡ Some name
     → name ≡ drop (length added) pattern
-rest_is added pattern name b e =
-    let some : Some (drop (length added) pattern) ≡ Some name =
-    subst (λ b. cond b (Some (drop (length added) pattern)) None ≡ Some name) b e in
-    cc
+rest_is added pattern name b e = search rules
 
 pub rests_none : (patterns : List (List ℕ)) (added : List ℕ) (count : ℕ) (name : List ℕ)
     → CountsBefore patterns added count → ¬ RestBelow patterns added count name
-rests_none patterns added count name counts rest =
-    front_not_before added rest.element (begins_rest added rest.element name rest.is)
-    (counts.before rest.place rest.element rest.before rest.here)
+rests_none patterns added count name counts rest = search (rules, front_not_before, begins_rest)
 
 pub rests_more : (patterns : List (List ℕ)) (added : List ℕ) (n : ℕ) (name pattern rest : List ℕ)
     → slice_get patterns n ≡ Some pattern → begins added pattern ≡ true → rest ≡ drop (length added) pattern
     → RestBelow patterns added (n + 1) name → RestBelow patterns added n name ⊎ (name ≡ rest)
-rests_more patterns added n name pattern rest here b is one =
-    elim (some_more patterns n (λ p. rest_after added p ≡ Some name) pattern here one) [
-      | inl less ↦ inl less
-      | inr left ↦ inr (rest_is added pattern name b left ∙ sym is)
-    ]
+rests_more patterns added n name pattern rest here b is one = search (rules, some_more, rest_is)
 
 -- once a pattern does not begin with the added prefix, nor do those after it
 pub rests_end : (patterns : List (List ℕ)) (added : List ℕ) (count n : ℕ) (pattern : List ℕ) (name : List ℕ)
@@ -185,27 +148,17 @@ CutWhole rules cuts keys n name = SomeBelow cuts n (λ cut. (is_cut rules cut �
 pub cuts_more : (rules : List MappingRule) (cuts keys : List (List ℕ)) (n : ℕ) (name cut : List ℕ)
     → slice_get cuts n ≡ Some cut → CutWhole rules cuts keys (n + 1) name
     → CutWhole rules cuts keys n name ⊎ IsWholeOf cut keys name
-cuts_more rules cuts keys n name cut here one =
-    elim (some_more cuts n (λ cut. (is_cut rules cut ≡ true) × IsWholeOf cut keys name) cut here one) [
-      | inl less ↦ inl less
-      | inr (live, whole) ↦ inr whole
-    ]
+cuts_more rules cuts keys n name cut here one = grind (arith, some_more)
 
 pub cuts_dead : (rules : List MappingRule) (cuts keys : List (List ℕ)) (n : ℕ) (name cut : List ℕ)
     → slice_get cuts n ≡ Some cut → is_cut rules cut ≡ false → CutWhole rules cuts keys (n + 1) name
     → CutWhole rules cuts keys n name
-cuts_dead rules cuts keys n name cut here dead one =
-    elim (some_more cuts n (λ cut. (is_cut rules cut ≡ true) × IsWholeOf cut keys name) cut here one) [
-      | inl less ↦ less
-      | inr (live, whole) ↦ absurd (true≢false (sym live ∙ dead))
-    ]
+cuts_dead rules cuts keys n name cut here dead one = grind (arith, some_more, true≢false)
 
 -- no name that begins with the cut is bad
 pub wholes_not_bad : (bad : List ℕ → Bool) (cut : List ℕ) (keys : List (List ℕ)) (now : TriedSoFar)
     → ((rest : List ℕ) → bad (cut ++ rest) ≡ false) → Finds bad (IsWholeOf cut keys) now now
-wholes_not_bad bad cut keys now none =
-    finds_nothing bad (IsWholeOf cut keys) now
-    (λ name whole is. absurd (true≢false (sym is ∙ ap bad whole.2 ∙ none whole.0)))
+wholes_not_bad bad cut keys now none = search (rules, finds_nothing, true≢false)
 
 -- ---- names of one byte
 
@@ -220,11 +173,7 @@ pub bytes_none : (name : List ℕ) → ¬ ByteBelow 1 name
 bytes_none name one = omega (arith, one.some, one.below)
 
 pub bytes_more : (n : ℕ) (name : List ℕ) → ByteBelow (n + 1) name → ByteBelow n name ⊎ (name ≡ one_byte n)
-bytes_more n name one =
-    elim (cases_lt one.byte n) [
-      | inl less ↦ inl (record { byte = one.byte; some = one.some; below = less; is = one.is })
-      | inr over ↦ inr (let same : one.byte ≡ n = omega (arith, one.below) in one.is ∙ ap one_byte same)
-    ]
+bytes_more n name one = search (rules, cases_lt)
 
 among_range : (a n : ℕ) (name : List ℕ) → Contains (map one_byte (range_with_len a n)) name
     → (byte : ℕ) × (a ≤ byte) × (byte < a + n) × (name ≡ one_byte byte)

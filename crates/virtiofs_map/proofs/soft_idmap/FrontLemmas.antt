@@ -1,6 +1,6 @@
 -- Where the entries of a front of a list precede one another, its specifications keep apart, and the other way round.
-use Rattle.std.proofs.Common.{◌≡◌, ◌≢◌, inl, inr, ℕ, ◌+◌, ◌<◌, ◌≤◌, List, [], ◌∷◌, ◌++◌, length, take, get_or, map}
-use Rattle.std.proofs.Common.{min, All, AllPairs, Contains, Some, IfSome, sym, ap, ◌∙◌, subst, arith}
+use Rattle.std.proofs.Common.{◌≡◌, ◌≢◌, inl, inr, ℕ, ◌+◌, ◌<◌, ◌≤◌, List, [], ◌∷◌, ◌++◌, length, take, get_or, map, min}
+use Rattle.std.proofs.Common.{All, AllPairs, Contains, Some, IfSome, sym, ap, ◌∙◌, subst, arith, rules}
 use Rattle.std.proofs.Math.Seq.{take-length}
 use Rattle.std.proofs.lemmas.Bool.{cases_lt, cases_order}
 use Rattle.std.proofs.lemmas.List.{get_or_default, get_or-take, get_or-map, length-take, length-map, take_more}
@@ -11,8 +11,9 @@ use Rattle.virtiofs_map.proofs.StoredLemmas.{found_entry}
 use Rattle.virtiofs_map.specs.Build.{HasSource, HasTarget, Meet, Accepted}
 use Rattle.virtiofs_map.specs.Mapping.{entry_of, first_of, count_of, EntryCovers}
 use Rattle.virtiofs_map.specs.LookupSteps.{acting}
-use Rattle.virtiofs_map.specs.RangeParts.{Precedes, HasNumbers, AreRanges, IsOfOne, Stores, StandsAt, IsIndexed, AreIndexed}
-use Rattle.virtiofs_map.specs.RangeParts.{AreSorted, ArePrecedingBelow, KeepsApartTo, HasRoom, HasRoomBothWays}
+use Rattle.virtiofs_map.specs.RangeParts.{Precedes, HasNumbers, AreRanges, IsOfOne, Stores, StandsAt, IsIndexed}
+use Rattle.virtiofs_map.specs.RangeParts.{AreIndexed, AreSorted, ArePrecedingBelow, KeepsApartTo, HasRoom}
+use Rattle.virtiofs_map.specs.RangeParts.{HasRoomBothWays}
 use Rattle.virtiofs_map.specs.declared.cmdline.IdMap.{IdMap}
 use Rattle.virtiofs_map.specs.declared.soft_idmap.entry.Direction.{Direction}
 use Rattle.virtiofs_map.specs.declared.soft_idmap.entry.Direction.TheVariants.{GuestToHost, HostToGuest}
@@ -110,10 +111,7 @@ pub preceding_from_accepted : (specs : List IdMap) (direction : Direction) (coun
     → Accepted (take count specs) → count ≤ length specs → AreSorted specs direction indexed
     → ArePrecedingBelow count indexed
 preceding_from_accepted specs direction count indexed accepted within sorted a b d before below one_below other_below =
-    let first = sorted.are_indexed.from a d (omega arith) in
-    let second = sorted.are_indexed.from b d below in
-    preceding_at specs direction count (get_or indexed a d) (get_or indexed b d) accepted within first.0 second.0
-    (sorted.are_indexed.once a b d before below) (sorted.rising a b d (omega arith) below) one_below other_below
+    search (rules, preceding_at)
 
 -- ---- a front is accepted
 
@@ -204,17 +202,11 @@ overlap_found count end i indexed d within so_far counts begins preceding = elim
 
 target_of_one : (specs : List IdMap) (direction : Direction) (one : IndexedEntry) → Accepted specs
     → IsIndexed specs direction one → HasTarget one.entry
-target_of_one specs direction one accepted indexed =
-    rw indexed.sets_up at (All-contains (λ (spec : IdMap). IfSome (entry_of spec direction) HasTarget) specs indexed.spec
-    (accepted.target direction) (one.index, indexed.here.0, indexed.here.1))
+target_of_one specs direction one accepted indexed = search (rules, All-contains)
 
 numbers_of_one : (specs : List IdMap) (direction : Direction) (one : IndexedEntry) → Accepted specs
     → IsIndexed specs direction one → HasNumbers one.entry
-numbers_of_one specs direction one accepted indexed =
-    let source : HasSource one.entry =
-    rw indexed.sets_up at (All-contains (λ (spec : IdMap). IfSome (entry_of spec direction) HasSource) specs
-    indexed.spec (accepted.source direction) (one.index, indexed.here.0, indexed.here.1)) in
-    record { some = indexed.counted; source = source indexed.counted }
+numbers_of_one specs direction one accepted indexed = search (rules, All-contains)
 
 pub AreRanges-indexed : (specs : List IdMap) (direction : Direction) (indexed : List IndexedEntry) → Accepted specs
     → AreSorted specs direction indexed → AreRanges (map (λ one. one.entry) indexed)

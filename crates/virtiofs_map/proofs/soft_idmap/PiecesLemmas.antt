@@ -1,7 +1,7 @@
 -- The pieces of a map: each as long as it can be, and no more of them than twice as many as specifications act, and
 -- one.
-use Rattle.std.proofs.Common.{if◌then◌else◌, ◌≡◌, inl, inr, ◌⊎◌, ℕ, ◌+◌, ◌-◌, ◌*◌, ◌<◌, ◌≤◌, false, nat_lt, List, []}
-use Rattle.std.proofs.Common.{◌∷◌, length, Contains, Option, Some, None, IsSomeAnd, refl, ap, ◌∙◌, arith}
+use Rattle.std.proofs.Common.{if◌then◌else◌, ◌≡◌, inl, inr, ◌⊎◌, ℕ, ◌+◌, ◌*◌, ◌<◌, ◌≤◌, nat_lt, List, [], ◌∷◌, length}
+use Rattle.std.proofs.Common.{Contains, Option, Some, None, IsSomeAnd, refl, ap, ◌∙◌, arith, rules, ◌-◌}
 use Rattle.std.specs.Iterator.{Yields, Drains}
 use Rattle.std.specs.List.{AllByRecursion, sum_by}
 use Rattle.std.proofs.lemmas.Bool.{cases_Bool, cases_lt}
@@ -17,32 +17,19 @@ use Rattle.virtiofs_map.specs.Pieces.{GivesPiece, IsStretch}
 use Rattle.virtiofs_map.specs.declared.cmdline.IdMap.{IdMap}
 use Rattle.virtiofs_map.specs.declared.soft_idmap.entry.Direction.{Direction}
 use Rattle.virtiofs_map.specs.declared.soft_idmap.entry.Entry.{Entry}
-use Rattle.virtiofs_map.specs.declared.soft_idmap.entry.Entry.TheVariants.{Map, Squash, Fail}
 use Rattle.virtiofs_map.specs.declared.soft_idmap.piece.Outcome.{Outcome}
 use Rattle.virtiofs_map.specs.declared.soft_idmap.piece.Outcome.TheVariants.{Kept, OneToOne, AllToOne, Forbidden}
 use Rattle.virtiofs_map.specs.declared.soft_idmap.piece.Piece.{Piece}
 use Rattle.virtiofs_map.proofs.MappingLawLemmas.{HasOneValue-accepted}
 use Rattle.virtiofs_map.proofs.StoredLemmas.{found_entry}
+use Rattle.virtiofs_map.specs.declared.soft_idmap.entry.Entry.TheVariants.{Map, Squash, Fail}
 
 -- ---- the longest piece
 
 pub IsStretch-join : (specs : List IdMap) (direction : Direction) (piece more longer : Piece)
     → IsStretch specs direction piece → IsStretch specs direction more → more.first ≡ piece.last + 1
     → Joins piece more longer → IsStretch specs direction longer
-IsStretch-join specs direction piece more longer stretch more_stretch follows joins =
-    let first : longer.first ≡ piece.first = joins.first_is in
-    record {
-      order = omega (arith, stretch.order, joins.from);
-      within = omega (arith, more_stretch.within, joins.to);
-      named = joins.named;
-      becomes = λ n low high.
-          elim (cases_lt n more.first) [
-            | inl before ↦ rw (joins.value n (omega arith) (omega arith))
-                (stretch.becomes n (omega arith) (omega arith))
-            | inr after ↦ rw (joins.value_more n after high)
-                (more_stretch.becomes n after (omega (arith, joins.to)))
-          ];
-    }
+IsStretch-join specs direction piece more longer stretch more_stretch follows joins = search (rules, cases_lt)
 
 -- where the piece cannot have the number after it, no outcome has
 pub IsPiece-longest : (specs : List IdMap) (direction : Direction) (piece more : Piece) → Accepted specs
@@ -105,48 +92,17 @@ IsSteady n m o = (entry : Entry) → o ≡ Some entry → 1 ≤ count_of entry
 end_fewer : (n m end : ℕ) → n ≤ m
     → (above m end + 1 ≤ above n end) ⊎ ((above m end ≡ above n end) × (n < end → m < end))
 unfolding above
-end_fewer n m end up =
-    elim (cases_lt m end) [
-      | inl before ↦ inr (grind (arith, nat_tests), λ _. before)
-      | inr within ↦ elim (cases_lt n end) [
-        | inl before ↦ inl (grind (arith, nat_tests))
-        | inr after ↦ inr (grind (arith, nat_tests), λ below. absurd (omega arith))
-      ]
-    ]
+end_fewer n m end up = search (rules, cases_lt, nat_tests)
 
 -- of two sums whose parts are no greater than those of the other, one is less, or both parts are the same
 sum_fewer : {P Q : Type 0} (a b c d : ℕ) → (a + 1 ≤ b) ⊎ ((a ≡ b) × P) → (c + 1 ≤ d) ⊎ ((c ≡ d) × Q)
     → (a + c + 1 ≤ b + d) ⊎ ((a + c ≡ b + d) × (P × Q))
-sum_fewer a b c d (inl less) (inl less') = inl (omega arith)
-sum_fewer a b c d (inl less) (inr (same, q)) = inl (omega arith)
-sum_fewer a b c d (inr (same, p)) (inl less) = inl (omega arith)
-sum_fewer a b c d (inr (same, p)) (inr (same', q)) = inr (omega arith, (p, q))
+sum_fewer a b c d e h = grind arith
 
 fewer_or_steady : (n m : ℕ) (o : Option Entry) → n ≤ m
     → (ends m o + 1 ≤ ends n o) ⊎ ((ends m o ≡ ends n o) × IsSteady n m o)
 unfolding ends
-fewer_or_steady n m None up = inr (refl, λ entry is some. absurd (cc))
-fewer_or_steady n m (Some entry) up =
-    elim (cases_Bool (nat_lt 0 (count_of entry))) [
-      | inl acts ↦ rw acts
-          (both (sum_fewer _ _ _ _ (end_fewer n m (first_of entry) up)
-          (end_fewer n m (first_of entry + count_of entry) up)))
-      | inr empty ↦ rw empty (inr (refl, λ other is some. absurd (none other is some empty)))
-    ] where
-      none : (other : Entry) → Some entry ≡ Some other → 1 ≤ count_of other → nat_lt 0 (count_of entry) ≡ false → ⊥
-      none other is some empty =
-          let same : entry ≡ other = cc in
-          let counts = ap (λ (e : Entry). count_of e) same in
-          grind (arith, nat_tests)
-
-      both : {a b : ℕ}
-          → (a + 1 ≤ b)
-          ⊎ ((a ≡ b)
-          × ((n < first_of entry → m < first_of entry)
-          × (n < first_of entry + count_of entry → m < first_of entry + count_of entry)))
-          → (a + 1 ≤ b) ⊎ ((a ≡ b) × IsSteady n m (Some entry))
-      both (inl less) = inl less
-      both (inr (same, steady)) = inr (same, λ other is some. (let e : entry ≡ other = cc in rw (← e) steady))
+fewer_or_steady n m o up = grind (arith, cases_Bool, nat_lt, sum_fewer, end_fewer, nat_tests)
 
 all_fewer_or_steady : (direction : Direction) (n m : ℕ) (specs : List IdMap) → n ≤ m
     → (ends_above direction m specs + 1 ≤ ends_above direction n specs)
@@ -172,9 +128,7 @@ outcome_from (Fail first count) n = Forbidden
 value_from : (entry : Entry) (n k : ℕ) → first_of entry ≤ n → n ≤ k
     → target_of entry k ≡ value_by (outcome_from entry n) n k
 unfolding outcome_from
-value_from (Map first to count) n k low from = ap (λ (v : ℕ). Some v) (omega arith)
-value_from (Squash first to count) n k low from = refl
-value_from (Fail first count) n k low from = refl
+value_from entry n k low from = grind arith
 
 -- an entry that there is covers the number, and makes that of it
 maps_by : (o : Option Entry) (entry : Entry) (k : ℕ) (value : Option ℕ) → o ≡ Some entry → EntryCovers entry k

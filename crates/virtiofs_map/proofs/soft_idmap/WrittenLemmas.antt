@@ -1,16 +1,16 @@
 -- What was written for the entries that were placed is the image of a map.
-use Rattle.std.proofs.Common.{◌≡◌, ℕ, ◌+◌, ◌*◌, ◌<◌, ◌≤◌, List, length, map, slice_index, slice_get, Some}
-use Rattle.std.proofs.Common.{refl, sym, ap, ◌∙◌, arith}
+use Rattle.std.proofs.Common.{◌≡◌, ℕ, ◌+◌, ◌*◌, ◌<◌, ◌≤◌, List, length, map, slice_index, slice_get, Some, sym, ap, ◌∙◌}
+use Rattle.std.proofs.Common.{arith, rules}
 use Rattle.std.proofs.Math.Seq.{take-length}
 use Rattle.std.proofs.lemmas.List.{length-map}
 use Rattle.std.proofs.lemmas.List.Sums.{count_by-le-length}
 use Rattle.std.proofs.lemmas.Option.{slice_get_within}
 use Rattle.virtiofs_map.specs.Build.{Accepted}
 use Rattle.virtiofs_map.specs.Image.{IsImage, image_length, IsWritten}
-use Rattle.virtiofs_map.specs.LookupSteps.{covers_some, acting}
-use Rattle.virtiofs_map.specs.Mapping.{entry_of}
+use Rattle.virtiofs_map.specs.LookupSteps.{acting}
 use Rattle.virtiofs_map.specs.RangeParts.{AreSorted, AreSortedBothWays}
-use Rattle.virtiofs_map.specs.WordParts.{AreFirstsBelow, AreRowsBelow, KeepsBefore, IsAt, HasRanges, image_kind, table_in}
+use Rattle.virtiofs_map.specs.WordParts.{AreFirstsBelow, AreRowsBelow, KeepsBefore, IsAt, HasRanges, image_kind}
+use Rattle.virtiofs_map.specs.WordParts.{table_in}
 use Rattle.virtiofs_map.specs.declared.cmdline.IdMap.{IdMap}
 use Rattle.virtiofs_map.specs.declared.soft_idmap.entry.Direction.{Direction}
 use Rattle.virtiofs_map.specs.declared.soft_idmap.entry.Direction.TheVariants.{GuestToHost, HostToGuest}
@@ -27,18 +27,12 @@ entries indexed = map (λ one. one.entry) indexed
 pub firsts_kept : (old new : List ℕ) (start at : ℕ) (ranges : List Entry) (count : ℕ)
     → AreFirstsBelow old start ranges count → KeepsBefore at old new → start + count ≤ at
     → AreFirstsBelow new start ranges count
-firsts_kept old new start at ranges count are keeps within k range below here = keeps (start + k) (omega arith)
-    ∙ are k range below here
+firsts_kept old new start at ranges count are keeps within k range below here = search rules
 
 pub rows_kept : (old new : List ℕ) (start at : ℕ) (ranges : List Entry) (count : ℕ)
     → AreRowsBelow old start ranges count → KeepsBefore at old new → start + 3 * count ≤ at
     → AreRowsBelow new start ranges count
-rows_kept old new start at ranges count are keeps within k range below here =
-    rw (
-      keeps (start + 3 * k) (omega arith),
-      keeps (start + 3 * k + 1) (omega arith),
-      keeps (start + 3 * k + 2) (omega arith),
-    ) (are k range below here)
+rows_kept old new start at ranges count are keeps within k range below here = search rules
 
 pub keeps_further : (old middle new : List ℕ) (at next : ℕ) → KeepsBefore at old middle → KeepsBefore next middle new
     → at ≤ next → KeepsBefore at old new
@@ -107,31 +101,17 @@ indexed-count specs direction indexed accepted sorted =
 -- and as many as specifications act
 pub indexed-acting : (specs : List IdMap) (direction : Direction) (indexed : List IndexedEntry)
     → AreSorted specs direction indexed → length indexed ≡ acting specs direction
-indexed-acting specs direction indexed sorted = sorted.are_indexed.counted
-    ∙ ap (λ (list : List IdMap). acting list direction) (take-length specs)
+indexed-acting specs direction indexed sorted = search (rules, take-length)
 
 -- how long an image is
 pub image-length : (specs : List IdMap) (guests hosts : List IndexedEntry) (len : ℕ) → AreSortedBothWays specs guests hosts
     → len ≡ 4 + 4 * length guests + 4 * length hosts → len ≡ image_length specs
-image-length specs guests hosts len indexed is =
-    rw (
-      indexed-acting specs GuestToHost guests indexed.from_guest,
-      indexed-acting specs HostToGuest hosts indexed.from_host,
-    ) at is
+image-length specs guests hosts len indexed is = search (rules, indexed-acting)
 
 pub image-bound : (specs : List IdMap) → image_length specs ≤ 4 + 8 * length specs
-image-bound specs =
-    let guests : acting specs GuestToHost ≤ length specs =
-    count_by-le-length (λ (spec : IdMap). covers_some (entry_of spec GuestToHost)) specs in
-    let hosts : acting specs HostToGuest ≤ length specs =
-    count_by-le-length (λ (spec : IdMap). covers_some (entry_of spec HostToGuest)) specs in
-    omega arith
+image-bound specs = search (rules, count_by-le-length)
 
 -- and where there is no room for one
 pub IsWritten-none : (specs : List IdMap) (words : List ℕ) (len : ℕ) → len ≡ image_length specs → length words < len
     → IsWritten specs words words
-IsWritten-none specs words len is short = record {
-  image = λ within. absurd (omega arith);
-  rest = λ within. absurd (omega arith);
-  no_room = λ _. refl;
-}
+IsWritten-none specs words len is short = search rules

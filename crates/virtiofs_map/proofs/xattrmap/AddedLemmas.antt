@@ -1,12 +1,11 @@
 -- How much longer names become on the host.
-use Rattle.std.proofs.Common.{◌≡◌, inl, inr, ℕ, ◌+◌, ◌<◌, ◌≤◌, List, ◌++◌, length, Option, Some, None, refl, sym, ap}
-use Rattle.std.proofs.Common.{◌∙◌, arith, length-append, option_and_then, slice_get}
-use Rattle.std.specs.Option.{option_map_or}
+use Rattle.std.proofs.Common.{◌≡◌, inr, ℕ, ◌+◌, ◌<◌, ◌≤◌, List, ◌++◌, length, Option, Some, refl, sym, ap, ◌∙◌, arith}
+use Rattle.std.proofs.Common.{length-append, slice_get, rules}
 use Rattle.std.proofs.lemmas.Bool.{cases_lt}
 use Rattle.std.proofs.lemmas.Option.{slice_get_within}
 use Rattle.virtiofs_map.specs.AddedParts.{IsAddedAt, IsAddedBelow}
 use Rattle.virtiofs_map.specs.Audit.{DecidesOn, IsMostAdded}
-use Rattle.virtiofs_map.specs.Names.{first, Passes, IsUnterminated, answer_by, client_answer}
+use Rattle.virtiofs_map.specs.Names.{first, Passes, answer_by, client_answer}
 use Rattle.virtiofs_map.specs.Rule.{Prefix, MappingRule}
 use Rattle.virtiofs_map.specs.declared.xattrmap.scopes.Side.TheVariants.{Client}
 use Rattle.virtiofs_map.proofs.xattrmap.DecidingLemmas.{first_at}
@@ -17,10 +16,7 @@ use Rattle.virtiofs_map.proofs.xattrmap.DecidingLemmas.{first_at}
 answered : (rules : List MappingRule) (place : ℕ) (rule : MappingRule) (name : List ℕ)
     → slice_get rules place ≡ Some rule → first Client rules name ≡ Some place
     → client_answer rules name ≡ answer_by rule.kind rule.prepend name
-answered rules place rule name here is =
-    let by : MappingRule → _ = λ one. answer_by one.kind one.prepend name in
-    ap (λ at. option_map_or by (option_and_then (slice_get rules) at) IsUnterminated) is
-    ∙ ap (λ one. option_map_or by one IsUnterminated) here
+answered rules place rule name here is = search (rules, slice_get)
 
 pub its_prepend : (rules : List MappingRule) (place : ℕ) (rule : MappingRule) → slice_get rules place ≡ Some rule
     → rule.kind ≡ Prefix → DecidesOn Client rules place → IsAddedAt rules place (length rule.prepend)
@@ -45,43 +41,20 @@ its_prepend rules place rule here kind decides = record {
 -- ---- the rules so far
 
 pub none_so_far : (rules : List MappingRule) → IsAddedBelow rules 0 0
-none_so_far rules = record {
-  at_most = λ name host place _ below _ _. absurd (omega arith);
-  reached = inl refl;
-}
+none_so_far rules = grind arith
 
 pub one_more : (rules : List MappingRule) (at most added : ℕ) → IsAddedBelow rules at most → IsAddedAt rules at added
     → added ≤ most → IsAddedBelow rules (at + 1) most
-one_more rules at most added below here less = record {
-  at_most = λ name host place is_name within is passes. elim (cases_lt place at) [
-    | inl l ↦ below.at_most name host place is_name l is passes
-    | inr l ↦ (let same : place ≡ at = omega arith in
-        omega (arith, here.at_most name host is_name (is ∙ ap Some same) passes))
-  ];
-  reached = below.reached;
-}
+one_more rules at most added below here less = grind (arith, cases_lt)
 
 pub one_longer : (rules : List MappingRule) (at most added : ℕ) → IsAddedBelow rules at most → IsAddedAt rules at added
     → most < added → IsAddedBelow rules (at + 1) added
-one_longer rules at most added below here more = record {
-  at_most = λ name host place is_name within is passes. elim (cases_lt place at) [
-    | inl l ↦ omega (arith, below.at_most name host place is_name l is passes)
-    | inr l ↦ (let same : place ≡ at = omega arith in
-        here.at_most name host is_name (is ∙ ap Some same) passes)
-  ];
-  reached = here.reached;
-}
+one_longer rules at most added below here more = grind (arith, cases_lt)
 
 -- a name that passes has a rule
 decided_by : (rules : List MappingRule) (name host : List ℕ) (at : Option ℕ) → first Client rules name ≡ at
     → client_answer rules name ≡ Passes host → (place : ℕ) × (first Client rules name ≡ Some place)
-decided_by rules name host (Some place) is passes = (place, is)
-decided_by rules name host None is passes =
-    let by : MappingRule → _ = λ one. answer_by one.kind one.prepend name in
-    let undecided : client_answer rules name ≡ IsUnterminated =
-    ap (λ at. option_map_or by (option_and_then (slice_get rules) at) IsUnterminated) is in
-    let both = sym undecided ∙ passes in
-    absurd (cc)
+decided_by rules name host at is passes = grind (arith, slice_get)
 
 pub all_of_them : (rules : List MappingRule) (count most : ℕ) → length rules ≤ count → IsAddedBelow rules count most
     → IsMostAdded rules most

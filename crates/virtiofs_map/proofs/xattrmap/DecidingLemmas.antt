@@ -1,6 +1,6 @@
 -- Rules that decide no name: earlier ones take their patterns.
 use Rattle.std.proofs.Common.{◌≡◌, ℕ, ◌<◌, ◌≤◌, ◌⊎◌, true, false, cond, List, [], length, get_or, Some, None, inl, inr}
-use Rattle.std.proofs.Common.{sym, ap, ◌∙◌, subst, arith, slice_get, lt-ltb, true≢false, append-nil}
+use Rattle.std.proofs.Common.{sym, ap, ◌∙◌, subst, arith, slice_get, lt-ltb, true≢false}
 use Rattle.std.specs.List.{position_or_len}
 use Rattle.std.proofs.lemmas.Bool.{and_parts, and_from, cases_lt}
 use Rattle.std.proofs.lemmas.List.Quantifiers.{position-Some}
@@ -13,22 +13,17 @@ use Rattle.virtiofs_map.specs.Rule.{Okay, MappingRule}
 use Rattle.virtiofs_map.specs.declared.xattrmap.scopes.Side.{Side}
 use Rattle.virtiofs_map.specs.declared.xattrmap.scopes.Side.TheVariants.{Client, Server}
 use Rattle.virtiofs_map.proofs.AuditAlikeLemmas.{fits_more}
-use Rattle.virtiofs_map.proofs.BeginsLemmas.{begins_trans, begins_from}
+use Rattle.virtiofs_map.proofs.BeginsLemmas.{begins_itself, begins_trans}
 
 -- ---- a rule and its pattern
 
 pub fit_parts : (side : Side) (name : List ℕ) (rule : MappingRule) → fits side name rule ≡ true
     → (acts side rule ≡ true) × (begins (pattern side rule) name ≡ true)
-fit_parts Client name rule e = and_parts rule.client (begins rule.key name) e
-fit_parts Server name rule e = and_parts rule.server (begins rule.prepend name) e
+fit_parts side name rule e = grind (arith, and_parts)
 
 pub fit_from : (side : Side) (name : List ℕ) (rule : MappingRule) → acts side rule ≡ true
     → begins (pattern side rule) name ≡ true → fits side name rule ≡ true
-fit_from Client name rule on b = and_from rule.client (begins rule.key name) on b
-fit_from Server name rule on b = and_from rule.server (begins rule.prepend name) on b
-
-begins_itself : (p : List ℕ) → begins p p ≡ true
-begins_itself p = begins_from p p [] (sym (append-nil p))
+fit_from side name rule on b = grind (arith, and_from)
 
 -- ---- the first rule that fits
 
@@ -109,19 +104,14 @@ on_a_side rules place (Server, decides) = inr decides
 
 pub shadowed_on_both : (rules : List MappingRule) (place : ℕ) → IsShadowedOn Client rules place
     → IsShadowedOn Server rules place → IsShadowed rules place
-shadowed_on_both rules place client server Client = client
-shadowed_on_both rules place client server Server = server
+shadowed_on_both rules place client server e = grind arith
 
 -- ---- what is taken
 
 -- a rule whose pattern is taken decides no name
 taken_decides_none : (side : Side) (rules : List MappingRule) (name : List ℕ) (place : ℕ)
     → (is : IsFirstAt side rules name place) → ¬ IsTaken side rules place (pattern side is.rule)
-taken_decides_none side rules name place is taken =
-    let parts = fit_parts side name is.rule is.fit in
-    let fit = fit_from side name taken.rule taken.acting
-    (begins_trans (pattern side taken.rule) (pattern side is.rule) name taken.front parts.1) in
-    true≢false (sym fit ∙ is.before taken.earlier taken.rule taken.before taken.here)
+taken_decides_none side rules name place is taken = grind (arith, fit_parts, fit_from, begins_trans, true≢false)
 
 pub shadowed_decides_none : (rules : List MappingRule) (place : ℕ) → IsShadowed rules place → ¬ Decides rules place
 shadowed_decides_none rules place shadowed (side, decides) =

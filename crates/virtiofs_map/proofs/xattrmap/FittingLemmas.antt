@@ -1,8 +1,9 @@
 -- Which patterns begin a name and a front of it, and the first rule where rules fit two names alike.
-use Rattle.std.proofs.Common.{◌≡◌, ℕ, zero, suc, ◌+◌, ◌≤◌, Bool, true, ◌&&◌, not, cond, eqb, ltb, List, [], ◌∷◌, ◌++◌}
+use Rattle.std.proofs.Common.{◌≡◌, ℕ, zero, suc, ◌+◌, ◌≤◌, Bool, true, ◌&&◌, not, cond, eqb, List, [], ◌∷◌, ◌++◌}
 use Rattle.std.proofs.Common.{length, take, drop, Contains, Option, Some, None, refl, sym, ap, ◌∙◌, add-one, arith}
-use Rattle.std.specs.List.{position_or_len, slice_get}
-use Rattle.std.specs.Option.{option_and_then, option_map_or}
+use Rattle.std.proofs.Common.{rules}
+use Rattle.std.specs.List.{position_or_len}
+use Rattle.std.specs.Option.{option_map_or}
 use Rattle.std.proofs.lemmas.Bool.{and_parts}
 use Rattle.std.proofs.lemmas.List.{append_assoc, drop_at}
 use Rattle.std.proofs.lemmas.List.Elements.{Contains-append_right}
@@ -11,13 +12,11 @@ use Rattle.virtiofs_map.specs.FirstRule.{acts, pattern, deciding_length}
 use Rattle.virtiofs_map.specs.Names.{begins, fits, first, deciding}
 use Rattle.virtiofs_map.specs.Rule.{MappingRule}
 use Rattle.virtiofs_map.specs.declared.xattrmap.scopes.Side.{Side}
-use Rattle.virtiofs_map.specs.declared.xattrmap.scopes.Side.TheVariants.{Client, Server}
 use Rattle.virtiofs_map.proofs.BeginsLemmas.{begins_split, begins_from, begins_length, deciding_fits}
 
 pub fits_is : (side : Side) (name : List ℕ) (rule : MappingRule)
     → fits side name rule ≡ (acts side rule && begins (pattern side rule) name)
-fits_is Client name rule = refl
-fits_is Server name rule = refl
+fits_is side name rule = grind arith
 
 -- a pattern no longer than a front begins the front where it begins the name
 pub begins_front : (p name : List ℕ) (k : ℕ) → length p ≤ k → begins p (take k name) ≡ begins p name
@@ -61,8 +60,7 @@ first_among p q (x ∷ xs) same =
 pub same_first : (side : Side) (rules : List MappingRule) (name other : List ℕ)
     → ((rule : MappingRule) → Contains rules rule → fits side name rule ≡ fits side other rule)
     → first side rules name ≡ first side rules other
-same_first side rules name other same =
-    ap (λ n. cond (ltb n (length rules)) (Some n) None) (first_among (fits side name) (fits side other) rules same)
+same_first side rules name other same = grind (arith, first_among)
 
 -- the pattern that decides a name is no longer than the name
 pub deciding_within : (side : Side) (rules : List MappingRule) (name : List ℕ)
@@ -80,5 +78,4 @@ deciding_within side rules name = by_case (deciding side rules name) refl where
 pub same_deciding : (side : Side) (rules : List MappingRule) (name other : List ℕ)
     → first side rules name ≡ first side rules other
     → deciding_length side rules name ≡ deciding_length side rules other
-same_deciding side rules name other e =
-    ap (λ place. option_map_or (λ rule. length (pattern side rule)) (option_and_then (slice_get rules) place) 0) e
+same_deciding side rules name other e = search rules

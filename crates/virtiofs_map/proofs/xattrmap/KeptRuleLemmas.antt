@@ -1,7 +1,7 @@
 -- Rules whose patterns stand in one memory.
 use Rattle.std.proofs.Common.{◌≡◌, ℕ, ◌+◌, ◌-◌, ◌≤◌, Bool, true, false, List, [], ◌∷◌, ◌++◌, map, length, take, drop}
 use Rattle.std.proofs.Common.{get_or, Option, Some, None, IfSome, Decides, refl, sym, ap, subst, ◌∙◌, arith}
-use Rattle.std.proofs.Common.{length-append, length-drop, All, slice_get, option_map, take_all}
+use Rattle.std.proofs.Common.{length-append, length-drop, All, slice_get, option_map, take_all, rules}
 use Rattle.std.proofs.lemmas.List.{take-append-le, drop-append-le, map-append, length-map, take_more}
 use Rattle.std.proofs.lemmas.List.Elements.{All-head, All-tail, All-push}
 use Rattle.std.proofs.lemmas.Option.{slice_get-map, slice_get_within, get_or_from_slice_get}
@@ -22,9 +22,7 @@ the_same x y e = cc
 -- a part of some bytes is a part of more bytes
 part_more : (bytes more : List ℕ) (from to : ℕ) → from ≤ to → to ≤ length bytes
     → take (to - from) (drop from (bytes ++ more)) ≡ take (to - from) (drop from bytes)
-part_more bytes more from to rising within =
-    ap (λ xs. take (to - from) xs) (drop-append-le from bytes more (omega arith))
-    ∙ take-append-le (to - from) (drop from bytes) more (omega (arith, length-drop from bytes))
+part_more bytes more from to rising within = search (rules, drop-append-le, take-append-le, length-drop)
 
 same_patterns : (kind : RuleKind) (scope : Scope) (k l p q : List ℕ) → k ≡ l → p ≡ q
     → rule_with kind scope k p ≡ rule_with kind scope l q
@@ -32,19 +30,10 @@ same_patterns kind scope k l p q ek ep = rw (ek, ep) refl
 
 kept_more : (bytes more : List ℕ) (entry : RuleEntry) → IsAmong bytes entry
     → rule_kept (bytes ++ more) entry ≡ rule_kept bytes entry
-kept_more bytes more entry among =
-    same_patterns entry.kind entry.scope _ _ _ _
-    (part_more bytes more entry.span.key entry.span.prepend among.rising (omega arith))
-    (part_more bytes more entry.span.prepend entry.span.end among.rising_on among.within)
+kept_more bytes more entry among = search (rules, same_patterns, part_more)
 
 among_more : (bytes more : List ℕ) (entry : RuleEntry) → IsAmong bytes entry → IsAmong (bytes ++ more) entry
-among_more bytes more entry among = record {
-  key = refl;
-  prepend = refl;
-  rising = among.rising;
-  rising_on = among.rising_on;
-  within = omega (arith, length-append bytes more);
-}
+among_more bytes more entry among = search (rules, length-append)
 
 all_more : (bytes more : List ℕ) (entries : List RuleEntry) → All (IsAmong bytes) entries
     → All (IsAmong (bytes ++ more)) entries
@@ -125,18 +114,13 @@ spans_are bytes entries all = record {
 -- ---- whether rules are the same, place by place
 
 false_is : {P : Type 0} (r : Bool) → Decides r P → (P → ⊥) → false ≡ r
-false_is false decides never = refl
-false_is true decides never = absurd (never (decides.0 refl))
+false_is r decides never = grind arith
 
 module _ (one other : List MappingRule) (place : ℕ) (x y : MappingRule) (here : Some x ≡ slice_get one place)
     (there : Some y ≡ slice_get other place) where
   -- rules that differ at a place
   pub differ_at : (r : Bool) → r ≡ false → r ≡ same_rule x y → false ≡ same_rules one other
-  differ_at r fails is =
-      false_is (same_rules one other) (same_rules-Decides one other _ refl) λ e.
-      (let same : same_rule x y ≡ true =
-      (same_rule-Decides x y).1 (the_same x y (here ∙ ap (λ rules. slice_get rules place) e ∙ sym there)) in
-      cc (fails, is, same))
+  differ_at r fails is = grind (arith, false_is, same_rules-Decides, same_rule-Decides, the_same)
 
   -- one place more where they are the same
   pub same_more : (r : Bool) → r ≡ true → r ≡ same_rule x y → take place one ≡ take place other
@@ -152,10 +136,7 @@ module _ (one other : List MappingRule) (place : ℕ) (x y : MappingRule) (here 
 -- and no more places
 pub same_all : (one other : List MappingRule) (place : ℕ) → length one ≤ place → length other ≡ length one
     → take place one ≡ take place other → true ≡ same_rules one other
-same_all one other place past long so_far =
-    let same : one ≡ other = sym (take_all place one past) ∙ so_far
-    ∙ take_all place other (omega arith) in
-    sym ((same_rules-Decides one other _ refl).1 same)
+same_all one other place past long so_far = search (rules, take_all, same_rules-Decides)
 
 -- what holds of each rule holds of the one that is lent
 pub lent_has : (P : MappingRule → Type 0) (rules : List MappingRule) (place : ℕ) (lent : Option RuleRef) → All P rules

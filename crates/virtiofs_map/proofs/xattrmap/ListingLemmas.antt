@@ -1,6 +1,6 @@
 -- What the guest sees of a list of names, a name at a time, and the list that these items make.
-use Rattle.std.proofs.Common.{◌≡◌, ℕ, Bool, true, false, cond, ◌&&◌, if◌then◌else◌, List, [], ◌∷◌, ◌++◌, map, Option}
-use Rattle.std.proofs.Common.{Some, None, Result, Ok, Err, is_ok, length, inl, inr, refl, sym, ap, ◌∙◌, arith}
+use Rattle.std.proofs.Common.{◌≡◌, ℕ, Bool, true, cond, ◌&&◌, if◌then◌else◌, List, [], ◌∷◌, ◌++◌, map, Option, Some}
+use Rattle.std.proofs.Common.{Result, Ok, Err, is_ok, refl, ap, ◌∙◌, arith, rules}
 use Rattle.std.specs.Iterator.{item_count, MakesProgress}
 use Rattle.std.specs.List.{take_while, list_all, filter_map, cons_option}
 use Rattle.std.specs.Result.{result_ok}
@@ -10,7 +10,7 @@ use Rattle.std.proofs.lemmas.List.Sums.{take_while-cons}
 use Rattle.virtiofs_map.specs.LookupAnswers.{of_no_rule}
 use Rattle.virtiofs_map.specs.Listing.{listing, list_of}
 use Rattle.virtiofs_map.specs.Names.{HostAnswer, IsListed, IsHidden, IsUndecided, host_answer, is_decided, listed_name}
-use Rattle.virtiofs_map.specs.Names.{names, as_list, server_answer}
+use Rattle.virtiofs_map.specs.Names.{server_answer}
 use Rattle.virtiofs_map.specs.Rule.{MappingRule}
 use Rattle.virtiofs_map.specs.declared.xattrmap.errors.Error.{Error}
 use Rattle.virtiofs_map.specs.declared.xattrmap.errors.ErrorKind.TheVariants.{UnterminatedMapping}
@@ -52,25 +52,15 @@ step_of answer kept decided =
 step_of-item : {A : Type 0} (answer : HostAnswer) (kept : List (List ℕ)) (decided : Bool)
     → step_of {A = A} answer kept decided ≡ item_of answer
     (map (λ name. Ok name) kept ++ (if decided then [] else undecided ∷ []))
-step_of-item (IsListed name) kept decided = refl
-step_of-item IsHidden kept decided = refl
-step_of-item IsUndecided kept decided = refl
+step_of-item answer kept decided = grind arith
 
 filter_map-cond : {X Y : Type 0} (h : X → Option Y) (b : Bool) (x : X) (xs : List X)
     → filter_map h (cond b (x ∷ xs) []) ≡ cond b (cons_option (h x) (filter_map h xs)) []
-filter_map-cond h true x xs = refl
-filter_map-cond h false x xs = refl
+filter_map-cond h b x xs = grind arith
 
 items_step : {A : Type 0} (rules : List MappingRule) (name : List ℕ) (parts : List (List ℕ))
     → items {A = A} rules (name ∷ parts) ≡ item_of (host_answer rules name) (items rules parts)
-items_step {A} rules name parts =
-    let tail : List (Item A) = if has_rule rules name && list_all (has_rule rules) parts then [] else undecided ∷ [] in
-    let before = take_while (has_rule rules) parts in
-    ap (λ front. map (λ name. Ok name) (filter_map (shown rules) front) ++ tail)
-    (take_while-cons (has_rule rules) name parts)
-    ∙ ap (λ front. map (λ name. Ok name) front ++ tail)
-    (filter_map-cond (shown rules) (has_rule rules name) name before)
-    ∙ step_of-item (host_answer rules name) (filter_map (shown rules) before) (list_all (has_rule rules) parts)
+items_step {A} rules name parts = search (rules, shown, take_while-cons, filter_map-cond, step_of-item)
 
 -- what the guest sees of a name, but that the map is none
 abbrev told : Seen → HostAnswer
@@ -80,25 +70,15 @@ told Hidden = IsHidden
 told (Listed shown) = IsListed shown.now
 
 told_is : (answer : HostAnswer) (seen : Seen) → IsSeenAs answer seen → answer ≡ told seen
-told_is answer NoMap is = absurd is
-told_is answer Undecided is = is
-told_is answer Hidden is = is
-told_is answer (Listed shown) is = is
+told_is answer seen is = grind arith
 
 -- the items of a list, of whose first name that is seen
 pub listing_seen : {A : Type 0} (rules : List MappingRule) (list : List ℕ) (seen : Seen) (rest : List ℕ)
     → IsFirstSeen rules list seen rest → listing {A = A} rules list ≡ item_of (told seen) (listing rules rest)
-listing_seen {A} rules list seen rest (inl none) =
-    ap (items {A = A} rules) none.0
-    ∙ ap (λ s. item_of (told s) (listing {A = A} rules rest)) (sym none.1)
-listing_seen {A} rules list seen rest (inr one) =
-    ap (items {A = A} rules) one.1
-    ∙ items_step {A = A} rules one.0 (names rest)
-    ∙ ap (λ answer. item_of answer (listing {A = A} rules rest)) (told_is (host_answer rules one.0) seen one.2)
+listing_seen rules list seen rest e = grind (arith, items_step, told_is)
 
 pub no_map_unseen : (rules : List MappingRule) (list rest : List ℕ) → IsFirstSeen rules list NoMap rest → ⊥
-no_map_unseen rules list rest (inl none) = cc
-no_map_unseen rules list rest (inr one) = one.2
+no_map_unseen rules list rest e = grind arith
 
 -- ---- the list that the items make
 
@@ -112,9 +92,7 @@ all_ok items = list_all (λ item. is_ok item) items
 
 all_ok-item : {A : Type 0} (answer : HostAnswer) (rest : List (Item A))
     → all_ok (item_of answer rest) ≡ is_decided answer && all_ok rest
-all_ok-item (IsListed name) rest = refl
-all_ok-item IsHidden rest = refl
-all_ok-item IsUndecided rest = refl
+all_ok-item answer rest = grind arith
 
 all_ok-items : (A : Type 0) (rules : List MappingRule) (parts : List (List ℕ))
     → all_ok (items {A = A} rules parts) ≡ list_all (has_rule rules) parts
@@ -126,9 +104,7 @@ all_ok-items A rules (name ∷ parts) =
 
 names_of-item : {A : Type 0} (answer : HostAnswer) (rest : List (Item A)) → is_decided answer ≡ true
     → names_of (item_of answer rest) ≡ cons_option (listed_name answer) (names_of rest)
-names_of-item (IsListed name) rest e = refl
-names_of-item IsHidden rest e = refl
-names_of-item IsUndecided rest e = cc
+names_of-item answer rest e = grind arith
 
 names_of-items : (A : Type 0) (rules : List MappingRule) (parts : List (List ℕ))
     → list_all (has_rule rules) parts ≡ true → names_of (items {A = A} rules parts) ≡ filter_map (shown rules) parts
@@ -140,17 +116,12 @@ names_of-items A rules (name ∷ parts) e =
 
 if_same : {X : Type 0} (b : Bool) (x y none : X) → (b ≡ true → x ≡ y)
     → (if b then x else none) ≡ (if b then y else none)
-if_same true x y none h = h refl
-if_same false x y none h = refl
+if_same b x y none h = grind arith
 
 -- the items make the list that the guest gets
 pub list_of-listing : (A : Type 0) (rules : List MappingRule) (list : List ℕ)
     → list_of (listing {A = A} rules list) ≡ server_answer rules list
-list_of-listing A rules list =
-    ap (λ all. if all then Some (as_list (names_of (listing {A = A} rules list))) else None)
-    (all_ok-items A rules (names list))
-    ∙ if_same (list_all (has_rule rules) (names list)) _ _ None
-    (λ e. ap (λ parts. Some (as_list parts)) (names_of-items A rules (names list) e))
+list_of-listing A rules list = search (rules, all_ok-items, if_same, names_of-items)
 
 -- ---- the list, item by item
 
@@ -165,10 +136,7 @@ pub record IsSoFar {A : Type 0} (rules : List MappingRule) (list so_far : List �
 
 pub IsSoFar-first : {A : Type 0} (rules : List MappingRule) (list so_far : List ℕ) (left : List (Item A)) → so_far ≡ []
     → left ≡ listing rules list → IsSoFar rules list so_far left
-IsSoFar-first rules list so_far left none all = record {
-  zeros = rw (none, all) refl;
-  ok = ap all_ok all;
-}
+IsSoFar-first rules list so_far left none all = search rules
 
 zeros_more : {A : Type 0} (old new name : List ℕ) (rest : List (Item A)) → new ≡ old ++ name ++ 0 ∷ []
     → new ++ zeros_of rest ≡ old ++ zeros_of (Ok name ∷ rest)
@@ -176,17 +144,10 @@ zeros_more old new name rest e = ap (λ list. list ++ zeros_of rest) e ∙ simp 
 
 pub IsSoFar-name : {A : Type 0} (rules : List MappingRule) (list old new name : List ℕ) (left rest : List (Item A))
     → IsSoFar rules list old left → left ≡ Ok name ∷ rest → new ≡ old ++ name ++ 0 ∷ [] → IsSoFar rules list new rest
-IsSoFar-name rules list old new name left rest so_far one e = record {
-  zeros = zeros_more old new name rest e ∙ ap (λ items. old ++ zeros_of items) (sym one) ∙ so_far.zeros;
-  ok = ap all_ok (sym one) ∙ so_far.ok;
-}
+IsSoFar-name rules list old new name left rest so_far one e = grind (arith, zeros_more)
 
 -- ---- a call of `next` that gives an item
 
 pub one_less : {X Y : Type 0} (left rest : List X) (item : X) (given : Y) → left ≡ item ∷ rest
     → MakesProgress (λ _. Unit {0}) (item_count (λ left. left)) left (Some given) rest
-one_less left rest item given e = record {
-  on = λ _. (tt, tt, omega (arith, ap length e));
-  keeps = tt;
-  rests = λ _. tt;
-}
+one_less left rest item given e = search rules

@@ -1,15 +1,15 @@
 -- The rules that are made for a written one.
-use Rattle.std.proofs.Common.{◌≡◌, ℕ, List, [], ◌∷◌, refl, ◌∙◌, ◌≢◌, ◌++◌, append_assoc, chars, IsUtf8}
+use Rattle.std.proofs.Common.{◌≡◌, ℕ, List, [], ◌∷◌, refl, ◌≢◌, ◌++◌, append_assoc, chars, IsUtf8, rules, arith}
 use Rattle.std.proofs.lemmas.Str.{encodes-chars, chars-nil}
 use Rattle.virtiofs_map.specs.Rule.{Prefix, Bad, Okay, MappingRule}
 use Rattle.virtiofs_map.specs.RuleParts.{type_of, scope_of, head_of, holds, bits_of, rule_with}
 use Rattle.virtiofs_map.specs.RuleText.{All, Map, rule_of, rules_of, on_client, on_server}
-use Rattle.virtiofs_map.specs.declared.xattrmap.scopes.Side.TheVariants as sides
 use Rattle.virtiofs_map.specs.declared.xattrmap.written.Head.{Head}
-use Rattle.virtiofs_map.specs.declared.xattrmap.written.Head.TheVariants as heads
 use Rattle.virtiofs_map.specs.declared.xattrmap.rules.RuleKind.{RuleKind}
 use Rattle.virtiofs_map.specs.declared.xattrmap.scopes.Scope.{Scope}
 use Rattle.virtiofs_map.specs.declared.xattrmap.scopes.ScopeWord.{ScopeWord}
+use Rattle.virtiofs_map.specs.declared.xattrmap.scopes.Side.TheVariants as sides
+use Rattle.virtiofs_map.specs.declared.xattrmap.written.Head.TheVariants as heads
 use Rattle.virtiofs_map.specs.declared.xattrmap.scopes.ScopeWord.TheVariants as words
 
 holds_client : (word : ScopeWord) → holds sides.Client (bits_of word) ≡ on_client (scope_of word)
@@ -24,14 +24,12 @@ holds_server words.Server = refl
 
 -- a head that means the word map is that word
 pub head_is_map : (head : Head) → head_of head ≡ Map → head ≡ heads.Map
-head_is_map (heads.Typed kind scope) e = absurd (cc)
-head_is_map heads.Map e = refl
+head_is_map head e = grind arith
 
 pub made-rule_of : (kind : RuleKind) (word : ScopeWord) (scope : Scope) (key prepend k p : List ℕ)
     → scope.0 ≡ bits_of word → k ≡ key → p ≡ prepend → IsUtf8 key → IsUtf8 prepend
     → rule_with kind scope k p ≡ rule_of (type_of kind) (scope_of word) (chars key) (chars prepend)
-made-rule_of kind word scope key prepend k p b ek ep uk up =
-    rw (b, ek, ep, holds_client word, holds_server word, encodes-chars key uk, encodes-chars prepend up) refl
+made-rule_of kind word scope key prepend k p b ek ep uk up = search (rules, holds_client, holds_server, encodes-chars)
 
 -- two rules that were put at the end, where the key is empty
 pub pushed_two : (old one two : List MappingRule) (key prepend : List ℕ)
@@ -45,6 +43,4 @@ pub pushed_three : (old one two three : List MappingRule) (key prepend : List �
     → one ≡ old ++ rule_of Prefix All key prepend ∷ [] → two ≡ one ++ rule_of Bad All prepend key ∷ []
     → three ≡ two ++ rule_of Okay All (chars []) (chars []) ∷ [] → key ≢ []
     → three ≡ old ++ rules_of Map key prepend
-pushed_three old one two three [] prepend e f g some = absurd (some refl)
-pushed_three old one two three (k ∷ ks) prepend e f g some =
-    rw (g, f, e, chars-nil) (append_assoc (old ++ _) _ _ ∙ append_assoc old _ _)
+pushed_three old one two three key prepend e f g some = grind (arith, chars-nil, append_assoc)

@@ -1,14 +1,14 @@
 -- How many text nodes the trie of some texts has at most: with holes, 6 for each text and 1 for each of its bytes.
-use Rattle.std.proofs.Common.{◌≡◌, ℕ, zero, suc, ◌+◌, ◌-◌, ◌*◌, ◌<◌, ◌≤◌, Bool, true, false, ◌&&◌, ◌||◌, cond, eqb, List, []}
-use Rattle.std.proofs.Common.{◌∷◌, ◌++◌, length, drop, map, nat_lt, Option, Some, None, refl, sym, ap, subst, ◌∙◌, arith, inl, inr}
-use Rattle.std.proofs.Common.{◌⊎◌, append_assoc, length-append}
+use Rattle.std.proofs.Common.{◌≡◌, ℕ, zero, suc, ◌+◌, ◌-◌, ◌*◌, ◌<◌, ◌≤◌, Bool, true, false, ◌&&◌, ◌||◌, cond, eqb}
+use Rattle.std.proofs.Common.{List, [], ◌∷◌, ◌++◌, length, drop, map, nat_lt, Option, Some, None, refl, sym, ap, ◌∙◌}
+use Rattle.std.proofs.Common.{arith, inl, inr, ◌⊎◌, append_assoc, length-append, rules}
 use Rattle.std.specs.List.{filter, flat_map, list_any, range_with_len}
 use Rattle.std.proofs.lemmas.Bool.{cases_Bool, cases_lt, cond_both, eqb-true, false_from_ne_true, true≢false}
 use Rattle.std.proofs.lemmas.List.FromFn.{length-range_with_len}
 use Rattle.std.proofs.lemmas.Bool.Decides.{nat_tests}
 use Rattle.virtiofs_map.specs.Names.{begins}
-use Rattle.virtiofs_map.specs.PatternTrie.{TextNode, root, leads, next_bytes, label_after, text_node_after, child, children, slots}
-use Rattle.virtiofs_map.specs.PatternTrie.{are_sparse, span, levels, longest_of, text_nodes}
+use Rattle.virtiofs_map.specs.PatternTrie.{TextNode, root, leads, next_bytes, child, children, slots, are_sparse, span}
+use Rattle.virtiofs_map.specs.PatternTrie.{levels, longest_of, text_nodes}
 use Rattle.virtiofs_map.proofs.BeginsLemmas.{begins_from, begins_length, begins_split}
 use Rattle.virtiofs_map.proofs.xattrmap.SlotLemmas.{Rising, rising_filter, slots_placed, slots_upto}
 
@@ -132,23 +132,10 @@ module _ (path : List ℕ) (byte : ℕ) (label : List ℕ) where
   -- a text that goes on with the byte adds less after it
   less_after : (text : List ℕ) → begins (path ++ byte ∷ []) text ≡ true
       → (worth (path ++ byte ∷ label) text + 1 ≤ through path text byte) × (7 ≤ through path text byte)
-  less_after text e =
-      let here = ap (λ b. cond b (6 + (length text - length path)) 0) e in
-      let long = begins_length (path ++ byte ∷ []) text e in
-      let front = length-append path (byte ∷ []) in
-      let less : worth (path ++ byte ∷ label) text ≤ 6 + (length text - length (path ++ byte ∷ label)) =
-      cond_both (begins (path ++ byte ∷ label) text) (6 + (length text - length (path ++ byte ∷ label))) 0
-      (λ n. n ≤ 6 + (length text - length (path ++ byte ∷ label))) (λ _. omega arith) (λ _. omega arith) in
-      (omega (arith, here, long, front, length-append path (byte ∷ label), less), omega (arith, here, long, front))
+  less_after text e = search (rules, begins_length, length-append, cond_both)
 
   no_more : (text : List ℕ) → worth (path ++ byte ∷ label) text ≤ through path text byte
-  no_more text = elim (cases_Bool (begins (path ++ byte ∷ []) text)) [
-    | inl e ↦ omega (arith, (less_after text e).0)
-    | inr f ↦ (let none : begins (path ++ byte ∷ label) text ≡ false =
-        false_from_ne_true (begins (path ++ byte ∷ label) text)
-        (λ e. true≢false (sym (begun_before text e) ∙ f)) in
-        omega (arith, ap (λ b. cond b (6 + (length text - length (path ++ byte ∷ label))) 0) none))
-  ]
+  no_more text = search (rules, cases_Bool, less_after, false_from_ne_true, begun_before)
 
   -- so where some text goes on with it, there is less below
   less_below : (texts : List (List ℕ)) → list_any (begins (path ++ byte ∷ [])) texts ≡ true
@@ -217,17 +204,7 @@ module _ (most : ℕ) (texts : List (List ℕ)) where
       → below_most (child most texts path byte) + cond (leads texts (path ++ byte ∷ [])) 7 0
       ≤ sum_of (λ t. through path t byte) texts
   unfolding child leads
-  child_most path byte =
-      let label = label_after most texts (path ++ byte ∷ []) in
-      elim (cases_Bool (list_any (begins (path ++ byte ∷ [])) texts)) [
-        | inl led ↦
-            (let less = less_below path byte label texts led in
-            subst (λ b. below_most (cond b (Some (text_node_after path byte label)) None) + cond b 7 0
-            ≤ sum_of (λ t. through path t byte) texts) (sym led) (omega (arith, less.0, less.1)))
-        | inr none ↦
-            subst (λ b. below_most (cond b (Some (text_node_after path byte label)) None) + cond b 7 0
-            ≤ sum_of (λ t. through path t byte) texts) (sym none) (omega arith)
-      ]
+  child_most path byte = search (rules, cases_Bool, less_below)
 
   -- 7 for each byte that leads on, and what is below the children, is no more than the text node has
   range_most : (path range bytes : List ℕ) → bytes ≡ filter (λ b. leads texts (path ++ b ∷ [])) range

@@ -8,7 +8,6 @@ use Rattle.virtiofs_map.specs.NodeParts.{BeginsPattern}
 use Rattle.virtiofs_map.specs.FirstRule.{acts, pattern, longest}
 use Rattle.virtiofs_map.specs.Rule.{MappingRule, HasNoZero}
 use Rattle.virtiofs_map.specs.declared.xattrmap.scopes.Side.{Side}
-use Rattle.virtiofs_map.specs.declared.xattrmap.scopes.Side.TheVariants.{Client, Server}
 use Rattle.virtiofs_map.proofs.BeginsLemmas.{begins_length, begins_split}
 
 -- a pattern of a rule is no longer than the longest
@@ -28,8 +27,7 @@ no_longer side (r ∷ rules) (suc at) rule e acting =
 
 -- a pattern of a rule without zeros has none
 pub pattern_no_zero : (side : Side) (rule : MappingRule) → HasNoZero rule → All (λ byte. byte ≢ 0) (pattern side rule)
-pattern_no_zero Client rule none = none.in_key
-pattern_no_zero Server rule none = none.in_prepend
+pattern_no_zero side rule none = grind arith
 
 module _ (side : Side) (rules : List MappingRule) (path : List ℕ)
     (front : (path ≡ []) ⊎ BeginsPattern side rules path) where

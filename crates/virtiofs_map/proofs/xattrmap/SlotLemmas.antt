@@ -1,6 +1,6 @@
 -- The bytes that lead on from a path, in order, and the places of their children.
-use Rattle.std.proofs.Common.{◌≡◌, ℕ, zero, suc, ◌+◌, ◌-◌, ◌<◌, ◌≤◌, Bool, true, false, cond, List, [], ◌∷◌}
-use Rattle.std.proofs.Common.{length, Some, refl, sym, ap, subst, ◌∙◌, arith, inl, inr}
+use Rattle.std.proofs.Common.{◌≡◌, ℕ, zero, suc, ◌+◌, ◌-◌, ◌<◌, ◌≤◌, Bool, true, false, cond, List, [], ◌∷◌, length}
+use Rattle.std.proofs.Common.{Some, refl, sym, ap, subst, ◌∙◌, arith, inl, inr, rules}
 use Rattle.std.specs.List.{slice_get, filter, range_with_len}
 use Rattle.std.proofs.lemmas.Bool.{cases_lt, cond_both}
 use Rattle.std.proofs.lemmas.List.FromFn.{length-range_with_len}
@@ -49,8 +49,7 @@ filter_has p low (suc n) x from below passes = elim (cases_lt low x) [
 -- what is left passes
 filter_passes_first : (p : ℕ → Bool) (y : ℕ) (xs : List ℕ) (k x : ℕ) → p y ≡ true
     → ((j : ℕ) → slice_get xs j ≡ Some x → p x ≡ true) → slice_get (y ∷ xs) k ≡ Some x → p x ≡ true
-filter_passes_first p y xs zero x passes later e = let same : y ≡ x = cc in sym (ap p same) ∙ passes
-filter_passes_first p y xs (suc k) x passes later e = later k e
+filter_passes_first p y xs k x passes later e = grind arith
 
 pub filter_passes : (p : ℕ → Bool) (xs : List ℕ) (k x : ℕ) → slice_get (filter p xs) k ≡ Some x → p x ≡ true
 filter_passes p [] k x e = absurd cc
@@ -94,11 +93,7 @@ range_past low (suc n) zero x g e = omega (arith, g)
 range_past low (suc n) (suc k) x g e = range_past (low + 1) n k x (omega (arith, g)) e
 
 pub range_is : (low n k x : ℕ) → slice_get (range_with_len low n) k ≡ Some x → (x ≡ low + k) × (k < n)
-range_is low n k x e = elim (cases_lt k n) [
-  | inl l ↦ (let there : Some (low + k) ≡ Some x = sym (range_at low n k l) ∙ e in
-      let same : low + k ≡ x = cc in (sym same, l))
-  | inr g ↦ absurd (range_past low n k x g e)
-]
+range_is low n k x e = search (rules, cases_lt, range_at, range_past)
 
 -- ---- places
 

@@ -1,20 +1,19 @@
 -- Where a few names are decided, all names are.
-use Rattle.std.proofs.Common.{◌≡◌, ◌≢◌, ℕ, ◌+◌, ◌<◌, Bool, true, false, List, [], ◌∷◌, filter, Option, Some}
-use Rattle.std.proofs.Common.{None, is_some, inl, inr, refl, sym, ap, ◌∙◌, arith}
+use Rattle.std.proofs.Common.{◌≡◌, ◌≢◌, ℕ, ◌+◌, ◌<◌, Bool, true, false, List, [], ◌∷◌, filter, Option, Some, None}
+use Rattle.std.proofs.Common.{is_some, inl, inr, refl, sym, ap, ◌∙◌, arith}
 use Rattle.std.specs.List.{AllByRecursion, find, list_all, slice_split, onto_first}
 use Rattle.std.specs.Option.{option_map_or}
 use Rattle.std.proofs.lemmas.Bool.{and_from, cond_both, cases_Bool, cases_lt, false≢true, true≢false, eqb-false}
 use Rattle.std.proofs.lemmas.List.Elements.{All-head, All-tail, All-nil, All-cons}
 use Rattle.virtiofs_map.specs.Audit.{IsList, Terminated}
-use Rattle.virtiofs_map.specs.Names.{begins, fits, deciding, answer_by, IsUnterminated, IsUndecided, host_answer_by}
+use Rattle.virtiofs_map.specs.Names.{begins, deciding, answer_by, IsUnterminated, IsUndecided, host_answer_by}
 use Rattle.virtiofs_map.specs.Names.{host_answer, is_decided, names, server_answer}
-use Rattle.virtiofs_map.specs.Rule.{RuleType, Prefix, Okay, Bad, Unsupported, MappingRule}
+use Rattle.virtiofs_map.specs.Rule.{RuleType, MappingRule}
 use Rattle.virtiofs_map.specs.declared.xattrmap.scopes.Side.{Side}
 use Rattle.virtiofs_map.specs.declared.xattrmap.scopes.Side.TheVariants.{Client, Server}
 use Rattle.virtiofs_map.proofs.AuditAlikeLemmas.{fits_more}
 use Rattle.virtiofs_map.proofs.AuditAddedLemmas.{answer_to_one, server_one}
-use Rattle.virtiofs_map.proofs.BeginsLemmas.{begins_from}
-use Rattle.virtiofs_map.proofs.FirstRuleLemmas.{deciding-find}
+use Rattle.virtiofs_map.proofs.BeginsLemmas.{begins_from, deciding-find}
 use Rattle.virtiofs_map.proofs.MapRuleLemmas.{not_zero_name, some_name}
 use Rattle.virtiofs_map.proofs.ServerListLemmas.{is_name, is_zero}
 
@@ -31,41 +30,29 @@ find_more p q more (x ∷ xs) e =
 
 decided_more : (side : Side) (rules : List MappingRule) (front name : List ℕ) → begins front name ≡ true
     → is_some (deciding side rules front) ≡ true → is_some (deciding side rules name) ≡ true
-decided_more side rules front name b e =
-    ap is_some (deciding-find side rules name)
-    ∙ find_more (fits side front) (fits side name) (fits_more side front name b) rules
-    (ap is_some (sym (deciding-find side rules front)) ∙ e)
+decided_more side rules front name b e = grind (arith, is_some, deciding-find, find_more, fits_more)
 
 -- ---- names of the guest
 
 answered_by_kind : (kind : RuleType) (prepend name : List ℕ) → answer_by kind prepend name ≢ IsUnterminated
-answered_by_kind Okay prepend name e = cc
-answered_by_kind Prefix prepend name e = cc
-answered_by_kind Bad prepend name e = cc
-answered_by_kind Unsupported prepend name e = cc
+answered_by_kind kind prepend name e = grind arith
 
 answered_by : (o : Option MappingRule) (name : List ℕ) → is_some o ≡ true
     → option_map_or (λ rule. answer_by rule.kind rule.prepend name) o IsUnterminated ≢ IsUnterminated
-answered_by None name e k = false≢true e
-answered_by (Some rule) name e k = answered_by_kind rule.kind rule.prepend name k
+answered_by o name e k = grind (arith, false≢true, answered_by_kind)
 
 answered_from : (o : Option MappingRule) (name : List ℕ)
     → option_map_or (λ rule. answer_by rule.kind rule.prepend name) o IsUnterminated ≢ IsUnterminated → is_some o ≡ true
-answered_from None name fails = absurd (fails refl)
-answered_from (Some rule) name fails = refl
+answered_from o name fails = grind arith
 
 -- ---- names of the host
 
 decided_by_kind : (kind : RuleType) (prepend host : List ℕ) → is_decided (host_answer_by kind prepend host) ≡ true
-decided_by_kind Okay prepend host = refl
-decided_by_kind Prefix prepend host = refl
-decided_by_kind Bad prepend host = refl
-decided_by_kind Unsupported prepend host = refl
+decided_by_kind kind prepend host = grind arith
 
 decided_by : (o : Option MappingRule) (host : List ℕ) → is_some o ≡ true
     → is_decided (option_map_or (λ rule. host_answer_by rule.kind rule.prepend host) o IsUndecided) ≡ true
-decided_by None host e = absurd (false≢true e)
-decided_by (Some rule) host e = decided_by_kind rule.kind rule.prepend host
+decided_by o host e = grind (arith, false≢true, decided_by_kind)
 
 -- ---- the names of a list
 
@@ -77,8 +64,7 @@ IsPart part = AllByRecursion IsByteOfName part
 
 parts_onto : (x : ℕ) → IsByteOfName x → (parts : List (List ℕ)) → AllByRecursion IsPart parts
     → AllByRecursion IsPart (onto_first x parts)
-parts_onto x is [] all = ((is, tt), tt)
-parts_onto x is (part ∷ parts) all = ((is, all.0), all.1)
+parts_onto x is parts all = grind arith
 
 parts_are : (list : List ℕ) → IsList list → AllByRecursion IsPart (slice_split is_zero list)
 parts_are [] is = (tt, tt)
@@ -96,11 +82,7 @@ BytesDecided rules end =
 
 pub bytes_more : (rules : List MappingRule) (byte : ℕ) → BytesDecided rules byte
     → is_some (deciding Server rules (byte ∷ [])) ≡ true → BytesDecided rules (byte + 1)
-bytes_more rules byte below here other low high =
-    elim (cases_lt other byte) [
-      | inl l ↦ below other low l
-      | inr l ↦ let same : other ≡ byte = omega arith in rw same here
-    ]
+bytes_more rules byte below here other low high = grind (arith, cases_lt)
 
 all_decided : (rules : List MappingRule) → BytesDecided rules 256 → (parts : List (List ℕ))
     → AllByRecursion IsPart parts → list_all (λ name. is_decided (host_answer rules name)) (filter is_name parts) ≡ true
@@ -118,8 +100,7 @@ all_decided rules bytes ((x ∷ xs) ∷ parts) all =
 
 answered_list : (rules : List MappingRule) (list : List ℕ)
     → list_all (λ name. is_decided (host_answer rules name)) (names list) ≡ true → server_answer rules list ≢ None
-answered_list rules list e k =
-    let some = rw e at k in cc
+answered_list rules list e k = grind arith
 
 -- ---- terminated
 
@@ -131,13 +112,11 @@ terminated_from rules empty bytes = record {
 }
 
 pub empty_from : (rules : List MappingRule) → Terminated rules → is_some (deciding Client rules []) ≡ true
-empty_from rules terminated =
-    answered_from (deciding Client rules []) [] (terminated.client [] (All-nil IsByteOfName))
+empty_from rules terminated = grind (arith, answered_from, All-nil)
 
 undecided_one : (rules : List MappingRule) (host : List ℕ) (o : Option MappingRule) → is_some o ≡ false
     → option_map_or (λ rule. host_answer_by rule.kind rule.prepend host) o IsUndecided ≡ IsUndecided
-undecided_one rules host None e = refl
-undecided_one rules host (Some rule) e = absurd (true≢false e)
+undecided_one rules host o e = grind (arith, true≢false)
 
 pub byte_from : (rules : List MappingRule) → Terminated rules → BytesDecided rules 256
 byte_from rules terminated byte low high =

@@ -1,10 +1,8 @@
 -- What the answer of a walk says of the first rule that fits.
-use Rattle.std.proofs.Common.{◌≡◌, ◌≢◌, ℕ, ◌+◌, ◌*◌, ◌/◌, ◌%◌, ◌<◌, Bool, true, false, cond, ltb, List, length, Option}
-use Rattle.std.proofs.Common.{Some, None, refl, sym, ap, ◌∙◌, arith, slice_get, option_and_then, ltb-true}
-use Rattle.std.specs.List.{position_or_len}
-use Rattle.std.specs.Option.{option_map_or}
+use Rattle.std.proofs.Common.{◌≡◌, ◌≢◌, ℕ, ◌+◌, ◌*◌, ◌/◌, ◌%◌, ◌<◌, List, length, Some, None, sym, ap, ◌∙◌, arith}
+use Rattle.std.proofs.Common.{slice_get, option_and_then}
 use Rattle.virtiofs_map.specs.NodeParts.{AreFew, answer_for, answer_of, no_answer, type_at}
-use Rattle.virtiofs_map.specs.Names.{fits, first, deciding}
+use Rattle.virtiofs_map.specs.Names.{first, deciding}
 use Rattle.virtiofs_map.specs.Rule.{MappingRule, Prefix, type_number}
 use Rattle.virtiofs_map.specs.declared.xattrmap.scopes.Side.{Side}
 use Rattle.virtiofs_map.proofs.RuleRowLemmas.{below_four, same_type, there}
@@ -14,18 +12,10 @@ use Rattle.virtiofs_map.proofs.RuleRowLemmas.{below_four, same_type, there}
 -- the first rule that fits is one of the list
 pub first_within : (side : Side) (rules : List MappingRule) (name : List ℕ) (at : ℕ) → first side rules name ≡ Some at
     → at < length rules
-first_within side rules name at =
-    through (ltb (position_or_len (fits side name) rules) (length rules)) (position_or_len (fits side name) rules)
-    (λ b. ltb-true (position_or_len (fits side name) rules) (length rules) b) where
-      through : (b : Bool) (n : ℕ) → (b ≡ true → n < length rules) → cond b (Some n) None ≡ Some at → at < length rules
-      through true n below e = let same : n ≡ at = cc in omega (arith, same, below refl)
-      through false n below e = cc
+first_within side rules name at = grind arith
 
 pub type_small : (rules : List MappingRule) (at : ℕ) → type_at rules at < 4
-type_small rules at = through (slice_get rules at) where
-  through : (o : Option MappingRule) → option_map_or (λ rule. type_number rule.kind) o 0 < 4
-  through None = omega arith
-  through (Some rule) = below_four rule.kind
+type_small rules at = grind (arith, slice_get, below_four)
 
 module _ (side : Side) (rules : List MappingRule) (name : List ℕ) where
   -- the answer that stands for a rule
@@ -34,33 +24,16 @@ module _ (side : Side) (rules : List MappingRule) (name : List ℕ) where
 
   -- the answer that stands for no rule
   pub answer_none : AreFew rules → answer_of side rules name ≡ no_answer → first side rules name ≡ None
-  answer_none few e = through (first side rules name) refl where
-    through : (o : Option ℕ) → first side rules name ≡ o → first side rules name ≡ None
-    through None same = same
-    through (Some at) same =
-        absurd (let is = answer_at at same in let low = first_within side rules name at same in let small =
-        type_small rules at in omega (arith, e, is, low, small, few))
+  answer_none few e = grind (arith, answer_at, first_within, type_small)
 
   -- another one stands for the rule at a quarter of it
   pub answer_some : answer_of side rules name ≢ no_answer → first side rules name ≡ Some (answer_of side rules name / 4)
-  answer_some ne = through (first side rules name) refl where
-    through : (o : Option ℕ) → first side rules name ≡ o → first side rules name ≡ Some (answer_of side rules name / 4)
-    through None same = absurd (ne (ap (answer_for rules) same))
-    through (Some at) same =
-        let quarter : at ≡ answer_of side rules name / 4 = omega (arith, answer_at at same, type_small rules at) in
-        same ∙ ap Some quarter
+  answer_some ne = grind (arith, answer_at, type_small)
 
   -- and what is left of it is the number of the type of the rule that decides
   pub answer_type : (rule : MappingRule) → deciding side rules name ≡ Some rule
       → type_number rule.kind ≡ answer_of side rules name % 4
-  answer_type rule e = through (first side rules name) refl where
-    through : (o : Option ℕ) → first side rules name ≡ o → type_number rule.kind ≡ answer_of side rules name % 4
-    through None same = absurd (let none = ap (option_and_then (slice_get rules)) same in cc)
-    through (Some at) same =
-        let there : slice_get rules at ≡ Some rule = sym (ap (option_and_then (slice_get rules)) same) ∙ e in
-        let kind : type_at rules at ≡ type_number rule.kind =
-        ap (λ o. option_map_or (λ r. type_number r.kind) o 0) there in
-        omega (arith, answer_at at same, type_small rules at, kind)
+  answer_type rule e = grind (arith, slice_get, answer_at, type_small)
 
 -- ---- what a walk finds
 

@@ -21,6 +21,7 @@ pub fn no_fault()
 {}
 
 /// A text has at most one fault.
+#[tactic(auto, using(crate::proofs::ForCallers::specification_one_fault))]
 pub fn one_fault()
     ensures { (text : List ℕ) (fault other : SpecificationFault)
         → HasSpecificationFault text fault → HasSpecificationFault text other → fault ≡ other }

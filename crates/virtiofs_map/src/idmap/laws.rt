@@ -21,6 +21,7 @@ pub fn no_fault()
 {}
 
 /// A text has at most one fault.
+#[tactic(auto, using(crate::proofs::ForCallers::namespace_one_fault))]
 pub fn one_fault()
     ensures { (text : List ℕ) (fault other : NamespaceFault)
         → HasNamespaceFault text fault → HasNamespaceFault text other → fault ≡ other }

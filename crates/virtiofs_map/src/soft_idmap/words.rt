@@ -99,8 +99,8 @@ impl<'m> IdMapRef<'m> {
         if words.len() < 3 || words[0] != KIND {
             return None;
         }
-        let end = 3 + 4 * words[1] as usize + 4 * words[2] as usize;
-        if words.len() <= end || words[end] != KIND {
+        let all = 4 + 4 * (words[1] as usize + words[2] as usize);
+        if words.len() < all || words[all - 1] != KIND {
             return None;
         }
         Some(IdMapRef { words })

@@ -28,6 +28,7 @@ pub fn no_fault()
 {}
 
 /// A text has at most one fault.
+#[tactic(auto, using(crate::proofs::RuleTextLemmas::one_fault))]
 pub fn one_fault()
     ensures { (text : List ℕ) (fault other : RulesFault)
         → HasRulesFault text fault → HasRulesFault text other → fault ≡ other }

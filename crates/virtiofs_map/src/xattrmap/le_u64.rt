@@ -17,6 +17,7 @@ pub(crate) fn le_u64_at(bytes: &[u8], from: usize) -> u64
 }
 
 /// Appends the bytes of the number.
+#[tactic(auto, unfolding(crate::specs::LeU64Parts::le_u64_bytes))]
 pub(crate) fn push_le_u64<A: Allocator>(
     bytes: &mut Vec<u8, A>,
     number: u64,

@@ -20,7 +20,7 @@ use crate::xattrmap::rules::RuleRef;
 use crate::xattrmap::scopes::Side;
 use crate::xattrmap::trie::{NO_ANSWER, ROW, Trie, first_place, look_up};
 
-/// A map of names, lent for reading: bytes that begin as the image of a map does.
+/// A map of names, lent for reading: bytes that begin and end as the image of a map does.
 ///
 /// What its calls answer is known where the bytes are the image of some rules. They read nothing
 /// outside the bytes, whatever these are, and none of them takes memory but those that say so.
@@ -30,7 +30,7 @@ pub struct XattrMapRef<'m> {
 }
 
 impl<'m> XattrMapRef<'m> {
-    /// The map in these bytes; `None` if they do not begin as an image does.
+    /// The map in these bytes; `None` if they do not begin and end as an image does.
     #[inline(always)]
     pub fn of(bytes: &'m [u8]) -> Option<XattrMapRef<'m>>
         ensures closed { IsNone result ↔ IsNoImage bytes.now }

@@ -3,9 +3,9 @@
 use std::test::Fail;
 use virtiofs_host::command_line::read_command_line;
 use virtiofs_host::error::ReadError;
-use virtiofs_host::status::{effective_gid, effective_uid, parent};
+use virtiofs_host::status::{effective_gid, effective_uid, may_set_gids, may_set_uids, parent};
 use virtiofs_host::subordinate::read_subordinate;
-use virtiofs_host::users::find_user;
+use virtiofs_host::users::{find_user, read_names};
 
 static WORDS: [(&str, &[&str]); 9] = [
     (
@@ -80,6 +80,26 @@ fn users_are_found(rt: HostRuntime) {
         let wanted = wanted.map(|(name, gid)| (name.as_bytes(), gid));
         assert_eq!(rt; told, wanted, "{uid}");
     }
+}
+
+static NAMES: [(&[u8], u32); 6] = [
+    (b"root", 0),
+    (b"short", 1000),
+    (b"wrong", 1000),
+    (b"bob", 1000),
+    (b"alias", 1000),
+    (b"last", 65534),
+];
+
+#[test]
+fn names_are_read(rt: HostRuntime) -> Result<(), Fail> {
+    let names = read_names(rt.alloc(), PASSWD.as_bytes())?;
+    let mut told = Vec::new(rt.alloc());
+    for named in &names {
+        told.push((named.name, named.id))?;
+    }
+    assert!(rt; told.as_slice() == NAMES.as_slice(), "{told:?}");
+    Ok(())
 }
 
 // newuidmap of shadow 4.13 also reads the lines with a fourth field, with a hexadecimal, an octal
@@ -173,5 +193,41 @@ static PARENTS: [(&str, Option<u32>); 6] = [
 fn parents_are_read(rt: HostRuntime) {
     for &(text, pid) in &PARENTS {
         assert_eq!(rt; parent(text.as_bytes()), pid, "{text}");
+    }
+}
+
+static CAPABILITIES: [(&str, bool, bool); 9] = [
+    (
+        "CapPrm:\t0000000000000000\nCapEff:\t000001ffffffffff\n",
+        true,
+        true,
+    ),
+    (
+        "CapPrm:\t000001ffffffffff\nCapEff:\t0000000000000000\n",
+        false,
+        false,
+    ),
+    (
+        "CapEff:\t0000000000000080\nCapEff:\t0000000000000040\n",
+        true,
+        false,
+    ),
+    ("CapEff:\t0000000000000040\n", false, true),
+    ("CapEff:\t00000000000000c0", true, true),
+    ("CapEff:\tffffffffffffff3f\n", false, false),
+    (
+        "CapEff:\t8\nCapEff: c0\nCapEff:\tg0\nCapEff:\tB1\n",
+        true,
+        false,
+    ),
+    ("capeff:\tc0\n", false, false),
+    ("", false, false),
+];
+
+#[test]
+fn capabilities_are_read(rt: HostRuntime) {
+    for &(text, uids, gids) in &CAPABILITIES {
+        assert_eq!(rt; may_set_uids(text.as_bytes()), uids, "{text}");
+        assert_eq!(rt; may_set_gids(text.as_bytes()), gids, "{text}");
     }
 }

@@ -1,4 +1,4 @@
-use Rattle.std.proofs.Common.{refl, inl, inr}
+use Rattle.std.proofs.Common.{refl, inr}
 use Rattle.virtiofs_acl.proofs.AclMergeLemmas.{Accepted-for}
 use Rattle.virtiofs_map.proofs.ForCallers.{Becomes-one}
 use Rattle.virtiofs_acl.proofs.entries.fault_at.Goals as goal

@@ -1,10 +1,9 @@
-use Rattle.virtiofs_acl.proofs.AclMergeLemmas.{Places-permutation, AreInOrder-sorted, none_found, first_found}
-use Rattle.virtiofs_acl.proofs.AclMergeLemmas.{in_value}
+use Rattle.std.proofs.Common.{rules}
+use Rattle.virtiofs_acl.proofs.AclMergeLemmas.{Places-permutation, AreInOrder-sorted, none_found, first_found, in_value}
 use Rattle.virtiofs_acl.proofs.merges.first_merged.Goals as goal
 
 pub least_clash-requires-clause-in_value : goal.least_clash-requires-clause-in_value
-least_clash-requires-clause-in_value c =
-    in_value _ _ _ _ c.requires.in_value c.sort_unstable.ensures.permutation c.place-used.ensures.entries
+least_clash-requires-clause-in_value c = search (rules, in_value)
 
 pub least_clash-requires-clause-in_order : goal.least_clash-requires-clause-in_order
 least_clash-requires-clause-in_order c = AreInOrder-sorted c.sort_unstable.new.self c.sort_unstable.ensures.sorted

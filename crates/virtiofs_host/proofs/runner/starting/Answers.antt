@@ -9,6 +9,8 @@ returns g c =
     record {
       runs_as = refl;
       in_group = refl;
+      as_one = refl;
+      in_one = refl;
       given_users = c.in_ok-given_to.field-0;
       given_groups = c.in_ok-given_to-2.field-0;
       users_given = refl;

@@ -1,15 +1,8 @@
 use Rattle.std.proofs.Common.{◌≡◌, ◌<◌, length, get_or, refl, arith}
 use Rattle.std.proofs.lemmas.List.{get_or_default}
 use Rattle.virtiofs_id_audit.specs.declared.spans.Span.{Span}
-use Rattle.virtiofs_id_audit.proofs.cuts.WithoutLemmas.{
-  CutTo-start,
-  CutTo-pass,
-  CutTo-push,
-  CutTo-end,
-  CutTo-rest,
-  apart-rest,
-  runs-rest,
-}
+use Rattle.virtiofs_id_audit.proofs.cuts.WithoutLemmas.{CutTo-start, CutTo-pass, CutTo-push, CutTo-end, CutTo-rest}
+use Rattle.virtiofs_id_audit.proofs.cuts.WithoutLemmas.{apart-rest, runs-rest}
 use Rattle.virtiofs_id_audit.proofs.cuts.without.Goals.{then-next-until+in_ok-push, else-next-until}
 use Rattle.virtiofs_id_audit.proofs.cuts.without.Goals.{then-next-end+in_ok-push-2, else-next-end}
 use Rattle.virtiofs_id_audit.proofs.cuts.without.Goals as goal

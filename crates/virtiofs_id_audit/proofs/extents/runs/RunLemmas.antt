@@ -1,6 +1,6 @@
 -- Neighbouring ids that are all of some kind, or of which none is.
 use Rattle.std.proofs.Common.{◌≡◌, inl, inr, ℕ, zero, suc, ◌+◌, ◌-◌, ◌<◌, ◌≤◌, true, false, min, List, length, get_or}
-use Rattle.std.proofs.Common.{Contains, Some, refl, sym, ap, ◌∙◌, subst, arith}
+use Rattle.std.proofs.Common.{Contains, Some, refl, sym, ◌∙◌, subst, arith, rules}
 use Rattle.std.proofs.Math.Bool.{not}
 use Rattle.std.proofs.lemmas.Bool.{false≢true, not-true, not-false}
 use Rattle.std.proofs.lemmas.Option.{same_Some}
@@ -13,8 +13,7 @@ use Rattle.virtiofs_id_audit.specs.declared.extents.runs.Sought.TheVariants.{Onl
 use Rattle.virtiofs_id_audit.specs.declared.spans.Span.{Span}
 use Rattle.virtiofs_map.specs.Build.{Accepted}
 use Rattle.virtiofs_map.specs.Mapping.{Becomes}
-use Rattle.virtiofs_map.specs.Pieces.{IsStretch, is_one_to_one}
-use Rattle.virtiofs_map.specs.Pieces.{value_by, value_in, IsNamed}
+use Rattle.virtiofs_map.specs.Pieces.{IsStretch, is_one_to_one, value_by, value_in, IsNamed}
 use Rattle.virtiofs_map.specs.declared.cmdline.IdMap.{IdMap}
 use Rattle.virtiofs_map.specs.declared.soft_idmap.entry.Direction.TheVariants.{GuestToHost, HostToGuest}
 use Rattle.virtiofs_map.specs.declared.soft_idmap.piece.Outcome.{Outcome}
@@ -31,13 +30,7 @@ module _ (spans : List Span) (id at : ℕ) (order : AreInOrder spans) (splits : 
     (within : id ≤ 4294967295) where
   -- no span is left there
   pub IsRun-end : length spans ≤ at → IsRun (Hold spans) id 4294967295 (record { last = 4294967295; all = false })
-  IsRun-end out = record {
-    from = within;
-    to = omega arith;
-    all = λ never. absurd (cc);
-    none = λ _ n from to (span, listed, has).
-        omega (arith, held_after spans id at n span order splits from (span, listed, has));
-  }
+  IsRun-end out = search (rules, held_after)
 
   module _ (span : Span) (inside : at < length spans) (here : get_or spans at span ≡ span) where
     pub IsRun-before : id < span.first → span.first ≤ 4294967295
@@ -51,14 +44,7 @@ module _ (spans : List Span) (id at : ℕ) (order : AreInOrder spans) (splits : 
 
     pub IsRun-in : span.first ≤ id → span.last ≤ 4294967295
         → IsRun (Hold spans) id 4294967295 (record { last = span.last; all = true })
-    IsRun-in begins bound =
-        let (some, ends) = rw here at (held_at spans id at span order splits inside) in
-        record {
-          from = ends;
-          to = bound;
-          all = λ _ n from to. (span, (at, inside, here), (omega arith, to));
-          none = λ never. absurd (cc);
-        }
+    IsRun-in begins bound = search (rules, held_at)
 
 -- ---- numbers of a piece
 
@@ -89,12 +75,7 @@ start_by Forbidden first each = absurd (false≢true each)
 each_fits : (outcome : Outcome) (first last to : ℕ) → is_one_to_one outcome ≡ true
     → Some to ≡ value_by outcome first first → IsNamed outcome first last → first ≤ last → last ≤ 4294967295
     → to + (last - first) ≤ 4294967295
-each_fits Kept first last to each start named order within =
-    omega (arith, same_Some to first start)
-each_fits (OneToOne target) first last to each start named order within =
-    omega (arith, same_Some to (target + (first - first)) start, named.1)
-each_fits (AllToOne target) first last to each start named order within = absurd (false≢true each)
-each_fits Forbidden first last to each start named order within = absurd (false≢true each)
+each_fits outcome first last to each start named order within = grind (arith, same_Some, false≢true)
 
 -- where they become others one after the other, all do
 pub IsRun-moved : (piece : Piece) (to : ℕ) → piece.becomes ≡ OneToOne to → piece.first ≤ piece.last
@@ -134,15 +115,7 @@ IsRun-into specs hosts there n last run accepted stretch first is_id is last_is 
       );
     } where
       into : (m : ℕ) → n ≤ m → m ≤ last → BecomesOne there hosts m → GoesInto specs hosts m
-      into m from below (host, becomes, is_one) =
-          record {
-            host = host;
-            goes = record {
-              is_id = omega arith;
-              becomes = rw becomes at (stretch.becomes m (omega arith) (omega (arith, is.to)));
-            };
-            is_one = is_one;
-          }
+      into m from below (host, becomes, is_one) = search rules
 
 module _ (specs : List IdMap) (trip : Piece) (n last : ℕ) (moved : Run) (accepted : Accepted specs)
     (first : trip.first ≡ n) (returns : ReturnsBy specs trip) (is_moved : IsRun (IsMoved trip) trip.first trip.last moved)
@@ -168,8 +141,7 @@ module _ (specs : List IdMap) (trip : Piece) (n last : ℕ) (moved : Run) (accep
       (none : (k : ℕ) → n < k → k ≤ last → ¬ Contains starts k) (every : moved.all ≡ true) where
     module _ (to : ℕ) (each : is_one_to_one there.becomes ≡ true) (start : Some to ≡ value_in there there.first) where
       value : (m : ℕ) → n ≤ m → value_in there m ≡ Some (to + (m - n))
-      value m from =
-          value-each there to m each start (omega arith) ∙ ap (λ (k : ℕ). Some (to + (m - k))) there_first
+      value m from = search (rules, value-each)
 
       goes : (m : ℕ) → n ≤ m → m ≤ last → Becomes specs GuestToHost m (Some (to + (m - n)))
       goes m from below = rw (value m from) at (stretch.becomes m (omega arith) (omega arith))

@@ -1,6 +1,6 @@
 -- Which ids of the guest are sought, one run after the other.
-use Rattle.std.proofs.Common.{◌≡◌, ◌↔◌, inl, inr, ℕ, ◌+◌, ◌<◌, ◌≤◌, true, false, List, [], ◌∷◌, ◌++◌, get_or}
-use Rattle.std.proofs.Common.{Vec, Result, Ok, Err, IfOk, arith}
+use Rattle.std.proofs.Common.{◌≡◌, ◌↔◌, inl, inr, ℕ, ◌+◌, ◌<◌, ◌≤◌, true, false, List, [], ◌∷◌, ◌++◌, get_or, Vec}
+use Rattle.std.proofs.Common.{Result, Ok, Err, IfOk, arith, rules}
 use Rattle.std.specs.List.{All}
 use Rattle.std.proofs.lemmas.Bool.{cases_lt}
 use Rattle.std.proofs.lemmas.List.{get_or_default}
@@ -9,7 +9,6 @@ use Rattle.virtiofs_id_audit.specs.ExtentParts.{IsSought, IsRun, AreOthers}
 use Rattle.virtiofs_id_audit.specs.IdAuditParts.{IsSpan, Has, Hold, AreApart}
 use Rattle.virtiofs_id_audit.specs.declared.extents.runs.Run.{Run}
 use Rattle.virtiofs_id_audit.specs.declared.extents.runs.Sought.{Sought}
-use Rattle.virtiofs_id_audit.specs.declared.extents.runs.Sought.TheVariants.{Into, OnlyAstray, Bad}
 use Rattle.virtiofs_id_audit.specs.declared.spans.Span.{Span}
 use Rattle.virtiofs_map.specs.declared.cmdline.IdMap.{IdMap}
 use Rattle.virtiofs_id_audit.proofs.ApartLemmas.{AreApart-push}
@@ -27,27 +26,10 @@ module _ (such : ℕ → Type 0) (next : ℕ) (others : List Span) (run : Run) (
     (is : IsRun such next 4294967294 run) where
   -- the others so far have no id from next on
   not_held : (id : ℕ) → next ≤ id → ¬ Hold others id
-  not_held id from (span, listed, has) =
-      omega (arith, has, All-contains (λ s. s.last < next) others span so_far.below listed)
+  not_held id from (span, listed, has) = search (rules, All-contains)
 
   pub OthersTo-such : run.all ≡ true → OthersTo such (run.last + 1) others
-  OthersTo-such every =
-      let far = is.from in
-      record {
-        bound = omega (arith, is.to);
-        apart = so_far.apart;
-        below = All-weaker (λ s. s.last < next) (λ s. s.last < run.last + 1) (λ s low. omega arith) others so_far.below;
-        are = record {
-          such_ones = λ n below not. elim (cases_lt n next) [
-            | inl before ↦ so_far.are.such_ones n before not
-            | inr after ↦ is.all every n (omega arith) (omega arith)
-          ];
-          other_ones = λ n below held. elim (cases_lt n next) [
-            | inl before ↦ so_far.are.other_ones n before held
-            | inr after ↦ absurd (not_held n (omega arith) held)
-          ];
-        };
-      }
+  OthersTo-such every = search (rules, All-weaker, cases_lt, not_held)
 
   pub OthersTo-push : (span : Span) → run.all ≡ false → span.first ≡ next → span.last ≡ run.last
       → OthersTo such (run.last + 1) (others ++ span ∷ [])
@@ -76,33 +58,18 @@ module _ (such : ℕ → Type 0) (next : ℕ) (others : List Span) (run : Run) (
 
 pub OthersTo-end : (such : ℕ → Type 0) (next : ℕ) (others : List Span) → OthersTo such next others
     → 4294967295 ≤ next → AreOthers such 4294967295 (Hold others)
-OthersTo-end such next others so_far end = record {
-  such_ones = λ n below. so_far.are.such_ones n (omega arith);
-  other_ones = λ n below. so_far.are.other_ones n (omega arith);
-}
+OthersTo-end such next others so_far end = search rules
 
 -- ---- what is sought
 
 -- only ids are
 IsSought-is_id : (sought : Sought) (specs : List IdMap) (hosts : ℕ → Type 0) (n : ℕ) → IsSought sought specs hosts n
     → n < 4294967295
-IsSought-is_id Into specs hosts n is = is.goes.is_id
-IsSought-is_id OnlyAstray specs hosts n is = is.0.goes.is_id
-IsSought-is_id Bad specs hosts n is = is.goes.is_id
+IsSought-is_id sought specs hosts n is = grind arith
 
 IsSought-same : (sought : Sought) (specs : List IdMap) (hosts others : ℕ → Type 0) (n : ℕ)
     → ((id : ℕ) → hosts id ↔ others id) → IsSought sought specs hosts n → IsSought sought specs others n
-IsSought-same Into specs hosts others n same is = GoesInto-same specs hosts others n (λ id. (same id).0) is
-IsSought-same OnlyAstray specs hosts others n same (astray, not) =
-    (astray, λ is. not (GoesInto-same specs others hosts n (λ id. (same id).1) is))
-IsSought-same Bad specs hosts others n same is = record {
-  host = is.host;
-  goes = is.goes;
-  why = elim is.why [
-    | inl astray ↦ inl astray
-    | inr is_one ↦ inr ((same is.host).0 is_one)
-  ];
-}
+IsSought-same sought specs hosts others n same is = grind (arith, GoesInto-same)
 
 -- ---- the ids that are no others
 

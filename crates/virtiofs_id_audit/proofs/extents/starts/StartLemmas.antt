@@ -1,6 +1,6 @@
 -- At which ids of the guest a run of ids that come back may begin.
 use Rattle.std.proofs.Common.{◌≡◌, ◌⊎◌, inl, inr, ℕ, ◌+◌, ◌-◌, ◌<◌, ◌≤◌, true, false, leb, List, [], ◌∷◌, ◌++◌, length}
-use Rattle.std.proofs.Common.{Bool, get_or, Contains, Some, None, refl, sym, ap, ◌∙◌, arith}
+use Rattle.std.proofs.Common.{Bool, get_or, Contains, Some, None, refl, sym, ap, ◌∙◌, arith, rules}
 use Rattle.std.specs.List.Sorted.{IsPermutation, IsPartitionPoint, IsNonDecreasing}
 use Rattle.std.proofs.lemmas.Bool.{cases_lt, cases_order}
 use Rattle.std.proofs.lemmas.Bool.Decides.{nat_tests}
@@ -11,8 +11,7 @@ use Rattle.std.proofs.lemmas.Option.{same_Some}
 use Rattle.virtiofs_id_audit.specs.ExtentParts.{AreStarts}
 use Rattle.virtiofs_map.specs.Build.{Accepted}
 use Rattle.virtiofs_map.specs.Mapping.{Becomes}
-use Rattle.virtiofs_map.specs.Pieces.{is_one_to_one}
-use Rattle.virtiofs_map.specs.Pieces.{value_in, IsPiece, PiecesLeft, GivesPiece}
+use Rattle.virtiofs_map.specs.Pieces.{is_one_to_one, value_in, IsPiece, PiecesLeft, GivesPiece}
 use Rattle.virtiofs_map.specs.declared.cmdline.IdMap.{IdMap}
 use Rattle.virtiofs_map.specs.declared.soft_idmap.entry.Direction.TheVariants.{HostToGuest}
 use Rattle.virtiofs_map.specs.declared.soft_idmap.piece.Piece.{Piece}
@@ -109,12 +108,7 @@ module _ (starts : List ℕ) (n at : ℕ) (up : IsNonDecreasing starts)
   later : (start : ℕ) → n < start → Contains starts start → (at < length starts) × (get_or starts at 0 ≤ start)
   later start above (k, inside, here) =
       let here' : get_or starts k 0 ≡ start = get_or_default starts k 0 start inside ∙ here in
-      elim (cases_lt k at) [
-        | inl before ↦ absurd
-            (let low : leb start n ≡ true = rw here' at (splits.0 k 0 (omega arith) before) in
-            grind (arith, nat_tests))
-        | inr after ↦ omega (arith, up at k 0 after inside)
-      ]
+      search (rules, cases_lt, nat_tests)
 
   pub none_left : length starts ≤ at → (start : ℕ) → n < start → ¬ Contains starts start
   none_left out start above listed = omega (arith, later start above listed)
@@ -125,6 +119,4 @@ module _ (starts : List ℕ) (n at : ℕ) (up : IsNonDecreasing starts)
       omega (arith, later start above listed, get_or_default starts at 0 next inside ∙ here)
 
   pub next_above : (next : ℕ) → get_or starts at next ≡ next → at < length starts → n < next
-  next_above next here inside =
-      let high : leb next n ≡ false = rw here at (splits.1 at next (omega arith) inside) in
-      grind (arith, nat_tests)
+  next_above next here inside = search (rules, nat_tests)

@@ -1,17 +1,16 @@
 -- What a specification does to the ids of the guest in some spans, a part for each.
-use Rattle.std.proofs.Common.{◌≡◌, inl, inr, ℕ, ◌+◌, ◌<◌, List, [], ◌∷◌, ◌++◌, length, take, get_or}
-use Rattle.std.proofs.Common.{Option, Some, None, IsSomeAnd, IfSome, sym, ap, ◌∙◌, subst, arith}
+use Rattle.std.proofs.Common.{◌≡◌, inl, inr, ℕ, ◌+◌, ◌<◌, List, [], ◌∷◌, ◌++◌, length, take, get_or, Option, None}
+use Rattle.std.proofs.Common.{IsSomeAnd, IfSome, sym, ap, ◌∙◌, arith, rules}
 use Rattle.std.proofs.lemmas.List.{append_assoc, length-append, get_or_default, get_or-take, length-take, take_more}
 use Rattle.std.proofs.lemmas.List.Elements.{Contains-append_left, Contains-push, Contains-push_cases}
 use Rattle.virtiofs_id_audit.specs.IdAuditParts.{Has, Hold, AreApart}
 use Rattle.virtiofs_id_audit.specs.MendingParts.{IsPart, AreParts, Listed}
 use Rattle.virtiofs_id_audit.specs.declared.spans.Span.{Span}
-use Rattle.virtiofs_map.specs.Build.{HasSource, HasTarget, Accepted}
-use Rattle.virtiofs_map.specs.Mapping.{entry_of, target_of, EntryCovers, Covers, Maps}
+use Rattle.virtiofs_map.specs.Build.{HasSource, Accepted}
+use Rattle.virtiofs_map.specs.Mapping.{entry_of, EntryCovers, Covers, Maps}
 use Rattle.virtiofs_map.specs.declared.cmdline.IdMap.{IdMap}
 use Rattle.virtiofs_map.specs.declared.soft_idmap.entry.Direction.{Direction}
 use Rattle.virtiofs_map.specs.declared.soft_idmap.entry.Direction.TheVariants.{GuestToHost, HostToGuest}
-use Rattle.virtiofs_map.specs.declared.soft_idmap.entry.Entry.{Entry}
 use Rattle.virtiofs_id_audit.proofs.HeldLemmas.{hold_push, push_hold}
 use Rattle.virtiofs_id_audit.proofs.mending.ListedLemmas.{Accepted-append, Accepted-one, KeepApart, Listed-append}
 use Rattle.virtiofs_id_audit.proofs.mending.ListedLemmas.{Listed-one, covered_maps}
@@ -20,19 +19,11 @@ use Rattle.virtiofs_map.proofs.ForCallers.{Covers-maps}
 -- a specification that does not act in a direction maps nothing there
 pub maps_nothing : (spec : IdMap) (direction : Direction) (n : ℕ) (value : Option ℕ) → entry_of spec direction ≡ None
     → ¬ Maps spec direction n value
-maps_nothing spec direction n value none maps =
-    subst (λ o. IsSomeAnd o (λ entry. EntryCovers entry n × (target_of entry n ≡ value))) none maps
+maps_nothing spec direction n value none maps = search rules
 
 Accepted-part : (spec part : IdMap) (span : Span) → IfSome (entry_of spec GuestToHost) HasSource → IsPart spec span part
     → Accepted (part ∷ [])
-Accepted-part spec part span source is = Accepted-one part sources targets where
-  sources : (direction : Direction) → IfSome (entry_of part direction) HasSource
-  sources GuestToHost = is.source source
-  sources HostToGuest = rw is.host tt
-
-  targets : (direction : Direction) → IfSome (entry_of part direction) HasTarget
-  targets GuestToHost = is.target
-  targets HostToGuest = rw is.host tt
+Accepted-part spec part span source is = search (rules, Accepted-one)
 
 -- the specification covers the ends of the span
 abbrev pub CoversAll : IdMap → Span → Type 0
@@ -41,11 +32,7 @@ CoversAll spec span =
 
 -- so it covers what is between them
 covers_between : (spec : IdMap) (span : Span) (n : ℕ) → CoversAll spec span → Has span n → Covers spec GuestToHost n
-covers_between spec span n covers has = by (entry_of spec GuestToHost) covers where
-  by : (o : Option Entry) → IsSomeAnd o (λ entry. EntryCovers entry span.first × EntryCovers entry span.last)
-      → IsSomeAnd o (λ entry. EntryCovers entry n)
-  by None ends = absurd ends
-  by (Some entry) ((low, _), (_, high)) = (omega arith, omega arith)
+covers_between spec span n covers has = search rules
 
 -- a span more that has none of the ids so far
 module _ (spec part : IdMap) (spans : List Span) (span : Span) (parts : List IdMap)

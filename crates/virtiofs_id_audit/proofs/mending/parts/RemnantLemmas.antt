@@ -1,14 +1,14 @@
 -- What is left of one specification where bad ids of the guest are cut out of it.
-use Rattle.std.proofs.Common.{◌≡◌, ◌⊎◌, ◌↔◌, inl, inr, ℕ, ◌+◌, ◌≤◌, max, List, [], ◌∷◌, ◌++◌, length, get_or, All, Contains}
-use Rattle.std.proofs.Common.{Bool, false, IsTrue, Option, Some, None, IsSomeAnd, IfSome, refl, sym, ◌∙◌, subst, arith}
+use Rattle.std.proofs.Common.{◌≡◌, ◌⊎◌, ◌↔◌, inl, inr, ℕ, ◌+◌, ◌≤◌, max, List, [], ◌∷◌, ◌++◌, length, get_or, All}
+use Rattle.std.proofs.Common.{Contains, Bool, false, IsTrue, Option, Some, None, IsSomeAnd, IfSome, refl, sym, subst}
+use Rattle.std.proofs.Common.{arith, rules}
 use Rattle.std.proofs.lemmas.Bool.{cases_lt, false≢true}
 use Rattle.std.proofs.lemmas.List.{get_or_default}
 use Rattle.std.proofs.lemmas.List.Elements.{All-contains, Contains-append_cases, Contains-push_cases}
 use Rattle.virtiofs_id_audit.specs.IdAudit.{AreRuns}
 use Rattle.virtiofs_id_audit.specs.IdAuditParts.{IsSpan, Has, Hold, AreApart}
 use Rattle.virtiofs_id_audit.specs.Mending.{CoversSome, EndsWith}
-use Rattle.virtiofs_id_audit.specs.MendingParts.{AreParts, AreCut, IsRemnant, IsHostHalf}
-use Rattle.virtiofs_id_audit.specs.MendingParts.{HasNoHostHalf, Listed, Stays}
+use Rattle.virtiofs_id_audit.specs.MendingParts.{AreParts, AreCut, IsRemnant, IsHostHalf, HasNoHostHalf, Listed, Stays}
 use Rattle.virtiofs_id_audit.specs.declared.spans.Span.{Span}
 use Rattle.virtiofs_map.specs.Build.{Accepted, HasSource, HasTarget}
 use Rattle.virtiofs_map.specs.Mapping.{entry_of, first_of, count_of, EntryCovers, Covers, Maps}
@@ -24,11 +24,7 @@ use Rattle.virtiofs_id_audit.proofs.mending.parts.PartLemmas.{maps_nothing}
 use Rattle.virtiofs_map.proofs.ForCallers.{Covers-maps}
 
 pub not_empty : (b : Bool) (count : ℕ) → b ≡ false → (IsTrue b ↔ (count ≡ 0)) → 1 ≤ count
-not_empty b count is empty =
-    elim (cases_lt count 1) [
-      | inl none ↦ absurd (false≢true (sym is ∙ empty.1 (omega arith)))
-      | inr some ↦ some
-    ]
+not_empty b count is empty = search (rules, cases_lt, false≢true)
 
 -- the whole has the ids of the guest that the specification covers, and those of met are the bad ones among them
 module _ (spec : IdMap) (entry : Entry) (whole : Span) (bad met : List Span) (accepted : Accepted (spec ∷ []))
@@ -36,13 +32,10 @@ module _ (spec : IdMap) (entry : Entry) (whole : Span) (bad met : List Span) (ac
     (last_is : whole.last + 1 ≡ first_of entry + count_of entry)
     (hold : (id : ℕ) → Has whole id → Hold met id ↔ Hold bad id) where
   covers_within : (n : ℕ) → Covers spec GuestToHost n → Has whole n
-  covers_within n covers =
-      let (low, high) = subst (λ o. IsSomeAnd o (λ e. EntryCovers e n)) entry_is covers in
-      (omega arith, omega arith)
+  covers_within n covers = search rules
 
   within_covers : (n : ℕ) → Has whole n → Covers spec GuestToHost n
-  within_covers n (low, high) =
-      subst (λ o. IsSomeAnd o (λ e. EntryCovers e n)) (sym entry_is) (omega arith, omega arith)
+  within_covers n (low, high) = search rules
 
   maps_within : (n : ℕ) (value : Option ℕ) → Maps spec GuestToHost n value → Has whole n
   maps_within n value maps = covers_within n (Covers-maps spec GuestToHost n value maps)
@@ -218,14 +211,7 @@ module _ (spec : IdMap) (entry : Entry) (whole : Span) (bad met : List Span) (ac
 -- a half has no range of the guest
 pub half_remnant : (spec half : IdMap) (bad : ℕ → Type 0) → IsHostHalf spec half → CoversSome half
     → IsRemnant spec bad half
-half_remnant spec half bad is some = record {
-  some = inr some;
-  guest = λ n ends. absurd (subst (λ o. IsSomeAnd o (λ e. EntryCovers e n)) is.guest ends.last);
-  host = λ n ends. record {
-    last = subst (λ o. IsSomeAnd o (λ e. EntryCovers e n)) is.host ends.last;
-    end = λ covers. ends.end (subst (λ o. IsSomeAnd o (λ e. EntryCovers e (n + 1))) (sym is.host) covers);
-  };
-}
+half_remnant spec half bad is some = search rules
 
 -- it has as many numbers as the range of the guest
 pub half_covers : (spec half : IdMap) (entry : Entry) → IsHostHalf spec half → entry_of spec GuestToHost ≡ Some entry

@@ -1,5 +1,4 @@
-use Rattle.virtiofs_id_audit.proofs.OutsideLemmas.{none_here, some_here}
-use Rattle.virtiofs_id_audit.proofs.OutsideLemmas.{adds_span, adds_itself}
+use Rattle.virtiofs_id_audit.proofs.OutsideLemmas.{none_here, some_here, adds_span, adds_itself}
 use Rattle.virtiofs_id_audit.proofs.outside.push_span.Goals as goal
 
 pub returns-then-is_empty : goal.returns-then-is_empty

@@ -1,11 +1,6 @@
 use Rattle.std.proofs.Common.{ℕ, ◌+◌, ◌-◌, Some, sym, ◌∙◌, arith}
-use Rattle.virtiofs_id_audit.proofs.RoundTripLemmas.{
-  ReturnsBy-forbidden,
-  ReturnsBy-all,
-  ReturnsBy-each,
-  back-each,
-  back-all,
-}
+use Rattle.virtiofs_id_audit.proofs.RoundTripLemmas.{ReturnsBy-forbidden, ReturnsBy-all, ReturnsBy-each, back-each}
+use Rattle.virtiofs_id_audit.proofs.RoundTripLemmas.{back-all}
 use Rattle.virtiofs_id_audit.proofs.round_trips.round_trip.Goals as goal
 
 pub returns-then-not-is_one_to_one-clause-returns : goal.returns-then-not-is_one_to_one-clause-returns

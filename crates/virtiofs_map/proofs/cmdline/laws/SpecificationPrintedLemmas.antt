@@ -1,6 +1,6 @@
 -- The printed form of a specification is a text that says it.
 use Rattle.std.proofs.Common.{◌≡◌, ℕ, ◌^◌, ◌<◌, true, false, List, [], ◌∷◌, ◌++◌, All, flat_map, codes, refl, sym, ap}
-use Rattle.std.proofs.Common.{◌∙◌, subst, arith, decimal, chars, IsAscii, append-nil}
+use Rattle.std.proofs.Common.{◌∙◌, subst, arith, decimal, chars, IsAscii, append-nil, rules}
 use Rattle.std.specs.List.{AllZip, list_all}
 use Rattle.std.proofs.lemmas.Fmt.{IsAscii-decimal}
 use Rattle.std.proofs.lemmas.List.Elements.{All-head, All-tail}
@@ -15,8 +15,6 @@ use Rattle.virtiofs_map.specs.Printed.{specification_text}
 use Rattle.virtiofs_map.specs.SpecificationText.{is_word_character, lowered, word_of, numbers_of, Says}
 use Rattle.virtiofs_map.specs.Separator.{split_at_each}
 use Rattle.virtiofs_map.specs.declared.cmdline.IdMap.{IdMap}
-use Rattle.virtiofs_map.specs.declared.cmdline.IdMap.TheVariants.{Guest, Host, SquashGuest, SquashHost, Bidirectional}
-use Rattle.virtiofs_map.specs.declared.cmdline.IdMap.TheVariants.{ForbidGuest}
 use Rattle.virtiofs_map.proofs.NumeralLemmas.{decimal_lacks_colon, IsNumeral-decimal}
 use Rattle.virtiofs_map.proofs.SpecificationLemmas.{split_at_each-cut, split_at_each-last, IsAscii-word_of}
 
@@ -28,21 +26,11 @@ colon_ends = refl
 -- the letters of the words are alphanumeric
 all_word : (spec : IdMap) → list_all is_word_character (word_of spec) ≡ true
 unfolding is_alphanumeric ucd_derived ucd_category
-all_word (Guest a b n) = refl
-all_word (Host a b n) = refl
-all_word (SquashGuest a b n) = refl
-all_word (SquashHost a b n) = refl
-all_word (Bidirectional a b n) = refl
-all_word (ForbidGuest a n) = refl
+all_word spec = grind arith
 
 -- and in lower case
 lowered-word_of : (spec : IdMap) → lowered (word_of spec) ≡ word_of spec
-lowered-word_of (Guest a b n) = refl
-lowered-word_of (Host a b n) = refl
-lowered-word_of (SquashGuest a b n) = refl
-lowered-word_of (SquashHost a b n) = refl
-lowered-word_of (Bidirectional a b n) = refl
-lowered-word_of (ForbidGuest a n) = refl
+lowered-word_of spec = grind arith
 
 -- numbers in decimal, each after a colon
 abbrev after_colons : List ℕ → List ℕ
@@ -76,10 +64,7 @@ IsAscii-after_colons (n ∷ ns) small =
 -- the printed form is ASCII, so its characters are its bytes
 chars-printed : (spec : IdMap) → All (λ n. n < 2 ^ 32) (numbers_of spec)
     → chars (specification_text spec) ≡ specification_text spec
-chars-printed spec small =
-    chars-IsAscii (specification_text spec)
-    (IsAscii-append (word_of spec) (after_colons (numbers_of spec)) (IsAscii-word_of spec)
-    (IsAscii-after_colons (numbers_of spec) small))
+chars-printed spec small = search (rules, chars-IsAscii, IsAscii-append, IsAscii-word_of, IsAscii-after_colons)
 
 -- the word, and the numbers after it
 Says-parts : (spec : IdMap) (n : ℕ) (ns : List ℕ) → numbers_of spec ≡ n ∷ ns → All (λ m. m < 2 ^ 32) (numbers_of spec)
@@ -101,9 +86,4 @@ Says-parts spec n ns are small = record {
 
 pub Says-printed : (spec : IdMap) → All (λ n. n < 2 ^ 32) (numbers_of spec)
     → Says (chars (specification_text spec)) spec
-Says-printed (Guest a b n) small = Says-parts (Guest a b n) a (b ∷ n ∷ []) refl small
-Says-printed (Host a b n) small = Says-parts (Host a b n) a (b ∷ n ∷ []) refl small
-Says-printed (SquashGuest a b n) small = Says-parts (SquashGuest a b n) a (b ∷ n ∷ []) refl small
-Says-printed (SquashHost a b n) small = Says-parts (SquashHost a b n) a (b ∷ n ∷ []) refl small
-Says-printed (Bidirectional a b n) small = Says-parts (Bidirectional a b n) a (b ∷ n ∷ []) refl small
-Says-printed (ForbidGuest a n) small = Says-parts (ForbidGuest a n) a (n ∷ []) refl small
+Says-printed spec small = grind (arith, Says-parts)

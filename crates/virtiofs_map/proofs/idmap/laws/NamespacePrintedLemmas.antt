@@ -1,6 +1,6 @@
 -- What a range of a namespace is printed as is a text that says it.
-use Rattle.std.proofs.Common.{◌≡◌, ℕ, ◌^◌, ◌<◌, false, List, [], ◌++◌, refl, ◌∙◌, append_assoc, arith, codes, decimal}
-use Rattle.std.proofs.Common.{chars, IsAscii}
+use Rattle.std.proofs.Common.{◌≡◌, ℕ, ◌^◌, ◌<◌, false, List, [], ◌++◌, refl, append_assoc, arith, codes, decimal, chars}
+use Rattle.std.proofs.Common.{IsAscii, rules}
 use Rattle.std.proofs.lemmas.Fmt.{IsAscii-decimal}
 use Rattle.std.proofs.lemmas.Str.{chars-IsAscii, IsAscii-append}
 use Rattle.std.proofs.lemmas.Str.Ascii.{IsAscii-nil, IsAscii-cons}
@@ -8,7 +8,6 @@ use Rattle.unicode.proofs.CategoryComputing.{ucd_category}
 use Rattle.unicode.proofs.DerivedComputing.{ucd_derived}
 use Rattle.virtiofs_map.specs.Alphanumeric.{is_alphanumeric}
 use Rattle.virtiofs_map.specs.NamespaceText.{IsField, SaysNamespace}
-use Rattle.virtiofs_map.specs.Numeral.{IsNumeral}
 use Rattle.virtiofs_map.specs.Printed.{namespace_text}
 use Rattle.virtiofs_map.proofs.NumeralLemmas.{decimal_lacks_colon, IsNumeral-decimal}
 
@@ -19,38 +18,20 @@ colon_delimits = refl
 
 -- a number in decimal, between colons
 field_decimal : (n : ℕ) → n < 2 ^ 32 → IsField 58 (decimal n) n
-field_decimal n small =
-    let numeral : IsNumeral (decimal n) n = IsNumeral-decimal n small in
-    record { free = decimal_lacks_colon n small; numeral = numeral }
+field_decimal n small = search (rules, decimal, IsNumeral-decimal, decimal_lacks_colon)
 
 IsAscii-colon : IsAscii (codes ":")
 IsAscii-colon = IsAscii-cons 58 [] (omega arith) IsAscii-nil
 
 -- one more field, and a colon after it
 IsAscii-field : (front : List ℕ) (n : ℕ) → IsAscii front → n < 2 ^ 32 → IsAscii (front ++ decimal n ++ codes ":")
-IsAscii-field front n ascii small =
-    IsAscii-append (front ++ decimal n) (codes ":")
-    (IsAscii-append front (decimal n) ascii (IsAscii-decimal n (omega arith))) IsAscii-colon
+IsAscii-field front n ascii small = search (rules, IsAscii-append, decimal, codes, IsAscii-decimal, IsAscii-colon)
 
 IsAscii-namespace_text : (a b c : ℕ) → a < 2 ^ 32 → b < 2 ^ 32 → c < 2 ^ 32 → IsAscii (namespace_text a b c)
-IsAscii-namespace_text a b c small_a small_b small_c =
-    let one : IsAscii (codes ":" ++ decimal a ++ codes ":") = IsAscii-field (codes ":") a IsAscii-colon small_a in
-    let two : IsAscii (codes ":" ++ decimal a ++ codes ":" ++ decimal b ++ codes ":") =
-    IsAscii-field (codes ":" ++ decimal a ++ codes ":") b one small_b in
-    IsAscii-field (codes ":" ++ decimal a ++ codes ":" ++ decimal b ++ codes ":") c two small_c
+IsAscii-namespace_text a b c small_a small_b small_c = search (rules, codes, decimal, IsAscii-field, IsAscii-colon)
 
 -- what a range is printed as says the range
 pub SaysNamespace-printed : (a b c : ℕ) → a < 2 ^ 32 → b < 2 ^ 32 → c < 2 ^ 32
     → SaysNamespace (chars (namespace_text a b c)) a b c
-SaysNamespace-printed a b c small_a small_b small_c = record {
-  delimiter = 58;
-  first = decimal a;
-  second = decimal b;
-  third = decimal c;
-  whole = chars-IsAscii (namespace_text a b c) (IsAscii-namespace_text a b c small_a small_b small_c)
-      ∙ simp append_assoc;
-  delimits = colon_delimits;
-  first_says = field_decimal a small_a;
-  second_says = field_decimal b small_b;
-  third_says = field_decimal c small_c;
-}
+SaysNamespace-printed a b c small_a small_b small_c =
+    search (rules, decimal, chars-IsAscii, IsAscii-namespace_text, append_assoc, colon_delimits, field_decimal)

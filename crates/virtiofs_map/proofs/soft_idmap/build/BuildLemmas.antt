@@ -1,5 +1,5 @@
 -- How an accepted list grows by one specification, and how its first fault is found.
-use Rattle.std.proofs.Common.{◌≡◌, ℕ, ◌+◌, ◌<◌, List, [], ◌∷◌, ◌++◌, length, take, get_or, Option, Some, None, IfSome}
+use Rattle.std.proofs.Common.{◌≡◌, ℕ, ◌+◌, ◌<◌, List, [], ◌∷◌, ◌++◌, length, take, get_or, Option, IfSome, rules, arith}
 use Rattle.std.proofs.lemmas.List.{take_more}
 use Rattle.std.proofs.lemmas.List.Elements.{All-push, Contains-get_or}
 use Rattle.std.proofs.lemmas.List.Quantifiers.{all_pairs_push}
@@ -16,8 +16,7 @@ use Rattle.virtiofs_map.specs.declared.soft_idmap.errors.RangeEnd.TheVariants.{S
 
 -- by each direction
 both : (P : Direction → Type 0) → P GuestToHost → P HostToGuest → (direction : Direction) → P direction
-both P guest host GuestToHost = guest
-both P guest host HostToGuest = host
+both P guest host direction = grind arith
 
 Accepted-push : (xs : List IdMap) (x : IdMap) → Accepted xs → ((direction : Direction) → Fits xs x direction)
     → Accepted (xs ++ x ∷ [])
@@ -45,11 +44,7 @@ Accepted-more specs i d below accepted guest host =
 reached : (specs : List IdMap) (i : ℕ) (d : IdMap) (direction : Direction) → i < length specs → Accepted (take i specs)
     → (direction ≡ HostToGuest → Fits (take i specs) (get_or specs i d) GuestToHost)
     → IsReached specs (get_or specs i d) i direction
-reached specs i d direction below accepted guest = record {
-  here = slice_get-get_or specs i d below;
-  before = accepted;
-  guest_first = guest;
-}
+reached specs i d direction below accepted guest = search (rules, slice_get-get_or)
 
 -- so its fault is the first
 first_fault : (specs : List IdMap) (i : ℕ) (d : IdMap) (direction : Direction) (fault : BuildFault) → i < length specs
@@ -70,6 +65,4 @@ pub HasFirstFault-here : (specs : List IdMap) (i : ℕ) (d : IdMap) (direction :
     → (direction ≡ HostToGuest → Fits (take i specs) (get_or specs i d) GuestToHost)
     → OutOfMemoryOr told (IsFaultHere (take i specs) (get_or specs i d) i direction)
     → OutOfMemoryOr told (HasFirstFault specs)
-HasFirstFault-here specs i d direction None below accepted guest here = tt
-HasFirstFault-here specs i d direction (Some fault) below accepted guest here =
-    first_fault specs i d direction fault below accepted guest here
+HasFirstFault-here specs i d direction told below accepted guest here = grind (arith, first_fault)

@@ -1,6 +1,7 @@
 -- How the entries of a list are placed one after another, and put in order.
 use Rattle.std.proofs.Common.{◌≡◌, ◌≢◌, inl, inr, ℕ, ◌+◌, ◌<◌, ◌≤◌, true, false, List, [], ◌∷◌, ◌++◌, length, get_or}
 use Rattle.std.proofs.Common.{All, Contains, IsPermutation, Option, Some, None, sym, ap, ◌∙◌, arith, lt-ltb, le-ltb}
+use Rattle.std.proofs.Common.{rules}
 use Rattle.std.proofs.lemmas.Bool.{cases_lt}
 use Rattle.std.proofs.lemmas.List.{get_or_default, length_push}
 use Rattle.std.proofs.lemmas.List.Elements.{All-push, All-weaker, Contains-append_left, Contains-push}
@@ -32,10 +33,7 @@ stands specs i d spec below here = get_or_default specs i d spec below ∙ here
 weaker : (specs : List IdMap) (direction : Direction) (i : ℕ) (indexed : List IndexedEntry)
     → All (λ one. IsIndexed specs direction one × (one.index < i)) indexed
     → All (λ one. IsIndexed specs direction one × (one.index < i + 1)) indexed
-weaker specs direction i indexed all =
-    All-weaker (λ (one : IndexedEntry). IsIndexed specs direction one × (one.index < i))
-    (λ (one : IndexedEntry). IsIndexed specs direction one × (one.index < i + 1)) (λ one (is, below). (is, omega arith))
-    indexed all
+weaker specs direction i indexed all = search (rules, All-weaker)
 
 pub AreIndexed-add : (specs : List IdMap) (direction : Direction) (i : ℕ) (d : IdMap) (entry : Entry) (indexed : List IndexedEntry)
     → i < length specs → entry_of (get_or specs i d) direction ≡ Some entry → 1 ≤ count_of entry
@@ -79,27 +77,8 @@ AreIndexed-add specs direction i d entry indexed within is some are_indexed =
 pub AreIndexed-pass : (specs : List IdMap) (direction : Direction) (i : ℕ) (d : IdMap) (indexed : List IndexedEntry)
     → i < length specs → covers_some (entry_of (get_or specs i d) direction) ≡ false → AreIndexed specs direction i indexed
     → AreIndexed specs direction (i + 1) indexed
-AreIndexed-pass specs direction i d indexed within none are_indexed = record {
-  from = weaker specs direction i indexed are_indexed.from;
-  each = each;
-  once = are_indexed.once;
-  counted = are_indexed.counted
-      ∙ sym (count_by_more_no (λ (spec : IdMap). covers_some (entry_of spec direction)) specs i d within none);
-} where
-  each : (index : ℕ) (spec : IdMap) (own : Entry) → index < i + 1 → StandsAt specs index spec
-      → entry_of spec direction ≡ Some own → 1 ≤ count_of own → Contains indexed (record { entry = own; index = index })
-  each index spec own below stands_at sets_up many =
-      elim (cases_lt index i) [
-        | inl before ↦ are_indexed.each index spec own before stands_at sets_up many
-        | inr from ↦ absurd (last (omega arith))
-      ] where
-        last : index ≡ i → ⊥
-        last same =
-            let there : get_or specs i spec ≡ spec = ap (λ (k : ℕ). get_or specs k spec) (sym same) ∙ stands_at.1 in
-            let spec_is : get_or specs i d ≡ spec = stands specs i d spec within there in
-            let yes' : covers_some (entry_of (get_or specs i d) direction) ≡ true =
-            rw spec_is (covers (entry_of spec direction) own sets_up many) in
-            absurd (cc)
+AreIndexed-pass specs direction i d indexed within none are_indexed =
+    search (rules, weaker, count_by_more_no, cases_lt, stands, covers)
 
 pub AreIndexed-empty : (specs : List IdMap) (direction : Direction) (i : ℕ) (d : IdMap) (entry : Entry)
     (indexed : List IndexedEntry) → i < length specs → entry_of (get_or specs i d) direction ≡ Some entry → count_of entry ≡ 0

@@ -1,6 +1,6 @@
 -- What a range, or the want of one, says of the numbers from some number on.
-use Rattle.std.proofs.Common.{◌≡◌, ◌≢◌, inl, inr, ℕ, ◌+◌, ◌-◌, ◌<◌, ◌≤◌, List, length, get_or, AllPairs}
-use Rattle.std.proofs.Common.{Contains, Some, slice_get, sym, ap, ◌∙◌, arith}
+use Rattle.std.proofs.Common.{◌≡◌, ◌≢◌, inl, inr, ℕ, ◌+◌, ◌-◌, ◌<◌, ◌≤◌, List, length, get_or, AllPairs, Contains, Some}
+use Rattle.std.proofs.Common.{slice_get, sym, ap, ◌∙◌, arith, rules}
 use Rattle.std.proofs.lemmas.Bool.{cases_lt}
 use Rattle.std.proofs.lemmas.List.Elements.{All-contains}
 use Rattle.std.proofs.lemmas.Option.{same_Some, slice_get-get_or, slice_get_within, get_or_from_slice_get}
@@ -29,13 +29,11 @@ range_at specs direction table at range has inside is =
     (sym (is (get_or has.ranges at range) (has.stand.each at (get_or has.ranges at range) here)))
 
 stored : (ranges : List Entry) (at : ℕ) (range : Entry) → slice_get ranges at ≡ Some range → Contains ranges range
-stored ranges at range here =
-    (at, slice_get_within ranges at range here, get_or_from_slice_get ranges at range range here)
+stored ranges at range here = search (rules, slice_get_within, get_or_from_slice_get)
 
 pub numbers_at : (specs : List IdMap) (direction : Direction) (table : Table) (at : ℕ) (range : Entry)
     (has : HasRanges specs direction table) → slice_get has.ranges at ≡ Some range → HasNumbers range
-numbers_at specs direction table at range has here =
-    All-contains HasNumbers has.ranges range has.ordered.numbers (stored has.ranges at range here)
+numbers_at specs direction table at range has here = search (rules, All-contains, stored)
 
 -- ---- numbers that a range covers
 
@@ -125,8 +123,7 @@ IsStretch-kept specs direction table n end piece has inside ends next first orde
 -- there is no range from that index on
 pub no_next : (specs : List IdMap) (direction : Direction) (table : Table) (end : ℕ) (range : Entry)
     (has : HasRanges specs direction table) → table.count ≤ end → slice_get has.ranges end ≢ Some range
-no_next specs direction table end range has beyond here =
-    omega (arith, has.stand.counted, slice_get_within has.ranges end range here)
+no_next specs direction table end range has beyond here = search (rules, slice_get_within)
 
 -- no range covers a number below the first range
 pub IsStretch-below : (specs : List IdMap) (direction : Direction) (table : Table) (n index : ℕ) (range : Entry)
@@ -151,11 +148,7 @@ IsStretch-below specs direction table n index range piece has searches here abov
 -- a range that begins at or below a number, and does not cover it, ends at or below it
 pub ends_before : (range : Entry) (n : ℕ) → first_of range ≤ n → (¬ EntryCovers range n)
     → first_of range + count_of range ≤ n
-ends_before range n begins beyond =
-    elim (cases_lt n (first_of range + count_of range)) [
-      | inl before ↦ absurd (beyond (begins, before))
-      | inr after ↦ after
-    ]
+ends_before range n begins beyond = search (rules, cases_lt)
 
 -- nor one after the range at which the search ended, and below the next one
 pub IsStretch-after : (specs : List IdMap) (direction : Direction) (table : Table) (n index : ℕ) (range : Entry)
@@ -175,6 +168,4 @@ pub next_above : (specs : List IdMap) (direction : Direction) (table : Table) (n
     (has : HasRanges specs direction table) → Searches table n index (index + 1)
     → slice_get has.ranges (index + 1) ≡ Some range → n < first_of range
 next_above specs direction table n index range has searches here =
-    let searched = searches has.ranges has.ordered has.stand in
-    rw (get_or_from_slice_get has.ranges (index + 1) range range here) at (searched.above (index + 1) range
-    (omega arith) (slice_get_within has.ranges (index + 1) range here))
+    search (rules, get_or_from_slice_get, slice_get_within)

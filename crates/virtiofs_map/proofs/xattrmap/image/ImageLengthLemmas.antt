@@ -1,6 +1,6 @@
 -- An image has 512 bytes, and 64 for each byte of the text of its rules, at most.
 use Rattle.std.proofs.Common.{◌≡◌, ◌≢◌, ℕ, ◌+◌, ◌-◌, ◌*◌, ◌≤◌, Bool, true, false, ◌&&◌, cond, eqb, List, [], ◌∷◌, ◌++◌}
-use Rattle.std.proofs.Common.{length, map, refl, ap, ◌∙◌, arith, length-append}
+use Rattle.std.proofs.Common.{length, map, refl, ap, ◌∙◌, arith, length-append, rules}
 use Rattle.std.specs.Char.{is_whitespace}
 use Rattle.std.specs.List.{filter}
 use Rattle.std.specs.Str.{IsUtf8, chars, drop_trailing_whitespace, encode_utf8_all, skip_leading_whitespace}
@@ -9,14 +9,13 @@ use Rattle.std.proofs.lemmas.Str.{encodes-append, encodes-chars, length-le-encod
 use Rattle.virtiofs_map.specs.NodeParts.{patterns_on}
 use Rattle.virtiofs_map.specs.FirstRule.{acts, pattern}
 use Rattle.virtiofs_map.specs.NamesImage.{image_length, pattern_bytes}
-use Rattle.virtiofs_map.specs.PatternTrie.{longest_label}
 use Rattle.virtiofs_map.specs.Rule.{MappingRule, RuleType}
-use Rattle.virtiofs_map.specs.RuleText.{All, Client, Fields, Map, RuleAsWritten, RuleHead, RuleThen, RulesThen}
-use Rattle.virtiofs_map.specs.RuleText.{SaysRules, ScopeName, Server, Typed, expanded, rule_fields, rules_of, trimmed}
+use Rattle.virtiofs_map.specs.RuleText.{Client, Fields, Map, RuleAsWritten, RuleHead, RuleThen, RulesThen, SaysRules}
+use Rattle.virtiofs_map.specs.RuleText.{ScopeName, Server, Typed, expanded, rule_fields, rules_of, trimmed}
 use Rattle.virtiofs_map.specs.declared.xattrmap.scopes.Side.{Side}
-use Rattle.virtiofs_map.specs.declared.xattrmap.scopes.Side.TheVariants as sides
 use Rattle.virtiofs_map.proofs.xattrmap.NodeCountLemmas.{held, text_nodes_most, sum_append, sum_of}
 use Rattle.virtiofs_map.proofs.ReadSoFarLemmas.{expanded_snoc}
+use Rattle.virtiofs_map.specs.declared.xattrmap.scopes.Side.TheVariants as sides
 
 -- ---- what rules add
 
@@ -47,21 +46,14 @@ patterns_append [] more = omega arith
 patterns_append (rule ∷ rules) more = omega (arith, patterns_append rules more)
 
 cost_append : (rules more : List MappingRule) → cost (rules ++ more) ≡ cost rules + cost more
-cost_append rules more =
-    let server = sum_append (rule_worth sides.Server) rules more in
-    let bytes = patterns_append rules more in
-    omega (arith, sum_append (rule_worth sides.Client) rules more, server, length-append rules more, bytes)
+cost_append rules more = grind (arith, sum_append, patterns_append, length-append)
 
 image_most : (rules : List MappingRule)
     → image_length rules
     ≤ 104 + 24 * ((side_worth sides.Client rules - 6) + (side_worth sides.Server rules - 6) + length rules)
     + pattern_bytes rules
 unfolding image_length
-image_most rules =
-    let server = text_nodes_most longest_label (patterns_on sides.Server rules) in
-    let of_client = held_is sides.Client rules in
-    let of_server = held_is sides.Server rules in
-    omega (arith, text_nodes_most longest_label (patterns_on sides.Client rules), server, of_client, of_server)
+image_most rules = grind (arith, text_nodes_most, held_is)
 
 -- ---- how many bytes characters have
 
@@ -69,8 +61,7 @@ abbrev bytes_of : List ℕ → ℕ
 bytes_of text = length (encode_utf8_all text)
 
 bytes_append : (text more : List ℕ) → bytes_of (text ++ more) ≡ bytes_of text + bytes_of more
-bytes_append text more =
-    ap length (encodes-append text more) ∙ length-append (encode_utf8_all text) (encode_utf8_all more)
+bytes_append text more = search (rules, encodes-append, length-append)
 
 bytes_cons : (c : ℕ) (text : List ℕ) → bytes_of (c ∷ text) ≡ bytes_of (c ∷ []) + bytes_of text
 bytes_cons c text = bytes_append (c ∷ []) text
@@ -104,15 +95,11 @@ fields_bytes d text (field ∷ fields) rest (after, is, lacks, more) =
 -- the fields of a rule, the delimiter before them, and one after each
 rule_bytes : (text : List ℕ) (rule : RuleAsWritten) (after : List ℕ) → RuleThen text rule after
     → 1 + sum_of (λ field. bytes_of field + 1) (rule_fields rule) + bytes_of after ≤ bytes_of text
-rule_bytes text rule after is =
-    let one = bytes_some is.delimiter is.body in
-    omega (arith, fields_bytes is.delimiter is.body (rule_fields rule) after is.fields, ap bytes_of is.opens.0, one)
+rule_bytes text rule after is = search (rules, bytes_some, fields_bytes)
 
 typed_cost : (kind : RuleType) (scope : ScopeName) (key prepend : List ℕ)
     → cost (rules_of (Typed kind scope) key prepend) ≤ 320 + 64 * (bytes_of key + bytes_of prepend)
-typed_cost kind All key prepend = omega arith
-typed_cost kind Client key prepend = omega arith
-typed_cost kind Server key prepend = omega arith
+typed_cost kind scope key prepend = grind arith
 
 -- a rule of a type costs 64 for each of its bytes at most
 typed_bytes : (text : List ℕ) (head : RuleHead) (key prepend after : List ℕ)

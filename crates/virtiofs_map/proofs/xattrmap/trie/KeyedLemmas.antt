@@ -1,7 +1,7 @@
 -- The order of patterns by the numbers of their first bytes is that of their bytes.
-use Rattle.std.proofs.Common.{◌≡◌, ◌⊎◌, ℕ, zero, suc, ◌+◌, ◌-◌, ◌<◌, ◌≤◌, false, List, length, take, drop, get_or, inl}
-use Rattle.std.proofs.Common.{inr, sym, ap, subst, ◌∙◌, arith, w64, All, IsSortedBy, nat_cmp, is_lt, true≢false}
-use Rattle.std.proofs.Common.{get_or-take, get_or-drop, take-take}
+use Rattle.std.proofs.Common.{◌≡◌, ◌⊎◌, ℕ, ◌+◌, ◌-◌, ◌<◌, ◌≤◌, false, List, length, take, drop, get_or, inl, inr, sym}
+use Rattle.std.proofs.Common.{ap, subst, ◌∙◌, arith, w64, All, IsSortedBy, nat_cmp, is_lt, true≢false, get_or-take}
+use Rattle.std.proofs.Common.{get_or-drop, take-take, rules}
 use Rattle.std.specs.Cmp.Lexicographic.{slice_cmp, nat_list_cmp_total}
 use Rattle.std.specs.Int.{from_be_bytes}
 use Rattle.std.specs.Ordering.{ordering_then}
@@ -20,20 +20,11 @@ use Rattle.virtiofs_map.proofs.xattrmap.trie.PatternLemmas.{less, level, later_b
 
 -- a byte of a front that two rows share
 shared_byte : (d i : ℕ) (xs ys : List ℕ) → take d xs ≡ take d ys → i < d → get_or xs i 0 ≡ get_or ys i 0
-shared_byte d i xs ys same below =
-    sym (get_or-take d xs i 0 below) ∙ ap (λ l. get_or l i 0) same ∙ get_or-take d ys i 0 below
+shared_byte d i xs ys same below = search (rules, get_or-take)
 
 same_word : (xs ys : List ℕ) → take 8 xs ≡ take 8 ys → word_of xs ≡ word_of ys
 unfolding word_of
-same_word xs ys same =
-    let e1 : get_or xs 1 0 ≡ get_or ys 1 0 = shared_byte 8 1 xs ys same (omega arith) in
-    let e2 : get_or xs 2 0 ≡ get_or ys 2 0 = shared_byte 8 2 xs ys same (omega arith) in
-    let e3 : get_or xs 3 0 ≡ get_or ys 3 0 = shared_byte 8 3 xs ys same (omega arith) in
-    let e4 : get_or xs 4 0 ≡ get_or ys 4 0 = shared_byte 8 4 xs ys same (omega arith) in
-    let e5 : get_or xs 5 0 ≡ get_or ys 5 0 = shared_byte 8 5 xs ys same (omega arith) in
-    let e6 : get_or xs 6 0 ≡ get_or ys 6 0 = shared_byte 8 6 xs ys same (omega arith) in
-    let e7 : get_or xs 7 0 ≡ get_or ys 7 0 = shared_byte 8 7 xs ys same (omega arith) in
-    omega (arith, shared_byte 8 0 xs ys same (omega arith), e1, e2, e3, e4, e5, e6, e7)
+same_word xs ys same = search (rules, shared_byte)
 
 -- its first eight bytes have the same number
 pub front_word : (front bytes : List ℕ) → front ≡ take 8 bytes → from_be_bytes w64 front ≡ word_of bytes
@@ -44,45 +35,7 @@ front_word front bytes is = same_word front bytes (ap (take 8) is ∙ take-take 
 lesser_word : (d : ℕ) (xs ys : List ℕ) → d < 8 → AreBytes xs → take d xs ≡ take d ys
     → get_or xs d 0 < get_or ys d 0 → word_of xs < word_of ys
 unfolding word_of
-lesser_word zero xs ys few bytes same lesser =
-    omega (arith, lesser, bytes 1, bytes 2, bytes 3, bytes 4, bytes 5, bytes 6, bytes 7)
-lesser_word (suc zero) xs ys few bytes same lesser =
-    let b7 : get_or xs 7 0 < 256 = bytes 7 in
-    omega (arith, lesser, shared_byte 1 0 xs ys same (omega arith), bytes 2, bytes 3, bytes 4, bytes 5, bytes 6, b7)
-lesser_word (suc (suc zero)) xs ys few bytes same lesser =
-    let e1 : get_or xs 1 0 ≡ get_or ys 1 0 = shared_byte 2 1 xs ys same (omega arith) in
-    omega (arith, lesser, shared_byte 2 0 xs ys same (omega arith), e1, bytes 3, bytes 4, bytes 5, bytes 6, bytes 7)
-lesser_word (suc (suc (suc zero))) xs ys few bytes same lesser =
-    let e1 : get_or xs 1 0 ≡ get_or ys 1 0 = shared_byte 3 1 xs ys same (omega arith) in
-    let e2 : get_or xs 2 0 ≡ get_or ys 2 0 = shared_byte 3 2 xs ys same (omega arith) in
-    omega (arith, lesser, shared_byte 3 0 xs ys same (omega arith), e1, e2, bytes 4, bytes 5, bytes 6, bytes 7)
-lesser_word (suc (suc (suc (suc zero)))) xs ys few bytes same lesser =
-    let e1 : get_or xs 1 0 ≡ get_or ys 1 0 = shared_byte 4 1 xs ys same (omega arith) in
-    let e2 : get_or xs 2 0 ≡ get_or ys 2 0 = shared_byte 4 2 xs ys same (omega arith) in
-    let e3 : get_or xs 3 0 ≡ get_or ys 3 0 = shared_byte 4 3 xs ys same (omega arith) in
-    omega (arith, lesser, shared_byte 4 0 xs ys same (omega arith), e1, e2, e3, bytes 5, bytes 6, bytes 7)
-lesser_word (suc (suc (suc (suc (suc zero))))) xs ys few bytes same lesser =
-    let e1 : get_or xs 1 0 ≡ get_or ys 1 0 = shared_byte 5 1 xs ys same (omega arith) in
-    let e2 : get_or xs 2 0 ≡ get_or ys 2 0 = shared_byte 5 2 xs ys same (omega arith) in
-    let e3 : get_or xs 3 0 ≡ get_or ys 3 0 = shared_byte 5 3 xs ys same (omega arith) in
-    let e4 : get_or xs 4 0 ≡ get_or ys 4 0 = shared_byte 5 4 xs ys same (omega arith) in
-    omega (arith, lesser, shared_byte 5 0 xs ys same (omega arith), e1, e2, e3, e4, bytes 6, bytes 7)
-lesser_word (suc (suc (suc (suc (suc (suc zero)))))) xs ys few bytes same lesser =
-    let e1 : get_or xs 1 0 ≡ get_or ys 1 0 = shared_byte 6 1 xs ys same (omega arith) in
-    let e2 : get_or xs 2 0 ≡ get_or ys 2 0 = shared_byte 6 2 xs ys same (omega arith) in
-    let e3 : get_or xs 3 0 ≡ get_or ys 3 0 = shared_byte 6 3 xs ys same (omega arith) in
-    let e4 : get_or xs 4 0 ≡ get_or ys 4 0 = shared_byte 6 4 xs ys same (omega arith) in
-    let e5 : get_or xs 5 0 ≡ get_or ys 5 0 = shared_byte 6 5 xs ys same (omega arith) in
-    omega (arith, lesser, shared_byte 6 0 xs ys same (omega arith), e1, e2, e3, e4, e5, bytes 7)
-lesser_word (suc (suc (suc (suc (suc (suc (suc zero))))))) xs ys few bytes same lesser =
-    let e1 : get_or xs 1 0 ≡ get_or ys 1 0 = shared_byte 7 1 xs ys same (omega arith) in
-    let e2 : get_or xs 2 0 ≡ get_or ys 2 0 = shared_byte 7 2 xs ys same (omega arith) in
-    let e3 : get_or xs 3 0 ≡ get_or ys 3 0 = shared_byte 7 3 xs ys same (omega arith) in
-    let e4 : get_or xs 4 0 ≡ get_or ys 4 0 = shared_byte 7 4 xs ys same (omega arith) in
-    let e5 : get_or xs 5 0 ≡ get_or ys 5 0 = shared_byte 7 5 xs ys same (omega arith) in
-    let e6 : get_or xs 6 0 ≡ get_or ys 6 0 = shared_byte 7 6 xs ys same (omega arith) in
-    omega (arith, lesser, shared_byte 7 0 xs ys same (omega arith), e1, e2, e3, e4, e5, e6)
-lesser_word (suc (suc (suc (suc (suc (suc (suc (suc d)))))))) xs ys few bytes same lesser = absurd (omega (arith, few))
+lesser_word d xs ys few bytes same lesser = grind (arith, shared_byte)
 
 -- where the number of a row is not less, its byte after a shared front is not less, or all eight bytes are shared
 word_step : (depth : ℕ) (xs ys : List ℕ) (rest : Ordering) → AreBytes ys → take depth xs ≡ take depth ys
@@ -143,13 +96,7 @@ later_keyed : (depth : ℕ) (one other : Pattern) → IsKeyed one → IsKeyed ot
     → take depth one.bytes.now ≡ take depth other.bytes.now
     → is_lt (slice_cmp nat_cmp (key_of other) (key_of one)) ≡ false
     → get_or one.bytes.now depth 0 ≤ get_or other.bytes.now depth 0
-later_keyed depth one other numbers numbers' same order =
-    let xs : List ℕ = one.bytes.now in
-    let ys : List ℕ = other.bytes.now in
-    let words : is_lt (ordering_then (nat_cmp (word_of ys) (word_of xs))
-    (ordering_then (nat_cmp (word_of (drop 8 ys)) (word_of (drop 8 xs))) (slice_cmp nat_cmp ys xs))) ≡ false =
-    rw (sym numbers.first, sym numbers'.first, sym numbers.second, sym numbers'.second) order in
-    later_key depth xs ys numbers'.bytes same words
+later_keyed depth one other numbers numbers' same order = search (rules, is_lt, later_key)
 
 -- patterns in the order of their keys are in the order of their bytes
 pub AreInOrder-keyed : (patterns : List Pattern) → All IsKeyed patterns

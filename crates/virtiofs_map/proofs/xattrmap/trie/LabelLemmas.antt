@@ -1,6 +1,6 @@
 -- What texts that begin with a path go on with.
-use Rattle.std.proofs.Common.{◌≡◌, ℕ, ◌<◌, ◌≤◌, Bool, true, ◌||◌, cond, eqb, List, [], ◌∷◌, ◌++◌}
-use Rattle.std.proofs.Common.{length, take, drop, refl, sym, ap, subst, ◌∙◌, arith, append_assoc, append-nil, Some, inl, inr}
+use Rattle.std.proofs.Common.{◌≡◌, ℕ, ◌<◌, ◌≤◌, Bool, true, ◌||◌, cond, eqb, List, [], ◌∷◌, ◌++◌, length, take, drop}
+use Rattle.std.proofs.Common.{refl, sym, ap, subst, ◌∙◌, arith, append_assoc, append-nil, Some, inl, inr, rules}
 use Rattle.std.specs.List.{filter, fold, list_any, slice_get, AllByRecursion}
 use Rattle.std.proofs.lemmas.Bool.{cases_Bool, cases_lt, cond_both, and_from, and_parts, eqb-true, true≢false}
 use Rattle.std.proofs.lemmas.Bool.Decides.{Decides-eqb}
@@ -140,9 +140,7 @@ module _ (most : ℕ) (texts : List (List ℕ)) (front : List ℕ) (led : leads 
   -- each text that begins with the front goes on with the label
   pub whole_label : AllByRecursion (λ text. begins front text ≡ true
       → begins (front ++ label_after most texts front) text ≡ true) texts
-  whole_label =
-      of_left (λ text. begins (front ++ label_after most texts front) text ≡ true) front texts
-      (all_through (filter (begins front) texts) (all_common (filter (begins front) texts)))
+  whole_label = search (rules, of_left, all_through, all_common)
 
 any_more : (p q : List ℕ → Bool) (texts : List (List ℕ)) → AllByRecursion (λ text. p text ≡ true → q text ≡ true) texts
     → list_any p texts ≡ true → list_any q texts ≡ true
@@ -238,5 +236,4 @@ label_leads most texts front led =
 
 pub label_short : (most : ℕ) (texts : List (List ℕ)) (front : List ℕ) → length (label_after most texts front) ≤ most
 unfolding label_after
-label_short most texts front =
-    omega (arith, length-take most (drop (length front) (common (filter (begins front) texts))))
+label_short most texts front = search (rules, length-take)

@@ -1,9 +1,9 @@
 -- The bytes with which the patterns of a range go on.
-use Rattle.std.proofs.Common.{◌≡◌, ℕ, zero, suc, ◌+◌, ◌<◌, ◌≤◌, Bool, true, cond, List, [], ◌∷◌, ◌++◌}
-use Rattle.std.proofs.Common.{length, Some, refl, ap, subst, ◌∙◌, arith, inl, inr}
+use Rattle.std.proofs.Common.{◌≡◌, ℕ, zero, suc, ◌+◌, ◌<◌, ◌≤◌, Bool, true, cond, List, [], ◌∷◌, ◌++◌, length, Some}
+use Rattle.std.proofs.Common.{refl, ap, subst, ◌∙◌, arith, inl, inr}
 use Rattle.std.specs.List.{slice_get, filter, range_with_len}
 use Rattle.std.proofs.lemmas.Bool.{cases_Bool, cases_lt}
-use Rattle.virtiofs_map.specs.PatternTrie.{are_sparse, last_byte, slots, span}
+use Rattle.virtiofs_map.specs.PatternTrie.{last_byte, slots}
 use Rattle.virtiofs_map.proofs.xattrmap.SlotLemmas.{Rising, slots_upto}
 
 -- ---- numbers that rise
@@ -112,10 +112,4 @@ rising_few low high (x ∷ xs) l rising =
 -- there are few places for children
 pub slots_small : (bytes : List ℕ) → Rising 1 256 bytes → length (slots bytes) ≤ 255
 unfolding slots
-slots_small [] rising = omega arith
-slots_small (low ∷ bytes) rising = elim (cases_Bool (are_sparse (low ∷ bytes))) [
-  | inl e ↦
-      (let few = rising_few 1 256 (low ∷ bytes) (omega arith) rising in
-      omega (arith, ap (λ b. length (cond b (low ∷ bytes) (range_with_len low (span low bytes)))) e, few))
-  | inr e ↦ (let upto = slots_upto low bytes rising e in omega (arith, upto.1, rising.0))
-]
+slots_small bytes rising = grind (arith, cases_Bool, rising_few, slots_upto)

@@ -1,22 +1,21 @@
 -- The nodes of the trie of patterns are a trie of the rules whose patterns they are.
 use Rattle.std.proofs.Common.{Bool, ◌≡◌, ◌≢◌, ◌⊎◌, ℕ, zero, suc, ◌+◌, ◌-◌, ◌<◌, ◌≤◌, true, false, ◌||◌, cond, List, []}
-use Rattle.std.proofs.Common.{◌∷◌, ◌++◌, length, take, drop, Contains, Option, Some, None, refl, sym, ap}
-use Rattle.std.proofs.Common.{get_or, lit≤, ltb, subst, ◌∙◌, arith, length-append, inl, inr, append_assoc}
-use Rattle.std.specs.List.{All, slice_get, find, list_any, flat_map, position_or_len, AllByRecursion}
+use Rattle.std.proofs.Common.{◌∷◌, ◌++◌, length, take, drop, Contains, Option, Some, None, refl, sym, ap, get_or, lit≤}
+use Rattle.std.proofs.Common.{subst, ◌∙◌, arith, length-append, inl, inr, append_assoc, rules}
+use Rattle.std.specs.List.{All, slice_get, find, list_any, flat_map, AllByRecursion}
 use Rattle.std.specs.Option.{option_map, option_map_or}
 use Rattle.std.proofs.lemmas.Bool.{cases_Bool, cond_both, ltb-true, true≢false}
 use Rattle.std.proofs.lemmas.List.{take-append-drop, take_at, drop_at, drop-drop}
-use Rattle.std.proofs.lemmas.Option.{slice_get-get_or, slice_get-map, slice_get_within, slice_get_read, get_or_from_slice_get}
+use Rattle.std.proofs.lemmas.Option.{slice_get-get_or, slice_get-map, slice_get_within, slice_get_read}
+use Rattle.std.proofs.lemmas.Option.{get_or_from_slice_get}
 use Rattle.virtiofs_map.specs.NodeParts.{answer_of, label_of, ArePatterns, IsPattern, IsChild, IsReal, AreInSlots}
-use Rattle.virtiofs_map.specs.NodeParts.{AreFew, BeginsPattern, IsBounded, IsNode, IsTrie, answer_for, no_answer}
+use Rattle.virtiofs_map.specs.NodeParts.{AreFew, BeginsPattern, IsBounded, IsNode, IsTrie, no_answer}
 use Rattle.virtiofs_map.specs.FirstRule.{acts, pattern}
-use Rattle.virtiofs_map.specs.Names.{begins, fits}
-use Rattle.virtiofs_map.specs.PatternTrie.{TextNode, root, leads, next_bytes, label_after, text_node_after, child, children}
-use Rattle.virtiofs_map.specs.PatternTrie.{are_sparse, slots, span, text_nodes}
+use Rattle.virtiofs_map.specs.Names.{begins}
+use Rattle.virtiofs_map.specs.PatternTrie.{TextNode, root, leads, next_bytes, label_after, text_node_after, child}
+use Rattle.virtiofs_map.specs.PatternTrie.{children, are_sparse, slots, span, text_nodes, longest_label}
 use Rattle.virtiofs_map.specs.Rule.{MappingRule}
-use Rattle.virtiofs_map.specs.PatternTrie.{longest_label}
-use Rattle.virtiofs_map.specs.TrieParts.{texts_of, lowest, label_place, node_for, nodes_from}
-use Rattle.virtiofs_map.specs.TrieParts.{IsTrieOf, nodes_of}
+use Rattle.virtiofs_map.specs.TrieParts.{texts_of, lowest, label_place, node_for, nodes_from, IsTrieOf, nodes_of}
 use Rattle.virtiofs_map.specs.declared.xattrmap.scopes.Side.{Side}
 use Rattle.virtiofs_map.specs.declared.xattrmap.trie.node.Node.{Node}
 use Rattle.virtiofs_map.specs.declared.xattrmap.trie.patterns.Pattern.{Pattern}
@@ -25,8 +24,9 @@ use Rattle.virtiofs_map.proofs.xattrmap.WalkAnswerLemmas.{type_small}
 use Rattle.virtiofs_map.proofs.xattrmap.trie.NextByteLemmas.{slots_small}
 use Rattle.virtiofs_map.proofs.xattrmap.trie.LabelLemmas.{label_leads, whole_label}
 use Rattle.virtiofs_map.proofs.xattrmap.trie.LevelOrderLemmas.{all_at, before}
-use Rattle.virtiofs_map.proofs.xattrmap.trie.TextNodeLemmas.{before_within, path_of, IsLed, text_nodes_led, kids_within, kid_at, kid_is}
-use Rattle.virtiofs_map.proofs.xattrmap.trie.TextNodeLemmas.{kids_counted, next_rising, next_has, child_some, child_is}
+use Rattle.virtiofs_map.proofs.xattrmap.trie.TextNodeLemmas.{before_within, path_of, IsLed, text_nodes_led, kids_within}
+use Rattle.virtiofs_map.proofs.xattrmap.trie.TextNodeLemmas.{kid_at, kid_is, kids_counted, next_rising, next_has}
+use Rattle.virtiofs_map.proofs.xattrmap.trie.TextNodeLemmas.{child_some, child_is}
 use Rattle.virtiofs_map.proofs.xattrmap.trie.PatternTrieLemmas.{text_nodes_order}
 use Rattle.virtiofs_map.proofs.xattrmap.SlotLemmas.{Rising, slots_has, slots_placed, slots_upto, range_is}
 
@@ -143,10 +143,7 @@ module _ (side : Side) (rules : List MappingRule) (patterns : List Pattern) wher
   -- ---- answers
 
   answer_small : AreFew rules → (name : List ℕ) → answer_of side rules name ≤ no_answer
-  answer_small few name =
-      let place = position_or_len (fits side name) rules in
-      cond_both (ltb place (length rules)) (Some place) None (λ found. answer_for rules found ≤ no_answer)
-      (λ e. omega (arith, ltb-true place (length rules) e, type_small rules place)) (λ _. omega arith)
+  answer_small few name = grind (arith, cond_both, ltb-true, type_small)
 
   -- ---- a label among the bytes
 
@@ -212,15 +209,7 @@ module _ (side : Side) (rules : List MappingRule) (patterns : List Pattern) wher
         pub are : one.bytes.now ≡ pattern side rule
 
       of_rule : (rule : MappingRule) → Contains rules rule → acts side rule ≡ true → OfRule rule
-      of_rule rule inside acting =
-          let there = slice_get_read rules (length rules) inside.0 rule refl inside.1 (sym inside.2) in
-          let found = of_rules.every inside.0 rule there acting in
-          record {
-            at = found.1.0;
-            one = found.0;
-            here = slice_get_read patterns (length patterns) found.1.0 found.0 refl found.1.1 (sym found.1.2);
-            are = found.2;
-          }
+      of_rule rule inside acting = grind (arith, slice_get_read)
 
       -- a node, with its text node
       record IsTextNode (at : ℕ) (node : Node) : Type 0 where
@@ -230,13 +219,7 @@ module _ (side : Side) (rules : List MappingRule) (patterns : List Pattern) wher
 
       no_hole : (at : ℕ) (node : Node) → IsReal at node → slice_get all at ≡ Some None
           → node.first_byte ≡ 0 → ⊥
-      no_hole at node real here none = elim real [
-        | inl first ↦
-            (let begun : slice_get all 0 ≡ Some (Some root) =
-            ap (λ (l : List (Option TextNode)). slice_get l 0) (text_nodes_order longest_label texts) in
-            let never : Some (Some root) ≡ Some None = sym begun ∙ ap (slice_get all) (sym first) ∙ here in cc)
-        | inr some ↦ some none
-      ]
+      no_hole at node real here none = grind (arith, text_nodes_order)
 
       is_text_node : (at : ℕ) (node : Node) → slice_get (nodes_of side rules patterns) at ≡ Some node
           → IsReal at node → IsTextNode at node
@@ -262,9 +245,7 @@ module _ (side : Side) (rules : List MappingRule) (patterns : List Pattern) wher
           → (of : Option TextNode) × (slice_get all at ≡ Some of)
           × (get_or (nodes_of side rules patterns) at d ≡ node_for side rules patterns (1 + before below all at) of)
       unfolding nodes_of
-      text_node_at at d l =
-          node_is 1 all at (get_or (nodes_from side rules patterns 1 all) at d)
-          (slice_get-get_or (nodes_from side rules patterns 1 all) at d l)
+      text_node_at at d l = search (rules, node_is, slice_get-get_or)
 
       -- ---- what is below a text node
 
@@ -294,16 +275,7 @@ module _ (side : Side) (rules : List MappingRule) (patterns : List Pattern) wher
             → slice_get (slots bytes_on) (next - base) ≡ Some byte → slice_get all next ≡ Some of
             → kid ≡ node_for side rules patterns (1 + before below all next) of
             → of ≡ child longest_label texts text_node.path byte → kid.first_byte ≢ 0 → IsKid byte next kid
-        kid_of_text_node next kid byte None slot here is of some =
-            absurd (some (ap (λ (b : Node). b.first_byte) is))
-        kid_of_text_node next kid byte (Some one) slot here is of some =
-            let child = child_is longest_label texts text_node.path byte one of in
-            record {
-              slot = slot;
-              led = child.0;
-              here = here ∙ ap (λ (n : TextNode). Some (Some n)) child.1;
-              is = is ∙ ap (λ (n : TextNode). node_for side rules patterns (1 + before below all next) (Some n)) child.1;
-            }
+        kid_of_text_node next kid byte of slot here is e some = grind (arith, child_is, before)
 
         kid_of : (next : ℕ) (kid : Node) → base ≤ next → next < base + length (below (Some text_node))
             → slice_get (nodes_of side rules patterns) next ≡ Some kid → kid.first_byte ≢ 0
@@ -334,17 +306,11 @@ module _ (side : Side) (rules : List MappingRule) (patterns : List Pattern) wher
 
         kid_label : (byte next : ℕ) (kid : Node) (is : IsKid byte next kid)
             → label_of bytes kid ≡ label_after longest_label texts (text_node.path ++ byte ∷ [])
-        kid_label byte next kid is =
-            ap (label_of bytes) is.is
-            ∙ (label_stands text_node.path byte (label_after longest_label texts (text_node.path ++ byte ∷ []))
-            (kid_led byte next kid is)).1
+        kid_label byte next kid is = grind (arith, label_stands, kid_led)
 
         kid_child : (byte next : ℕ) (kid : Node) → IsChild (nodes_of side rules patterns) this byte next kid
             → IsKid byte next kid
-        kid_child byte next kid is =
-            let found = kid_of next kid is.from is.below is.here (λ none. is.real (sym is.first_byte ∙ none)) in
-            let same : found.0 ≡ byte = sym (kid_first_byte found.0 next kid found.1) ∙ is.first_byte in
-            subst (λ b. IsKid b next kid) same found.1
+        kid_child byte next kid is = grind (arith, kid_of, kid_first_byte)
 
         -- ---- its node is one of the trie
 
@@ -500,14 +466,8 @@ module _ (side : Side) (rules : List MappingRule) (patterns : List Pattern) wher
         ]
 
         is_bounded : AreFew rules → IsBounded (nodes_of side rules patterns) bytes this
-        is_bounded few = record {
-          answer = answer_small few text_node.path;
-          label = omega (arith, label_within);
-          size = size_small;
-          base = omega (arith, within);
-          width = (let count = kids_counted longest_label texts at text_node there in
-              omega (arith, count, slots_small bytes_on (next_rising texts text_node.path)));
-        }
+        is_bounded few =
+            grind (arith, answer_small, label_within, size_small, within, kids_counted, slots_small, next_rising)
 
       -- so all of them are a trie
       nodes_trie : IsTrie side rules (nodes_of side rules patterns) bytes

@@ -1,11 +1,10 @@
 -- The patterns of a side, gathered rule by rule, and in any order.
-use Rattle.std.proofs.Common.{◌≡◌, ◌≢◌, ◌⊎◌, ℕ, zero, suc, ◌+◌, ◌*◌, ◌<◌, ◌≤◌, Bool, true, false, cond, eqb, ltb, List}
-use Rattle.std.proofs.Common.{[], ◌∷◌, ◌++◌, length, take, get_or, Some, inl, inr, refl, sym, ap, subst, ◌∙◌, eq-eqb}
-use Rattle.std.proofs.Common.{arith, All, Contains, slice_get, IsPermutation, nat_cmp, is_lt, true≢false, lt-ltb}
+use Rattle.std.proofs.Common.{◌≡◌, ◌≢◌, ◌⊎◌, ℕ, zero, suc, ◌+◌, ◌*◌, ◌<◌, ◌≤◌, true, false, List, [], ◌∷◌, ◌++◌, length}
+use Rattle.std.proofs.Common.{take, get_or, Some, inl, inr, sym, ap, subst, ◌∙◌, eq-eqb, arith, All, Contains}
+use Rattle.std.proofs.Common.{slice_get, IsPermutation, nat_cmp, is_lt, true≢false, lt-ltb, rules}
 use Rattle.std.specs.Cmp.Lexicographic.{slice_cmp}
 use Rattle.std.specs.Ordering.{ordering_then}
 use Rattle.std.specs.declared.cmp.Ordering.{Ordering}
-use Rattle.std.specs.declared.cmp.Ordering.TheVariants.{Less, Equal, Greater}
 use Rattle.std.proofs.lemmas.Bool.{cases_lt}
 use Rattle.std.proofs.lemmas.Bool.Decides.{nat_tests}
 use Rattle.std.proofs.lemmas.List.Sorted.{All-permutation, Contains-permutation}
@@ -48,25 +47,11 @@ pub patterns_same : (side : Side) (rules : List MappingRule) (bytes : List ℕ) 
     → ArePatternsBelow side rules bytes place patterns
     → ((rule : MappingRule) → slice_get rules place ≡ Some rule → acts side rule ≡ false)
     → ArePatternsBelow side rules bytes (place + 1) patterns
-patterns_same side rules bytes place patterns below none = record {
-  each = below.each;
-  every = λ at rule before here acting. elim (cases_lt at place) [
-    | inl earlier ↦ below.every at rule earlier here acting
-    | inr later ↦
-        absurd (let now : at ≡ place = omega arith in
-        true≢false (sym acting ∙ none rule (ap (slice_get rules) (sym now) ∙ here)))
-  ];
-}
+patterns_same side rules bytes place patterns below none = grind (arith, cases_lt, true≢false, slice_get)
 
 pub patterns_whole : (side : Side) (rules : List MappingRule) (bytes : List ℕ) (end : ℕ) (patterns : List Pattern)
     → ArePatternsBelow side rules bytes end patterns → length rules ≤ end → ArePatterns side rules bytes patterns
-patterns_whole side rules bytes end patterns below past = record {
-  each = below.each;
-  every = λ at rule here acting. elim (cases_lt at (length rules)) [
-    | inl before ↦ below.every at rule (omega arith) here acting
-    | inr after ↦ absurd (cc (slice_get_past rules at after))
-  ];
-}
+patterns_whole side rules bytes end patterns below past = grind (arith, cases_lt, slice_get_past)
 
 -- in any order they are the patterns
 pub patterns-permutation : (side : Side) (rules : List MappingRule) (bytes : List ℕ) (patterns others : List Pattern)
@@ -82,22 +67,11 @@ patterns-permutation side rules bytes patterns others moved are = record {
 
 -- a lesser byte decides
 pub less : (y x : ℕ) (rest : Ordering) → y < x → is_lt (ordering_then (nat_cmp y x) rest) ≡ true
-less y x rest below = by (ltb y x) (lt-ltb y x below) where
-  by : (b : Bool) → b ≡ true → is_lt (ordering_then (cond b Less (cond (eqb y x) Equal Greater)) rest) ≡ true
-  by true e = refl
-  by false e = absurd (true≢false (sym e))
+less y x rest below = search (rules, lt-ltb, is_lt, true≢false)
 
 -- the same byte leaves it to the rest
 pub level : (y : ℕ) (rest : Ordering) → is_lt (ordering_then (nat_cmp y y) rest) ≡ is_lt rest
-level y rest = by (ltb y y) (eqb y y) not_below (eq-eqb y y refl) where
-  not_below : ltb y y ≡ false
-  not_below = grind (arith, nat_tests)
-
-  by : (b e : Bool) → b ≡ false → e ≡ true
-      → is_lt (ordering_then (cond b Less (cond e Equal Greater)) rest) ≡ is_lt rest
-  by false true b e = refl
-  by true e b f = absurd (true≢false b)
-  by false false b e = absurd (true≢false (sym e))
+level y rest = search (rules, eq-eqb, nat_tests, is_lt, true≢false)
 
 -- the bytes of one pattern do not come after those of another: where they share a front, nor does its next byte
 pub later_byte : (one other : List ℕ) (depth : ℕ) → take depth one ≡ take depth other

@@ -1,14 +1,14 @@
 -- The text nodes of a trie stand in the order of their levels, and no other list does.
-use Rattle.std.proofs.Common.{◌≡◌, ℕ, suc, ◌<◌, ◌≤◌, Bool, false, ◌||◌, cond, List, [], ◌∷◌, ◌++◌}
-use Rattle.std.proofs.Common.{length, map, Option, Some, None, refl, ap, ◌∙◌, arith, length-append, inl, inr}
+use Rattle.std.proofs.Common.{◌≡◌, ℕ, suc, ◌<◌, ◌≤◌, Bool, false, ◌||◌, cond, List, [], ◌∷◌, ◌++◌, length, map, Option}
+use Rattle.std.proofs.Common.{Some, None, refl, ap, ◌∙◌, arith, length-append, inl, inr}
 use Rattle.std.specs.List.{flat_map, filter, range_with_len, AllByRecursion}
 use Rattle.std.proofs.lemmas.Bool.{cases_Bool, cond_both}
 use Rattle.std.proofs.lemmas.List.Prefix.{front_fits}
 use Rattle.std.proofs.lemmas.Slice.Eq.{starts_is}
 use Rattle.std.proofs.lemmas.Bool.Decides.{Decides-eqb}
 use Rattle.virtiofs_map.specs.Names.{begins}
-use Rattle.virtiofs_map.specs.PatternTrie.{TextNode, root, leads, next_bytes, label_after, text_node_after, child, children}
-use Rattle.virtiofs_map.specs.PatternTrie.{slots, longest_of, text_nodes}
+use Rattle.virtiofs_map.specs.PatternTrie.{TextNode, root, leads, next_bytes, label_after, text_node_after, child}
+use Rattle.virtiofs_map.specs.PatternTrie.{children, slots, longest_of, text_nodes}
 use Rattle.virtiofs_map.proofs.xattrmap.trie.LevelOrderLemmas.{all_levels, all_map, only_levels}
 
 -- ---- how long paths are
@@ -59,8 +59,7 @@ module _ (most : ℕ) (texts : List (List ℕ)) where
       (omega (arith, length-append text_node.path (byte ∷ [])))))
 
   some : (of : Option TextNode) → IsDeep 0 of
-  some None = tt
-  some (Some text_node) = omega arith
+  some of = grind arith
 
   -- the root, and then what is below each text node in turn
   pub text_nodes_order : text_nodes most texts ≡ Some root ∷ flat_map (children most texts) (text_nodes most texts)

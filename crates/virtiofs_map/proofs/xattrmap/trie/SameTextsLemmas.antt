@@ -1,6 +1,6 @@
 -- The text nodes of a trie do not depend on the order of its texts, nor on how often one stands among them.
-use Rattle.std.proofs.Common.{◌≡◌, ℕ, zero, suc, ◌<◌, Bool, true, false, ◌&&◌, ◌||◌, not, cond, eqb, List, [], ◌∷◌, ◌++◌}
-use Rattle.std.proofs.Common.{length, take, drop, get_or, map, Option, Some, None, refl, sym, ap, ◌∙◌, arith, inl, inr}
+use Rattle.std.proofs.Common.{◌≡◌, ℕ, zero, suc, ◌<◌, Bool, true, false, ◌&&◌, ◌||◌, not, cond, eqb, List, [], ◌∷◌}
+use Rattle.std.proofs.Common.{◌++◌, length, get_or, map, Option, Some, None, refl, sym, ap, ◌∙◌, arith, inl, inr, rules}
 use Rattle.std.proofs.Math.Path.{fun_ext}
 use Rattle.std.specs.List.{filter, flat_map, list_any, range_with_len, slice_get, AllByRecursion}
 use Rattle.std.proofs.lemmas.Bool.{cases_Bool, cond_both, and_parts, eqb-true, false_from_ne_true, or_right, true≢false}
@@ -8,8 +8,8 @@ use Rattle.std.proofs.lemmas.List.Elements.{recursion_from_All}
 use Rattle.virtiofs_map.specs.NodeParts.{ArePatterns, IsPattern, node_count, patterns_on}
 use Rattle.virtiofs_map.specs.FirstRule.{acts, pattern}
 use Rattle.virtiofs_map.specs.Names.{begins}
-use Rattle.virtiofs_map.specs.PatternTrie.{TextNode, root, leads, next_bytes, common, label_after, text_node_after, child, children}
-use Rattle.virtiofs_map.specs.PatternTrie.{longest_label, slots, text_nodes}
+use Rattle.virtiofs_map.specs.PatternTrie.{TextNode, root, leads, next_bytes, common, label_after, child, children}
+use Rattle.virtiofs_map.specs.PatternTrie.{longest_label, text_nodes}
 use Rattle.virtiofs_map.specs.Rule.{MappingRule}
 use Rattle.virtiofs_map.specs.TrieParts.{texts_of}
 use Rattle.virtiofs_map.specs.declared.xattrmap.scopes.Side.{Side}
@@ -25,18 +25,13 @@ pub record AreAmong (texts other : List (List ℕ)) : Type 0 where
 -- ---- tests of all texts
 
 kept : (x y : Bool) → (x ≡ true → y ≡ true) → (x && not y) ≡ false
-kept false y so = refl
-kept true true so = refl
-kept true false so = absurd (true≢false (sym (so refl)))
+kept x y so = grind (arith, true≢false)
 
 keeps : (x y : Bool) → (x && not y) ≡ false → x ≡ true → y ≡ true
-keeps true true e t = refl
-keeps true false e t = absurd (true≢false e)
-keeps false y e t = absurd (true≢false (sym t))
+keeps x y e t = grind (arith, true≢false)
 
 neither : (x y : Bool) → (x || y) ≡ false → (x ≡ false) × (y ≡ false)
-neither true y e = absurd (true≢false e)
-neither false y e = (refl, e)
+neither x y e = grind (arith, true≢false)
 
 module _ (a b : List ℕ → Bool) where
   none_breaks : (texts : List (List ℕ)) → AllByRecursion (λ t. a t ≡ true → b t ≡ true) texts
@@ -55,10 +50,7 @@ module _ (a b : List ℕ → Bool) where
 -- what holds of all texts that pass a test holds of all that are among them
 carried : (a b : List ℕ → Bool) (texts other : List (List ℕ)) → AreAmong texts other
     → AllByRecursion (λ t. a t ≡ true → b t ≡ true) other → AllByRecursion (λ t. a t ≡ true → b t ≡ true) texts
-carried a b texts other among all =
-    all_keep a b texts
-    (false_from_ne_true (list_any (λ t. a t && not (b t)) texts)
-    (λ e. true≢false (sym (among.passed (λ t. a t && not (b t)) e) ∙ none_breaks a b other all)))
+carried a b texts other among all = search (rules, all_keep, false_from_ne_true, none_breaks)
 
 -- ---- labels
 
@@ -84,34 +76,19 @@ more_common texts other front among led =
 child_none : (most : ℕ) (texts : List (List ℕ)) (path : List ℕ) (byte : ℕ) → leads texts (path ++ byte ∷ []) ≡ false
     → child most texts path byte ≡ None
 unfolding child
-child_none most texts path byte none =
-    ap (λ b. cond b (Some (text_node_after path byte (label_after most texts (path ++ byte ∷ [])))) None) none
+child_none most texts path byte none = search rules
 
 module _ (most : ℕ) (texts other : List (List ℕ)) (there : AreAmong texts other) (back : AreAmong other texts) where
   leads_same : (path : List ℕ) → leads texts path ≡ leads other path
   unfolding leads
-  leads_same path = elim (cases_Bool (list_any (begins path) texts)) [
-    | inl e ↦ e ∙ sym (there.passed (begins path) e)
-    | inr f ↦ f ∙ sym (false_from_ne_true (list_any (begins path) other)
-        (λ t. true≢false (sym (back.passed (begins path) t) ∙ f)))
-  ]
+  leads_same path = search (rules, cases_Bool, false_from_ne_true)
 
   label_same : (front : List ℕ) → leads texts front ≡ true → label_after most texts front ≡ label_after most other front
   unfolding label_after
-  label_same front led =
-      ap (λ whole. take most (drop (length front) whole))
-      (both_ways (common (filter (begins front) texts)) (common (filter (begins front) other))
-      (more_common other texts front back (sym (leads_same front) ∙ led))
-      (more_common texts other front there led))
+  label_same front led = search (rules, both_ways, more_common, leads_same)
 
   child_same : (path : List ℕ) (byte : ℕ) → child most texts path byte ≡ child most other path byte
-  child_same path byte = elim (cases_Bool (leads texts (path ++ byte ∷ []))) [
-    | inl led ↦ child_some most texts path byte led
-        ∙ ap (λ label. Some (text_node_after path byte label)) (label_same (path ++ byte ∷ []) led)
-        ∙ sym (child_some most other path byte (sym (leads_same (path ++ byte ∷ [])) ∙ led))
-    | inr none ↦ child_none most texts path byte none
-        ∙ sym (child_none most other path byte (sym (leads_same (path ++ byte ∷ [])) ∙ none))
-  ]
+  child_same path byte = search (rules, cases_Bool, child_some, label_same, leads_same, child_none)
 
   next_same : (path : List ℕ) → next_bytes texts path ≡ next_bytes other path
   unfolding next_bytes
@@ -122,11 +99,7 @@ module _ (most : ℕ) (texts other : List (List ℕ)) (there : AreAmong texts ot
 
   below_same : (of : Option TextNode) → children most texts of ≡ children most other of
   unfolding children
-  below_same None = refl
-  below_same (Some text_node) =
-      let same : child most texts text_node.path ≡ child most other text_node.path = fun_ext (child_same text_node.path) in
-      ap (λ child_at. map child_at (slots (next_bytes texts text_node.path))) same
-      ∙ ap (λ bytes. map (child most other text_node.path) (slots bytes)) (next_same text_node.path)
+  below_same of = grind (arith, fun_ext, child_same, next_same)
 
   pub text_nodes_same : text_nodes most texts ≡ text_nodes most other
   text_nodes_same =

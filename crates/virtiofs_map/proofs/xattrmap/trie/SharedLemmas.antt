@@ -2,7 +2,7 @@
 use Rattle.std.proofs.Common.{◌≡◌, ℕ, zero, suc, ◌+◌, ◌≤◌, true, false, ◌&&◌, cond, eqb, List, [], ◌∷◌, ◌++◌, length}
 use Rattle.std.proofs.Common.{take, drop, max, min, Contains, Option, Some, None, inl, inr, refl, sym, ap, subst, ◌∙◌}
 use Rattle.std.proofs.Common.{arith, append_assoc, append-nil, slice_get, option_and_then, eqb-true, true≢false}
-use Rattle.std.proofs.Common.{length-drop}
+use Rattle.std.proofs.Common.{length-drop, rules}
 use Rattle.std.specs.Option.{option_map_or}
 use Rattle.std.proofs.lemmas.Bool.{cases_Bool, cond_both, and_from, and_parts}
 use Rattle.std.proofs.lemmas.Bool.Decides.{Decides-eqb}
@@ -64,9 +64,7 @@ shared_front (x ∷ one) (y ∷ other) (suc k) low =
 
 pub shared_ended : (one other : List ℕ) (n : ℕ) → min (length one) (length other) ≤ n
     → n + shared (drop n one) (drop n other) ≡ shared one other → n ≡ shared one other
-shared_ended one other n past so_far =
-    let within = shared_within (drop n one) (drop n other) in
-    omega (arith, within.0, within.1, length-drop n one, length-drop n other)
+shared_ended one other n past so_far = search (rules, shared_within, length-drop)
 
 -- ---- a path and a label
 
@@ -114,9 +112,7 @@ most_at_place side (r ∷ rules) name (suc at) rule e acting =
 
 pub most_at_least : (side : Side) (rules : List MappingRule) (name : List ℕ) (rule : MappingRule) → Contains rules rule
     → acts side rule ≡ true → shared (pattern side rule) name ≤ most_shared side rules name
-most_at_least side rules name rule within acting =
-    most_at_place side rules name within.0 rule
-    (slice_get_read rules (length rules) within.0 rule refl within.1 (sym within.2)) acting
+most_at_least side rules name rule within acting = grind (arith, most_at_place, slice_get_read)
 
 -- what is no less than each is no less than the most
 most_below : (side : Side) (rules : List MappingRule) (name : List ℕ) (top : ℕ)
@@ -167,12 +163,7 @@ module _ (side : Side) (rules : List MappingRule) (name : List ℕ) where
   -- so the count is between the least and the most
   pub lookup_counted : (before after : ℕ) → after ≡ count_after before (most_shared side rules name + 1)
       → CountsLookup side rules name before after
-  lookup_counted before after e = record {
-    steps = most_shared side rules name + 1;
-    at_least = omega (arith, deciding_shared);
-    at_most = omega (arith, most_within, most_longest);
-    counted = e;
-  }
+  lookup_counted before after e = grind (arith, deciding_shared, most_within, most_longest)
 
 -- a count that is added to another
 pub counted_on : (before none counted after n : ℕ) → none ≡ 0 → counted ≡ count_after none n

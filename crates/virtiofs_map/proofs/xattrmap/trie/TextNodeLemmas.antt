@@ -1,7 +1,7 @@
 -- What is at the places of the text nodes of a trie.
 use Rattle.std.proofs.Common.{◌≡◌, ◌≢◌, ◌⊎◌, ℕ, zero, suc, ◌+◌, ◌<◌, ◌≤◌, true, cond, List, [], ◌∷◌, ◌++◌, length, take}
 use Rattle.std.proofs.Common.{drop, Option, Some, None, refl, sym, ap, subst, ◌∙◌, arith, length-append, inl, inr}
-use Rattle.std.proofs.Common.{append_assoc, slice_get, flat_map, option_map}
+use Rattle.std.proofs.Common.{append_assoc, slice_get, flat_map, option_map, rules}
 use Rattle.std.specs.List.{AllByRecursion}
 use Rattle.std.proofs.lemmas.Bool.{cases_Bool}
 use Rattle.std.proofs.lemmas.List.{length-map}
@@ -128,17 +128,7 @@ module _ (most : ℕ) (texts : List (List ℕ)) where
         → (byte : ℕ) × (slice_get (slots (next_bytes texts text_node.path)) k ≡ Some byte)
         × (of ≡ child most texts text_node.path byte)
     unfolding children
-    kid_is k of e = by_slot (slice_get (slots (next_bytes texts text_node.path)) k) refl
-        (sym (slice_get-map (child most texts text_node.path) (slots (next_bytes texts text_node.path)) k) ∙ e) where
-          by_slot : (found : Option ℕ) → slice_get (slots (next_bytes texts text_node.path)) k ≡ found
-              → option_map (child most texts text_node.path) (slice_get (slots (next_bytes texts text_node.path)) k) ≡ Some of
-              → (byte : ℕ) × (slice_get (slots (next_bytes texts text_node.path)) k ≡ Some byte)
-              × (of ≡ child most texts text_node.path byte)
-          by_slot None is e = absurd (let never = sym (ap (option_map (child most texts text_node.path)) is) ∙ e in cc)
-          by_slot (Some byte) is e =
-              (let same = sym (ap (option_map (child most texts text_node.path)) is) ∙ e in
-              let this : child most texts text_node.path byte ≡ of = cc in
-              (byte, is, sym this))
+    kid_is k of e = search (rules, slice_get, slice_get-map, option_map)
 
     pub kids_counted : length (children most texts (Some text_node)) ≡ length (slots (next_bytes texts text_node.path))
     unfolding children
@@ -161,15 +151,9 @@ module _ (most : ℕ) (texts : List (List ℕ)) (path : List ℕ) (byte : ℕ) w
   pub child_some : leads texts (path ++ byte ∷ []) ≡ true
       → child most texts path byte ≡ Some (text_node_after path byte (label_after most texts (path ++ byte ∷ [])))
   unfolding child
-  child_some led =
-      ap (λ b. cond b (Some (text_node_after path byte (label_after most texts (path ++ byte ∷ [])))) None) led
+  child_some led = search rules
 
   pub child_is : (text_node : TextNode) → Some text_node ≡ child most texts path byte
       → (leads texts (path ++ byte ∷ []) ≡ true) × (text_node ≡ text_node_after path byte (label_after most texts (path ++ byte ∷ [])))
   unfolding child
-  child_is text_node e = elim (cases_Bool (leads texts (path ++ byte ∷ []))) [
-    | inl led ↦ (let same = e ∙ child_some led in
-        let this : text_node ≡ text_node_after path byte (label_after most texts (path ++ byte ∷ [])) = cc in (led, this))
-    | inr none ↦ absurd (let never = e
-        ∙ ap (λ b. cond b (Some (text_node_after path byte (label_after most texts (path ++ byte ∷ [])))) None) none in cc)
-  ]
+  child_is text_node e = search (rules, cases_Bool, child_some)

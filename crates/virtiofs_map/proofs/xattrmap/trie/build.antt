@@ -8,7 +8,6 @@ mod FirstBytesLemmas
 mod KidLemmas
 mod KidTextNodeLemmas
 mod LevelLemmas
-mod OrderedLemmas
 mod RangeTextNodeLemmas
 mod PatternOrderLemmas
 mod AppendedRangeLemmas

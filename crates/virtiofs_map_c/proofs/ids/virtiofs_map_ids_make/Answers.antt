@@ -1,10 +1,9 @@
+use Rattle.std.proofs.Common.{rules}
 use Rattle.virtiofs_map_c.proofs.ArraysLemmas.{IsAccepted-no_fault, array_complete, array_faulty}
 use Rattle.virtiofs_map_c.proofs.ids.virtiofs_map_ids_make.Goals as goal
 
 pub returns-in-Ok-clause-faulty : goal.returns-in-Ok-clause-faulty
-returns-in-Ok-clause-faulty c = λ wrong has.
-    let made = c.in-Ok.ensures.made in
-    absurd (IsAccepted-no_fault _ (record { list = made.0; are = made.1; accepted = made.2.accepted }) wrong has)
+returns-in-Ok-clause-faulty c = search (rules, IsAccepted-no_fault)
 
 pub returns-in-Err-clause-complete : goal.returns-in-Err-clause-complete
 returns-in-Err-clause-complete c = array_complete _ _ _ _ (_, c.in-Err.ensures.refused, c.tell.ensures)

@@ -1,21 +1,10 @@
-use Rattle.virtiofs_map.specs.declared.soft_idmap.entry.Direction.TheVariants.{HostToGuest}
-use Rattle.virtiofs_map_c.proofs.IdsLemmas.{tells_value, tells_answer, tells_back, tells_code, tells_none}
+use Rattle.virtiofs_map_c.proofs.IdsLemmas.{tells_value, tells_code, tells_none}
 use Rattle.virtiofs_map_c.proofs.ids.virtiofs_map_ids_to_guest.Goals as goal
 
 pub returns-clause-exact : goal.returns-clause-exact
 returns-clause-exact c =
     λ specs value image becomes. tells_value c.args.host value _ _ _ _ c.tell_answer.ensures
     (c.look_up.ensures.exact specs value image.image becomes)
-
-pub returns-clause-answer : goal.returns-clause-answer
-returns-clause-answer c =
-    λ specs image. tells_answer specs HostToGuest c.args.host _ _ _ _ c.tell_answer.ensures
-    (c.look_up.ensures.says specs image.image)
-
-pub returns-clause-leads_back : goal.returns-clause-leads_back
-returns-clause-leads_back c =
-    λ specs image both. tells_back specs HostToGuest c.args.host _ _ _ _ c.tell_answer.ensures
-    (c.look_up.ensures.leads_back specs image.image both)
 
 pub returns-clause-no_id : goal.returns-clause-no_id
 returns-clause-no_id c = tells_none c.args.host _ _ _ _ c.tell_answer.ensures

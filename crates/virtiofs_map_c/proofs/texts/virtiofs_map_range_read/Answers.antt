@@ -9,7 +9,3 @@ returns-in-Err-from_str-clause-refused c = λ _.
 pub returns-in-Err-from_str-clause-complete : goal.returns-in-Err-from_str-clause-complete
 returns-in-Err-from_str-clause-complete c = λ inside outside count says.
     absurd (range_none _ _ _ c.in-Ok.ensures.cases c.in-Err-from_str.ensures.refused inside outside count says)
-
-pub returns-in-Ok-from_str-clause-read : goal.returns-in-Ok-from_str-clause-read
-returns-in-Ok-from_str-clause-read c = λ _.
-    (c.in-Ok.ensures.cases.1, rw c.in-Ok.ensures.cases.0 at c.in-Ok-from_str.ensures.read)

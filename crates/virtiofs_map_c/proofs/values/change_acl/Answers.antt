@@ -1,5 +1,6 @@
-use Rattle.virtiofs_map_c.proofs.ValuesLemmas.{told_unchanged, told_no_fault, acl_fails_otherwise}
-use Rattle.virtiofs_map_c.proofs.ValuesLemmas.{tells_acl_code, tells_acl}
+use Rattle.std.proofs.Common.{rules}
+use Rattle.virtiofs_map_c.proofs.ValuesLemmas.{told_unchanged, told_no_fault, acl_fails_otherwise, tells_acl_code}
+use Rattle.virtiofs_map_c.proofs.ValuesLemmas.{tells_acl}
 use Rattle.virtiofs_map_c.specs.Values.{IsAclTold}
 use Rattle.virtiofs_map_c.proofs.values.change_acl.Goals as goal
 
@@ -10,8 +11,7 @@ returns-clause-answer c = λ specs others users groups.
     (rw c.in-Some-of.ensures.words (c.all_of-2.ensures.map others groups)))
 
 pub returns-clause-unchanged : goal.returns-clause-unchanged
-returns-clause-unchanged c =
-    told_unchanged (IsAclTold _) _ _ _ _ _ c.tell_acl.ensures c.translate_acl-answer.ensures.unchanged
+returns-clause-unchanged c = search (rules, told_unchanged)
 
 pub returns-clause-no_fault : goal.returns-clause-no_fault
 returns-clause-no_fault c = told_no_fault (IsAclTold _) _ _ _ (acl_fails_otherwise _) c.tell_acl.ensures

@@ -1,3 +1,4 @@
+use Rattle.std.proofs.Common.{rules}
 use Rattle.virtiofs_map_c.proofs.ValuesLemmas.{told_unchanged, told_no_fault, capability_fails_otherwise}
 use Rattle.virtiofs_map_c.proofs.ValuesLemmas.{tells_capability_code, tells_capability}
 use Rattle.virtiofs_map_c.specs.Values.{IsCapabilityTold}
@@ -9,8 +10,7 @@ returns-clause-answer c = λ specs users.
     (c.translate_capability-answer.ensures.change specs (rw c.in-Some.ensures.words (c.all_of.ensures.map specs users)))
 
 pub returns-clause-unchanged : goal.returns-clause-unchanged
-returns-clause-unchanged c =
-    told_unchanged IsCapabilityTold _ _ _ _ _ c.tell_capability.ensures c.translate_capability-answer.ensures.unchanged
+returns-clause-unchanged c = search (rules, told_unchanged)
 
 pub returns-clause-no_fault : goal.returns-clause-no_fault
 returns-clause-no_fault c = told_no_fault IsCapabilityTold _ _ _ capability_fails_otherwise c.tell_capability.ensures

@@ -14,7 +14,7 @@ returns-in-Ok-clause-read c =
         ap (λ (b : Bool). start_of c.args.options b c.args.words.now) (sym c.has_any.ensures) ∙ sym c.in-Some.ensures.first,
         subst (λ (it : List (Bor (List ℕ))). IsLine c.args.options (length c.args.read.now.guests.items + 1) c.args.first it guest here)
             (c.line_of.ensures ∙ ap line_of c.tail_of-words.ensures) line,
-        starter ∙ c.is_by_other-by_other.ensures,
+        starter ∙ c.starter_of-starter.ensures,
         c.after_line.ensures.after ∙ ap after_line c.tail_of-words.ensures,
       ),
       items,

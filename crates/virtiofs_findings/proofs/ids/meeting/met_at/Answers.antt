@@ -3,7 +3,7 @@ use Rattle.virtiofs_findings.proofs.IdLemmas.{into_same, moved_one}
 use Rattle.virtiofs_findings.proofs.ids.meeting.met_at.Goals as goal
 
 pub returns-in_default : goal.returns-in_default
-returns-in_default g c = λ (guest, into).
+returns-in_default g c = λ (small, (guest, into)).
     let moved = moved_one c.args.other.now.ranges.items _ c.args.host c.in_ok-inside.inside.items refl refl
     (rw c.as_slice.ensures.value at c.in_ok-inside.ensures) in
     let none = rw (c.as_slice-2.ensures.value, c.in_default.is) at c.in_ok-guest.ensures in

@@ -1,7 +1,7 @@
 -- The list that is written name by name.
-use Rattle.std.proofs.Common.{◌≡◌, ◌≢◌, ℕ, ◌+◌, ◌<◌, ◌≤◌, true, false, if◌then◌else◌, List, [], ◌∷◌, ◌++◌, length, drop}
+use Rattle.std.proofs.Common.{◌≡◌, ◌≢◌, ℕ, ◌+◌, ◌<◌, ◌≤◌, true, if◌then◌else◌, List, [], ◌∷◌, ◌++◌, length, drop, Some}
+use Rattle.std.proofs.Common.{None, sym, ap, ◌∙◌, arith, append-nil, length-append, Bor}
 use Rattle.std.proofs.lemmas.List.{nil_from_length}
-use Rattle.std.proofs.Common.{Some, None, refl, sym, ap, subst, ◌∙◌, arith, append-nil, length-append, Bor}
 use Rattle.virtiofs_map.specs.Listing.{listing}
 use Rattle.virtiofs_map.specs.Names.{as_list, server_answer}
 use Rattle.virtiofs_map.specs.NamesImageParts.{Holds, IsFirstSeen}
@@ -23,24 +23,13 @@ pub record IsListedSoFar (rules : List MappingRule) (list rest : List ℕ) (coun
   pub left : IsSoFar {A = ℕ} rules list so_far (Items rules rest)
 
 pub listed_first : (rules : List MappingRule) (list old : List ℕ) → IsListedSoFar rules list list 0 old old
-listed_first rules list old = record {
-  so_far = [];
-  counted = refl;
-  holds = record { same = refl; are = λ _. refl };
-  left = IsSoFar-first {A = ℕ} rules list [] (Items rules list) refl refl;
-}
+listed_first rules list old = grind (arith, IsSoFar-first)
 
 module _ (rules : List MappingRule) (list rest left : List ℕ) (count : ℕ) (old new : List ℕ)
     (so_far : IsListedSoFar rules list rest count old new) where
   -- nothing is seen
   pub listed_hidden : IsFirstSeen rules rest Hidden left → IsListedSoFar rules list left count old new
-  listed_hidden first = record {
-    so_far = so_far.so_far;
-    counted = so_far.counted;
-    holds = so_far.holds;
-    left = subst (IsSoFar {A = ℕ} rules list so_far.so_far) (listing_seen {A = ℕ} rules rest Hidden left first)
-        so_far.left;
-  }
+  listed_hidden first = grind (arith, listing_seen)
 
   -- a name that is listed, and was written with a zero behind what stood there
   pub listed_shown : (shown : Bor (List ℕ)) (next : ℕ) (after : List ℕ) → IsFirstSeen rules rest (Listed shown) left
@@ -48,24 +37,11 @@ module _ (rules : List MappingRule) (list rest left : List ℕ) (count : ℕ) (o
       → ((so_far first : List ℕ) → Holds so_far first new → count ≡ length so_far
       → Holds (so_far ++ shown.now ++ 0 ∷ []) first after)
       → IsListedSoFar rules list left next old after
-  listed_shown shown next after first behind put =
-      let b = length-append (so_far.so_far ++ shown.now) (0 ∷ []) in
-      record {
-        so_far = so_far.so_far ++ shown.now ++ 0 ∷ [];
-        counted = omega (arith, so_far.counted, length-append so_far.so_far shown.now, b);
-        holds = put so_far.so_far old so_far.holds so_far.counted;
-        left = IsSoFar-name {A = ℕ} rules list so_far.so_far (so_far.so_far ++ shown.now ++ 0 ∷ []) shown.now
-            (Items rules rest)
-            (Items rules left) so_far.left (listing_seen {A = ℕ} rules rest (Listed shown) left first) refl;
-      }
+  listed_shown shown next after first behind put = grind (arith, length-append, IsSoFar-name, listing_seen)
 
   -- a name that no rule decides leaves no list
   pub listed_undecided : IsFirstSeen rules rest Undecided left → server_answer rules list ≡ None
-  listed_undecided first =
-      let last = listing_seen {A = ℕ} rules rest Undecided left first in
-      let none : all_ok (Items rules list) ≡ false = sym so_far.left.ok ∙ ap all_ok last in
-      sym (list_of-listing ℕ rules list)
-      ∙ ap (λ b. if b then Some (as_list (names_of (Items rules list))) else None) none
+  listed_undecided first = grind (arith, listing_seen, all_ok, list_of-listing, names_of)
 
 -- ---- the end
 
@@ -77,14 +53,10 @@ pub record IsWhole (rules : List MappingRule) (list : List ℕ) (count : ℕ) (o
   pub holds : Holds answer old new
 
 zeros_as_list : (parts : List (List ℕ)) → with_zeros parts ≢ [] → as_list parts ≡ with_zeros parts
-zeros_as_list [] some = absurd (some refl)
-zeros_as_list (part ∷ parts) some = refl
+zeros_as_list parts some = grind arith
 
 none_as_list : (parts : List (List ℕ)) → length (with_zeros parts) ≡ 0 → as_list parts ≡ 0 ∷ []
-none_as_list [] none = refl
-none_as_list (part ∷ parts) none =
-    absurd
-    (omega (arith, length-append (part ++ 0 ∷ []) (with_zeros parts), length-append part (0 ∷ [])))
+none_as_list parts none = grind (arith, length-append, with_zeros)
 
 module _ (rules : List MappingRule) (list rest : List ℕ) (count : ℕ) (old new : List ℕ)
     (so_far : IsListedSoFar rules list rest count old new) (none_left : length rest ≡ 0) where
@@ -105,15 +77,7 @@ module _ (rules : List MappingRule) (list rest : List ℕ) (count : ℕ) (old ne
 
   -- some names were listed
   pub listed_all : count ≢ 0 → IsWhole rules list count old new
-  listed_all some =
-      let long : count ≡ length (with_zeros all_names) = so_far.counted ∙ ap length all_is in
-      let same : as_list all_names ≡ with_zeros all_names = zeros_as_list all_names (λ e. some (long ∙ ap length e)) in
-      record {
-        answer = with_zeros all_names;
-        is = answer_is ∙ ap Some same;
-        counted = long;
-        holds = subst (λ (l : List ℕ). Holds l old new) all_is so_far.holds;
-      }
+  listed_all some = grind (arith, with_zeros, all_is, zeros_as_list, answer_is)
 
   -- none was
   pub listed_no_name : (next : ℕ) (after : List ℕ) → count ≡ 0 → next ≡ 1
@@ -121,25 +85,14 @@ module _ (rules : List MappingRule) (list rest : List ℕ) (count : ℕ) (old ne
       → Holds (so_far ++ [] ++ 0 ∷ []) first after)
       → IsWhole rules list next old after
   listed_no_name next after none behind put =
-      let long : length (with_zeros all_names) ≡ 0 = ap length (sym all_is) ∙ sym so_far.counted ∙ none in
-      let same : as_list all_names ≡ 0 ∷ [] = none_as_list all_names long in
-      let empty : so_far.so_far ≡ [] = nil_from_length so_far.so_far (sym so_far.counted ∙ none) in
-      let held = put so_far.so_far old so_far.holds (omega (arith, so_far.counted)) in
-      record {
-        answer = 0 ∷ [];
-        is = answer_is ∙ ap Some same;
-        counted = behind;
-        holds = subst (λ (l : List ℕ). Holds (l ++ [] ++ 0 ∷ []) old after) empty held;
-      }
+      grind (arith, with_zeros, all_is, none_as_list, nil_from_length, answer_is)
 
 module _ (rules : List MappingRule) (list old new : List ℕ) (count : ℕ) (whole : IsWhole rules list count old new) where
   -- it stands at the front, where there is room
   pub whole_fits : count ≤ length new
       → (answer : List ℕ) × (server_answer rules list ≡ Some answer) × (count ≡ length answer)
       × (new ≡ answer ++ drop count old)
-  whole_fits room =
-      let stands = whole.holds.are (omega (arith, whole.counted, whole.holds.same)) in
-      (whole.answer, whole.is, whole.counted, stands ∙ ap (λ (n : ℕ). whole.answer ++ drop n old) (sym whole.counted))
+  whole_fits room = grind arith
 
   -- else its length is told
   pub whole_too_long : length new < count

@@ -7,7 +7,7 @@ use Rattle.virtiofs_map.specs.NamesImage.{IsImage, part, part_end, part_start, r
 use Rattle.virtiofs_map.specs.NodeParts.{IsSpan}
 use Rattle.virtiofs_map.specs.Rule.{MappingRule}
 use Rattle.virtiofs_map.specs.declared.xattrmap.spans.Span.{Span}
-use Rattle.virtiofs_map.proofs.InsideLemmas.{inside}
+use Rattle.virtiofs_map.proofs.LeU64Lemmas.{inside}
 use Rattle.virtiofs_map.proofs.RuleRowLemmas.{length-rule_rows, rule_there, words_of_row}
 
 -- what is left of a number in eight bytes

@@ -1,7 +1,7 @@
 -- The parts of an image, and what is written as one.
-use Rattle.std.proofs.Common.{◌≡◌, ℕ, ◌+◌, ◌-◌, ◌*◌, ◌/◌, ◌^◌, ◌<◌, ◌≤◌, zero, suc, List, [], ◌∷◌, ◌++◌, All, length}
-use Rattle.std.proofs.Common.{get_or, take, drop, refl, ap, sym, subst, ◌∙◌, arith, append_assoc, append-nil}
-use Rattle.std.proofs.Common.{length-append, length-drop, length-take-le, flat_map}
+use Rattle.std.proofs.Common.{◌≡◌, ℕ, ◌+◌, ◌-◌, ◌*◌, ◌/◌, ◌^◌, ◌<◌, ◌≤◌, List, [], ◌++◌, All, length, get_or, take}
+use Rattle.std.proofs.Common.{drop, refl, ap, sym, subst, ◌∙◌, arith, append_assoc, append-nil, length-append}
+use Rattle.std.proofs.Common.{length-drop, length-take-le, flat_map, rules}
 use Rattle.std.proofs.Math.Seq.{drop-append_seam, take-append_seam}
 use Rattle.std.proofs.lemmas.List.Elements.{All-cons, All-nil}
 use Rattle.virtiofs_map.specs.NodeParts.{AreSpans, HasBytes, IsBounded, IsSmallIn, IsTrie, IsTrieIn, IsTrieWith, row_in}
@@ -40,33 +40,18 @@ pub record IsPartAt (image : List ℕ) (which : ℕ) (bytes : List ℕ) : Type 0
 
 part_length : (image : List ℕ) (which : ℕ) → HasPart image which
     → length (part image which) ≡ part_end image which - part_start image which
-part_length image which has =
-    length-take-le (part_end image which - part_start image which) (drop (part_start image which) image)
-    (omega (arith, length-drop (part_start image which) image))
+part_length image which has = search (rules, length-take-le, length-drop)
 
 -- what stands between two places that the header names is that part
 part_laid : (image front one back : List ℕ) (which from to : ℕ) → image ≡ (front ++ one) ++ back
     → from ≡ length front → to ≡ from + length one → part_start image which ≡ from → part_end image which ≡ to
     → IsPartAt image which one
-part_laid image front one back which from to is is_from is_to starts ends =
-    record {
-      has = record {
-        rising = omega arith;
-        within = omega (arith, ap length is ∙ length-append (front ++ one) back, length-append front one);
-      };
-      is = rw (starts, ends, is) (part_here front one back from to is_from is_to);
-    }
+part_laid image front one back which from to is is_from is_to starts ends = search (rules, length-append, part_here)
 
 numbers_fit : (places : Places) → places.server < 2 ^ 64 → places.rules < 2 ^ 64 → places.bytes < 2 ^ 64
     → places.end < 2 ^ 64
     → All (λ w. w < 2 ^ 64) (numbers_of places)
-numbers_fit places a b c d =
-    let Fits : ℕ → Type 0 = λ w. w < 2 ^ 64 in
-    let two = All-cons Fits places.bytes (places.end ∷ []) c (All-cons Fits places.end [] d (All-nil Fits)) in
-    let three = All-cons Fits places.rules (places.bytes ∷ places.end ∷ []) b two in
-    let four = All-cons Fits places.server (places.rules ∷ places.bytes ∷ places.end ∷ []) a three in
-    let five = All-cons Fits 48 (places.server ∷ places.rules ∷ places.bytes ∷ places.end ∷ []) (omega arith) four in
-    All-cons Fits image_kind (48 ∷ places.server ∷ places.rules ∷ places.bytes ∷ places.end ∷ []) (omega arith) five
+numbers_fit places a b c d = search (rules, All-cons, All-nil)
 
 -- ---- the image of a map
 
@@ -159,11 +144,7 @@ module _ (places : Places) (client server rows bytes : List ℕ) (rules : ℕ)
       (content_u64 4 (omega arith)) (content_u64 5 (omega arith))
 
   pub every_part : (which : ℕ) → which < 4 → HasPart (content places client server rows bytes) which
-  every_part zero below = first_part.has
-  every_part (suc zero) below = second_part.has
-  every_part (suc (suc zero)) below = third_part.has
-  every_part (suc (suc (suc zero))) below = fourth_part.has
-  every_part (suc (suc (suc (suc n)))) below = absurd (omega arith)
+  every_part which below = grind (arith, first_part, second_part, third_part, fourth_part)
 
 -- what tries, rules and patterns have together
 pub parts_length : (rules : List MappingRule) (client server : List Node) (bytes : List ℕ)
@@ -176,15 +157,7 @@ parts_length rules client server bytes clients servers whole = omega arith
 pub rows_fit : (nodes : List Node) (bytes : List ℕ) (first labels : ℕ) → All (IsBounded nodes bytes) nodes
     → 8 * first + 24 * length nodes ≤ longest_image → labels + length bytes ≤ longest_image
     → All (IsSmallIn first labels) nodes
-rows_fit nodes bytes first labels bounded rows texts = λ at d below.
-    (let one = bounded at d below in
-    record {
-      answer = omega (arith, one.answer);
-      label = omega (arith, one.label);
-      size = one.size;
-      base = omega (arith, one.base);
-      width = one.width;
-    })
+rows_fit nodes bytes first labels bounded rows texts = search rules
 
 -- a part of an image that has the rows of a trie
 module _ (side : Side) (rules : List MappingRule) (image : List ℕ) (which first labels : ℕ) (nodes : List Node)
@@ -317,8 +290,7 @@ module _ (side : Side) (rules : List MappingRule) (bytes rows : List ℕ) (first
     (of : AreTrieRows side rules bytes rows first) (within : 8 * first + length rows ≤ longest_image) where
   -- their numbers fit
   pub nodes_fit : (labels : ℕ) → labels + length bytes ≤ longest_image → All (IsSmallIn first labels) of.nodes
-  nodes_fit labels fits =
-      rows_fit of.nodes bytes first labels of.trie.bounded (omega (arith, within, of.rows_of.long)) fits
+  nodes_fit labels fits = grind (arith, rows_fit)
 
   -- and the rows are theirs
   pub rows_are : length bytes ≤ longest_image → rows ≡ flat_map (row_in first 0) of.nodes

@@ -1,5 +1,5 @@
 -- The least of the answers of patterns.
-use Rattle.std.proofs.Common.{◌≡◌, ◌⊎◌, ℕ, ◌+◌, ◌<◌, ◌≤◌, List, min, inl, inr, sym, ap, ◌∙◌, arith}
+use Rattle.std.proofs.Common.{◌≡◌, ◌⊎◌, ℕ, ◌+◌, ◌<◌, ◌≤◌, List, min, inl, inr, sym, ap, ◌∙◌, arith, rules}
 use Rattle.std.proofs.lemmas.Bool.{cases_lt}
 use Rattle.virtiofs_map.specs.TrieBuildParts.{number, IsLeast, IsLeastOf}
 use Rattle.virtiofs_map.specs.declared.xattrmap.trie.patterns.Pattern.{Pattern}
@@ -31,26 +31,9 @@ pub IsLeast-with : (patterns : List Pattern) (chosen more : ℕ → Type 0) (bas
     → ((i : ℕ) → chosen i → more i) → ((i : ℕ) → low ≤ i → i < high → more i)
     → ((i : ℕ) → more i → chosen i ⊎ ((low ≤ i) × (i < high)))
     → IsLeast patterns more value
-IsLeast-with patterns chosen more base low high value first then old new either = record {
-  top = omega arith;
-  below = λ i h. elim (either i h) [
-    | inl c ↦ omega (arith, first.below i c)
-    | inr (l, u) ↦ then.below i l u
-  ];
-  met = elim then.met [
-    | inl same ↦ elim first.met [
-      | inl none ↦ inl (same ∙ none)
-      | inr (i, c, e) ↦ inr (i, old i c, e ∙ sym same)
-    ]
-    | inr (i, l, u, e) ↦ inr (i, new i l u, e)
-  ];
-}
+IsLeast-with patterns chosen more base low high value first then old new either = search rules
 
 -- the same choice in other words
 pub IsLeast-same : (patterns : List Pattern) (chosen other : ℕ → Type 0) (value : ℕ) → IsLeast patterns chosen value
     → ((i : ℕ) → chosen i → other i) → ((i : ℕ) → other i → chosen i) → IsLeast patterns other value
-IsLeast-same patterns chosen other value least to from = record {
-  top = least.top;
-  below = λ i h. least.below i (from i h);
-  met = elim least.met [ inl e ↦ inl e | inr (i, c, e) ↦ inr (i, to i c, e) ];
-}
+IsLeast-same patterns chosen other value least to from = search rules

@@ -1,6 +1,6 @@
 -- Places that are appended to others.
-use Rattle.std.proofs.Common.{◌≡◌, ◌⊎◌, ℕ, zero, suc, ◌<◌, List, [], ◌∷◌, ◌++◌, length, Some, inl, inr, refl, ◌∙◌}
-use Rattle.std.proofs.Common.{arith, slice_get}
+use Rattle.std.proofs.Common.{◌≡◌, ◌⊎◌, ℕ, zero, suc, ◌<◌, List, [], ◌∷◌, ◌++◌, length, Some, inl, inr, refl, arith}
+use Rattle.std.proofs.Common.{slice_get, rules}
 use Rattle.std.proofs.lemmas.List.{length_push}
 use Rattle.virtiofs_map.specs.TrieBuildParts.{IsLonger}
 use Rattle.virtiofs_map.specs.declared.xattrmap.trie.build.PatternRange.{PatternRange}
@@ -30,7 +30,4 @@ IsLonger-push ranges range = record {
 }
 
 pub IsLonger-trans : (old mid new : List PatternRange) → IsLonger old mid → IsLonger mid new → IsLonger old new
-IsLonger-trans old mid new a b = record {
-  longer = omega arith;
-  same = λ at l. let m = a.longer in b.same at (omega (arith, m)) ∙ a.same at l;
-}
+IsLonger-trans old mid new a b = search rules

@@ -1,9 +1,10 @@
 -- The children of a range, appended one after the other.
-use Rattle.std.proofs.Common.{◌≡◌, ◌≢◌, ℕ, ◌+◌, ◌-◌, ◌<◌, ◌≤◌, List, [], ◌∷◌, ◌++◌, length, take, get_or}
-use Rattle.std.proofs.Common.{inl, inr, refl, sym, ap, subst, ◌∙◌, arith, lit≤}
+use Rattle.std.proofs.Common.{◌≡◌, ◌≢◌, ℕ, ◌+◌, ◌-◌, ◌<◌, ◌≤◌, List, [], ◌∷◌, ◌++◌, length, take, get_or, inl, inr}
+use Rattle.std.proofs.Common.{refl, sym, ap, subst, ◌∙◌, arith, lit≤, rules}
 use Rattle.std.proofs.lemmas.Bool.{cases_lt}
 use Rattle.std.proofs.lemmas.Option.{slice_get_within}
-use Rattle.virtiofs_map.specs.TrieBuildParts.{text, AreReady, IsLeast, IsUpto, IsPatternRange, IsRangeOrHole, AreAdded, AreHoles, hole}
+use Rattle.virtiofs_map.specs.TrieBuildParts.{text, AreReady, IsLeast, IsUpto, IsPatternRange, IsRangeOrHole, AreAdded}
+use Rattle.virtiofs_map.specs.TrieBuildParts.{AreHoles, hole}
 use Rattle.virtiofs_map.specs.declared.xattrmap.trie.build.PatternRange.{PatternRange}
 use Rattle.virtiofs_map.specs.declared.xattrmap.trie.patterns.Pattern.{Pattern}
 use Rattle.virtiofs_map.proofs.xattrmap.trie.build.KidLemmas.{IsCut, kid_is_place}
@@ -29,11 +30,7 @@ module _ {most : ℕ} {patterns : List Pattern} (ready : AreReady most patterns)
 
   -- none yet
   pub added_none : (ranges : List PatternRange) → AreAdded patterns ranges ranges range
-  added_none ranges = record {
-    longer = IsLonger-refl ranges;
-    places = λ at kid b e. absurd (omega (arith, slice_get_within ranges at kid e));
-    deeper = λ at kid b e. absurd (omega (arith, slice_get_within ranges at kid e));
-  }
+  added_none ranges = search (rules, IsLonger-refl, slice_get_within)
 
   -- holes before the next child
   pub added_holes : (old mid new : List PatternRange) (upto : ℕ) → upto < range.high

@@ -1,12 +1,12 @@
 -- The node of a range is that of its text node.
-use Rattle.std.proofs.Common.{◌≡◌, ◌≢◌, ℕ, zero, suc, ◌+◌, ◌-◌, ◌<◌, ◌≤◌, Bool, true, false, cond, List, [], ◌∷◌}
-use Rattle.std.proofs.Common.{◌++◌, length, map, take, drop, get_or, Some, refl, sym, ap, subst, ◌∙◌, arith}
-use Rattle.std.proofs.Common.{inl, inr}
+use Rattle.std.proofs.Common.{◌≡◌, ◌≢◌, ℕ, zero, suc, ◌+◌, ◌-◌, ◌<◌, ◌≤◌, Bool, true, false, cond, List, [], ◌∷◌, ◌++◌}
+use Rattle.std.proofs.Common.{length, map, get_or, Some, refl, sym, ap, subst, ◌∙◌, arith, inl, inr, rules}
 use Rattle.std.specs.List.{slice_get, find, range_with_len}
 use Rattle.std.specs.Option.{option_map_or}
 use Rattle.std.proofs.lemmas.Bool.{cases_Bool, cases_lt}
 use Rattle.std.proofs.lemmas.List.{take-append-drop, take_at, get_or_past}
-use Rattle.virtiofs_map.specs.TrieBuildParts.{text, start_of, AreReady, IsPatternRange, IsRangeOrHole, text_node_of, path_of_range}
+use Rattle.virtiofs_map.specs.TrieBuildParts.{text, start_of, AreReady, IsPatternRange, IsRangeOrHole, text_node_of}
+use Rattle.virtiofs_map.specs.TrieBuildParts.{path_of_range}
 use Rattle.virtiofs_map.specs.Names.{begins}
 use Rattle.virtiofs_map.specs.PatternTrie.{TextNode, leads, next_bytes, child, children, slots, are_sparse}
 use Rattle.virtiofs_map.specs.PatternTrie.{longest_label}
@@ -20,8 +20,8 @@ use Rattle.virtiofs_map.proofs.xattrmap.trie.TextNodeLemmas.{next_rising, next_h
 use Rattle.virtiofs_map.proofs.xattrmap.SlotLemmas.{Rising, filter_passes, between}
 use Rattle.virtiofs_map.proofs.xattrmap.trie.build.ChildrenLemmas.{row}
 use Rattle.virtiofs_map.proofs.xattrmap.trie.build.PatternTextLemmas.{text-here, start_of-here}
-use Rattle.virtiofs_map.proofs.xattrmap.trie.build.RangeTextNodeLemmas.{text_node_real, text_node_hole, path_size, one_at, in_leads}
-use Rattle.virtiofs_map.proofs.xattrmap.trie.build.RangeTextNodeLemmas.{leads_in}
+use Rattle.virtiofs_map.proofs.xattrmap.trie.build.RangeTextNodeLemmas.{text_node_real, text_node_hole, path_size}
+use Rattle.virtiofs_map.proofs.xattrmap.trie.build.RangeTextNodeLemmas.{one_at, in_leads, leads_in}
 use Rattle.virtiofs_map.proofs.xattrmap.trie.build.PatternOrderLemmas.{no_zero, goes_on}
 
 -- ---- where the label stands
@@ -53,16 +53,10 @@ module _ {most : ℕ} {patterns : List Pattern} (ready : AreReady most patterns)
 
   -- a pattern of the range begins with its path, and no other does
   begins_in : (i : ℕ) → i < length patterns → begins path (text patterns i) ≡ true → (range.low ≤ i) × (i < range.high)
-  begins_in i l starts =
-      is.whole i l
-      (ap (take range.depth) (begins_split path (text patterns i) starts)
-      ∙ take_at path (drop (length path) (text patterns i)) range.depth (path_size ready is))
+  begins_in i l starts = search (rules, begins_split, take_at, path_size)
 
   in_begins : (i : ℕ) → range.low ≤ i → i < range.high → begins path (text patterns i) ≡ true
-  in_begins i l u =
-      begins_from path (text patterns i) (drop range.depth (text patterns i))
-      (sym (take-append-drop range.depth (text patterns i))
-      ∙ ap (λ w. w ++ drop range.depth (text patterns i)) (is.same i l u))
+  in_begins i l u = search (rules, begins_from, take-append-drop)
 
   pub label_is : range.low < range.high → range.length ≤ range.depth → (label : ℕ)
       → label ≡ start_of patterns range.low + (range.depth - range.length) → label ≡ label_place patterns text_node
@@ -154,9 +148,7 @@ module _ {most : ℕ} {patterns : List Pattern} (ready : AreReady most patterns)
         is_sparse = false;
       }) (node_with patterns answer base (Some text_node))
   unfolding children slots
-  exact_ended answer base label none placed =
-      ap (by_next answer base label) (sym none)
-      ∙ ap (λ l. by_next answer base l (next_bytes (texts_of patterns) path)) placed
+  exact_ended answer base label none placed = search rules
 
   -- that of a range with children
   pub exact_on : (answer base label width low : ℕ) (is_sparse : Bool)
@@ -172,30 +164,12 @@ module _ {most : ℕ} {patterns : List Pattern} (ready : AreReady most patterns)
         first_byte = range.first_byte;
         is_sparse = is_sparse;
       }) (node_with patterns answer base (Some text_node))
-  exact_on answer base label width low is_sparse width_is low_is sparse placed =
-      let make : ℕ → ℕ → ℕ → Bool → Node = λ l w b s. record {
-        answer = answer;
-        label = l;
-        length = range.length;
-        base = base;
-        width = w;
-        low_byte = b;
-        first_byte = range.first_byte;
-        is_sparse = s;
-      } in
-      ap (λ l. make l width low is_sparse) placed
-      ∙ ap (λ w. make (label_place patterns text_node) w low is_sparse) width_is
-      ∙ ap (λ b. make (label_place patterns text_node) (length (children_of patterns (Some text_node))) b is_sparse) low_is
-      ∙ ap (make (label_place patterns text_node) (length (children_of patterns (Some text_node)))
-      (lowest (next_bytes (texts_of patterns) path))) sparse
+  exact_on answer base label width low is_sparse width_is low_is sparse placed = search rules
 
 -- no pattern has a range of no depth that is empty
 none_there : (patterns : List Pattern) (range : PatternRange) → IsPatternRange patterns range → range.low ≡ range.high → range.depth ≡ 0
     → 0 < length patterns → ⊥
-none_there patterns range is bare flat some =
-    let here : take range.depth (text patterns 0) ≡ take range.depth (text patterns range.low) =
-    ap (λ n. take n (text patterns 0)) flat ∙ ap (λ n. take n (text patterns range.low)) (sym flat) in
-    omega (arith, is.whole 0 some here)
+none_there patterns range is bare flat some = search rules
 
 root_label : (patterns : List Pattern) (range : PatternRange) → IsPatternRange patterns range → range.low ≡ range.high → range.depth ≡ 0
     → (text_node : TextNode) → 0 ≡ label_place patterns text_node

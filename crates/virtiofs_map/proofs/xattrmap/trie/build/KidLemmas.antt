@@ -1,6 +1,6 @@
 -- The child of a range to which a byte leads: the patterns of the range that go on with the byte.
-use Rattle.std.proofs.Common.{◌≡◌, ◌≢◌, ℕ, ◌+◌, ◌-◌, ◌<◌, ◌≤◌, List, length, take, get_or, inl, inr, sym, ap, subst, ◌∙◌}
-use Rattle.std.proofs.Common.{arith}
+use Rattle.std.proofs.Common.{◌≡◌, ◌≢◌, ℕ, ◌+◌, ◌-◌, ◌<◌, ◌≤◌, List, length, take, get_or, inl, inr, sym, ap, subst}
+use Rattle.std.proofs.Common.{◌∙◌, arith, rules}
 use Rattle.std.proofs.lemmas.Bool.{cases_lt}
 use Rattle.std.proofs.lemmas.List.{take-take, take_more_same}
 use Rattle.virtiofs_map.specs.TrieBuildParts.{text, AreReady, IsLeast, IsInside, IsUpto, IsPatternRange, IsRangeOrHole}
@@ -42,10 +42,7 @@ module _ {most : ℕ} {patterns : List Pattern} (ready : AreReady most patterns)
 
   front : (i : ℕ) → kid.low ≤ i → i < kid.high
       → take range.depth (text patterns i) ≡ take range.depth (text patterns kid.low)
-  front i l u =
-      let a = inner i l u in
-      let b = inner kid.low (omega arith) cut.some in
-      is.same i a.0 a.1 ∙ sym (is.same kid.low b.0 b.1)
+  front i l u = search (rules, inner)
 
   deeper : range.depth < kid.depth
   deeper = omega (arith, cut.depth)

@@ -1,7 +1,7 @@
 -- The text nodes of the children of a range are those below its text node.
 use Rattle.std.proofs.Common.{◌≡◌, ℕ, zero, suc, ◌+◌, ◌-◌, ◌<◌, ◌≤◌, Bool, true, false, cond, List, [], ◌∷◌, ◌++◌}
 use Rattle.std.proofs.Common.{length, map, take, drop, get_or, Option, Some, None, refl, sym, ap, subst, ◌∙◌, arith}
-use Rattle.std.proofs.Common.{◌⊎◌, add-one, length-append, append_assoc, append-nil, inl, inr}
+use Rattle.std.proofs.Common.{◌⊎◌, add-one, length-append, append_assoc, append-nil, inl, inr, rules}
 use Rattle.std.specs.List.{slice_get, range_with_len, AllByRecursion}
 use Rattle.std.specs.Option.{option_map}
 use Rattle.std.proofs.lemmas.Bool.{cases_Bool, cases_lt}
@@ -13,7 +13,7 @@ use Rattle.virtiofs_map.specs.TrieBuildParts.{text, AreReady, IsLeast, IsUpto, I
 use Rattle.virtiofs_map.specs.TrieBuildParts.{text_node_of, path_of_range}
 use Rattle.virtiofs_map.specs.Names.{begins}
 use Rattle.virtiofs_map.specs.PatternTrie.{TextNode, leads, next_bytes, label_after, text_node_after, child, children}
-use Rattle.virtiofs_map.specs.PatternTrie.{slots, span, are_sparse, last_byte, longest_label}
+use Rattle.virtiofs_map.specs.PatternTrie.{slots, are_sparse, last_byte, longest_label}
 use Rattle.virtiofs_map.specs.TrieParts.{texts_of, children_of}
 use Rattle.virtiofs_map.specs.declared.xattrmap.trie.build.PatternRange.{PatternRange}
 use Rattle.virtiofs_map.specs.declared.xattrmap.trie.patterns.Pattern.{Pattern}
@@ -243,11 +243,7 @@ module _ {most : ℕ} {patterns : List Pattern} (ready : AreReady most patterns)
   -- as many places as bytes
   pub kids_size : (old new : List PatternRange) (lowest n : ℕ) → HaveKids old new (range_with_len lowest n)
       → length new ≡ length old + n
-  kids_size old new lowest n have =
-      let c = length-map (range_with_len lowest n) kid_of in
-      let d = length-range_with_len lowest n in
-      let e = ap length have ∙ length-append (map (text_node_of patterns) old) (map kid_of (range_with_len lowest n)) in
-      omega (arith, length-map new (text_node_of patterns), length-map old (text_node_of patterns), c, d, e)
+  kids_size old new lowest n have = search (rules, length-map, length-range_with_len, length-append)
 
   -- holes up to the next byte
   pub kids_holes : (old mid new : List PatternRange) (lowest low upto : ℕ) (first_bytes : List ℕ) → range.low ≤ low
@@ -278,12 +274,7 @@ module _ {most : ℕ} {patterns : List Pattern} (ready : AreReady most patterns)
   -- one child more
   pub kids_more : (old mid : List PatternRange) (kid : PatternRange) (bytes : List ℕ) → HaveKids old mid bytes
       → text_node_of patterns kid ≡ kid_of kid.first_byte → HaveKids old (mid ++ kid ∷ []) (bytes ++ kid.first_byte ∷ [])
-  kids_more old mid kid bytes have text_node =
-      map-append (text_node_of patterns) mid (kid ∷ [])
-      ∙ ap (λ ns. ns ++ text_node_of patterns kid ∷ []) have
-      ∙ append_assoc (map (text_node_of patterns) old) (map kid_of bytes) (text_node_of patterns kid ∷ [])
-      ∙ ap (λ k. map (text_node_of patterns) old ++ (map kid_of bytes ++ k ∷ [])) text_node
-      ∙ ap (λ ns. map (text_node_of patterns) old ++ ns) (sym (map-append kid_of bytes (kid.first_byte ∷ [])))
+  kids_more old mid kid bytes have text_node = search (rules, map-append, append_assoc)
 
   -- at the end these are the children of its text node
   pub kids_all : (old new : List PatternRange) (is_sparse : Bool) (lowest upto : ℕ) (first_bytes : List ℕ)
@@ -294,35 +285,12 @@ module _ {most : ℕ} {patterns : List Pattern} (ready : AreReady most patterns)
       → HaveKids old new (so_far is_sparse lowest first_bytes upto)
       → map (text_node_of patterns) new ≡ map (text_node_of patterns) old ++ children_of patterns (text_node_of patterns range)
   unfolding children slots
-  kids_all old new is_sparse lowest upto first_bytes sparse all first some real have =
-      have
-      ∙ ap (λ bytes. map (text_node_of patterns) old ++ map kid_of bytes)
-      (by_first_bytes first_bytes sparse first some all
-      ∙ ap slots (sym all))
-      ∙ ap (λ of. map (text_node_of patterns) old ++ children_of patterns of) (sym (text_node_real patterns range real)) where
-        by_first_bytes : (first_bytes : List ℕ) → is_sparse ≡ are_sparse (next_bytes (texts_of patterns) (path_of_range patterns range))
-            → ((x : ℕ) (xs : List ℕ) → first_bytes ≡ x ∷ xs → (x ≡ lowest) × (upto ≡ last_byte x xs + 1))
-            → (first_bytes ≡ [] → ⊥) → next_bytes (texts_of patterns) (path_of_range patterns range) ≡ first_bytes
-            → so_far is_sparse lowest first_bytes upto ≡ slots first_bytes
-        by_first_bytes [] sparse first some all = absurd (some refl)
-        by_first_bytes (x ∷ xs) sparse first some all =
-            (let begun = first x xs refl in
-            let low = begun.0 in
-            let size : upto - lowest ≡ span x xs = omega (arith, low, begun.1) in
-            ap (λ t. cond t (x ∷ xs) (range_with_len lowest (upto - lowest))) (sparse ∙ ap are_sparse all)
-            ∙ ap (λ a. cond (are_sparse (x ∷ xs)) (x ∷ xs) (range_with_len a (upto - lowest))) (sym low)
-            ∙ ap (λ n. cond (are_sparse (x ∷ xs)) (x ∷ xs) (range_with_len x n)) size)
+  kids_all old new is_sparse lowest upto first_bytes sparse all first some real have = search (rules, text_node_real)
 
 -- none yet
 pub none_yet : (patterns : List Pattern) (range : PatternRange) (ranges : List PatternRange) (is_sparse : Bool) (lowest : ℕ) → 1 ≤ lowest
     → HaveKidsOf patterns range ranges ranges (so_far is_sparse lowest [] 1)
-none_yet patterns range ranges is_sparse lowest some =
-    sym (append-nil (map (text_node_of patterns) ranges))
-    ∙ ap (λ bytes. map (text_node_of patterns) ranges
-    ++ map (child longest_label (texts_of patterns) (path_of_range patterns range)) bytes) (sym (nothing is_sparse)) where
-      nothing : (is_sparse : Bool) → so_far is_sparse lowest [] 1 ≡ []
-      nothing true = refl
-      nothing false = (let size : 1 - lowest ≡ 0 = omega (arith, some) in ap (range_with_len lowest) size)
+none_yet patterns range ranges is_sparse lowest some = search (rules, append-nil)
 
 -- the bytes that have a place before the next one, and with it
 pub with_kid : (is_sparse : Bool) (lowest byte : ℕ) (first_bytes : List ℕ) → lowest ≤ byte

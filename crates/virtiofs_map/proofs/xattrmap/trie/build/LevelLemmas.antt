@@ -1,13 +1,12 @@
 -- The nodes of a trie, level by level.
 use Rattle.std.proofs.Common.{◌≡◌, ℕ, ◌+◌, ◌-◌, ◌<◌, ◌≤◌, List, [], ◌∷◌, ◌++◌, Option, Some, length, drop, min, zero}
-use Rattle.std.proofs.Common.{suc, inl, inr, refl, sym, ap, subst, ◌∙◌, arith, lit≤, slice_get}
+use Rattle.std.proofs.Common.{suc, inl, inr, refl, sym, ap, ◌∙◌, arith, lit≤, slice_get, rules}
 use Rattle.std.specs.Option.{option_map_or}
 use Rattle.std.proofs.lemmas.Bool.{cases_lt}
 use Rattle.std.proofs.lemmas.List.{length_push}
 use Rattle.std.proofs.lemmas.Option.{slice_get_cases, slice_get_within}
 use Rattle.virtiofs_map.specs.NodeParts.{no_answer}
-use Rattle.virtiofs_map.specs.TrieBuildParts.{AreReady, IsPatternRange, IsRangeOrHole, AreRangesOrHoles, AreDeep}
-use Rattle.virtiofs_map.specs.TrieBuildParts.{IsBuilt, AreBuilt, IsExpanded}
+use Rattle.virtiofs_map.specs.TrieBuildParts.{AreReady, IsPatternRange, AreRangesOrHoles, AreDeep, AreBuilt, IsExpanded}
 use Rattle.virtiofs_map.specs.declared.xattrmap.trie.node.Node.{Node}
 use Rattle.virtiofs_map.specs.declared.xattrmap.trie.build.PatternRange.{PatternRange}
 use Rattle.virtiofs_map.specs.declared.xattrmap.trie.patterns.Pattern.{Pattern}
@@ -21,41 +20,19 @@ pub built_more : (patterns : List Pattern) (old new : List PatternRange) (nodes 
     → AreBuilt patterns old nodes → IsExpanded patterns old new range node
     → AreBuilt patterns new (nodes ++ node ∷ [])
 built_more patterns old new nodes range node at is here built made =
-    let below = slice_get_within old at range here in
-    record {
-      counted = omega (arith, length_push nodes node, below);
-      each = λ k one other e f. elim (push_cases nodes node k other f) [
-        | inl (l, h) ↦ built.each k one other (sym (made.longer.same k (omega (arith, l, below))) ∙ e) h
-        | inr (l, h) ↦
-            (let same : k ≡ at = omega (arith, l) in
-            let stands : slice_get old at ≡ Some one =
-            sym (made.longer.same at below) ∙ ap (slice_get new) (sym same) ∙ e in
-            let this : range ≡ one = cc in
-            subst (IsBuilt patterns one) h (subst (λ p. IsBuilt patterns p node) this made.built))
-      ];
-    }
+    search (rules, slice_get_within, length_push, push_cases, slice_get)
 
 -- the places after it are as deep as before
 pub deep_more : (patterns : List Pattern) (old new : List PatternRange) (range : PatternRange) (node : Node) (at depth : ℕ)
     → slice_get old at ≡ Some range → IsExpanded patterns old new range node → AreDeep old at depth
     → AreDeep new (at + 1) depth
-deep_more patterns old new range node at depth here made deep = record {
-  deep = λ k one l e. elim (cases_lt k (length old)) [
-    | inl b ↦ deep.deep k one (omega arith) (sym (made.longer.same k b) ∙ e)
-    | inr g ↦ omega (arith, deep.deep at range (omega arith) here, made.deeper.deep k one g e)
-  ];
-}
+deep_more patterns old new range node at depth here made deep = search (rules, cases_lt)
 
 -- and the children are deeper
 pub deeper_more : (patterns : List Pattern) (old new : List PatternRange) (range : PatternRange) (node : Node) (at end depth : ℕ)
     → slice_get old at ≡ Some range → IsExpanded patterns old new range node → AreDeep old at depth
     → AreDeep old end (depth + 1) → AreDeep new end (depth + 1)
-deeper_more patterns old new range node at end depth here made deep deeper = record {
-  deep = λ k one l e. elim (cases_lt k (length old)) [
-    | inl b ↦ deeper.deep k one l (sym (made.longer.same k b) ∙ e)
-    | inr g ↦ omega (arith, deep.deep at range (omega arith) here, made.deeper.deep k one g e)
-  ];
-}
+deeper_more patterns old new range node at end depth here made deep deeper = search (rules, cases_lt)
 
 -- ---- the root
 
@@ -64,40 +41,13 @@ abbrev pub root : ℕ → PatternRange
 root high = record { low = 0; high = high; depth = 0; length = 0; answer = no_answer; first_byte = 0 }
 
 root_range : (patterns : List Pattern) → IsPatternRange patterns (root (length patterns))
-root_range patterns = record {
-  some = inl refl;
-  rising = omega arith;
-  within = omega arith;
-  long = λ i l u. omega arith;
-  same = λ i l u. refl;
-  whole = λ i l e. (omega arith, l);
-  least = record {
-    top = lit≤ tt;
-    below = λ i inside. absurd (omega arith);
-    met = inl refl;
-  };
-}
+root_range patterns = search (rules, lit≤)
 
 pub root_places : (patterns : List Pattern) → AreRangesOrHoles patterns (root (length patterns) ∷ [])
-root_places patterns = record {
-  each = λ at range e. elim (push_cases [] (root (length patterns)) at range e) [
-    | inl (l, _) ↦ absurd (omega (arith, l))
-    | inr (_, h) ↦ subst (IsRangeOrHole patterns) h (record {
-      is = inl (root_range patterns);
-      deep = inl refl;
-      label = omega arith;
-      size = omega arith;
-      answer = lit≤ tt;
-      empty = λ _. refl;
-    })
-  ];
-}
+root_places patterns = search (rules, push_cases, root_range, lit≤)
 
 pub root_built : (patterns : List Pattern) (ranges : List PatternRange) → AreBuilt patterns ranges []
-root_built patterns ranges = record {
-  counted = omega arith;
-  each = λ at range node e f. absurd cc;
-}
+root_built patterns ranges = search rules
 
 -- ---- the end
 

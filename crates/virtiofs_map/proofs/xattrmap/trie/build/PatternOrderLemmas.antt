@@ -1,6 +1,6 @@
 -- Patterns in order, and what those have in common that stand between two.
 use Rattle.std.proofs.Common.{◌≡◌, ◌≢◌, ℕ, zero, suc, ◌+◌, ◌<◌, ◌≤◌, List, length, take, get_or, Some, inl, inr, refl}
-use Rattle.std.proofs.Common.{sym, ap, subst, ◌∙◌, arith, add-one, All, slice_get, take-take, get_or-take}
+use Rattle.std.proofs.Common.{sym, ap, subst, ◌∙◌, arith, add-one, All, slice_get, take-take, get_or-take, rules}
 use Rattle.std.proofs.lemmas.Bool.{cases_lt}
 use Rattle.std.proofs.lemmas.List.{take_more_same, get_or_past}
 use Rattle.std.proofs.lemmas.Option.{slice_get_cases, slice_get-get_or}
@@ -16,8 +16,7 @@ shorter one other m k l e = sym (take-take k m one l) ∙ ap (take k) e ∙ take
 
 -- and the byte there
 pub same_byte : (one other : List ℕ) (m k : ℕ) → k < m → take m one ≡ take m other → get_or one k 0 ≡ get_or other k 0
-same_byte one other m k l e = sym (get_or-take m one k 0 l) ∙ ap (λ (s : List ℕ). get_or s k 0) e
-    ∙ get_or-take m other k 0 l
+same_byte one other m k l e = search (rules, get_or-take)
 
 -- ---- patterns
 
@@ -38,11 +37,7 @@ module _ {most : ℕ} {patterns : List Pattern} (ready : AreReady most patterns)
 
   -- a pattern goes on where its byte is not zero
   pub goes_on : (i k : ℕ) → get_or (text patterns i) k 0 ≢ 0 → k < length (text patterns i)
-  goes_on i k ne =
-      elim (cases_lt k (length (text patterns i))) [
-        | inl l ↦ l
-        | inr g ↦ absurd (ne (get_or_past (text patterns i) k 0 g))
-      ]
+  goes_on i k ne = search (rules, cases_lt, get_or_past)
 
   -- patterns that share a front stand in the order of their next bytes
   pub rising : (i j depth : ℕ) → i ≤ j → j < length patterns

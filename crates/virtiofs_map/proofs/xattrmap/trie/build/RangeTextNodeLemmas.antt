@@ -1,6 +1,6 @@
 -- The text node that has the patterns of a range.
-use Rattle.std.proofs.Common.{◌≡◌, ◌≢◌, ◌⊎◌, ℕ, ◌+◌, ◌<◌, ◌≤◌, true, ◌&&◌, not, cond, eqb, List, [], ◌∷◌, ◌++◌, length}
-use Rattle.std.proofs.Common.{take, drop, get_or, Some, None, sym, ap, subst, ◌∙◌, arith, append_assoc, inl, inr}
+use Rattle.std.proofs.Common.{◌≡◌, ◌≢◌, ◌⊎◌, ℕ, ◌+◌, ◌<◌, ◌≤◌, true, List, [], ◌∷◌, ◌++◌, length, take, drop, get_or}
+use Rattle.std.proofs.Common.{Some, None, sym, ap, subst, ◌∙◌, arith, append_assoc, inl, inr, rules}
 use Rattle.std.specs.List.{slice_get}
 use Rattle.std.proofs.lemmas.Bool.{cases_Bool, ne_eqb}
 use Rattle.std.proofs.lemmas.Bool.Decides.{Decides-eqb}
@@ -9,7 +9,7 @@ use Rattle.std.proofs.lemmas.Option.{slice_get_cases, slice_get_within}
 use Rattle.std.proofs.Math.Seq.{get_or-append_seam}
 use Rattle.virtiofs_map.specs.TrieBuildParts.{text, AreReady, IsPatternRange, text_node_of, path_of_range}
 use Rattle.virtiofs_map.specs.Names.{begins}
-use Rattle.virtiofs_map.specs.PatternTrie.{TextNode, leads}
+use Rattle.virtiofs_map.specs.PatternTrie.{leads}
 use Rattle.virtiofs_map.specs.TrieParts.{texts_of}
 use Rattle.virtiofs_map.specs.declared.xattrmap.trie.build.PatternRange.{PatternRange}
 use Rattle.virtiofs_map.specs.declared.xattrmap.trie.patterns.Pattern.{Pattern}
@@ -22,31 +22,13 @@ pub text_node_real : (patterns : List Pattern) (range : PatternRange) → (range
     → text_node_of patterns range
     ≡ Some record { path = path_of_range patterns range; byte = range.first_byte; size = range.length }
 unfolding text_node_of
-text_node_real patterns range some = elim some [
-  | inl z ↦
-      (let top = ap not ((Decides-eqb range.depth 0).1 z) in
-      elim (cases_Bool (eqb range.low range.high)) [
-        | inl e ↦ ap (λ b. cond (b && not (eqb range.depth 0)) None (Some (is))) e ∙ ap (λ b. cond b None (Some (is))) top
-        | inr e ↦ ap (λ b. cond (b && not (eqb range.depth 0)) None (Some (is))) e
-      ])
-  | inr l ↦
-      (let apart = ne_eqb range.low range.high (λ e. omega arith) in
-      ap (λ b. cond (b && not (eqb range.depth 0)) None (Some (is))) apart)
-] where
-  is : TextNode
-  is = record { path = path_of_range patterns range; byte = range.first_byte; size = range.length }
+text_node_real patterns range some = search (rules, Decides-eqb, cases_Bool, ne_eqb)
 
 -- and one that is
 pub text_node_hole : (patterns : List Pattern) (range : PatternRange) → range.low ≡ range.high → range.depth ≢ 0
     → text_node_of patterns range ≡ None
 unfolding text_node_of
-text_node_hole patterns range empty deep =
-    ap (λ b. cond (b && not (eqb range.depth 0)) None
-    (Some record { path = path_of_range patterns range; byte = range.first_byte; size = range.length }))
-    ((Decides-eqb range.low range.high).1 empty)
-    ∙ ap (λ b. cond (not b) None
-    (Some record { path = path_of_range patterns range; byte = range.first_byte; size = range.length }))
-    (ne_eqb range.depth 0 deep)
+text_node_hole patterns range empty deep = search (rules, Decides-eqb, ne_eqb)
 
 -- a front, the byte after it, and what follows
 split_at : (d : ℕ) (s : List ℕ) → d < length s → s ≡ take d s ++ get_or s d 0 ∷ drop (d + 1) s

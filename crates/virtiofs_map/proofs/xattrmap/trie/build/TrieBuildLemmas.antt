@@ -1,6 +1,6 @@
 -- The node of a range, and the places of its children.
-use Rattle.std.proofs.Common.{◌≡◌, ◌≢◌, ◌⊎◌, ℕ, ◌+◌, ◌<◌, ◌≤◌, List, Some, length, take, get_or, inl, inr, refl, sym}
-use Rattle.std.proofs.Common.{ap, subst, ◌∙◌, arith, slice_get, take_all}
+use Rattle.std.proofs.Common.{◌≡◌, ◌≢◌, ◌⊎◌, ℕ, ◌<◌, ◌≤◌, List, Some, length, take, get_or, inl, inr, refl, sym, ap}
+use Rattle.std.proofs.Common.{◌∙◌, arith, slice_get, take_all, rules}
 use Rattle.std.proofs.lemmas.Bool.{cases_lt}
 use Rattle.std.proofs.lemmas.Option.{slice_get_read, slice_get_within}
 use Rattle.virtiofs_map.specs.TrieBuildParts.{text, AreReady, IsLeast, IsLeastOf, IsInside, IsUpto, IsPatternRange}
@@ -25,15 +25,10 @@ place_here ranges at range l e = slice_get_read ranges (length ranges) at range 
 -- a pattern that is the path of a range is one of its patterns
 in_range : (patterns : List Pattern) (range : PatternRange) → IsPatternRange patterns range → (i : ℕ) → IsUpto patterns range i
     → range.depth ≤ length (text patterns i) → (range.low ≤ i) × (i < range.high)
-in_range patterns range is i upto l =
-    let s = upto.short in
-    let size : length (text patterns i) ≡ range.depth = omega (arith, s) in
-    is.whole i upto.within
-    (take_all range.depth (text patterns i) s ∙ sym upto.front ∙ ap (λ n. take n (text patterns range.low)) size)
+in_range patterns range is i upto l = search (rules, take_all)
 
 upto_from_inside : (patterns : List Pattern) (range : PatternRange) (i : ℕ) → IsInside patterns range i → IsUpto patterns range i
-upto_from_inside patterns range i n =
-    record { within = n.within; short = omega arith; front = n.front }
+upto_from_inside patterns range i n = search rules
 
 inside_from_upto : (patterns : List Pattern) (range : PatternRange) (i : ℕ) → IsUpto patterns range i
     → length (text patterns i) < range.depth → IsInside patterns range i
@@ -42,13 +37,7 @@ inside_from_upto patterns range i u l = record { within = u.within; short = l; f
 -- the answer of the path of a range with no pattern
 least_bare : (patterns : List Pattern) (range : PatternRange) → range.low ≡ range.high → IsPatternRange patterns range
     → IsLeast patterns (IsUpto patterns range) range.answer
-least_bare patterns range e is =
-    IsLeast-same patterns (IsInside patterns range) (IsUpto patterns range) range.answer is.least
-    (upto_from_inside patterns range) (λ i u.
-    elim (cases_lt (length (text patterns i)) range.depth) [
-      | inl l ↦ inside_from_upto patterns range i u l
-      | inr g ↦ absurd (omega (arith, in_range patterns range is i u g))
-    ])
+least_bare patterns range e is = search (rules, IsLeast-same, upto_from_inside, cases_lt, inside_from_upto, in_range)
 
 -- the answer of the path of a range whose first patterns have ended
 pub least_ended : (most : ℕ) (patterns : List Pattern) → AreReady most patterns → (range : PatternRange) (from answer : ℕ)
@@ -84,18 +73,12 @@ least_ended most patterns ready range from answer is l u ended other least =
       ]
 
 pub none_deeper : (ranges : List PatternRange) (depth : ℕ) → AreDeep ranges (length ranges) depth
-none_deeper ranges depth =
-    record { deep = λ at range b e. absurd (omega (arith, slice_get_within ranges at range e)) }
+none_deeper ranges depth = search (rules, slice_get_within)
 
 -- a range that has no children
 pub expanded_here : (patterns : List Pattern) (ranges : List PatternRange) (range : PatternRange) (node : Node)
     → AreRangesOrHoles patterns ranges → IsBuilt patterns range node → IsExpanded patterns ranges ranges range node
-expanded_here patterns ranges range node places built = record {
-  longer = IsLonger-refl ranges;
-  places = places;
-  built = built;
-  deeper = none_deeper ranges (range.depth + 1);
-}
+expanded_here patterns ranges range node places built = search (rules, IsLonger-refl, none_deeper)
 
 -- a range with children
 pub expanded_on : (patterns : List Pattern) (old new : List PatternRange) (range : PatternRange) (node : Node)
@@ -116,15 +99,9 @@ expanded_on patterns old new range node places added built = record {
 -- the node of a range with no pattern
 pub built_bare : (patterns : List Pattern) (range : PatternRange) (node : Node) → range.low ≡ range.high
     → node.answer ≡ range.answer → IsBuilt patterns range node
-built_bare patterns range node bare answer = record {
-  least = λ is. subst (IsLeast patterns (IsUpto patterns range)) (sym answer) (least_bare patterns range bare is);
-  bare = λ _. answer;
-}
+built_bare patterns range node bare answer = search (rules, least_bare)
 
 -- and of a range with some
 pub built_some : (patterns : List Pattern) (range : PatternRange) (node : Node) (answer : ℕ) → range.low < range.high
     → IsLeast patterns (IsUpto patterns range) answer → node.answer ≡ answer → IsBuilt patterns range node
-built_some patterns range node answer some least is = record {
-  least = λ _. subst (IsLeast patterns (IsUpto patterns range)) (sym is) least;
-  bare = λ e. absurd (omega arith);
-}
+built_some patterns range node answer some least is = search rules

@@ -1,6 +1,6 @@
 -- Rows of bytes are the same where their numbers of eight bytes are, the lowest bytes of these, or both ends.
-use Rattle.std.proofs.Common.{get_or-drop, ◌≡◌, ℕ, zero, suc, ◌+◌, ◌-◌, ◌*◌, ◌/◌, ◌%◌, ◌^◌, ◌<◌, ◌≤◌, List, [], ◌∷◌, length, take}
-use Rattle.std.proofs.Common.{get_or, refl, sym, ap, ◌∙◌, arith, drop, ◌++◌}
+use Rattle.std.proofs.Common.{get_or-drop, ◌≡◌, ℕ, zero, suc, ◌+◌, ◌-◌, ◌*◌, ◌/◌, ◌%◌, ◌^◌, ◌<◌, ◌≤◌, List, [], ◌∷◌}
+use Rattle.std.proofs.Common.{length, take, get_or, refl, sym, ap, ◌∙◌, arith, drop, ◌++◌, rules}
 use Rattle.std.specs.Int.{w64, from_le_bytes}
 use Rattle.std.proofs.lemmas.Nat.{mod-pow-add}
 use Rattle.std.proofs.lemmas.List.{length-take-le, length-drop, drop-drop, drop-take, take-take, take-append-drop}
@@ -15,15 +15,7 @@ abbrev pub AreBytes : List ℕ → Type 0
 AreBytes xs = (k : ℕ) → get_or xs k 0 < 256
 
 pub eight_low : (xs : List ℕ) → from_le_bytes w64 (take 8 xs) ≡ low (take 8 xs)
-eight_low [] = omega arith
-eight_low (a ∷ []) = omega arith
-eight_low (a ∷ b ∷ []) = omega arith
-eight_low (a ∷ b ∷ c ∷ []) = omega arith
-eight_low (a ∷ b ∷ c ∷ d ∷ []) = omega arith
-eight_low (a ∷ b ∷ c ∷ d ∷ e ∷ []) = omega arith
-eight_low (a ∷ b ∷ c ∷ d ∷ e ∷ f ∷ []) = omega arith
-eight_low (a ∷ b ∷ c ∷ d ∷ e ∷ f ∷ g ∷ []) = omega arith
-eight_low (a ∷ b ∷ c ∷ d ∷ e ∷ f ∷ g ∷ h ∷ rest) = omega arith
+eight_low xs = grind arith
 
 step : (b n c : ℕ) → b < 256 → (b + 256 * n) % 2 ^ (8 * suc c) ≡ (n % 2 ^ (8 * c)) * 256 + b
 step b n c small =
@@ -82,8 +74,7 @@ same_word xs ys k one other a b e =
     ∙ shorter 8 8 (drop k ys) (omega arith)
 
 take-nil : {X : Type 0} (n : ℕ) → take n (let none : List X = [] in none) ≡ []
-take-nil zero = refl
-take-nil (suc n) = refl
+take-nil n = grind arith
 
 -- what two rows have alike up to a place, and then from there on
 pub take_on : {X : Type 0} (k m : ℕ) (xs ys : List X) → take k xs ≡ take k ys
@@ -118,13 +109,11 @@ word_after xs k = ap (from_le_bytes w64) (ap (take 8) (sym (drop-drop 8 k xs)) �
 
 pub first_of_sixteen : (xs ys : List ℕ) (k : ℕ) → take 16 (drop k xs) ≡ take 16 (drop k ys)
     → le_u64_at xs k ≡ le_u64_at ys k
-first_of_sixteen xs ys k e =
-    word_again xs k ∙ ap (λ (l : List ℕ). from_le_bytes w64 (take 8 l)) e ∙ sym (word_again ys k)
+first_of_sixteen xs ys k e = search (rules, word_again)
 
 pub second_of_sixteen : (xs ys : List ℕ) (k : ℕ) → take 16 (drop k xs) ≡ take 16 (drop k ys)
     → le_u64_at xs (k + 8) ≡ le_u64_at ys (k + 8)
-second_of_sixteen xs ys k e =
-    word_after xs k ∙ ap (λ (l : List ℕ). from_le_bytes w64 (drop 8 l)) e ∙ sym (word_after ys k)
+second_of_sixteen xs ys k e = search (rules, word_after)
 
 -- ---- ends
 

@@ -1,18 +1,17 @@
 -- Where the children of a node stand, and what a step to one of them passes.
-use Rattle.std.proofs.Common.{◌≡◌, ◌≢◌, inl, inr, ℕ, zero, suc, ◌+◌, ◌-◌, ◌*◌, ◌%◌, ◌<◌, ◌≤◌, Bool, true, false, List}
-use Rattle.std.proofs.Common.{[], ◌∷◌, ◌++◌, length, take, drop, slice_get, Some, refl, sym, ap, ◌∙◌, subst, arith}
+use Rattle.std.proofs.Common.{◌≡◌, ◌≢◌, ℕ, zero, suc, ◌+◌, ◌-◌, ◌*◌, ◌%◌, ◌<◌, ◌≤◌, Bool, true, false, List, [], ◌∷◌}
+use Rattle.std.proofs.Common.{length, take, drop, slice_get, Some, refl, sym, ap, ◌∙◌, subst, arith, rules}
 use Rattle.std.proofs.Math.Seq.{take-append_seam}
 use Rattle.std.proofs.lemmas.Bool.{cases_Bool}
 use Rattle.std.proofs.lemmas.Option.{slice_get_within, get_or_from_slice_get}
-use Rattle.virtiofs_map.specs.NodeParts.{HasBytes, HasBytesAt, HasRows, IsChild, IsReadable, IsRootRow, IsRow, IsSmallIn}
-use Rattle.virtiofs_map.specs.NodeParts.{LeadsNowhere, LeadsTo, StaysAt, label_of, placed, row_in}
+use Rattle.virtiofs_map.specs.NodeParts.{HasBytes, HasBytesAt, HasRows, IsChild, IsReadable, IsRootRow, IsRow}
+use Rattle.virtiofs_map.specs.NodeParts.{IsSmallIn, LeadsNowhere, LeadsTo, StaysAt, label_of, placed, row_in}
 use Rattle.virtiofs_map.specs.FirstRule.{shared}
 use Rattle.virtiofs_map.specs.Names.{begins}
 use Rattle.virtiofs_map.specs.Steps.{count_after}
 use Rattle.virtiofs_map.specs.declared.xattrmap.trie.node.Node.{Node}
 use Rattle.virtiofs_map.proofs.BeginsLemmas.{begins_split}
-use Rattle.virtiofs_map.proofs.InsideLemmas.{inside}
-use Rattle.virtiofs_map.proofs.LeU64Lemmas.{length-row_of, row_at}
+use Rattle.virtiofs_map.proofs.LeU64Lemmas.{inside, length-row_of, row_at}
 
 -- ---- rows
 
@@ -75,25 +74,12 @@ pub label_there : (image bytes : List ℕ) (labels : ℕ) (node : Node) (from co
     → HasBytesAt image labels bytes → node.label + node.length ≤ length bytes
     → from ≡ labels + node.label → count ≡ node.length
     → (from + count ≤ length image) × (take count (drop from image) ≡ label_of bytes node)
-label_there image bytes labels node from count has within is_from is_count =
-    let whole = has.within in (
-      omega (arith, whole),
-      ap (λ n. take n (drop from image)) is_count
-          ∙ ap (λ n. take node.length (drop n image)) is_from
-          ∙ sym (inside image labels (length bytes) node.label node.length within)
-          ∙ ap (λ (l : List ℕ). take node.length (drop node.label l)) has.are,
-    )
+label_there image bytes labels node from count has within is_from is_count = search (rules, inside)
 
 -- a row that begins with a label, and one that does not
 pub unlike_label : (label row : List ℕ) (count : ℕ) → length label ≡ count → (take count row ≡ label → ⊥)
     → begins label row ≡ false
-unlike_label label row count size differ = elim (cases_Bool (begins label row)) [
-  | inl starts ↦
-      absurd (differ (ap (take count) (begins_split label row starts)
-      ∙ subst (λ n. take n (label ++ drop (length label) row) ≡ label) size
-      (take-append_seam label (drop (length label) row))))
-  | inr other ↦ other
-]
+unlike_label label row count size differ = search (rules, cases_Bool, begins_split, take-append_seam)
 
 -- ---- places
 
@@ -123,26 +109,11 @@ module _ (nodes : List Node) (bytes : List ℕ) (parent : Node) (byte : ℕ)
 
     pub other_slot : (other : Node) → slice_get nodes (parent.base + behind) ≡ Some other → other.first_byte ≢ byte
         → LeadsNowhere nodes parent byte
-    other_slot other read unlike at child leads =
-        let found = ap (slice_get nodes) (sym (slot_of at behind child flat fits far leads)) ∙ leads.here in
-        let same : Some other ≡ Some child = sym read ∙ found in
-        let first_byte = leads.first_byte in
-        unlike (cc)
+    other_slot other read unlike at child leads = search (rules, slice_get, slot_of)
 
     pub in_slot : (child : Node) → behind < parent.width → slice_get nodes (parent.base + behind) ≡ Some child
         → child.first_byte ≡ byte → LeadsTo nodes parent byte child
-    in_slot child below here first_byte =
-        let slots = readable.placed flat (omega arith) in
-        record {
-          place = parent.base + behind;
-          leads = record {
-            from = omega arith;
-            below = omega arith;
-            here = here;
-            first_byte = first_byte;
-            real = λ none. absurd (omega (arith, slots.low_byte, slots.high, far));
-          };
-        }
+    in_slot child below here first_byte = search rules
 
   -- none of the places of sparse children has the byte
   pub nowhere : (count : ℕ) → parent.width ≤ count
@@ -163,25 +134,11 @@ module _ (nodes : List Node) (bytes : List ℕ) (parent : Node) (rest : List ℕ
     -- the first byte leads nowhere
     pub stays_nowhere : LeadsNowhere nodes parent byte → after ≡ before
         → StaysAt nodes bytes parent rest whole before after
-    stays_nowhere nowhere same = inl (record {
-      nowhere = λ b more other.
-          (let both : byte ∷ left ≡ b ∷ more = sym split ∙ other in
-          let first_bytes : byte ≡ b = cc in
-          subst (LeadsNowhere nodes parent) first_bytes nowhere);
-      counted = same;
-    })
+    stays_nowhere nowhere same = search rules
 
     -- the label of the child does not fit
     pub stays_unlike : (label : List ℕ) (child : Node) → LeadsTo nodes parent byte child
         → label ≡ label_of bytes child → begins label left ≡ false
         → (whole ≡ true → after ≡ count_after before (shared label left + 1))
         → StaysAt nodes bytes parent rest whole before after
-    stays_unlike label child to label_is unlike counts = inr (record {
-      byte = byte;
-      left = left;
-      split = split;
-      child = child;
-      to = to;
-      unlike = ap (λ row. begins row left) (sym label_is) ∙ unlike;
-      counted = λ is. counts is ∙ ap (λ n. count_after before (n + 1)) (ap (λ row. shared row left) label_is);
-    })
+    stays_unlike label child to label_is unlike counts = search rules

@@ -1,7 +1,7 @@
 -- The numbers of a node are read back from its row.
-use Rattle.std.proofs.Common.{◌≡◌, ℕ, ◌+◌, ◌*◌, ◌/◌, ◌%◌, ◌<◌, Bool, true, false, nat_le, if◌then◌else◌, List, ◌++◌}
-use Rattle.std.proofs.Common.{All, [], ◌∷◌, ◌-◌, ◌≤◌, take, drop, get_or, length, subst, sym, ap, ◌∙◌, arith}
-use Rattle.std.proofs.Common.{append_assoc, append-nil, length-append, take_all, flat_map}
+use Rattle.std.proofs.Common.{◌≡◌, ℕ, ◌+◌, ◌*◌, ◌/◌, ◌%◌, ◌<◌, Bool, false, nat_le, if◌then◌else◌, List, ◌++◌, All, []}
+use Rattle.std.proofs.Common.{◌∷◌, ◌-◌, ◌≤◌, take, drop, get_or, length, subst, sym, ap, ◌∙◌, arith, append_assoc}
+use Rattle.std.proofs.Common.{append-nil, length-append, take_all, flat_map, rules}
 use Rattle.std.proofs.Math.Seq.{drop-append_seam}
 use Rattle.std.proofs.lemmas.List.{take_more}
 use Rattle.std.proofs.lemmas.List.Concat.{flat_map-append}
@@ -23,25 +23,19 @@ abbrev pub second_u64 : Node → ℕ
 second_u64 node = 65536 * flagged node.base node.is_sparse + (256 * node.width + node.low_byte)
 
 pub flagged_fits : (base : ℕ) (is_sparse : Bool) → base < 140737488355328 → flagged base is_sparse < 281474976710656
-flagged_fits base true small = omega arith
-flagged_fits base false small = omega arith
+flagged_fits base is_sparse small = grind arith
 
 pub base_of_flagged : (base : ℕ) (is_sparse : Bool) → base < 140737488355328
     → flagged base is_sparse % 140737488355328 ≡ base
-base_of_flagged base true small = omega arith
-base_of_flagged base false small = omega arith
+base_of_flagged base is_sparse small = grind arith
 
 pub dense_flagged : (base : ℕ) (is_sparse : Bool) → is_sparse ≡ false → flagged base is_sparse ≡ base
-dense_flagged base true dense = absurd (cc)
-dense_flagged base false dense = omega arith
+dense_flagged base is_sparse dense = grind arith
 
 -- the flag is the highest bit of the last byte
 flag_of_byte : (base : ℕ) (is_sparse : Bool) (rest byte : ℕ) → base < 140737488355328 → rest < 65536
     → byte ≡ (65536 * flagged base is_sparse + rest) / 72057594037927936 % 256 → nat_le 128 byte ≡ is_sparse
-flag_of_byte base true rest byte small few is =
-    let high : 128 ≤ byte = omega (arith, small, few, is) in grind (arith, nat_tests)
-flag_of_byte base false rest byte small few is =
-    let low : byte < 128 = omega (arith, small, few, is) in grind (arith, nat_tests)
+flag_of_byte base is_sparse rest byte small few is = grind (arith, nat_tests)
 
 module _ (node : Node) (row : List ℕ) (of : IsRowOf node row) where
   pub first_u64_of : le_u64_at row 0 ≡ first_u64 node
@@ -116,14 +110,12 @@ pub pushed_row : (node : Node) (rows one two : List ℕ) (first second : ℕ) �
     → two ≡ one ++ le_u64_bytes second → first ≡ first_u64 node → second ≡ second_u64 node
     → two ++ le_u64_bytes node.answer ≡ rows ++ row_of node
 unfolding row_of
-pushed_row node rows one two first second begun more is_first is_second =
-    rw (more, begun, is_first, is_second) (simp append_assoc)
+pushed_row node rows one two first second begun more is_first is_second = search (rules, append_assoc)
 
 -- three words of eight bytes are a row
 pub pushed_length : (rows one two three : List ℕ) (first second third : ℕ) → one ≡ rows ++ le_u64_bytes first
     → two ≡ one ++ le_u64_bytes second → three ≡ two ++ le_u64_bytes third → length three ≡ length rows + 24
-pushed_length rows one two three first second third a b c =
-    rw (c, b, a) (simp (length-append, length-le_u64_bytes) (omega arith))
+pushed_length rows one two three first second third a b c = search (rules, length-append, length-le_u64_bytes)
 
 -- the row of a node whose label has another place
 pub moved_row : (first labels : ℕ) (node : Node) (image one all rest row : List ℕ) (word : ℕ)
@@ -194,6 +186,4 @@ pub rows_all : (first labels : ℕ) (nodes : List Node) (rows image all : List �
     → rows ≡ flat_map (row_in first 0) nodes → length rows / 24 ≤ at
     → all ≡ image ++ flat_map (row_in first labels) (take at nodes)
     → all ≡ image ++ flat_map (row_in first labels) nodes
-rows_all first labels nodes rows image all at are past so_far =
-    so_far ∙ ap (λ (ns : List Node). image ++ flat_map (row_in first labels) ns)
-    (take_all at nodes (omega (arith, ap length are ∙ length-rows_in first 0 nodes)))
+rows_all first labels nodes rows image all at are past so_far = search (rules, flat_map, take_all, length-rows_in)

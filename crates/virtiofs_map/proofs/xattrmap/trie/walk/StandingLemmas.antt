@@ -1,6 +1,6 @@
 -- A walk along a trie: where it stands, and what it has found where it ends.
-use Rattle.std.proofs.Common.{◌≡◌, ◌≢◌, inl, inr, ℕ, suc, ◌+◌, ◌-◌, ◌<◌, ◌≤◌, Bool, true, false, ◌&&◌, List, [], ◌∷◌}
-use Rattle.std.proofs.Common.{◌++◌, length, take, Contains, slice_get, Some, refl, sym, ap, ◌∙◌, arith}
+use Rattle.std.proofs.Common.{◌≡◌, ◌≢◌, inl, inr, ℕ, suc, ◌+◌, ◌-◌, ◌<◌, ◌≤◌, Bool, true, List, [], ◌∷◌, ◌++◌, length}
+use Rattle.std.proofs.Common.{take, Contains, slice_get, Some, refl, sym, ap, ◌∙◌, arith, rules}
 use Rattle.std.proofs.lemmas.Bool.{cases_lt, true≢false}
 use Rattle.std.proofs.lemmas.List.{append_assoc, length-append, take_at}
 use Rattle.std.proofs.lemmas.List.Elements.{All-same}
@@ -32,23 +32,13 @@ module _ (side : Side) (rules : List MappingRule) (nodes : List Node) (bytes : L
   -- the children of each node can be found
   pub readable : (at : ℕ) (node : Node) → slice_get nodes at ≡ Some node → IsReal at node
       → IsReadable nodes bytes node
-  readable at node here real = record {
-    within = (trie.each at node here real).within;
-    placed = (trie.each at node here real).placed;
-    labels = λ byte next child leads. (child_is node child byte next leads).label;
-  }
+  readable at node here real = grind (arith, child_is)
 
   module _ (name : List ℕ) (start : ℕ) where
     -- at the root nothing is passed
     pub stands_at_root : (root : Node) (count : ℕ) → slice_get nodes 0 ≡ Some root
         → count ≡ count_after start 1 → StandsAt side rules nodes bytes trie name root name start count
-    stands_at_root root count here counts = record {
-      at = 0;
-      here = here;
-      real = inl refl;
-      split = ap (λ path. path ++ name) (sym trie.begun);
-      counted = omega (arith, ap length trie.begun);
-    }
+    stands_at_root root count here counts = grind arith
 
     module _ (node : Node) (rest : List ℕ) (before : ℕ)
         (stands : StandsAt side rules nodes bytes trie name node rest start before) where
@@ -145,8 +135,7 @@ module _ (side : Side) (rules : List MappingRule) (nodes : List Node) (bytes : L
             → begins (trie.path stands.at ++ misses.byte ∷ label_of bytes misses.child) (pattern side rule) ≡ true
             → shared (pattern side rule) name ≡ length (trie.path stands.at)
             + (1 + shared (label_of bytes misses.child) misses.left)
-        label_shared rule starts = shared_misses (trie.path stands.at)
-            (label_of bytes misses.child) misses.left name (pattern side rule) misses.byte missed starts misses.unlike
+        label_shared rule starts = search (rules, shared_misses, missed)
 
         most_at_miss : most_shared side rules name
             ≡ length (trie.path stands.at) + (1 + shared (label_of bytes misses.child) misses.left)
@@ -200,34 +189,12 @@ module _ (side : Side) (rules : List MappingRule) (nodes : List Node) (bytes : L
 
         by_length : (rule : MappingRule) → Contains rules rule → acts side rule ≡ true
             → begins (pattern side rule) name ≡ begins (pattern side rule) (trie.path stands.at)
-        by_length rule within acting =
-            elim (cases_lt (length (trie.path stands.at)) (length (pattern side rule))) [
-              | inl long ↦ both_fail long (begins (pattern side rule) name) refl
-                  (begins (pattern side rule) (trie.path stands.at)) refl
-              | inr short ↦ sym (begins_front (pattern side rule) name (length (trie.path stands.at)) short)
-                  ∙ ap (begins (pattern side rule)) front_is
-            ] where
-              both_fail : length (trie.path stands.at) < length (pattern side rule) → (a : Bool)
-                  → begins (pattern side rule) name ≡ a → (b : Bool)
-                  → begins (pattern side rule) (trie.path stands.at) ≡ b
-                  → begins (pattern side rule) name ≡ begins (pattern side rule) (trie.path stands.at)
-              both_fail long false e false f = e ∙ sym f
-              both_fail long false e true f =
-                  absurd (let short = begins_length (pattern side rule) (trie.path stands.at) f in
-                  omega (arith, short))
-              both_fail long true e b f = absurd (none_longer rule within acting long e)
+        by_length rule within acting = grind (arith, cases_lt, begins_front, front_is, begins_length, none_longer)
 
         -- so a rule fits the name where it fits the path
         fits_alike : (rule : MappingRule) → Contains rules rule
             → fits side name rule ≡ fits side (trie.path stands.at) rule
-        fits_alike rule within = fits_is side name rule ∙ by_acting (acts side rule) refl
-            ∙ sym (fits_is side (trie.path stands.at) rule) where
-              by_acting : (b : Bool) → acts side rule ≡ b
-                  → (acts side rule && begins (pattern side rule) name) ≡ (acts side rule && begins (pattern side rule)
-                  (trie.path stands.at))
-              by_acting true e = ap (λ b. acts side rule && b) (by_length rule within e)
-              by_acting false e = ap (λ b. b && begins (pattern side rule) name) e
-                  ∙ sym (ap (λ b. b && begins (pattern side rule) (trie.path stands.at)) e)
+        fits_alike rule within = grind (arith, fits_is, by_length)
 
         first_is : first side rules name ≡ first side rules (trie.path stands.at)
         first_is = same_first side rules name (trie.path stands.at) fits_alike

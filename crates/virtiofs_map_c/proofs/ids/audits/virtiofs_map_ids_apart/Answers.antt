@@ -30,12 +30,5 @@ returns-in-Err-clause-complete c = pair_complete _ _ _ _ (_, c.in-Err.ensures.re
 pub returns-in-Err-clause-faulty : goal.returns-in-Err-clause-faulty
 returns-in-Err-clause-faulty c = pair_faulty _ _ _ _ (_, c.in-Err.ensures.refused, c.tell.ensures)
 
-pub returns-in-Ok-clause-accepted : goal.returns-in-Ok-clause-accepted
-returns-in-Ok-clause-accepted c = λ _.
-    let of = c.in-Ok.ensures.decided in (
-      record { list = of.list; are = of.are; accepted = of.accepted },
-      record { list = of.other; are = of.other_are; accepted = of.other_accepted },
-    )
-
 pub returns-in-Err-clause-refused : goal.returns-in-Err-clause-refused
 returns-in-Err-clause-refused c = λ _. (_, c.in-Err.ensures.refused, c.tell.ensures)

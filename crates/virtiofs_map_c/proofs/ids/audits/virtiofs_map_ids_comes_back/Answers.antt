@@ -1,3 +1,4 @@
+use Rattle.std.proofs.Common.{rules}
 use Rattle.virtiofs_id_audit.specs.IdAudit.{IsAstray, ComesBack}
 use Rattle.virtiofs_map_c.specs.IdsFound.{IsAstrayTold}
 use Rattle.virtiofs_map_c.proofs.ArraysLemmas.{IsAccepted-no_fault, array_complete, array_faulty}
@@ -15,9 +16,7 @@ returns-in-Ok-clause-comes_back c = λ list are _.
     ComesBack c.in-Ok.ensures.decided list are
 
 pub returns-in-Ok-clause-faulty : goal.returns-in-Ok-clause-faulty
-returns-in-Ok-clause-faulty c = λ wrong has.
-    let of = c.in-Ok.ensures.decided in
-    absurd (IsAccepted-no_fault _ (record { list = of.list; are = of.are; accepted = of.accepted }) wrong has)
+returns-in-Ok-clause-faulty c = search (rules, IsAccepted-no_fault)
 
 pub returns-in-Err-clause-complete : goal.returns-in-Err-clause-complete
 returns-in-Err-clause-complete c = array_complete _ _ _ _ (_, c.in-Err.ensures.refused, c.tell.ensures)

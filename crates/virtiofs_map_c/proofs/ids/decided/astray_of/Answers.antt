@@ -3,8 +3,3 @@ use Rattle.virtiofs_map_c.proofs.ids.decided.astray_of.Goals as goal
 
 pub returns-in-Yes-clause-comes_back : goal.returns-in-Yes-clause-comes_back
 returns-in-Yes-clause-comes_back c = (λ _. c.in-Yes.ensures.comes_back.0 refl, λ _. refl)
-
-pub returns-in-No-clause-finds : goal.returns-in-No-clause-finds
-returns-in-No-clause-finds c =
-    rw (c.into_inner.ensures, c.into_inner-in-No.ensures, c.into_inner-in-No-2.ensures)
-    (c.in-No.ensures.answer, c.in-No.ensures.told)

@@ -1,3 +1,4 @@
+use Rattle.std.proofs.Common.{rules}
 use Rattle.virtiofs_map_c.proofs.NamesLemmas.{list_told, no_room_told, undecided_told}
 use Rattle.virtiofs_map_c.proofs.names.lookups.tell_list.Goals as goal
 
@@ -5,9 +6,7 @@ pub returns-in-NoMap-clause-told : goal.returns-in-NoMap-clause-told
 returns-in-NoMap-clause-told c = λ answer old new written. absurd (rw c.in-NoMap.is at written)
 
 pub returns-in-Undecided-clause-told : goal.returns-in-Undecided-clause-told
-returns-in-Undecided-clause-told c = λ answer old new written.
-    rw (c.nothing-in-Undecided.ensures.told, c.nothing-in-Undecided.ensures.len)
-    (undecided_told answer old new (rw c.in-Undecided.is at written))
+returns-in-Undecided-clause-told c = search (rules, undecided_told)
 
 pub returns-in-Written-clause-told : goal.returns-in-Written-clause-told
 returns-in-Written-clause-told c = λ answer old new written. list_told answer old _ new (rw c.in-Written.is at written)

@@ -3,7 +3,7 @@ use Rattle.std.proofs.lemmas.List.{length_push}
 use Rattle.virtiofs_map.specs.TrieBuildParts.{AreDeep, AreMade}
 use Rattle.virtiofs_map.proofs.xattrmap.trie.AppendedRowLemmas.{rows_more}
 use Rattle.virtiofs_map.proofs.xattrmap.trie.build.TrieBuildLemmas.{none_deeper, place_here}
-use Rattle.virtiofs_map.proofs.xattrmap.trie.build.OrderedLemmas.{exact_more}
+use Rattle.virtiofs_map.proofs.xattrmap.trie.build.BuiltTrieLemmas.{exact_more}
 use Rattle.virtiofs_map.proofs.xattrmap.trie.build.LevelLemmas.{built_more, deep_more, deeper_more}
 use Rattle.virtiofs_map.proofs.xattrmap.trie.build.build_level.Goals as goal
 

@@ -5,7 +5,7 @@ use Rattle.virtiofs_map.specs.TrieParts.{IsTrieOf}
 use Rattle.virtiofs_map.proofs.xattrmap.trie.AppendedRowLemmas.{rows_none}
 use Rattle.virtiofs_map.proofs.xattrmap.trie.NodesOfLemmas.{nodes_made}
 use Rattle.virtiofs_map.proofs.xattrmap.trie.build.LevelLemmas.{levels_fall, root, root_built, root_places}
-use Rattle.virtiofs_map.proofs.xattrmap.trie.build.OrderedLemmas.{exact_all, exact_root, pattern_bytes}
+use Rattle.virtiofs_map.proofs.xattrmap.trie.build.BuiltTrieLemmas.{exact_all, exact_root, pattern_bytes}
 use Rattle.virtiofs_map.proofs.xattrmap.trie.build.build_trie.Goals as goal
 
 pub loop-from-init : goal.loop-from-init
