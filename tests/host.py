@@ -89,7 +89,7 @@ def processes(room, stand_in):
     named = len({it.gr_gid for it in grp.getgrall() if 0 < it.gr_gid < 65536})
     led = [f"--translate-uid={it}" for it in ("map:5:65534:1", "forbid-guest:0:5", "forbid-guest:6:4294967289")]
     with daemon(stand_in, [*led, FORBIDDEN[1]]) as pid:
-        told = f"{named} named groups\n" if named > 8 else "groups "
+        told = "more than 8 groups with names\n" if named > 8 else "groups "
         yield "the name of a user to whom an id leads", ["--pid", pid], 5, f"  on this host: user 65534 ({nobody}); {told}"
     with daemon(stand_in, ranges, kernels) as pid:
         yield "a namespace as its options say", ["--pid", pid], 0, "its 0 to 65535 are 100000 to 165535 on the host"

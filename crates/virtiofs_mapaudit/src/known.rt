@@ -46,7 +46,8 @@ fn is_reached(set: &IdSetUp<Global>, id: u32) -> bool {
     set.ranges.is_empty() && !set.map.specs().is_empty() && is_image(set, id)
 }
 
-/// The first line of each id, that is not root's, which a daemon runs as or an id of its guest becomes.
+/// The first line of each id, that is not root's, which a daemon runs as or an id of its guest becomes; of
+/// so many that they are not told one by one, some.
 fn told_of<'a>(
     alloc: Global,
     names: &'a [u8],
@@ -55,22 +56,25 @@ fn told_of<'a>(
 ) -> Result<Vec<Named<'a>>, AllocError> {
     let mut all: Vec<Named<'a>> = Vec::new(alloc);
     for it in read_names(alloc, names)? {
+        if all.len() > MOST || it.id == 0 || it.id == u32::MAX {
+            continue;
+        }
         let is_told = match set {
             Some(set) => it.id == own || is_reached(set, it.id),
             None => it.id == own,
         };
-        if is_told && it.id > 0 && it.id < u32::MAX && !all.iter().any(|one| one.id == it.id) {
+        if is_told && !all.iter().any(|one| one.id == it.id) {
             all.push(it)?;
         }
     }
     Ok(all)
 }
 
-/// Writes ids of one kind with their names at the end of a text, or how many they are, if they are many.
+/// Writes ids of one kind with their names at the end of a text, or that they are many.
 fn push_named(text: &mut String, one: &str, all: &[Named<'_>]) -> Result<(), AllocError> {
     let count = all.len();
     if count > MOST {
-        return write!(text, "{count} named {one}s");
+        return write!(text, "more than {MOST} {one}s with names");
     }
     match count {
         0 => return Ok(()),

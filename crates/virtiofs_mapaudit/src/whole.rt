@@ -84,7 +84,7 @@ pub(crate) fn worst(all: &[Said<'_>]) -> Answered
 /// The line of a directory, above what is said of it.
 fn heading(alloc: Global, said: &Said<'_>) -> Result<String, AllocError> {
     if said.directory.is_empty() {
-        return String::from_str(alloc, "no directory is said");
+        return String::from_str(alloc, "no --shared-dir is given");
     }
     let directory = shown(alloc, said.directory)?;
     format!(in alloc; "directory {directory}")
